@@ -1,0 +1,111 @@
+//! Which credentials are let in: user 0, group 0, and the users and groups of a list.
+
+ghost use Rattle.std.specs.Prelude.{◌≡◌, [], Some, None, IfOk, OnOk, OnErr, IsOkUnless};
+ghost use Rattle.std.specs.Option.{ok_or};
+ghost use Rattle.cpg_cred.specs.Listed.{with_number};
+
+use crate::credentials::Cred;
+use crate::refusals::Refusal;
+use std::alloc::Global;
+use std::marker::Model;
+
+/// The first of the four tests that let credentials in.
+#[derive(Debug, Clone, Copy, PartialEq, Eq)]
+pub enum Via {
+    /// The user is 0.
+    RootUser,
+    /// The group is 0.
+    RootGroup,
+    /// The user is listed.
+    User,
+    /// The group is listed.
+    Group,
+}
+
+/// The users and the groups that are let in beside user 0 and group 0, each in the order in which they
+/// were added.
+#[derive(Debug, Drop)]
+pub struct AcceptList {
+    users: Vec<u32>,
+    groups: Vec<u32>,
+}
+
+impl Model for AcceptList {
+    ghost use Rattle.cpg_cred.specs.Listed.{Listed};
+
+    ghost Value = { Listed };
+
+    ghost view = { λ list. record { users = list.users.items; groups = list.groups.items } };
+}
+
+impl AcceptList {
+    ghost use Rattle.cpg_cred.specs.Listed.{with_user, with_group};
+    ghost use Rattle.cpg_cred.specs.Admission.{via_of};
+
+    /// The empty list, which lets in user 0 and group 0 alone.
+    pub fn new(alloc: Global) -> AcceptList
+        ensures { result ≡ record { users = []; groups = [] } }
+    {
+        AcceptList {
+            users: Vec::new(alloc),
+            groups: Vec::new(alloc),
+        }
+    }
+
+    /// Puts the user at the end of the listed users, if it is not among them.
+    pub fn add_uid(&mut self, uid: u32) -> Result<(), Refusal>
+        ensures ok { OnOk result (self.new ≡ with_user self.old uid) }
+        ensures err { OnErr result (self.new ≡ self.old) }
+        ensures memory { IsOkUnless result Refusal.Memory }
+    {
+        add(&mut self.users, uid)
+    }
+
+    /// Puts the group at the end of the listed groups, if it is not among them.
+    pub fn add_gid(&mut self, gid: u32) -> Result<(), Refusal>
+        ensures ok { OnOk result (self.new ≡ with_group self.old gid) }
+        ensures err { OnErr result (self.new ≡ self.old) }
+        ensures memory { IsOkUnless result Refusal.Memory }
+    {
+        add(&mut self.groups, gid)
+    }
+
+    /// What lets the credentials in, or `Access` where nothing does.
+    pub fn accepts(&self, cred: Cred) -> Result<Via, Refusal>
+        ensures { result ≡ ok_or (via_of self.now cred) Refusal.Access }
+    {
+        if cred.uid == 0 {
+            Ok(Via::RootUser)
+        } else if cred.gid == 0 {
+            Ok(Via::RootGroup)
+        } else if self.users.contains(&cred.uid) {
+            Ok(Via::User)
+        } else if self.groups.contains(&cred.gid) {
+            Ok(Via::Group)
+        } else {
+            Err(Refusal::Access)
+        }
+    }
+
+    /// A list of the same users and groups.
+    pub fn copy(&self, alloc: Global) -> Result<AcceptList, Refusal>
+        ensures ok { IfOk result (λ copy. copy ≡ self.now) }
+        ensures memory { IsOkUnless result Refusal.Memory }
+    {
+        let users = Vec::from_slice(alloc, self.users.as_slice())?;
+        let groups = Vec::from_slice(alloc, self.groups.as_slice())?;
+        Ok(AcceptList { users, groups })
+    }
+}
+
+/// Puts the number at the list's end, if the list lacks it.
+fn add(numbers: &mut Vec<u32>, number: u32) -> Result<(), Refusal>
+    ensures ok { OnOk result (numbers.new.items ≡ with_number numbers.old.items number) }
+    ensures err { OnErr result (numbers.new.items ≡ numbers.old.items) }
+    ensures memory { IsOkUnless result Refusal.Memory }
+{
+    if !numbers.contains(&number) {
+        numbers.push(number)?;
+    }
+    Ok(())
+}

@@ -1,0 +1,18 @@
+//! Who asks, who is let in, and how a call says no.
+//!
+//! Credentials and their acceptance are this project's own rule (Corosync's conf files give the shape of
+//! the lists alone); the numbers of refusals are its own too. Proved: `AcceptList::accepts` is the
+//! definition in `specs/Admission.antt`, and each growth of a list adds one number at its end, once.
+#![tactic(auto)]
+
+mod admission;
+mod bases;
+mod credentials;
+mod nodes;
+mod refusals;
+
+pub use admission::{AcceptList, Via};
+pub use bases::By;
+pub use credentials::Cred;
+pub use nodes::NodeId;
+pub use refusals::{Refusal, Refused};

@@ -1,0 +1,42 @@
+//! The numbers of nodes.
+
+ghost use Rattle.std.specs.Prelude.{◌≡◌, ℕ, ◌≤◌, SomeIff};
+
+use std::marker::Model;
+
+/// The number of a node of the ring, 1 to 8. Contracts see it as that number.
+#[derive(Debug, Clone, Copy, PartialEq, Eq, PartialOrd, Ord, Hash)]
+pub struct NodeId {
+    number: u8,
+}
+
+impl Model for NodeId {
+    ghost Value = { ℕ };
+
+    ghost view = { λ node. node.number };
+
+    ghost invariant = { λ node. (1 ≤ node.number) × (node.number ≤ 8) };
+
+    ghost inverse = { λ n. record { number = n } };
+}
+
+impl NodeId {
+    /// The node of that number, for 1 to 8; none for any other number.
+    pub fn new(number: u8) -> Option<NodeId>
+        ensures { SomeIff result ((1 ≤ number) × (number ≤ 8)) number }
+    {
+        if number >= 1 && number <= 8 {
+            Some(NodeId { number })
+        } else {
+            None
+        }
+    }
+
+    /// The node's number, 1 to 8.
+    pub fn get(self) -> u8
+        ensures value { result ≡ self }
+        ensures range { (1 ≤ result) × (result ≤ 8) }
+    {
+        self.number
+    }
+}

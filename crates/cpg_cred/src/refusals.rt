@@ -1,0 +1,149 @@
+//! How a call says no.
+
+ghost use Rattle.std.specs.Prelude.{◌≡◌};
+
+use crate::bases::By;
+use std::alloc::{AllocError, AllocFailed};
+use std::error::Error;
+use std::fmt;
+
+/// Why a call was refused. Each refusal has a number and a name, which `Display` prints, as `2 Access`
+/// or `41 BadCommand 7`. Lines are numbered from 1.
+#[derive(Debug, Clone, Copy, PartialEq, Eq)]
+pub enum Refusal {
+    /// 1: memory was asked for and not given.
+    Memory,
+    /// 2: neither the user nor the group is 0 or listed.
+    Access,
+    /// 3: no open connection (or session) has that number.
+    NoConnection,
+    /// 4: a group's name that is not 1 to 128 bytes of 0x21 to 0x7E.
+    BadName,
+    /// 5: a message of more than 8,192 bytes.
+    TooLong,
+    /// 6: 256 calls wait at the node.
+    QueueFull,
+    /// 7: the node has given all its 65,535 connection numbers.
+    ConnectionsFull,
+    /// 8: a frame of another ring.
+    Foreign,
+    /// 9: a token whose hop is for another node.
+    NotMine,
+    /// 10: a token of a hop that was accepted already, or of an earlier one.
+    Stale,
+    /// 11: a frame that no true run of the ring can bring.
+    Implausible,
+    /// 12: the packet's place is held or delivered.
+    Held,
+    /// 13: the packet's place is past the window.
+    FarAhead,
+    /// 14: bytes that spell no frame.
+    Malformed,
+    /// 15: the ring's last hop was used.
+    RingEnd,
+    /// 16: no frame of that number was sent.
+    NoFrame,
+    /// 17: another record stands at that place of the board.
+    Differs,
+    /// 18: the board has no further place.
+    BoardFull,
+    /// 19: the node has only that many records, fewer than the session has seen.
+    Behind(u32),
+    /// 20: the cluster was stopped.
+    Stopped,
+    /// 21: the access rules denied it.
+    Denied(By),
+    /// 31: a line that is neither ignored nor of any shape that is read.
+    BadLine(u32),
+    /// 32: a section's close where none is open.
+    Unopened(u32),
+    /// 33: a section that no line closes.
+    Unclosed,
+    /// 34: a key that the section does not have.
+    BadItem(u32),
+    /// 35: a value that is empty, or a number past its range.
+    BadValue(u32),
+    /// 36: a user or group name that the names table lacks.
+    UnknownName(u32),
+    /// 37: a setting outside its range.
+    Range,
+    /// 41: a line that is no command.
+    BadCommand(u32),
+    /// 42: the input could not be read, or is too long.
+    Read,
+    /// 43: the output could not be written.
+    Write,
+}
+
+impl fmt::Display for Refusal {
+    ghost use Rattle.cpg_cred.specs.Shown.{refusal_text};
+    ghost use Rattle.std.specs.Prelude.{Some};
+
+    ghost output = { λ refusal. Some (refusal_text refusal) };
+
+    fn fmt<W: fmt::Write>(&self, f: &mut fmt::Formatter<W>) -> fmt::Result {
+        match self {
+            Refusal::Memory => write!(f, "1 Memory"),
+            Refusal::Access => write!(f, "2 Access"),
+            Refusal::NoConnection => write!(f, "3 NoConnection"),
+            Refusal::BadName => write!(f, "4 BadName"),
+            Refusal::TooLong => write!(f, "5 TooLong"),
+            Refusal::QueueFull => write!(f, "6 QueueFull"),
+            Refusal::ConnectionsFull => write!(f, "7 ConnectionsFull"),
+            Refusal::Foreign => write!(f, "8 Foreign"),
+            Refusal::NotMine => write!(f, "9 NotMine"),
+            Refusal::Stale => write!(f, "10 Stale"),
+            Refusal::Implausible => write!(f, "11 Implausible"),
+            Refusal::Held => write!(f, "12 Held"),
+            Refusal::FarAhead => write!(f, "13 FarAhead"),
+            Refusal::Malformed => write!(f, "14 Malformed"),
+            Refusal::RingEnd => write!(f, "15 RingEnd"),
+            Refusal::NoFrame => write!(f, "16 NoFrame"),
+            Refusal::Differs => write!(f, "17 Differs"),
+            Refusal::BoardFull => write!(f, "18 BoardFull"),
+            Refusal::Behind(reached) => write!(f, "19 Behind {reached}"),
+            Refusal::Stopped => write!(f, "20 Stopped"),
+            Refusal::Denied(by) => write!(f, "21 Denied {by}"),
+            Refusal::BadLine(line) => write!(f, "31 BadLine {line}"),
+            Refusal::Unopened(line) => write!(f, "32 Unopened {line}"),
+            Refusal::Unclosed => write!(f, "33 Unclosed"),
+            Refusal::BadItem(line) => write!(f, "34 BadItem {line}"),
+            Refusal::BadValue(line) => write!(f, "35 BadValue {line}"),
+            Refusal::UnknownName(line) => write!(f, "36 UnknownName {line}"),
+            Refusal::Range => write!(f, "37 Range"),
+            Refusal::BadCommand(line) => write!(f, "41 BadCommand {line}"),
+            Refusal::Read => write!(f, "42 Read"),
+            Refusal::Write => write!(f, "43 Write"),
+        }
+    }
+}
+
+impl Error for Refusal {}
+
+impl From<AllocError> for Refusal {
+    ghost use Rattle.cpg_cred.specs.declared.refusals.Refusal.TheVariants.{Memory};
+
+    ghost from_gives = { λ _ refusal. refusal ≡ Memory };
+
+    fn from(_error: AllocError) -> Refusal {
+        Refusal::Memory
+    }
+}
+
+impl<T: Drop> From<AllocFailed<T>> for Refusal {
+    ghost use Rattle.cpg_cred.specs.declared.refusals.Refusal.TheVariants.{Memory};
+
+    ghost from_gives = { λ _ refusal. refusal ≡ Memory };
+
+    fn from(_error: AllocFailed<T>) -> Refusal {
+        Refusal::Memory
+    }
+}
+
+/// A refusal, with what was handed in.
+#[derive(Debug, Drop)]
+pub struct Refused<T> {
+    pub refusal: Refusal,
+    /// What was handed in, as it was.
+    pub back: T,
+}
