@@ -1,0 +1,87 @@
+//! What connections ask of groups.
+
+ghost use Rattle.std.specs.Prelude.{◌≡◌, ◌↔◌, IsTrue, IfOk, IsOkUnless};
+
+use crate::messages::Message;
+use crate::names::Name;
+use cpg_rules::{Refusal, Rule};
+use std::alloc::Global;
+
+/// What a connection asks.
+#[derive(Debug, PartialEq, Eq, Drop)]
+pub enum Call {
+    /// To become a member of the group (cpg_join(3)).
+    Join(Name),
+    /// To leave its group (cpg_leave(3)).
+    Leave,
+    /// To multicast to its group (cpg_mcast_joined(3)).
+    Send(Message),
+    /// To put the rule into the group's table at that index, counted from 0.
+    Insert(Name, u8, Rule),
+    /// To take the rule of that id out of the group's table.
+    Remove(Name, u32),
+}
+
+impl Call {
+    /// The same call.
+    pub fn copy(&self, alloc: Global) -> Result<Call, Refusal>
+        ensures ok { IfOk result (λ call. call ≡ self.now) }
+        ensures memory { IsOkUnless result Refusal.Memory }
+    {
+        Ok(match self {
+            Call::Join(group) => Call::Join(group.copy(alloc)?),
+            Call::Leave => Call::Leave,
+            Call::Send(message) => Call::Send(message.copy(alloc)?),
+            Call::Insert(group, index, rule) => Call::Insert(group.copy(alloc)?, *index, *rule),
+            Call::Remove(group, id) => Call::Remove(group.copy(alloc)?, *id),
+        })
+    }
+
+    /// Whether the calls are the same.
+    pub fn equals(&self, other: &Call) -> bool
+        ensures { IsTrue result ↔ (self.now ≡ other.now) }
+    {
+        match (self, other) {
+            (Call::Join(a), Call::Join(b)) => a.equals(b),
+            (Call::Leave, Call::Leave) => true,
+            (Call::Send(a), Call::Send(b)) => a.equals(b),
+            (Call::Insert(a, i, r), Call::Insert(b, j, s)) => a.equals(b)
+                && *i == *j
+                && r.equals(s),
+            (Call::Remove(a, i), Call::Remove(b, j)) => a.equals(b) && *i == *j,
+            _ => false,
+        }
+    }
+}
+
+/// What an entry does: a call, or the end of its connection.
+#[derive(Debug, PartialEq, Eq, Drop)]
+pub enum Op {
+    Act(Call),
+    /// The connection has ended.
+    Gone,
+}
+
+impl Op {
+    /// The same op.
+    pub fn copy(&self, alloc: Global) -> Result<Op, Refusal>
+        ensures ok { IfOk result (λ op. op ≡ self.now) }
+        ensures memory { IsOkUnless result Refusal.Memory }
+    {
+        match self {
+            Op::Act(call) => Ok(Op::Act(call.copy(alloc)?)),
+            Op::Gone => Ok(Op::Gone),
+        }
+    }
+
+    /// Whether the ops are the same.
+    pub fn equals(&self, other: &Op) -> bool
+        ensures { IsTrue result ↔ (self.now ≡ other.now) }
+    {
+        match (self, other) {
+            (Op::Act(a), Op::Act(b)) => a.equals(b),
+            (Op::Gone, Op::Gone) => true,
+            _ => false,
+        }
+    }
+}
