@@ -1,0 +1,5 @@
+pub mod States
+pub mod Visits
+pub mod Moves
+pub mod Worlds
+pub mod Claims

@@ -1,0 +1,11 @@
+//! The ring: the token's visits, the window of places, and the order that all nodes agree on.
+#![tactic(auto)]
+
+mod settings;
+mod theorem;
+
+pub use cpg_entry::{Entry, Frame, NodeId, Packet, Refusal, Token};
+pub use settings::{
+    BURST, MOST_HOPS, MOST_NODES, MOST_PLACES, MOST_REQUESTS, MOST_WAITING, Settings, WINDOW,
+};
+pub use theorem::every_schedule;

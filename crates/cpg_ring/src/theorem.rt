@@ -1,0 +1,15 @@
+//! The theorem of the ring: what holds in every world that any list of events leads to.
+
+ghost use Rattle.std.specs.Prelude.{List};
+ghost use Rattle.cpg_ring.specs.States.{Settings, IsSettings};
+ghost use Rattle.cpg_ring.specs.Worlds.{Event, run, start};
+ghost use Rattle.cpg_ring.specs.Claims.{Chain, Agreement, Safe, OnceInOrder};
+
+/// Holds of every ring and every list of events: frames may be lost, come again and come in any order.
+pub fn every_schedule()
+    ensures chain { (s : Settings) (events : List Event) → IsSettings s → Chain s (run s (start s) events) }
+    ensures agreement { (s : Settings) (events : List Event) → IsSettings s → Agreement (run s (start s) events) }
+    ensures once_in_order { (s : Settings) → IsSettings s → OnceInOrder s }
+    ensures safe { (s : Settings) (events : List Event) → IsSettings s → Safe (run s (start s) events) }
+{
+}
