@@ -4,15 +4,12 @@ use Rattle.std.proofs.Math.Nat.{mul-le-mul_right, add-mod_right, suc-mul}
 use Rattle.std.specs.FinMap.{get}
 use Rattle.std.proofs.lemmas.Option.{none-some, same_Some}
 use Rattle.std.proofs.lemmas.Bool.{cases_eq, cases_lt}
-use Rattle.cpg_ring.specs.States.{Entry, Token, Frame, Settings, HeldPlaces, NodeState, safe_mark}
+use Rattle.cpg_ring.specs.States.{Entry, Token, Frame, Settings, HeldPlaces, Holds, NodeState, safe_mark}
 use Rattle.cpg_ring.specs.Visits.{node_of, held_through, reach, is_own_or_none, next_aru, next_aru_id, placed, hold_all, visit_with, after_visit}
 use Rattle.cpg_ring.specs.Worlds.{World, item, with_item}
 use Rattle.cpg_ring.proofs.Lists.{with_item_cases, item_within, item_with_same, item_with_other, length-with_item}
 use Rattle.cpg_ring.proofs.Holding.{Agrees, Grows, Burst, burst_holds}
 use Rattle.cpg_ring.proofs.Invariant.{Inv, after}
-
-abbrev pub Holds : HeldPlaces → ℕ → Type 0
-Holds held place = (e : Entry) × (get held place ≡ Some e)
 
 -- hops of one node are a round apart
 round_apart : (N l H : ℕ) → l < H → l % N ≡ H % N → l + N ≤ H

@@ -4,14 +4,10 @@ use Rattle.std.specs.List.{Contains, filter}
 use Rattle.std.specs.FinMap.{get}
 use Rattle.cpg_entry.specs.declared.frames.Frame.TheVariants as frame
 use Rattle.cpg_cred.specs.declared.refusals.Refusal.TheVariants.{NotMine, Stale, RingEnd}
-use Rattle.cpg_ring.specs.States.{Entry, Packet, Token, HeldPlaces, NodeState, Settings, safe_mark}
+use Rattle.cpg_ring.specs.States.{Entry, Packet, Token, NodeState, Settings, Holds, safe_mark}
 use Rattle.cpg_ring.specs.Visits.{node_of, token_refusal}
 use Rattle.cpg_ring.specs.Moves.{is_full}
 use Rattle.cpg_ring.specs.Worlds.{World, Event, Enqueue, EnqueueEnd, Arrive, Timer, Deliver, item, happens, start, run, agreed}
-
--- something is held at the place
-abbrev pub Holds : HeldPlaces → ℕ → Type 0
-Holds held place = (e : Entry) × (get held place ≡ Some e)
 
 -- Of the tokens sent, copies apart: there is one for each hop from 0 to the newest's; only the newest can still be accepted, and by one node alone.
 pub record IsChain (s : Settings) (w : World) (tokens : List Token) (newest : Token) : Type 0 where

@@ -3,3 +3,4 @@ pub mod Visits
 pub mod Moves
 pub mod Worlds
 pub mod Claims
+pub mod Laws

@@ -37,6 +37,10 @@ pub record NodeState : Type 0 where
   -- the aru of the tokens that it forwarded at its last two accepted visits, the newest first
   pub arus : List ℕ
 
+-- something is held at the place
+abbrev pub Holds : HeldPlaces → ℕ → Type 0
+Holds held place = (e : Entry) × (get held place ≡ Some e)
+
 -- whether a place is held
 abbrev pub is_held : HeldPlaces → ℕ → Bool
 is_held held place = is_some (get held place)

@@ -8,4 +8,4 @@ pub use cpg_entry::{Entry, Frame, NodeId, Packet, Refusal, Token};
 pub use settings::{
     BURST, MOST_HOPS, MOST_NODES, MOST_PLACES, MOST_REQUESTS, MOST_WAITING, Settings, WINDOW,
 };
-pub use theorem::every_schedule;
+pub use theorem::{every_schedule, every_visit};

@@ -1,0 +1,53 @@
+-- What the definitions of a visit amount to, in the words of the rules.
+use Rattle.std.specs.Prelude.{◌≡◌, ◌⊎◌, ◌↔◌, ℕ, ◌+◌, ◌<◌, ◌≤◌, min, List, [], ◌∷◌, length, take, None}
+use Rattle.std.specs.List.{Contains, All}
+use Rattle.cpg_ring.specs.declared.settings.TheConstants.{MOST_PLACES, MOST_HOPS, MOST_REQUESTS, WINDOW}
+use Rattle.cpg_ring.specs.States.{Token, Packet, Settings, HeldPlaces, Holds, NodeState}
+use Rattle.cpg_ring.specs.Visits.{VisitStep, reach}
+
+-- strictly ascending, above low and at most high
+abbrev pub Ascends : ℕ → ℕ → List ℕ → Type 0
+Ascends low high [] = Unit {0}
+Ascends low high (n ∷ ns) = (low < n) × (n ≤ high) × Ascends n high ns
+
+-- A token whose numbers can be spelled in a frame.
+pub record IsToken (t : Token) : Type 0 where
+  pub hop : t.hop ≤ MOST_HOPS
+  pub seq : t.seq ≤ MOST_PLACES
+  pub aru : t.aru ≤ t.seq
+  pub count : length t.rtr ≤ MOST_REQUESTS
+  pub rtr : Ascends 0 t.seq t.rtr
+
+-- places 1 to a are all held
+abbrev pub AllHeld : HeldPlaces → ℕ → Type 0
+AllHeld held a = (place : ℕ) → 1 ≤ place → place ≤ a → Holds held place
+
+-- a is the greatest number with places 1 to a all held
+pub record IsGreatestHeld (held : HeldPlaces) (a : ℕ) : Type 0 where
+  pub all : AllHeld held a
+  pub greatest : (b : ℕ) → AllHeld held b → b ≤ a
+
+-- The places that a visit has to ask for: the requests not served, and the places not held in the window.
+abbrev pub IsMissing : NodeState → Token → VisitStep → ℕ → Type 0
+IsMissing r t v place = (Contains t.rtr place × ¬ Holds r.held place) ⊎ ((1 ≤ place) × (place ≤ min v.token.seq (r.delivered + WINDOW)) × ¬ Holds v.held place)
+
+-- the list is the first n, ascending, of all the places that are missing
+pub record IsLeastMissing (n : ℕ) (r : NodeState) (t : Token) (v : VisitStep) (list : List ℕ) : Type 0 where
+  pub whole : List ℕ
+  pub ascends : Ascends 0 v.token.seq whole
+  pub has : (place : ℕ) → Contains whole place ↔ IsMissing r t v place
+  pub first : list ≡ take n whole
+
+-- What an accepted visit of a token in range does.
+pub record IsVisit (s : Settings) (r : NodeState) (t : Token) (v : VisitStep) : Type 0 where
+  -- step 3 speaks of the greatest number with all places held
+  pub reach : IsGreatestHeld v.held (reach v.held v.token.seq)
+  -- step 4 asks for the 32 least missing places, ascending
+  pub requests : IsLeastMissing MOST_REQUESTS r t v v.token.rtr
+  -- the token that goes on is in range
+  pub token : IsToken v.token
+  -- within the ring's own places and hops
+  pub seq : v.token.seq ≤ s.places
+  pub hop : v.token.hop ≤ s.hops
+  -- and so are the packets
+  pub packets : All (λ p. (1 ≤ p.place) × (p.place ≤ s.places)) v.packets
