@@ -1,0 +1,9 @@
+pub mod Connections
+pub mod Events
+pub mod Judging
+pub mod Laws
+pub mod Listings
+pub mod Membership
+pub mod RuleTables
+pub mod Steps
+pub mod Verdicts

@@ -1,0 +1,21 @@
+//! Records of judged entries, events, and the definitions of judging with their laws.
+//!
+//! The three lists of a configuration change and membership by group are CPG's (cpg_initialize(3),
+//! cpg_membership_get(3)); judging by tables is this project's own. Proved: the laws of
+//! `specs/Laws.antt`, each the contract of a function of `laws`, and that copies equal their sources.
+#![tactic(auto)]
+
+mod connections;
+mod events;
+pub mod laws;
+mod memberships;
+mod moves;
+mod records;
+mod verdicts;
+
+pub use connections::ConnId;
+pub use events::{Event, Events};
+pub use memberships::{MOST_MEMBERS, Member, Members};
+pub use moves::{Cause, Move, Moves};
+pub use records::{Record, Records};
+pub use verdicts::{Reason, Verdict};
