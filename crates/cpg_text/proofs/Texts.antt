@@ -1,0 +1,32 @@
+use Rattle.std.proofs.Common.{◌≡◌, ℕ, ◌+◌, ◌-◌, ◌<◌, ◌≤◌, List, [], ◌∷◌, ◌++◌, length, take, drop, Bool, false, Option, Some, None, refl, ap, append_assoc, arith}
+use Rattle.std.proofs.lemmas.Bool.Decides.{nat_tests}
+use Rattle.std.proofs.lemmas.List.Splits.{slice_split_first, slice_split_none}
+use Rattle.std.proofs.lemmas.List.{take_all, length-drop}
+use Rattle.std.proofs.lemmas.List.Elements.{All-from_get_or}
+use Rattle.std.proofs.lemmas.List.Sums.{fails_before_first}
+use Rattle.std.specs.List.{position, position_or_len}
+use Rattle.cpg_text.specs.Percent.{before}
+use Rattle.cpg_text.specs.Steps.{after}
+use Rattle.cpg_text.specs.Lines.{is_line_feed, lines_of}
+
+-- one byte more in front of what the rest stands for
+pub after_push : (front : List ℕ) (b : ℕ) (o : Option (List ℕ)) → after (front ++ b ∷ []) o ≡ after front (before b o)
+after_push front b None = refl
+after_push front b (Some bs) = ap Some (append_assoc front (b ∷ []) bs)
+
+-- the first place, taken apart
+pub some_position : (p : ℕ → Bool) (text : List ℕ) (end : ℕ) → position p text ≡ Some end → (position_or_len p text < length text) × (position_or_len p text ≡ end)
+some_position p text end e = grind (arith, nat_tests)
+
+-- a line feed at `end` is the first: the line is what stands before it
+pub first_of_lines : (text : List ℕ) (end : ℕ) → position is_line_feed text ≡ Some end → lines_of text ≡ take end text ∷ lines_of (take (length text - (end + 1)) (drop (end + 1) text))
+first_of_lines text end e =
+    let p = some_position is_line_feed text end e in
+    let all = take_all (length text - (end + 1)) (drop (end + 1) text) (omega (arith, length-drop (end + 1) text)) in
+    rw (all, ← p.1) (slice_split_first is_line_feed text 0 p.0)
+
+-- no line feed: the text is the last line
+pub last_of_lines : (text : List ℕ) → position is_line_feed text ≡ None → lines_of text ≡ text ∷ []
+last_of_lines text e =
+    let past : length text ≤ position_or_len is_line_feed text = grind (arith, nat_tests) in
+    slice_split_none is_line_feed text (All-from_get_or (λ x. is_line_feed x ≡ false) text 0 (λ i within. fails_before_first is_line_feed text i 0 (omega arith)))

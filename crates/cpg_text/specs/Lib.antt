@@ -1,0 +1,5 @@
+pub mod Lines
+pub mod Numbers
+pub mod Percent
+pub mod Steps
+pub mod Streams

@@ -1,0 +1,17 @@
+-- steps of the reading functions, which no contract of a public function cites
+use Rattle.std.specs.Prelude.{ℕ, ◌+◌, ◌*◌, ◌-◌, List, [], ◌∷◌, ◌++◌, ◌&&◌, nat_le, if◌then◌else◌, Option, Some, None, option_map}
+use Rattle.std.specs.Char.{is_ascii_digit}
+
+-- the number after one digit more, where it is at most `most`
+abbrev pub one_more : ℕ → ℕ → ℕ → Option ℕ
+one_more most number byte = if is_ascii_digit byte && nat_le (number * 10 + (byte - 48)) most then Some (number * 10 + (byte - 48)) else None
+
+-- the number after all the digits, from the left, where it stays at most `most`
+abbrev pub read_on : ℕ → Option ℕ → List ℕ → Option ℕ
+read_on most None word = None
+read_on most (Some number) [] = Some number
+read_on most (Some number) (byte ∷ word) = read_on most (one_more most number byte) word
+
+-- bytes, and then what the rest stands for
+abbrev pub after : List ℕ → Option (List ℕ) → Option (List ℕ)
+after front more = option_map (λ bytes. front ++ bytes) more

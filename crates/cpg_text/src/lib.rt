@@ -1,0 +1,19 @@
+//! Bytes as text: whole streams, lines, words, numbers, and messages spelled as words.
+//!
+//! The rules are this project's own and are shared by scripts and conf texts. Proved: each reading is the
+//! definition in `specs/` that it names, and what is spelled of a message is read as that message again.
+#![tactic(auto)]
+
+mod laws;
+mod lines;
+mod numbers;
+mod percent;
+mod streams;
+#[cfg(test)]
+mod tests;
+
+pub use laws::reads_what_is_spelled;
+pub use lines::{Lines, first_words, is_ignored, trim};
+pub use numbers::{is_number, push_number, read_number};
+pub use percent::{push_message, read_message};
+pub use streams::{MOST_BYTES, MOST_READS, read_whole, write_whole};

@@ -1,0 +1,71 @@
+//! Numbers as digits, both ways.
+//!
+//! A number is ASCII digits alone, leading zeros allowed. Proved: `read_number` is the definition
+//! `number_in`, however long the word; `push_number` prints a number without leading zeros.
+
+ghost use Rattle.std.specs.Prelude.{◌≡◌, ◌≤◌, ◌++◌, decimal, Some, OnOk, IsOkUnless};
+ghost use Rattle.std.specs.Char.{is_ascii_digit};
+ghost use Rattle.std.specs.List.{list_all};
+ghost use Rattle.cpg_text.specs.Numbers.{is_number, number_in};
+ghost use Rattle.cpg_text.specs.Steps.{one_more, read_on};
+
+use cpg_cred::Refusal;
+use itoa::Buffer;
+
+/// Whether the word is ASCII digits alone, one at least.
+pub fn is_number(word: &[u8]) -> bool
+    ensures { result ≡ is_number word.now }
+{
+    !word.is_empty() && has_digits_alone(word)
+}
+
+fn has_digits_alone(word: &[u8]) -> bool
+    ensures { result ≡ list_all is_ascii_digit word.now }
+{
+    word.iter().all(|byte| byte.is_ascii_digit())
+}
+
+/// The number that the word writes, where it writes one that is `low` to `high`.
+#[tactic(auto, using(crate::proofs::Digits::read_on_is, crate::proofs::Digits::number_found))]
+pub fn read_number(low: u64, high: u64, word: &[u8]) -> Option<u64>
+    ensures { result ≡ number_in low high word.now }
+{
+    if word.is_empty() {
+        return None;
+    }
+    let number = read_on(high, word)?;
+    if low <= number { Some(number) } else { None }
+}
+
+/// The number that the digits write, where it is at most `most`.
+fn read_on(most: u64, word: &[u8]) -> Option<u64>
+    ensures { result ≡ read_on most (Some 0) word.now }
+{
+    let mut number = 0u64;
+    for byte in word {
+        number = one_more(most, number, *byte)?;
+    }
+    Some(number)
+}
+
+/// The number after one digit more, where it is at most `most`.
+fn one_more(most: u64, number: u64, byte: u8) -> Option<u64>
+    ensures { result ≡ one_more most number byte }
+{
+    if !byte.is_ascii_digit() {
+        return None;
+    }
+    let digit = u64::from(byte - b'0');
+    let number = number.checked_mul(10)?.checked_add(digit)?;
+    if number <= most { Some(number) } else { None }
+}
+
+/// Puts the number at the line's end, without leading zeros.
+pub fn push_number(line: &mut Vec<u8>, number: u64) -> Result<(), Refusal>
+    ensures ok { OnOk result (line.new.items ≡ line.old.items ++ decimal number) }
+    ensures memory { IsOkUnless result Refusal.Memory }
+{
+    let mut buffer = Buffer::new();
+    line.extend_from_slice(buffer.format(number).as_bytes())?;
+    Ok(())
+}

@@ -1,0 +1,117 @@
+//! Messages spelled as words, with `%` before the two digits of a byte that can't stand for itself.
+//!
+//! Proved: both directions are the definitions `message_of` and `text_of`.
+
+ghost use Rattle.std.specs.Prelude.{◌≡◌, ◌<◌, ◌++◌, length, OnOk, IfOk, IfSome, MatchOption, IsOkUnless, None, true, option_map};
+ghost use Rattle.std.specs.Fmt.{digit_glyph};
+ghost use Rattle.cpg_text.specs.Percent.{decoded, before, message_of, is_plain, encoded_byte, encoded, text_of};
+
+use cpg_cred::Refusal;
+use std::alloc::Global;
+
+/// The message that the word spells; none for the empty word, and where a `%` lacks two hexadecimal digits
+/// (of either case) after it.
+pub fn read_message(alloc: Global, word: &[u8]) -> Result<Option<Vec<u8>>, Refusal>
+    ensures ok { IfOk result (λ found. option_map (λ message. message.items) found ≡ message_of word.now) }
+    ensures memory { IsOkUnless result Refusal.Memory }
+{
+    match word {
+        [] => Ok(None),
+        [b'-'] => Ok(Some(Vec::new(alloc))),
+        _ => decode(alloc, word),
+    }
+}
+
+/// The bytes that the text stands for.
+#[tactic(auto, using(crate::proofs::Texts::after_push))]
+fn decode(alloc: Global, text: &[u8]) -> Result<Option<Vec<u8>>, Refusal>
+    ensures ok { IfOk result (λ found. option_map (λ bytes. bytes.items) found ≡ decoded text.now) }
+    ensures memory { IsOkUnless result Refusal.Memory }
+{
+    let mut bytes = Vec::new(alloc);
+    let mut rest = text;
+    while !rest.is_empty() {
+        let Some((byte, more)) = first_byte(rest) else {
+            return Ok(None);
+        };
+        bytes.push(byte)?;
+        rest = more;
+    }
+    Ok(Some(bytes))
+}
+
+/// The byte that the front of a text stands for, and what follows.
+fn first_byte(text: &[u8]) -> Option<(u8, &[u8])>
+    requires { 0 < length text.now }
+    ensures is { MatchOption result (decoded text.now ≡ None) (λ found. decoded text.now ≡ before found.0 (decoded found.1.now)) }
+    ensures shorter { IfSome result (λ found. length found.1.now < length text.now) }
+{
+    match text {
+        [b'%', high, low, rest @ ..] => {
+            let high = char::from(*high).to_digit(16)?;
+            let low = char::from(*low).to_digit(16)?;
+            Some(((16 * high + low) as u8, rest))
+        }
+        [b'%', ..] => None,
+        [byte, rest @ ..] => Some((*byte, rest)),
+        [] => None,
+    }
+}
+
+/// Puts the word that spells the message at the line's end.
+pub fn push_message(line: &mut Vec<u8>, message: &[u8]) -> Result<(), Refusal>
+    ensures ok { OnOk result (line.new.items ≡ line.old.items ++ text_of message.now) }
+    ensures memory { IsOkUnless result Refusal.Memory }
+{
+    match message {
+        [] => {
+            line.push(b'-')?;
+            Ok(())
+        }
+        [b'-'] => {
+            line.extend_from_slice(b"%2D")?;
+            Ok(())
+        }
+        _ => push_encoded(line, message),
+    }
+}
+
+fn push_encoded(line: &mut Vec<u8>, message: &[u8]) -> Result<(), Refusal>
+    ensures ok { OnOk result (line.new.items ≡ line.old.items ++ encoded message.now) }
+    ensures memory { IsOkUnless result Refusal.Memory }
+{
+    for byte in message {
+        push_byte(line, *byte)?;
+    }
+    Ok(())
+}
+
+fn push_byte(line: &mut Vec<u8>, byte: u8) -> Result<(), Refusal>
+    ensures ok { OnOk result (line.new.items ≡ line.old.items ++ encoded_byte byte) }
+    ensures memory { IsOkUnless result Refusal.Memory }
+{
+    if is_plain(byte) {
+        line.push(byte)?;
+    } else {
+        line.extend_from_slice(&[b'%', upper_digit(byte / 16), upper_digit(byte % 16)])?;
+    }
+    Ok(())
+}
+
+fn is_plain(byte: u8) -> bool
+    ensures { result ≡ is_plain byte }
+{
+    byte >= b'!' && byte <= b'~' && byte != b'%'
+}
+
+/// The hexadecimal digit, a letter in upper case.
+fn upper_digit(digit: u8) -> u8
+    requires { digit < 16 }
+    ensures { result ≡ digit_glyph true digit }
+{
+    if digit < 10 {
+        b'0' + digit
+    } else {
+        b'A' + (digit - 10)
+    }
+}
