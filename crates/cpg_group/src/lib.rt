@@ -1,0 +1,18 @@
+//! Judging agreed entries: verdicts, members, rules, events and listings of one group service.
+//!
+//! Membership and configuration changes follow CPG (cpg_join(3), cpg_initialize(3)); access rules are this
+//! project's own. Proved: each call of `Policy` is the definition of cpg_record over `judged` of the
+//! entries that it has seen.
+#![tactic(auto)]
+
+mod history;
+mod judging;
+mod policies;
+mod tables;
+mod telling;
+
+pub use cpg_record::{
+    Cause, ConnId, Event, Events, MOST_MEMBERS, Member, Members, Move, Moves, Reason, Record,
+    Records, Verdict,
+};
+pub use policies::{MOST_PLACES, Policy};

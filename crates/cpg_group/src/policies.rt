@@ -1,0 +1,90 @@
+//! The judged entries, and what they come to.
+
+ghost use Rattle.std.specs.Prelude.{◌≡◌, ◌<◌, ◌≤◌, ◌++◌, ◌∷◌, [], length, OnOk, OnErr, IfOk, IfErr, IsOkUnless};
+ghost use Rattle.cpg_record.specs.Events.{events};
+ghost use Rattle.cpg_record.specs.Judging.{judged, most_places, record_of};
+
+use crate::tables::Tables;
+use crate::{judging, telling};
+use cpg_cred::{Refusal, Refused};
+use cpg_entry::Entry;
+use cpg_record::{ConnId, Events, Record};
+use std::alloc::Global;
+use std::marker::Model;
+
+/// How many entries are judged at most.
+pub const MOST_PLACES: usize = 1_048_576;
+
+/// The entries judged so far, in order, each with its record. Contracts see it as the list of entries.
+#[derive(Debug, Drop)]
+pub struct Policy {
+    records: Vec<Record>,
+    tables: Tables,
+}
+
+impl Model for Policy {
+    ghost use Rattle.std.specs.Prelude.{List};
+    ghost use Rattle.cpg_entry.specs.declared.entries.Entry.{Entry};
+    ghost use Rattle.cpg_record.specs.Judging.{entries_of, AreJudged};
+    ghost use Rattle.cpg_group.specs.Tables.{AreCurrent};
+
+    ghost Value = { List Entry };
+
+    ghost view = { λ policy. entries_of policy.records.items };
+
+    ghost invariant = { λ policy. AreJudged policy.records.items × AreCurrent policy.tables policy.records.items };
+}
+
+impl Policy {
+    /// A policy that has judged nothing.
+    pub fn new(alloc: Global) -> Policy
+        ensures { result ≡ [] }
+    {
+        Policy {
+            records: Vec::new(alloc),
+            tables: Tables::new(alloc),
+        }
+    }
+
+    /// The record that the entry would have as the next one.
+    pub fn judge(&self, entry: &Entry) -> Result<Record, Refusal>
+        requires { length self.now < most_places }
+        ensures ok { IfOk result (λ next. next ≡ record_of (judged self.now) entry.now) }
+        ensures memory { IsOkUnless result Refusal.Memory }
+    {
+        judging::judge(
+            *self.records.allocator(),
+            self.records.as_slice(),
+            &self.tables,
+            entry,
+        )
+    }
+
+    /// How many entries were judged.
+    pub fn len(&self) -> usize
+        ensures { result ≡ length self.now }
+    {
+        self.records.len()
+    }
+
+    /// The records, the first of which stands at place 1.
+    pub fn records(&self) -> &[Record]
+        ensures { result.now ≡ judged self.now }
+    {
+        self.records.as_slice()
+    }
+
+    /// What a judged place, from 1, tells a connection.
+    pub fn events_at(&self, place: u32, conn: ConnId) -> Result<Events, Refusal>
+        requires { (1 ≤ place) × (place ≤ length self.now) }
+        ensures ok { IfOk result (λ list. list ≡ events (judged self.now) place conn) }
+        ensures memory { IsOkUnless result Refusal.Memory }
+    {
+        telling::collect_events(
+            *self.records.allocator(),
+            self.records.as_slice(),
+            place,
+            &conn,
+        )
+    }
+}
