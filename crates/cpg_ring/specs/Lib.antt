@@ -4,3 +4,5 @@ pub mod Moves
 pub mod Worlds
 pub mod Claims
 pub mod Laws
+pub mod Rings
+pub mod Kept

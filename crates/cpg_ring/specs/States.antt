@@ -1,6 +1,6 @@
 -- One node of the ring: what it keeps.
-use Rattle.std.specs.Prelude.{◌≡◌, ℕ, ◌≤◌, min, Bool, List, [], ◌∷◌, length, Option, Some, None, is_some}
-use Rattle.std.specs.List.{filter}
+use Rattle.std.specs.Prelude.{◌≡◌, ℕ, ◌≤◌, min, Bool, List, [], ◌∷◌, length, Option, Some, None, is_some, count_by}
+
 use Rattle.std.specs.Ordering.{nat_cmp}
 use Rattle.std.specs.FinMap.{FinMap, get}
 use Rattle.cpg_entry.specs.declared.calls.Op.{Op}
@@ -57,4 +57,4 @@ is_call ops.Gone = Bool.false
 
 -- how many calls are among the entries
 abbrev pub calls : List Entry → ℕ
-calls entries = length (filter (λ e. is_call e.op) entries)
+calls entries = count_by (λ e. is_call e.op) entries

@@ -1,11 +1,16 @@
 //! The ring: the token's visits, the window of places, and the order that all nodes agree on.
 #![tactic(auto)]
 
+mod held;
+mod ring;
 mod settings;
 mod theorem;
+mod visit;
 
 pub use cpg_entry::{Entry, Frame, NodeId, Packet, Refusal, Token};
+pub use ring::Ring;
 pub use settings::{
     BURST, MOST_HOPS, MOST_NODES, MOST_PLACES, MOST_REQUESTS, MOST_WAITING, Settings, WINDOW,
 };
+pub use visit::{Packets, Visit};
 pub use theorem::{every_schedule, every_visit};

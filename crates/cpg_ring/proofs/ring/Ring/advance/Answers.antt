@@ -1,0 +1,8 @@
+use Rattle.std.proofs.Common.{IsSome, sym, subst}
+use Rattle.cpg_ring.specs.Moves.{next_entry}
+use Rattle.cpg_ring.specs.Rings.{Station}
+use Rattle.cpg_ring.proofs.Rings.{one_further}
+use Rattle.cpg_ring.proofs.ring.Ring.advance.Goals as goal
+
+pub invariant_of-self : goal.invariant_of-self
+invariant_of-self c = one_further _ _ _ _ c.self.invariant (subst (λ (x : Station). IsSome (next_entry x.state)) (sym c.self.view_is) c.requires)

@@ -1,0 +1,85 @@
+-- A ring as its calls see it, and what they answer.
+use Rattle.std.specs.Prelude.{◌≡◌, ℕ, ◌≤◌, take, if◌then◌else◌, Option, Some, None, Result, Ok, Err}
+use Rattle.std.specs.FinMap as map
+use Rattle.std.specs.Coded.{Coded, coded_ℕ}
+use Rattle.cpg_cred.specs.declared.refusals.Refusal.TheVariants.{Memory, Range, QueueFull}
+use Rattle.cpg_cred.specs.declared.refusals.Refused.{Refused}
+use Rattle.cpg_entry.specs.contracts.entries.Entry as entry
+use Rattle.cpg_ring.specs.declared.settings.TheConstants.{MOST_PLACES}
+use Rattle.cpg_ring.specs.declared.visit.Visit.{Visit}
+use Rattle.cpg_ring.specs.States.{Entry, Packet, Token, Refusal, Settings, IsSettings, HeldPlaces, NodeState}
+use Rattle.cpg_ring.specs.Visits.{VisitStep, token_refusal, placed, hold_all, visit_step, after_visit}
+use Rattle.cpg_ring.specs.Moves.{data_refusal, is_full, after_data, after_entry, after_delivery, new_node}
+
+-- A node, with its ring's settings.
+pub record Station : Type 0 where
+  pub settings : Settings
+  -- the node's number
+  pub node : ℕ
+  pub state : NodeState
+
+-- how a proof stores what is held
+abbrev pub held_code : Coded HeldPlaces
+held_code = map.code coded_ℕ (entry.the_row).coded
+
+-- the settings are in range, and the ring has such a node
+abbrev pub IsStation : Settings → ℕ → Type 0
+IsStation s n = IsSettings s × (n ≤ s.nodes)
+
+-- a new node of that number
+abbrev pub new_station : Settings → ℕ → Station
+new_station s n = record { settings = s; node = n; state = new_node s n }
+
+-- A new ring, where its settings allow one; Range exactly where they don't.
+abbrev pub IsMade : Settings → ℕ → Result Station Refusal → Type 0
+IsMade s n (Ok ring) = IsStation s n × (ring ≡ new_station s n)
+IsMade s n (Err Range) = ¬ IsStation s n
+IsMade s n (Err Memory) = IsStation s n
+IsMade s n (Err _) = ⊥
+
+-- why the ring refuses a token, if it does
+abbrev pub refusal_of : Station → Token → Option Refusal
+refusal_of x t = token_refusal x.settings x.node x.state t
+
+-- what a visit of the token does at the ring
+abbrev pub step_of : Station → Token → VisitStep
+step_of x t = visit_step x.settings x.node x.state t
+
+-- what it sends
+abbrev pub visit_of : Station → Token → Visit
+visit_of x t = record { packets = (step_of x t).packets; token = (step_of x t).token }
+
+-- the ring in another state
+abbrev pub with_state : Station → NodeState → Station
+with_state x state = record { settings = x.settings; node = x.node; state = state }
+
+-- the ring after the visit
+abbrev pub visited : Station → Token → Station
+visited x t = with_state x (after_visit x.state t (step_of x t))
+
+-- An answer with the first refusal that fits; where none fits, a value, or Memory in its place.
+abbrev pub IsAnswer : {X : Type 0} → Option Refusal → (X → Type 0) → Result X Refusal → Type 0
+IsAnswer refusal P (Ok x) = (refusal ≡ None) × P x
+IsAnswer refusal P (Err Memory) = refusal ≡ None
+IsAnswer refusal P (Err why) = refusal ≡ Some why
+
+-- why the ring refuses data, if it does
+abbrev pub data_refusal_of : Station → Packet → Option Refusal
+data_refusal_of x p = data_refusal x.settings x.state p
+
+-- why the ring refuses a call, if it does
+abbrev pub full_refusal : Station → Option Refusal
+full_refusal x = if is_full x.state then Some QueueFull else None
+
+-- the refusal alone
+abbrev pub answer_of : {X : Type 0} → Result Unit (Refused X) → Result Unit Refusal
+answer_of (Ok x) = Ok x
+answer_of (Err refused) = Err refused.refusal
+
+-- a packet whose place can be spelled in a frame
+abbrev pub IsPacket : Packet → Type 0
+IsPacket p = (1 ≤ p.place) × (p.place ≤ MOST_PLACES)
+
+-- what is held once the first so many waiting entries have the places after seq
+abbrev pub held_after : Station → ℕ → ℕ → HeldPlaces
+held_after x seq count = hold_all x.state.held (placed x.settings seq (take count x.state.waiting))

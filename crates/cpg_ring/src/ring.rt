@@ -1,0 +1,272 @@
+//! One node of the ring: the token's visits, the window, and what waits.
+//!
+//! The visit is that of Totem's single ring; the burst, the window and the limits are this project's own.
+//! Proved: each call is exactly the definition in `specs/`, of which `every_schedule` is proved.
+
+ghost use Rattle.std.specs.Prelude.{None, ◌≡◌, ◌↔◌, ◌+◌, ◌≤◌, ◌<◌, ◌^◌, ◌&&◌, ◌||◌, ◌++◌, ◌∷◌, [], not, length, take, IsTrue, IsSome, OnOk, OnErr, IfOk, IfErr, IsOkUnless, nat_le, nat_lt};
+ghost use Rattle.std.specs.Option.{option_copied};
+ghost use Rattle.cpg_ring.specs.States.{IsSettings, is_held, is_call, calls, safe_mark};
+ghost use Rattle.cpg_ring.specs.Visits.{burst_size, is_past, placed, reach, next_requests, is_own_or_none, next_aru, next_aru_id, next_token};
+ghost use Rattle.cpg_ring.specs.Moves.{is_full, after_data, after_entry, after_delivery, next_entry};
+ghost use Rattle.cpg_ring.specs.Laws.{IsToken};
+ghost use Rattle.cpg_ring.specs.Rings.{IsMade, IsAnswer, answer_of, IsPacket, refusal_of, visit_of, visited, with_state, data_refusal_of, full_refusal, held_after};
+
+use crate::held;
+use crate::settings::{
+    BURST, MOST_HOPS, MOST_NODES, MOST_PLACES, MOST_REQUESTS, MOST_WAITING, Settings, WINDOW,
+};
+use crate::visit::{Packets, Visit};
+use cpg_cred::Refused;
+use cpg_entry::{Entry, NodeId, Op, Packet, Places, Refusal, Token};
+use std::alloc::Global;
+use std::collections::VecDeque;
+use std::marker::Model;
+
+/// One node of the ring. Contracts see it as its settings, its number and its state.
+#[derive(Debug, Drop)]
+pub struct Ring {
+    alloc: Global,
+    settings: Settings,
+    node: NodeId,
+    last: Option<u64>,
+    sent: Option<Token>,
+    held: Vec<(u32, Entry)>,
+    delivered: u32,
+    waiting: VecDeque<Entry>,
+    aru_now: Option<u32>,
+    aru_before: Option<u32>,
+}
+
+impl Model for Ring {
+    ghost use Rattle.cpg_ring.specs.Rings.{Station, held_code};
+    ghost use Rattle.cpg_ring.specs.Kept.{places_of, newest_two, IsKept};
+    ghost use Rattle.std.specs.Coded.{codes};
+
+    ghost Value = { Station };
+
+    ghost coded = { Prim.hlevel (codes, held_code) };
+
+    ghost view = { λ a. record { settings = a.settings; node = a.node; state = record { last = a.last; sent = a.sent; held = places_of a.held.items; delivered = a.delivered; waiting = a.waiting.items; arus = newest_two a.aru_now a.aru_before } } };
+
+    ghost invariant = { λ a. IsKept a.settings a.node a.held.items a.delivered };
+}
+
+fn allows(settings: &Settings) -> bool
+    ensures { IsTrue result ↔ IsSettings settings.now }
+{
+    settings.nodes >= 1
+        && settings.nodes <= MOST_NODES
+        && settings.places >= 1
+        && settings.places <= MOST_PLACES
+        && settings.hops >= 1
+        && settings.hops <= MOST_HOPS
+}
+
+impl Ring {
+    /// A new node of that number: nothing is held, delivered or waiting. Refused with Range where a
+    /// setting is out of its range, or the ring has no such node.
+    pub fn new(alloc: Global, settings: Settings, node: NodeId) -> Result<Ring, Refusal>
+        ensures { IsMade settings node result }
+    {
+        if !allows(&settings) || node.get() > settings.nodes {
+            return Err(Refusal::Range);
+        }
+        let sent = if node.get() == settings.nodes {
+            Some(Token {
+                ring: settings.ring,
+                hop: 0,
+                seq: 0,
+                aru: 0,
+                aru_id: None,
+                rtr: Places::from_vec(Vec::new(alloc)),
+            })
+        } else {
+            None
+        };
+        Ok(Ring {
+            alloc,
+            settings,
+            node,
+            last: None,
+            sent,
+            held: Vec::new(alloc),
+            delivered: 0,
+            waiting: VecDeque::new(alloc),
+            aru_now: None,
+            aru_before: None,
+        })
+    }
+
+    /// The last place that was delivered, 0 before the first.
+    pub fn delivered(&self) -> u32
+        ensures { result ≡ self.now.state.delivered }
+    {
+        self.delivered
+    }
+
+    /// How many entries wait for a place, ends of connections too.
+    pub fn waiting(&self) -> usize
+        ensures { result ≡ length self.now.state.waiting }
+    {
+        self.waiting.len()
+    }
+
+    /// The last token that the node sent; at first the ring's first token at its last node, and none
+    /// elsewhere.
+    pub fn resend(&self) -> Option<&Token>
+        ensures { option_copied result ≡ self.now.state.sent }
+    {
+        self.sent.as_ref()
+    }
+
+    /// The place up to which every node holds all places, in a ring that hears only what it sent.
+    pub fn safe(&self) -> u32
+        ensures { result ≡ safe_mark self.now.state.arus }
+    {
+        match (self.aru_now, self.aru_before) {
+            (Some(now), Some(before)) => now.min(before),
+            _ => 0,
+        }
+    }
+
+    /// The entry at the place after the last delivered one; none exactly where it isn't held.
+    pub fn next_place(&self) -> Option<&Entry>
+        ensures { option_copied result ≡ next_entry self.now.state }
+    {
+        held::entry_at(&self.held, self.delivered + 1)
+    }
+
+    /// Takes the next place as delivered.
+    pub fn advance(&mut self)
+        requires { IsSome (next_entry self.old.state) }
+        ensures { self.new ≡ with_state self.old (after_delivery self.old.state) }
+    {
+        self.delivered += 1;
+    }
+
+    /// Puts a call last among the waiting entries. Refused with QueueFull exactly where 256 calls or more
+    /// wait; ends of connections aren't counted.
+    pub fn enqueue(&mut self, entry: Entry) -> Result<(), Refused<Entry>>
+        ensures answer { IsAnswer (full_refusal self.old) (λ _. self.new ≡ with_state self.old (after_entry self.old.state entry)) (answer_of result) }
+        ensures err { OnErr result (self.new ≡ self.old) }
+        ensures back { IfErr result (λ refused. refused.back ≡ entry) }
+    {
+        if calls_among(&self.waiting) >= MOST_WAITING {
+            return Err(Refused {
+                refusal: Refusal::QueueFull,
+                back: entry,
+            });
+        }
+        self.enqueue_end(entry)
+    }
+
+    /// Puts an entry last among the waiting ones, however many wait.
+    pub fn enqueue_end(&mut self, entry: Entry) -> Result<(), Refused<Entry>>
+        ensures answer { IsAnswer None (λ _. self.new ≡ with_state self.old (after_entry self.old.state entry)) (answer_of result) }
+        ensures err { OnErr result (self.new ≡ self.old) }
+        ensures back { IfErr result (λ refused. refused.back ≡ entry) }
+    {
+        match self.waiting.push_back(entry) {
+            Ok(()) => Ok(()),
+            Err(failed) => Err(Refused {
+                refusal: Refusal::Memory,
+                back: failed.value,
+            }),
+        }
+    }
+
+    fn data_refusal(&self, packet: &Packet) -> Option<Refusal>
+        ensures { result ≡ data_refusal_of self.now packet.now }
+    {
+        if packet.ring != self.settings.ring {
+            return Some(Refusal::Foreign);
+        }
+        if self.settings.places < packet.place {
+            return Some(Refusal::Implausible);
+        }
+        if held::holds(&self.held, packet.place) {
+            return Some(Refusal::Held);
+        }
+        if self.delivered + WINDOW < packet.place {
+            return Some(Refusal::FarAhead);
+        }
+        None
+    }
+
+    /// Holds the packet, or gives it back with the first refusal that fits: Foreign, Implausible, Held,
+    /// FarAhead; then Memory.
+    pub fn on_data(&mut self, packet: Packet) -> Result<(), Refused<Packet>>
+        requires { IsPacket packet }
+        ensures answer { IsAnswer (data_refusal_of self.old packet) (λ _. self.new ≡ with_state self.old (after_data self.old.state packet)) (answer_of result) }
+        ensures err { OnErr result (self.new ≡ self.old) }
+        ensures back { IfErr result (λ refused. refused.back ≡ packet) }
+    {
+        if let Some(refusal) = self.data_refusal(&packet) {
+            return Err(Refused {
+                refusal,
+                back: packet,
+            });
+        }
+        if self.held.reserve(1).is_err() {
+            return Err(Refused {
+                refusal: Refusal::Memory,
+                back: packet,
+            });
+        }
+        self.held.push_reserved((packet.place, packet.entry));
+        Ok(())
+    }
+
+    fn token_refusal(&self, token: &Token) -> Option<Refusal>
+        ensures { result ≡ refusal_of self.now token.now }
+    {
+        if token.ring != self.settings.ring {
+            return Some(Refusal::Foreign);
+        }
+        if token.hop % u64::from(self.settings.nodes) + 1 != u64::from(self.node.get()) {
+            return Some(Refusal::NotMine);
+        }
+        if is_past(token.hop, self.last) {
+            return Some(Refusal::Stale);
+        }
+        if held::holds_above(&self.held, token.seq) || self.settings.places < token.seq {
+            return Some(Refusal::Implausible);
+        }
+        if self.settings.hops <= token.hop {
+            return Some(Refusal::RingEnd);
+        }
+        None
+    }
+
+    /// How many waiting entries take places after `seq`.
+    fn burst_size(&self, seq: u32) -> u32
+        ensures { result ≡ burst_size self.now.settings self.now.state seq }
+    {
+        let ready = self.waiting.len().min(BURST) as u32;
+        let places = self.settings.places.saturating_sub(seq);
+        let window = (self.delivered + WINDOW).saturating_sub(seq);
+        ready.min(places.min(window))
+    }
+}
+
+/// Whether that hop or a later one was accepted.
+fn is_past(hop: u64, last: Option<u64>) -> bool
+    ensures { result ≡ is_past hop last }
+{
+    match last {
+        None => false,
+        Some(last) => hop <= last,
+    }
+}
+
+fn is_call(entry: &Entry) -> bool
+    ensures { result ≡ is_call entry.now.op }
+{
+    matches!(entry.op, Op::Act(_))
+}
+
+fn calls_among(entries: &VecDeque<Entry>) -> usize
+    ensures { result ≡ calls entries.now.items }
+{
+    entries.iter().filter(|entry| is_call(entry)).count()
+}
