@@ -1,27 +1,26 @@
--- From what a reader answers to the two directions of the grammar.
-use Rattle.std.proofs.Common.{◌≡◌, ℕ, List, Option, Some, None, Result, Ok, Err, ◌⊎◌, refl, sym, ap, ◌∙◌, inl, inr}
-use Rattle.std.specs.Prelude.{IfOk, IfErr, IsSome}
+-- From what a decoder answers to what the grammar says.
+use Rattle.std.proofs.Common.{◌≡◌, ℕ, List, Result, Ok, Err, ◌⊎◌, refl, inl, inr}
+use Rattle.std.specs.Prelude.{IfOk, IfErr}
 use Rattle.cpg_cred.specs.declared.refusals.Refusal.{Refusal}
 use Rattle.cpg_cred.specs.declared.refusals.Refusal.TheVariants.{Memory, Malformed}
 use Rattle.cpg_entry.specs.declared.frames.Frame.{Frame}
-use Rattle.cpg_wire.specs.Spelling.{Spells}
-use Rattle.cpg_wire.specs.Reading.{frame_of}
 use Rattle.cpg_wire.specs.Answering.{Answers}
-use Rattle.cpg_wire.proofs.Readers.{IsBytes, some_is}
-use Rattle.cpg_wire.proofs.Frames.{spelled_is_read, read_is_spelled}
+use Rattle.cpg_wire.specs.Ranges.{IsFrame}
+use Rattle.cpg_wire.specs.Reading.{frame_of}
+use Rattle.cpg_wire.specs.Spelling.{Spells}
+use Rattle.cpg_wire.proofs.Readers.{IsBytes}
+use Rattle.cpg_wire.proofs.ReadsFrames.{spelled_is_read, read_is_spelled}
 
-pub found : (bytes : List ℕ) (r : Result Frame Refusal) → IsBytes bytes → Answers r (frame_of bytes) → IfOk r (λ f. Spells bytes f)
-found bytes (Ok f) fits h = read_is_spelled bytes f fits h
-found bytes (Err e) fits h = tt
+pub found : (bytes : List ℕ) (answer : Result Frame Refusal) → IsBytes bytes → Answers answer (frame_of bytes) → IfOk answer (λ frame. Spells bytes frame)
+found bytes (Ok frame) fits h = read_is_spelled bytes frame fits h
+found bytes (Err refusal) fits h = tt
 
-pub only : (bytes : List ℕ) (r : Result Frame Refusal) → Answers r (frame_of bytes) → (f : Frame) → Spells bytes f → (r ≡ Ok f) ⊎ (r ≡ Err Memory)
-only bytes (Ok g) h f s = inl (ap (λ (x : Frame). Ok x) (some_is g f (sym h ∙ spelled_is_read bytes f s)))
-only bytes (Err Memory) h f s = inr refl
-only bytes (Err Malformed) h f s = let e = spelled_is_read bytes f s in absurd (cc (h, e))
-only bytes (Err _) h f s = absurd h
+pub refused : (bytes : List ℕ) (answer : Result Frame Refusal) → Answers answer (frame_of bytes) → IfErr answer (λ refusal. (refusal ≡ Memory) ⊎ ((refusal ≡ Malformed) × ((frame : Frame) → Spells bytes frame → ⊥)))
+refused bytes (Ok frame) h = tt
+refused bytes (Err Memory) h = inl refl
+refused bytes (Err Malformed) h = inr (refl, λ frame spelled. let e = spelled_is_read bytes frame spelled in cc (h, e))
+refused bytes (Err _) h = absurd h
 
-pub none : (bytes : List ℕ) (r : Result Frame Refusal) → Answers r (frame_of bytes) → IfErr r (λ e. (e ≡ Memory) ⊎ ((e ≡ Malformed) × ((f : Frame) → Spells bytes f → ⊥)))
-none bytes (Ok g) h = tt
-none bytes (Err Memory) h = inl refl
-none bytes (Err Malformed) h = inr (refl, λ f s. let e = spelled_is_read bytes f s in cc (h, e))
-none bytes (Err _) h = absurd h
+pub in_range : (bytes : List ℕ) (answer : Result Frame Refusal) → IfOk answer (λ frame. Spells bytes frame) → IfOk answer IsFrame
+in_range bytes (Ok frame) h = h.1.0
+in_range bytes (Err refusal) h = tt

@@ -1,12 +1,12 @@
--- What a reader that may lack memory answers.
+-- what a decoder answers where memory may be refused
 use Rattle.std.specs.Prelude.{◌≡◌, Option, Some, None, Result, Ok, Err, IsSome}
 use Rattle.cpg_cred.specs.declared.refusals.Refusal.{Refusal}
 use Rattle.cpg_cred.specs.declared.refusals.Refusal.TheVariants.{Memory, Malformed}
 use Rattle.cpg_entry.specs.declared.frames.Frame.{Frame}
 
--- the frame, or why there is none: memory is wanting only where the bytes spell one
+-- the frame that was read, or Malformed where none was; memory is asked for, and may be refused, only for a frame
 abbrev pub Answers : Result Frame Refusal → Option Frame → Type 0
-Answers (Ok f) read = read ≡ Some f
+Answers (Ok frame) read = read ≡ Some frame
 Answers (Err Memory) read = IsSome read
 Answers (Err Malformed) read = read ≡ None
 Answers (Err _) read = ⊥

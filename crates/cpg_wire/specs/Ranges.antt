@@ -1,10 +1,8 @@
--- What a frame's fields may be.
-use Rattle.std.specs.Prelude.{◌≡◌, ℕ, ◌+◌, ◌^◌, ◌<◌, ◌≤◌, Bool, ◌&&◌, List, [], ◌∷◌, length, Option, Some, None, IfSome, IsTrue}
-use Rattle.std.specs.List.{list_all}
-use Rattle.std.specs.Int.{is_in_range}
+-- What the fields of a frame may be, by this project's own limits.
+use Rattle.std.specs.Prelude.{ℕ, ◌+◌, ◌<◌, ◌≤◌, List, [], ◌∷◌, length, Option, Some, None, IfSome}
 use Rattle.cpg_rules.specs.declared.rules.Who.{Who}
 use Rattle.cpg_rules.specs.declared.rules.Rule.{Rule}
-use Rattle.cpg_cred.specs.declared.credentials.Cred.{Cred}
+use Rattle.cpg_entry.specs.Names.{IsName}
 use Rattle.cpg_entry.specs.declared.calls.Call.{Call}
 use Rattle.cpg_entry.specs.declared.calls.Call.TheVariants.{Join, Leave, Send, Insert, Remove}
 use Rattle.cpg_entry.specs.declared.calls.Op.{Op}
@@ -14,83 +12,127 @@ use Rattle.cpg_entry.specs.declared.frames.Packet.{Packet}
 use Rattle.cpg_entry.specs.declared.frames.Token.{Token}
 use Rattle.cpg_entry.specs.declared.frames.Frame.{Frame}
 use Rattle.cpg_entry.specs.declared.frames.Frame.TheVariants as frames
-use Rattle.cpg_wire.specs.declared.version.Version.{Version}
-use Rattle.cpg_wire.specs.declared.version.Version.TheVariants.{One, Two}
+use Rattle.cpg_wire.specs.declared.codes.Version.{Version}
+use Rattle.cpg_wire.specs.declared.codes.Version.TheVariants.{One, Two}
 
+-- how many bytes a name has at most
+abbrev pub most_name_bytes : ℕ
+most_name_bytes = 128
+
+-- how many bytes a message has at most
+abbrev pub most_message_bytes : ℕ
+most_message_bytes = 8192
+
+-- the last place that a ring may have
+abbrev pub most_places : ℕ
+most_places = 1048576
+
+-- the last hop that a ring may have, 2 ^ 62
+abbrev pub most_hops : ℕ
+most_hops = 4611686018427387904
+
+-- how many places a token asks for at most
+abbrev pub most_requests : ℕ
+most_requests = 32
+
+-- the greatest number of four bytes
+abbrev pub most_u32 : ℕ
+most_u32 = 4294967295
+
+-- a number from low to high
 abbrev pub Within : ℕ → ℕ → ℕ → Type 0
-Within low high n = (low ≤ n) × (n ≤ high)
+Within low high number = (low ≤ number) × (number ≤ high)
 
--- bytes of 0x21 to 0x7E
-abbrev pub is_visible : List ℕ → Bool
-is_visible bytes = list_all (is_in_range 0x21 0x7E) bytes
+-- a number of four bytes
+abbrev pub IsU32 : ℕ → Type 0
+IsU32 number = Within 0 most_u32 number
 
-abbrev pub is_name : List ℕ → Bool
-is_name bytes = is_in_range 1 128 (length bytes) && is_visible bytes
-
-abbrev pub IsName : List ℕ → Type 0
-IsName bytes = Within 1 128 (length bytes) × (is_visible bytes ≡ Bool.true)
-
-abbrev pub IsNumber : ℕ → Type 0
-IsNumber n = Within 0 4294967295 n
-
+-- the number of a node
 abbrev pub IsNode : ℕ → Type 0
-IsNode n = Within 1 8 n
+IsNode number = Within 1 8 number
 
--- how many conditions that is
+-- whom a rule may speak of
+pub record IsWho (who : Who) : Type 0 where
+  pub uid : IfSome who.uid IsU32
+  pub gid : IfSome who.gid IsU32
+  pub node : IfSome who.node IsNode
+
+-- what a member may ask
+abbrev pub IsCall : Call → Type 0
+IsCall (Join name) = IsName name
+IsCall Leave = Unit {0}
+IsCall (Send message) = length message ≤ most_message_bytes
+IsCall (Insert name position rule) = IsName name × Within 0 255 position × IsWho rule.who
+IsCall (Remove name id) = IsName name × IsU32 id
+
+-- a call, or the end of a connection
+abbrev pub IsOp : Op → Type 0
+IsOp (Act call) = IsCall call
+IsOp Gone = Unit {0}
+
+-- what one connection may ask: connections are numbered from 1
+pub record IsEntry (entry : Entry) : Type 0 where
+  pub node : IsNode entry.node
+  pub conn : Within 1 65535 entry.conn
+  pub pid : IsU32 entry.pid
+  pub uid : IsU32 entry.cred.uid
+  pub gid : IsU32 entry.cred.gid
+  pub op : IsOp entry.op
+
+-- an entry at its place, which is counted from 1
+pub record IsPacket (packet : Packet) : Type 0 where
+  pub ring : IsU32 packet.ring
+  pub place : Within 1 most_places packet.place
+  pub entry : IsEntry packet.entry
+
+-- each number is greater than the one before it, the first than low, and the last is at most high
+abbrev pub Ascends : ℕ → ℕ → List ℕ → Type 0
+Ascends low high [] = Unit {0}
+Ascends low high (number ∷ numbers) = (low < number) × (number ≤ high) × Ascends number high numbers
+
+-- Totem's token: aru is at most seq, and it asks for places up to seq, each once and in order
+pub record IsToken (token : Token) : Type 0 where
+  pub ring : IsU32 token.ring
+  pub hop : Within 0 most_hops token.hop
+  pub seq : Within 0 most_places token.seq
+  pub aru : Within 0 token.seq token.aru
+  pub aru_id : IfSome token.aru_id IsNode
+  pub count : length token.rtr ≤ most_requests
+  pub rtr : Ascends 0 token.seq token.rtr
+
+-- what a frame may carry
+abbrev pub IsFrame : Frame → Type 0
+IsFrame (frames.Packet packet) = IsPacket packet
+IsFrame (frames.Token token) = IsToken token
+
+-- 1 for a condition that is there
 abbrev pub given : Option ℕ → ℕ
 given None = 0
-given (Some n) = 1
+given (Some number) = 1
 
+-- how many conditions a who has
 abbrev pub conditions : Who → ℕ
-conditions w = given w.uid + given w.gid + given w.node
+conditions who = given who.uid + given who.gid + given who.node
 
 -- version 1 has room for one condition
 abbrev pub HasRoom : Version → Who → Type 0
-HasRoom One w = conditions w ≤ 1
-HasRoom Two w = Unit {0}
+HasRoom One who = conditions who ≤ 1
+HasRoom Two who = Unit {0}
 
-pub record IsWho (v : Version) (w : Who) : Type 0 where
-  pub uid : IfSome w.uid IsNumber
-  pub gid : IfSome w.gid IsNumber
-  pub node : IfSome w.node IsNode
-  pub room : HasRoom v w
+-- the rule that an op puts into a table, if any
+abbrev pub rule_in : Op → Option Rule
+rule_in (Act (Join name)) = None
+rule_in (Act Leave) = None
+rule_in (Act (Send message)) = None
+rule_in (Act (Insert name position rule)) = Some rule
+rule_in (Act (Remove name id)) = None
+rule_in Gone = None
 
-abbrev pub IsCall : Version → Call → Type 0
-IsCall v (Join g) = IsName g
-IsCall v Leave = Unit {0}
-IsCall v (Send m) = length m ≤ 8192
-IsCall v (Insert g p r) = IsName g × Within 0 255 p × IsWho v r.who
-IsCall v (Remove g i) = IsName g × IsNumber i
+-- the version has room for the rule in the op, if any
+abbrev pub FitsOp : Version → Op → Type 0
+FitsOp version op = IfSome (rule_in op) (λ rule. HasRoom version rule.who)
 
-abbrev pub IsOp : Version → Op → Type 0
-IsOp v (Act call) = IsCall v call
-IsOp v Gone = Unit {0}
-
-pub record IsPacket (v : Version) (p : Packet) : Type 0 where
-  pub ring : IsNumber p.ring
-  pub place : Within 1 1048576 p.place
-  pub node : IsNode p.entry.node
-  pub conn : Within 1 65535 p.entry.conn
-  pub pid : IsNumber p.entry.pid
-  pub uid : IsNumber p.entry.cred.uid
-  pub gid : IsNumber p.entry.cred.gid
-  pub op : IsOp v p.entry.op
-
--- strictly ascending, above low and at most high
-abbrev pub Ascends : ℕ → ℕ → List ℕ → Type 0
-Ascends low high [] = Unit {0}
-Ascends low high (n ∷ ns) = (low < n) × (n ≤ high) × Ascends n high ns
-
-pub record IsToken (t : Token) : Type 0 where
-  pub ring : IsNumber t.ring
-  pub hop : Within 0 4611686018427387904 t.hop
-  pub seq : Within 0 1048576 t.seq
-  pub aru : Within 0 t.seq t.aru
-  pub aru_id : IfSome t.aru_id IsNode
-  pub count : length t.rtr ≤ 32
-  pub rtr : Ascends 0 t.seq t.rtr
-
--- what has a spelling of that version
-abbrev pub IsFrame : Version → Frame → Type 0
-IsFrame v (frames.Packet p) = IsPacket v p
-IsFrame v (frames.Token t) = IsToken t
+-- the version has room for the rule in the frame, if any
+abbrev pub Fits : Version → Frame → Type 0
+Fits version (frames.Packet packet) = FitsOp version packet.entry.op
+Fits version (frames.Token token) = Unit {0}

@@ -1,111 +1,117 @@
--- The spellings of a frame.
-use Rattle.std.specs.Prelude.{◌≡◌, ℕ, ◌+◌, ◌≤◌, List, [], ◌∷◌, ◌++◌, length, Option, Some, None}
+-- Frames as bytes, by this project's own grammar: all numbers are big-endian, the two versions differ in
+-- their byte and in how a rule is spelled, and nothing follows the last part.
+use Rattle.std.specs.Prelude.{◌≡◌, ℕ, List, [], ◌∷◌, ◌++◌, length, Option, Some, None}
 use Rattle.std.specs.List.{flat_map}
 use Rattle.std.specs.Int.{w16, w32, w64, to_be_bytes}
-use Rattle.cpg_rules.specs.declared.rules.Effect.{Effect}
-use Rattle.cpg_rules.specs.declared.rules.Effect.TheVariants.{Allow, Deny}
-use Rattle.cpg_rules.specs.declared.rules.Right.{Right}
-use Rattle.cpg_rules.specs.declared.rules.Right.TheVariants as rights
+use Rattle.cpg_cred.specs.declared.credentials.Cred.{Cred}
 use Rattle.cpg_rules.specs.declared.rules.Who.{Who}
 use Rattle.cpg_rules.specs.declared.rules.Rule.{Rule}
 use Rattle.cpg_entry.specs.declared.calls.Call.{Call}
 use Rattle.cpg_entry.specs.declared.calls.Call.TheVariants.{Join, Leave, Send, Insert, Remove}
 use Rattle.cpg_entry.specs.declared.calls.Op.{Op}
 use Rattle.cpg_entry.specs.declared.calls.Op.TheVariants.{Act, Gone}
-use Rattle.cpg_cred.specs.declared.credentials.Cred.{Cred}
 use Rattle.cpg_entry.specs.declared.entries.Entry.{Entry}
 use Rattle.cpg_entry.specs.declared.frames.Packet.{Packet}
 use Rattle.cpg_entry.specs.declared.frames.Token.{Token}
 use Rattle.cpg_entry.specs.declared.frames.Frame.{Frame}
 use Rattle.cpg_entry.specs.declared.frames.Frame.TheVariants as frames
-use Rattle.cpg_wire.specs.declared.version.Version.{Version}
-use Rattle.cpg_wire.specs.declared.version.Version.TheVariants.{One, Two}
-use Rattle.cpg_wire.specs.Ranges.{given, conditions, IsFrame}
+use Rattle.cpg_wire.specs.declared.codes.Version.{Version}
+use Rattle.cpg_wire.specs.declared.codes.Version.TheVariants.{One, Two}
+use Rattle.cpg_wire.specs.declared.codes.Kind.TheVariants as kinds
+use Rattle.cpg_wire.specs.declared.codes.OpCode.TheVariants as ops
+use Rattle.cpg_wire.specs.declared.codes.Subject.{Subject}
+use Rattle.cpg_wire.specs.declared.codes.Subject.TheVariants as subjects
+use Rattle.cpg_wire.specs.Codes.{mark, version_code, kind_code, op_code, effect_code, right_code, subject_code}
+use Rattle.cpg_wire.specs.Ranges.{conditions, IsFrame, Fits}
 
-abbrev pub version : Version → ℕ
-version One = 1
-version Two = 2
+-- a group's name (cpg_name of cpg_initialize(3)): its length in one byte, then its bytes
+abbrev pub name_bytes : List ℕ → List ℕ
+name_bytes name = length name ∷ name
 
-abbrev pub effect : Effect → ℕ
-effect Allow = 1
-effect Deny = 2
+-- a message (cpg_mcast_joined(3)): its length in two bytes, then its bytes
+abbrev pub message_bytes : List ℕ → List ℕ
+message_bytes message = to_be_bytes w16 (length message) ++ message
 
-abbrev pub right : Right → ℕ
-right rights.Join = 1
-right rights.Send = 2
-right rights.List = 3
-right rights.Edit = 4
+-- a condition of version 2, where it is there: what it speaks of, then the value
+abbrev pub condition_bytes : Subject → Option ℕ → List ℕ
+condition_bytes subject None = []
+condition_bytes subject (Some value) = subject_code subject ∷ to_be_bytes w32 value
 
-abbrev pub number : ℕ → List ℕ
-number n = to_be_bytes w32 n
+-- the one condition of version 1, the first that is there; 'any' with the value 0 where none is
+abbrev pub single_bytes : Option ℕ → Option ℕ → Option ℕ → List ℕ
+single_bytes None None None = subject_code subjects.Any ∷ to_be_bytes w32 0
+single_bytes (Some uid) _ _ = subject_code subjects.Uid ∷ to_be_bytes w32 uid
+single_bytes None (Some gid) _ = subject_code subjects.Gid ∷ to_be_bytes w32 gid
+single_bytes None None (Some node) = subject_code subjects.Node ∷ to_be_bytes w32 node
 
--- one byte of length, and that many bytes
-abbrev pub name : List ℕ → List ℕ
-name bytes = length bytes ∷ bytes
+-- whom a rule speaks of: the one condition, or how many there are and then each, in the order uid, gid, node
+abbrev pub who_bytes : Version → Who → List ℕ
+who_bytes One who = single_bytes who.uid who.gid who.node
+who_bytes Two who = conditions who ∷ (condition_bytes subjects.Uid who.uid ++ (condition_bytes subjects.Gid who.gid ++ condition_bytes subjects.Node who.node))
 
--- two bytes of length, and that many bytes
-abbrev pub message : List ℕ → List ℕ
-message bytes = to_be_bytes w16 (length bytes) ++ bytes
+-- an access rule
+abbrev pub rule_bytes : Version → Rule → List ℕ
+rule_bytes version rule = effect_code rule.effect ∷ right_code rule.right ∷ who_bytes version rule.who
 
-abbrev pub condition : ℕ → Option ℕ → List ℕ
-condition kind None = []
-condition kind (Some n) = kind ∷ to_be_bytes w32 n
+-- what a member asks (cpg_join(3), cpg_leave(3), cpg_mcast_joined(3), and our own edits of a table)
+abbrev pub call_bytes : Version → Call → List ℕ
+call_bytes version (Join name) = op_code ops.Join ∷ name_bytes name
+call_bytes version Leave = op_code ops.Leave ∷ []
+call_bytes version (Send message) = op_code ops.Send ∷ message_bytes message
+call_bytes version (Insert name position rule) = op_code ops.Insert ∷ (name_bytes name ++ (position ∷ rule_bytes version rule))
+call_bytes version (Remove name id) = op_code ops.Remove ∷ (name_bytes name ++ to_be_bytes w32 id)
 
--- the one condition, if any
-abbrev pub single : Option ℕ → Option ℕ → Option ℕ → List ℕ
-single None None None = 0 ∷ to_be_bytes w32 0
-single (Some n) g m = 1 ∷ to_be_bytes w32 n
-single None (Some n) m = 2 ∷ to_be_bytes w32 n
-single None None (Some n) = 3 ∷ to_be_bytes w32 n
+-- a call, or the end of a connection
+abbrev pub op_bytes : Version → Op → List ℕ
+op_bytes version (Act call) = call_bytes version call
+op_bytes version Gone = op_code ops.Gone ∷ []
 
-abbrev pub who : Version → Who → List ℕ
-who One w = single w.uid w.gid w.node
-who Two w = conditions w ∷ (condition 1 w.uid ++ (condition 2 w.gid ++ condition 3 w.node))
+-- the sender: node and process as in cpg_address of cpg_initialize(3), with our own number of the connection
+abbrev pub sender_bytes : Entry → List ℕ
+sender_bytes entry = entry.node ∷ (to_be_bytes w16 entry.conn ++ to_be_bytes w32 entry.pid)
 
-abbrev pub rule : Version → Rule → List ℕ
-rule v r = effect r.effect ∷ right r.right ∷ who v r.who
+-- the user and the group of the sender
+abbrev pub cred_bytes : Cred → List ℕ
+cred_bytes cred = to_be_bytes w32 cred.uid ++ to_be_bytes w32 cred.gid
 
-abbrev pub call : Version → Call → List ℕ
-call v (Join g) = 1 ∷ name g
-call v Leave = 2 ∷ []
-call v (Send m) = 3 ∷ message m
-call v (Insert g p r) = 4 ∷ (name g ++ (p ∷ rule v r))
-call v (Remove g i) = 5 ∷ (name g ++ to_be_bytes w32 i)
+-- an entry at its place, the sequence number of Totem's message
+abbrev pub packet_bytes : Version → Packet → List ℕ
+packet_bytes version packet = to_be_bytes w32 packet.place ++ (sender_bytes packet.entry ++ (cred_bytes packet.entry.cred ++ op_bytes version packet.entry.op))
 
-abbrev pub op : Version → Op → List ℕ
-op v (Act c) = call v c
-op v Gone = 6 ∷ []
+-- the node that lowered aru (Totem's aru_id), 0 for none
+abbrev pub owner_code : Option ℕ → ℕ
+owner_code None = 0
+owner_code (Some node) = node
 
-abbrev pub sender : Entry → List ℕ
-sender e = e.node ∷ (to_be_bytes w16 e.conn ++ to_be_bytes w32 e.pid)
+-- Totem's seq and aru
+abbrev pub reach_bytes : Token → List ℕ
+reach_bytes token = to_be_bytes w32 token.seq ++ to_be_bytes w32 token.aru
 
-abbrev pub cred : Cred → List ℕ
-cred c = to_be_bytes w32 c.uid ++ to_be_bytes w32 c.gid
+-- the places that are asked for (Totem's rtr): how many, then each
+abbrev pub places_bytes : List ℕ → List ℕ
+places_bytes places = length places ∷ flat_map (to_be_bytes w32) places
 
-abbrev pub packet : Version → Packet → List ℕ
-packet v p = to_be_bytes w32 p.place ++ (sender p.entry ++ (cred p.entry.cred ++ op v p.entry.op))
+-- Totem's aru_id and rtr
+abbrev pub wants_bytes : Token → List ℕ
+wants_bytes token = owner_code token.aru_id ∷ places_bytes token.rtr
 
--- 0 for none
-abbrev pub owner : Option ℕ → ℕ
-owner None = 0
-owner (Some n) = n
+-- Totem's token: its hop (token_seq), how far the places reach, and what is wanted
+abbrev pub token_bytes : Token → List ℕ
+token_bytes token = to_be_bytes w64 token.hop ++ (reach_bytes token ++ wants_bytes token)
 
-abbrev pub places : List ℕ → List ℕ
-places ns = length ns ∷ flat_map (to_be_bytes w32) ns
-
-abbrev pub reach : Token → List ℕ
-reach t = to_be_bytes w32 t.seq ++ to_be_bytes w32 t.aru
-
-abbrev pub wants : Token → List ℕ
-wants t = owner t.aru_id ∷ places t.rtr
-
-abbrev pub token : Token → List ℕ
-token t = to_be_bytes w64 t.hop ++ (reach t ++ wants t)
-
+-- a frame: the mark, the version, what it carries, the ring's number (Totem's ring identifier), and that
 abbrev pub spelling : Version → Frame → List ℕ
-spelling v (frames.Packet p) = 0x43 ∷ version v ∷ 1 ∷ (to_be_bytes w32 p.ring ++ packet v p)
-spelling v (frames.Token t) = 0x43 ∷ version v ∷ 2 ∷ (to_be_bytes w32 t.ring ++ token t)
+spelling version (frames.Packet packet) = mark ∷ version_code version ∷ kind_code kinds.Data ∷ (to_be_bytes w32 packet.ring ++ packet_bytes version packet)
+spelling version (frames.Token token) = mark ∷ version_code version ∷ kind_code kinds.Token ∷ (to_be_bytes w32 token.ring ++ token_bytes token)
+
+-- the bytes are the frame in that version
+abbrev pub SpellsIn : Version → List ℕ → Frame → Type 0
+SpellsIn version bytes frame = IsFrame frame × Fits version frame × (bytes ≡ spelling version frame)
 
 -- the bytes are the frame, in one version or the other
 abbrev pub Spells : List ℕ → Frame → Type 0
-Spells bytes f = (v : Version) × IsFrame v f × (bytes ≡ spelling v f)
+Spells bytes frame = (version : Version) × SpellsIn version bytes frame
+
+-- the frame has one spelling of that version, and no other
+abbrev pub HasOneSpelling : Version → Frame → Type 0
+HasOneSpelling version frame = (bytes : List ℕ) × SpellsIn version bytes frame × ((other : List ℕ) → SpellsIn version other frame → other ≡ bytes)

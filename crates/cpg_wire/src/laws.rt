@@ -1,24 +1,27 @@
-//! Laws of the definitions.
+//! Laws of the grammar, as contracts of functions that do nothing.
 
-ghost use Rattle.std.specs.Prelude.{◌≡◌, ℕ, ◌<◌, List, Some, slice_index};
+ghost use Rattle.std.specs.Prelude.{◌≡◌, ◌<◌, ◌↔◌, ℕ, List, Some, slice_index};
 ghost use Rattle.cpg_entry.specs.declared.frames.Frame.{Frame};
-ghost use Rattle.cpg_wire.specs.declared.version.Version.{Version};
-ghost use Rattle.cpg_wire.specs.Ranges.{IsFrame};
-ghost use Rattle.cpg_wire.specs.Spelling.{Spells, spelling};
+ghost use Rattle.cpg_wire.specs.declared.codes.Version.{Version};
+ghost use Rattle.cpg_wire.specs.declared.codes.Version.TheVariants.{One, Two};
+ghost use Rattle.cpg_wire.specs.Ranges.{IsFrame, Fits};
 ghost use Rattle.cpg_wire.specs.Reading.{frame_of};
+ghost use Rattle.cpg_wire.specs.Spelling.{Spells, spelling, HasOneSpelling};
 
 /// No bytes spell two frames.
-pub fn one_frame()
-    ensures { (bytes : List ℕ) (f g : Frame) → Spells bytes f → Spells bytes g → f ≡ g }
+pub fn spells_one_frame()
+    ensures { (bytes : List ℕ) (one other : Frame) → Spells bytes one → Spells bytes other → one ≡ other }
 {}
 
-/// What has a spelling is read from it.
-pub fn spelling_is_read()
-    ensures { (v : Version) (f : Frame) → IsFrame v f → frame_of (spelling v f) ≡ Some f }
+/// A frame within its ranges has exactly one spelling of version 2, and exactly one of version 1 where the
+/// rule in it, if any, has at most one condition.
+pub fn has_one_spelling()
+    ensures two { (frame : Frame) → IsFrame frame → HasOneSpelling Two frame }
+    ensures one { (frame : Frame) → IsFrame frame → Fits One frame → HasOneSpelling One frame }
 {}
 
-/// What is read is spelled so, and what is spelled so is read.
-pub fn read_exactly()
-    ensures reads { (bytes : List ℕ) (f : Frame) → Spells bytes f → frame_of bytes ≡ Some f }
-    ensures spelled { (bytes : List ℕ) (f : Frame) → ((i : ℕ) → slice_index bytes i < 256) → frame_of bytes ≡ Some f → Spells bytes f }
+/// Reading bytes gives a frame exactly where they spell it.
+pub fn reads_what_is_spelled()
+    ensures exact { (bytes : List ℕ) (frame : Frame) → ((i : ℕ) → slice_index bytes i < 256) → (frame_of bytes ≡ Some frame) ↔ Spells bytes frame }
+    ensures again { (version : Version) (frame : Frame) → IsFrame frame → Fits version frame → frame_of (spelling version frame) ≡ Some frame }
 {}

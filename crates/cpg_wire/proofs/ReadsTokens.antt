@@ -1,55 +1,28 @@
--- Names, messages, credentials and tokens.
-use Rattle.std.proofs.Common.{◌≡◌, ℕ, zero, suc, ◌+◌, ◌^◌, ◌<◌, ◌≤◌, Bool, true, false, cond, List, [], ◌∷◌, ◌++◌, length, take, drop, Option, Some, None, refl, sym, ap, subst, ◌∙◌, append_assoc, arith}
+-- Tokens.
+use Rattle.std.proofs.Common.{◌≡◌, ℕ, zero, suc, ◌+◌, ◌^◌, ◌<◌, ◌≤◌, List, [], ◌∷◌, ◌++◌, length, Option, Some, None, refl, sym, ap, subst, ◌∙◌, append_assoc, arith}
 use Rattle.std.specs.Prelude.{IfSome}
 use Rattle.std.specs.List.{flat_map}
-use Rattle.std.specs.Int.{w16, w32, w64, to_be_bytes}
-use Rattle.std.proofs.lemmas.List.Concat.{flat_map-cons}
-use Rattle.cpg_cred.specs.declared.credentials.Cred.{Cred}
+use Rattle.std.specs.Int.{w32, w64, to_be_bytes}
 use Rattle.cpg_entry.specs.declared.frames.Token.{Token}
-use Rattle.cpg_wire.specs.Ranges.{Within, is_visible, IsName, IsNumber, IsNode, Ascends, IsToken}
-use Rattle.cpg_wire.specs.Spelling.{name, message, cred, owner, places, reach, wants, token}
-use Rattle.cpg_wire.specs.Reading.{◌>>=◌, number_at, byte_at, text_at, visible_at, name_at, message_at, u32_at, cred_at, reach_at, owner_of, owner_at, places_at, rtr_at, token_at}
-use Rattle.cpg_wire.proofs.Readers.{IsBytes, bind_some, some_is, Takes, Takes-then, Reads, reads1, reads2, reads3, reads4, reads_then}
-use Rattle.cpg_wire.proofs.Numbers.{wide16, wide32, wide64, number_reads, byte_reads, text_reads, visible_reads}
-
-pub name_reads : Reads (List ℕ) name_at name IsName
-unfolding name_at
-name_reads = reads_then ℕ (List ℕ) (byte_at 1 128) (λ n. n ∷ []) (Within 1 128) (byte_reads 1 128)
-    visible_at (λ t. t) (λ n t. (length t ≡ n) × (is_visible t ≡ true)) (λ n h. visible_reads n) name IsName
-    (λ n t h k. (ap (λ (m : ℕ). m ∷ t) k.0, (subst (λ (m : ℕ). Within 1 128 m) (sym k.0) h, k.1)))
-    (λ t h. (length t, h.0, (refl, h.1)))
-
-pub message_reads : Reads (List ℕ) message_at message (λ m. length m ≤ 8192)
-unfolding message_at
-message_reads = reads_then ℕ (List ℕ) (number_at w16 0 8192) (to_be_bytes w16) (Within 0 8192) (number_reads w16 (2 ^ 16) 0 8192 wide16 (omega arith))
-    text_at (λ t. t) (λ n t. length t ≡ n) (λ n h. text_reads n) message (λ m. length m ≤ 8192)
-    (λ n t h k. (ap (λ (m : ℕ). to_be_bytes w16 m ++ t) k, omega (arith, h.1, k)))
-    (λ t h. (length t, (omega arith, h), refl))
-
-pub u32_reads : Reads ℕ u32_at (to_be_bytes w32) IsNumber
-u32_reads = number_reads w32 (2 ^ 32) 0 4294967295 wide32 (omega arith)
-
-abbrev pub IsCred : Cred → Type 0
-IsCred c = IsNumber c.uid × IsNumber c.gid
-
-pub cred_reads : Reads Cred cred_at cred IsCred
-unfolding cred_at
-cred_reads = reads2 ℕ ℕ Cred u32_at (to_be_bytes w32) IsNumber u32_reads (λ a. u32_at) (λ a. to_be_bytes w32) (λ a. IsNumber) (λ a h. u32_reads)
-    (λ u g. record { uid = u; gid = g }) cred IsCred (λ u g h k. (refl, (h, k))) (λ c h. (c.uid, c.gid, refl, h.0, h.1))
+use Rattle.cpg_wire.specs.Ranges.{most_places, most_hops, most_requests, Within, IsU32, IsNode, Ascends, IsToken}
+use Rattle.cpg_wire.specs.Spelling.{owner_code, places_bytes, token_bytes}
+use Rattle.cpg_wire.specs.Reading.{◌>>=◌, number_at, u8_at, reach_at, owner_of, owner_at, places_at, rtr_at, token_at}
+use Rattle.cpg_wire.proofs.Readers.{IsBytes, bind_some, some_is, Takes, Takes-then, ReadsBack, reads1, reads2, reads4, reads_then}
+use Rattle.cpg_wire.proofs.ReadsNumbers.{wide32, wide64, number_reads, u8_reads}
 
 abbrev pub IsReach : ℕ × ℕ → Type 0
-IsReach p = Within 0 1048576 p.0 × Within 0 p.0 p.1
+IsReach p = Within 0 most_places p.0 × Within 0 p.0 p.1
 
 abbrev pub reach_text : ℕ × ℕ → List ℕ
 reach_text p = to_be_bytes w32 p.0 ++ to_be_bytes w32 p.1
 
-pub reach_reads : Reads (ℕ × ℕ) reach_at reach_text IsReach
+pub reach_reads : ReadsBack (ℕ × ℕ) reach_at reach_text IsReach
 unfolding reach_at
-reach_reads = reads2 ℕ ℕ (ℕ × ℕ) (number_at w32 0 1048576) (to_be_bytes w32) (Within 0 1048576) (number_reads w32 (2 ^ 32) 0 1048576 wide32 (omega arith))
+reach_reads = reads2 ℕ ℕ (ℕ × ℕ) (number_at w32 0 most_places) (to_be_bytes w32) (Within 0 most_places) (number_reads w32 (2 ^ 32) 0 most_places wide32 (omega arith))
     (λ seq. number_at w32 0 seq) (λ seq. to_be_bytes w32) (λ seq. Within 0 seq) (λ seq h. number_reads w32 (2 ^ 32) 0 seq wide32 (omega (arith, h.1)))
     (λ a b. (a, b)) reach_text IsReach (λ a b h k. (refl, (h, k))) (λ p h. (p.0, p.1, refl, h.0, h.1))
 
-owner_text : (n : ℕ) → owner (owner_of n) ≡ n
+owner_text : (n : ℕ) → owner_code (owner_of n) ≡ n
 owner_text zero = refl
 owner_text (suc n) = refl
 
@@ -62,9 +35,9 @@ owner_parts None h = (0, refl, (omega arith, omega arith))
 owner_parts (Some zero) h = absurd (omega (arith, h.0))
 owner_parts (Some (suc n)) h = (suc n, refl, (omega arith, h.1))
 
-pub owner_reads : Reads (Option ℕ) owner_at (λ o. owner o ∷ []) (λ o. IfSome o IsNode)
+pub owner_reads : ReadsBack (Option ℕ) owner_at (λ o. owner_code o ∷ []) (λ o. IfSome o IsNode)
 unfolding owner_at
-owner_reads = reads1 ℕ (Option ℕ) (byte_at 0 8) (λ n. n ∷ []) (Within 0 8) (byte_reads 0 8) owner_of (λ o. owner o ∷ []) (λ o. IfSome o IsNode)
+owner_reads = reads1 ℕ (Option ℕ) (u8_at 0 8) (λ n. n ∷ []) (Within 0 8) (u8_reads 0 8) owner_of (λ o. owner_code o ∷ []) (λ o. IfSome o IsNode)
     (λ n h. (ap (λ (m : ℕ). m ∷ []) (owner_text n), owner_is n h)) owner_parts
 
 places_take : (count low high : ℕ) (bytes : List ℕ) (x : List ℕ × List ℕ) → high < 2 ^ 32 → IsBytes bytes → places_at count low high bytes ≡ Some x → Takes bytes (flat_map (to_be_bytes w32) x.0) x.1 × ((length x.0 ≡ count) × Ascends low high x.0)
@@ -93,29 +66,29 @@ places_again (n ∷ ns) low high rest lt h =
     ∙ (ap (λ (o : Option (ℕ × List ℕ)). o >>= λ n. places_at (length ns) n.0 high n.1 >>= λ others. Some (n.0 ∷ others.0, others.1)) one
     ∙ ap (λ (o : Option (List ℕ × List ℕ)). o >>= λ others. Some (n ∷ others.0, others.1)) two)
 
-places_reads : (count high : ℕ) → high < 2 ^ 32 → Reads (List ℕ) (places_at count 0 high) (flat_map (to_be_bytes w32)) (λ ns. (length ns ≡ count) × Ascends 0 high ns)
+places_reads : (count high : ℕ) → high < 2 ^ 32 → ReadsBack (List ℕ) (places_at count 0 high) (flat_map (to_be_bytes w32)) (λ ns. (length ns ≡ count) × Ascends 0 high ns)
 places_reads count high lt = record {
   takes = λ bytes x fits e. places_take count 0 high bytes x lt fits e;
   again = λ ns rest h. subst (λ (k : ℕ). places_at k 0 high (flat_map (to_be_bytes w32) ns ++ rest) ≡ Some (ns, rest)) h.0 (places_again ns 0 high rest lt h.1);
 }
 
 abbrev pub IsRtr : ℕ → List ℕ → Type 0
-IsRtr seq ns = (length ns ≤ 32) × Ascends 0 seq ns
+IsRtr seq ns = (length ns ≤ most_requests) × Ascends 0 seq ns
 
-pub rtr_reads : (seq : ℕ) → seq < 2 ^ 32 → Reads (List ℕ) (rtr_at seq) places (IsRtr seq)
+pub rtr_reads : (seq : ℕ) → seq < 2 ^ 32 → ReadsBack (List ℕ) (rtr_at seq) places_bytes (IsRtr seq)
 unfolding rtr_at
-rtr_reads seq lt = reads_then ℕ (List ℕ) (byte_at 0 32) (λ n. n ∷ []) (Within 0 32) (byte_reads 0 32)
-    (λ n. places_at n 0 seq) (flat_map (to_be_bytes w32)) (λ n ns. (length ns ≡ n) × Ascends 0 seq ns) (λ n h. places_reads n seq lt) places (IsRtr seq)
+rtr_reads seq lt = reads_then ℕ (List ℕ) (u8_at 0 most_requests) (λ n. n ∷ []) (Within 0 most_requests) (u8_reads 0 most_requests)
+    (λ n. places_at n 0 seq) (flat_map (to_be_bytes w32)) (λ n ns. (length ns ≡ n) × Ascends 0 seq ns) (λ n h. places_reads n seq lt) places_bytes (IsRtr seq)
     (λ n ns h k. (ap (λ (m : ℕ). m ∷ flat_map (to_be_bytes w32) ns) k.0, (omega (arith, h.1, k.0), k.1)))
     (λ ns h. (length ns, (omega arith, h.0), (refl, h.1)))
 
-pub token_reads : (ring : ℕ) → IsNumber ring → Reads Token (token_at ring) token (λ t. (t.ring ≡ ring) × IsToken t)
+pub token_reads : (ring : ℕ) → IsU32 ring → ReadsBack Token (token_at ring) token_bytes (λ t. (t.ring ≡ ring) × IsToken t)
 unfolding token_at
 token_reads ring fits = reads4 ℕ (ℕ × ℕ) (Option ℕ) (List ℕ) Token
-    (number_at w64 0 4611686018427387904) (to_be_bytes w64) (Within 0 4611686018427387904) (number_reads w64 (2 ^ 64) 0 4611686018427387904 wide64 (omega arith))
+    (number_at w64 0 most_hops) (to_be_bytes w64) (Within 0 most_hops) (number_reads w64 (2 ^ 64) 0 most_hops wide64 (omega arith))
     reach_at reach_text IsReach reach_reads
-    owner_at (λ o. owner o ∷ []) (λ o. IfSome o IsNode) owner_reads
-    (λ p. rtr_at p.0) places (λ p. IsRtr p.0) (λ p h. rtr_reads p.0 (omega (arith, h.0.1)))
-    (λ hop p o ns. record { ring = ring; hop = hop; seq = p.0; aru = p.1; aru_id = o; rtr = ns }) token (λ t. (t.ring ≡ ring) × IsToken t)
+    owner_at (λ o. owner_code o ∷ []) (λ o. IfSome o IsNode) owner_reads
+    (λ p. rtr_at p.0) places_bytes (λ p. IsRtr p.0) (λ p h. rtr_reads p.0 (omega (arith, h.0.1)))
+    (λ hop p o ns. record { ring = ring; hop = hop; seq = p.0; aru = p.1; aru_id = o; rtr = ns }) token_bytes (λ t. (t.ring ≡ ring) × IsToken t)
     (λ hop p o ns h k l m. (refl, (refl, record { ring = fits; hop = h; seq = k.0; aru = k.1; aru_id = l; count = m.0; rtr = m.1 })))
     (λ t h. (t.hop, (t.seq, t.aru), t.aru_id, t.rtr, ap (λ (r : ℕ). record { ring = r; hop = t.hop; seq = t.seq; aru = t.aru; aru_id = t.aru_id; rtr = t.rtr }) (sym h.0), h.1.hop, (h.1.seq, h.1.aru), h.1.aru_id, (h.1.count, h.1.rtr)))

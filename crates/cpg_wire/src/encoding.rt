@@ -1,0 +1,219 @@
+//! Frames as bytes, in version 2.
+//!
+//! Each function puts one part at the end of the output. Proved: what is put is the definition of
+//! `specs/Spelling.antt` that the function names.
+
+ghost use Rattle.std.specs.Prelude.{◌≡◌, ◌≤◌, ◌++◌, ◌∷◌, length, OnOk, IfOk, IsOkUnless};
+ghost use Rattle.cpg_entry.specs.declared.frames.Frame.TheVariants as frames;
+ghost use Rattle.cpg_wire.specs.declared.codes.Version.TheVariants.{Two};
+ghost use Rattle.std.specs.Int.{w32, to_be_bytes};
+ghost use Rattle.cpg_wire.specs.Codes.{mark, version_code, kind_code};
+ghost use Rattle.cpg_wire.specs.Ranges.{most_name_bytes, most_message_bytes, most_requests, IsCall, IsOp, IsPacket, IsToken, given, conditions};
+ghost use Rattle.cpg_wire.specs.Spelling.{name_bytes, message_bytes, condition_bytes, who_bytes, rule_bytes, call_bytes, op_bytes, sender_bytes, cred_bytes, packet_bytes, owner_code, reach_bytes, places_bytes, wants_bytes, token_bytes, spelling};
+
+use crate::codes::{Kind, MARK, OpCode, Subject, Version, effect_byte, right_byte};
+use bytes::{BufMut, Bytes};
+use cpg_entry::{Call, Cred, Entry, NodeId, Op, Packet, Refusal, Rule, Token, Who};
+use std::alloc::{AllocError, Global};
+
+/// The spelling of version 2 of a packet.
+pub fn encode_data(alloc: Global, packet: &Packet) -> Result<Bytes, Refusal>
+    requires { IsPacket packet.now }
+    ensures ok { IfOk result (λ bytes. bytes ≡ spelling Two (frames.Packet packet.now)) }
+    ensures memory { IsOkUnless result Refusal.Memory }
+{
+    let mut out = Vec::new(alloc);
+    put_head(&mut out, Kind::Data, packet.ring)?;
+    put_packet(&mut out, packet)?;
+    Ok(Bytes::from_vec(out)?)
+}
+
+/// The spelling of version 2 of a token.
+pub fn encode_token(alloc: Global, token: &Token) -> Result<Bytes, Refusal>
+    requires { IsToken token.now }
+    ensures ok { IfOk result (λ bytes. bytes ≡ spelling Two (frames.Token token.now)) }
+    ensures memory { IsOkUnless result Refusal.Memory }
+{
+    let mut out = Vec::new(alloc);
+    put_head(&mut out, Kind::Token, token.ring)?;
+    put_token(&mut out, token)?;
+    Ok(Bytes::from_vec(out)?)
+}
+
+fn put_head(out: &mut Vec<u8>, kind: Kind, ring: u32) -> Result<(), AllocError>
+    ensures { OnOk result (out.new.items ≡ out.old.items ++ (mark ∷ version_code Two ∷ kind_code kind ∷ to_be_bytes w32 ring)) }
+{
+    out.put_u8(MARK)?;
+    out.put_u8(Version::Two.byte())?;
+    out.put_u8(kind.byte())?;
+    out.put_u32(ring)
+}
+
+fn put_packet(out: &mut Vec<u8>, packet: &Packet) -> Result<(), AllocError>
+    requires { IsOp packet.now.entry.op }
+    ensures { OnOk result (out.new.items ≡ out.old.items ++ packet_bytes Two packet.now) }
+{
+    out.put_u32(packet.place)?;
+    put_sender(out, &packet.entry)?;
+    put_cred(out, &packet.entry.cred)?;
+    put_op(out, &packet.entry.op)
+}
+
+fn put_sender(out: &mut Vec<u8>, entry: &Entry) -> Result<(), AllocError>
+    ensures { OnOk result (out.new.items ≡ out.old.items ++ sender_bytes entry.now) }
+{
+    out.put_u8(entry.node.get())?;
+    out.put_u16(entry.conn)?;
+    out.put_u32(entry.pid)
+}
+
+fn put_cred(out: &mut Vec<u8>, cred: &Cred) -> Result<(), AllocError>
+    ensures { OnOk result (out.new.items ≡ out.old.items ++ cred_bytes cred.now) }
+{
+    out.put_u32(cred.uid)?;
+    out.put_u32(cred.gid)
+}
+
+fn put_op(out: &mut Vec<u8>, op: &Op) -> Result<(), AllocError>
+    requires { IsOp op.now }
+    ensures { OnOk result (out.new.items ≡ out.old.items ++ op_bytes Two op.now) }
+{
+    match op {
+        Op::Act(call) => put_call(out, call),
+        Op::Gone => out.put_u8(OpCode::Gone.byte()),
+    }
+}
+
+fn put_call(out: &mut Vec<u8>, call: &Call) -> Result<(), AllocError>
+    requires { IsCall call.now }
+    ensures { OnOk result (out.new.items ≡ out.old.items ++ call_bytes Two call.now) }
+{
+    match call {
+        Call::Join(name) => {
+            out.put_u8(OpCode::Join.byte())?;
+            put_name(out, name.as_slice())
+        }
+        Call::Leave => out.put_u8(OpCode::Leave.byte()),
+        Call::Send(message) => {
+            out.put_u8(OpCode::Send.byte())?;
+            put_message(out, message.as_slice())
+        }
+        Call::Insert(name, position, rule) => {
+            out.put_u8(OpCode::Insert.byte())?;
+            put_name(out, name.as_slice())?;
+            out.put_u8(*position)?;
+            put_rule(out, rule)
+        }
+        Call::Remove(name, id) => {
+            out.put_u8(OpCode::Remove.byte())?;
+            put_name(out, name.as_slice())?;
+            out.put_u32(*id)
+        }
+    }
+}
+
+fn put_name(out: &mut Vec<u8>, name: &[u8]) -> Result<(), AllocError>
+    requires { length name.now ≤ most_name_bytes }
+    ensures { OnOk result (out.new.items ≡ out.old.items ++ name_bytes name.now) }
+{
+    out.put_u8(name.len() as u8)?;
+    out.put_slice(name)
+}
+
+fn put_message(out: &mut Vec<u8>, message: &[u8]) -> Result<(), AllocError>
+    requires { length message.now ≤ most_message_bytes }
+    ensures { OnOk result (out.new.items ≡ out.old.items ++ message_bytes message.now) }
+{
+    out.put_u16(message.len() as u16)?;
+    out.put_slice(message)
+}
+
+fn put_rule(out: &mut Vec<u8>, rule: &Rule) -> Result<(), AllocError>
+    ensures { OnOk result (out.new.items ≡ out.old.items ++ rule_bytes Two rule.now) }
+{
+    out.put_u8(effect_byte(rule.effect))?;
+    out.put_u8(right_byte(rule.right))?;
+    put_who(out, &rule.who)
+}
+
+fn put_who(out: &mut Vec<u8>, who: &Who) -> Result<(), AllocError>
+    ensures { OnOk result (out.new.items ≡ out.old.items ++ who_bytes Two who.now) }
+{
+    let node = number_of(who.node);
+    out.put_u8(given(who.uid) + given(who.gid) + given(node))?;
+    put_condition(out, Subject::Uid, who.uid)?;
+    put_condition(out, Subject::Gid, who.gid)?;
+    put_condition(out, Subject::Node, node)
+}
+
+/// 1 where the condition is there, else 0.
+fn given(condition: Option<u32>) -> u8
+    ensures { result ≡ given condition }
+{
+    match condition {
+        None => 0,
+        Some(_) => 1,
+    }
+}
+
+fn number_of(node: Option<NodeId>) -> Option<u32>
+    ensures { result ≡ node }
+{
+    node.map(|node| u32::from(node.get()))
+}
+
+fn put_condition(out: &mut Vec<u8>, subject: Subject, value: Option<u32>) -> Result<(), AllocError>
+    ensures { OnOk result (out.new.items ≡ out.old.items ++ condition_bytes subject value) }
+{
+    match value {
+        None => Ok(()),
+        Some(value) => {
+            out.put_u8(subject.byte())?;
+            out.put_u32(value)
+        }
+    }
+}
+
+fn put_token(out: &mut Vec<u8>, token: &Token) -> Result<(), AllocError>
+    requires { length token.now.rtr ≤ most_requests }
+    ensures { OnOk result (out.new.items ≡ out.old.items ++ token_bytes token.now) }
+{
+    out.put_u64(token.hop)?;
+    put_reach(out, token)?;
+    put_wants(out, token)
+}
+
+fn put_reach(out: &mut Vec<u8>, token: &Token) -> Result<(), AllocError>
+    ensures { OnOk result (out.new.items ≡ out.old.items ++ reach_bytes token.now) }
+{
+    out.put_u32(token.seq)?;
+    out.put_u32(token.aru)
+}
+
+fn put_wants(out: &mut Vec<u8>, token: &Token) -> Result<(), AllocError>
+    requires { length token.now.rtr ≤ most_requests }
+    ensures { OnOk result (out.new.items ≡ out.old.items ++ wants_bytes token.now) }
+{
+    out.put_u8(owner_byte(token.aru_id))?;
+    put_places(out, token.rtr.as_slice())
+}
+
+fn owner_byte(node: Option<NodeId>) -> u8
+    ensures { result ≡ owner_code node }
+{
+    match node {
+        None => 0,
+        Some(node) => node.get(),
+    }
+}
+
+fn put_places(out: &mut Vec<u8>, places: &[u32]) -> Result<(), AllocError>
+    requires { length places.now ≤ most_requests }
+    ensures { OnOk result (out.new.items ≡ out.old.items ++ places_bytes places.now) }
+{
+    out.put_u8(places.len() as u8)?;
+    for place in places {
+        out.put_u32(*place)?;
+    }
+    Ok(())
+}

@@ -1,0 +1,110 @@
+//! Frames: from bytes to what they spell.
+//!
+//! The bytes are read to their end before any memory is asked for. Proved: what is read is the definition
+//! `frame_of`, which answers exactly what the grammar `Spells` says.
+
+ghost use Rattle.std.specs.Prelude.{◌≡◌, ◌⊎◌, IfOk, IfErr, IsOkUnless, Some, None, MatchOption, option_map};
+ghost use Rattle.cpg_entry.specs.declared.frames.Frame.{Frame};
+ghost use Rattle.cpg_wire.specs.Answering.{Answers};
+ghost use Rattle.cpg_wire.specs.Ranges.{IsFrame};
+ghost use Rattle.cpg_wire.specs.Reading.{Reads, head_at, carried_at, frame_at, frame_of};
+ghost use Rattle.cpg_wire.specs.Spelling.{Spells};
+ghost use Rattle.cpg_wire.specs.Views.{frame_seen};
+
+use crate::codes::{Kind, MARK, Version};
+use crate::input::Input;
+use crate::packets::PacketView;
+use crate::tokens::TokenView;
+use cpg_entry::{Frame, Refusal};
+use std::alloc::Global;
+
+/// A frame that takes no memory.
+#[derive(Drop)]
+pub enum FrameView<'a> {
+    Packet(PacketView<'a>),
+    Token(TokenView),
+}
+
+impl<'a> FrameView<'a> {
+    /// The frame that all of the bytes spell.
+    #[tactic(auto, unfolding(crate::specs::Reading::frame_of, crate::specs::Reading::frame_at))]
+    pub fn read(bytes: &'a [u8]) -> Option<FrameView<'a>>
+        ensures { frame_of bytes.now ≡ option_map frame_seen result }
+    {
+        let mut input = Input::of(bytes);
+        let (version, kind, ring) = read_head(&mut input)?;
+        let frame = FrameView::read_carried(&mut input, version, kind, ring)?;
+        if input.is_at_end() { Some(frame) } else { None }
+    }
+
+    #[tactic(auto, unfolding(crate::specs::Reading::carried_at))]
+    fn read_carried(
+        input: &mut Input<'a>,
+        version: Version,
+        kind: Kind,
+        ring: u32,
+    ) -> Option<FrameView<'a>>
+        ensures { Reads (option_map frame_seen result) input.new (carried_at version kind ring input.old) }
+    {
+        match kind {
+            Kind::Data => {
+                let Some(packet) = PacketView::read(input, version, ring) else {
+                    return None;
+                };
+                Some(FrameView::Packet(packet))
+            }
+            Kind::Token => {
+                let Some(token) = TokenView::read(input, ring) else {
+                    return None;
+                };
+                Some(FrameView::Token(token))
+            }
+        }
+    }
+
+    /// The frame, with lists of its own.
+    pub fn copy(&self, alloc: Global) -> Result<Frame, Refusal>
+        ensures ok { IfOk result (λ frame. frame ≡ frame_seen self.now) }
+        ensures memory { IsOkUnless result Refusal.Memory }
+    {
+        match self {
+            FrameView::Packet(packet) => Ok(Frame::Packet(packet.copy(alloc)?)),
+            FrameView::Token(token) => Ok(Frame::Token(token.copy(alloc)?)),
+        }
+    }
+}
+
+#[tactic(auto, unfolding(crate::specs::Reading::head_at))]
+fn read_head(input: &mut Input<'_>) -> Option<(Version, Kind, u32)>
+    ensures { Reads result input.new (head_at input.old) }
+{
+    input.u8_within(MARK, MARK)?;
+    let version = Version::of(input.byte()?)?;
+    let kind = Kind::of(input.byte()?)?;
+    let ring = input.u32()?;
+    Some((version, kind, ring))
+}
+
+/// The frame that the bytes spell, in either version; `Malformed` where they spell none. Memory is asked
+/// for only once the bytes are known to spell a frame.
+pub fn decode(alloc: Global, bytes: &[u8]) -> Result<Frame, Refusal>
+    // What is given is spelled so, and no bytes spell two frames.
+    ensures ok { IfOk result (λ frame. Spells bytes.now frame) }
+    // Malformed is answered exactly where the bytes spell no frame, and else nothing but Memory.
+    ensures err { IfErr result (λ refusal. (refusal ≡ Refusal.Memory) ⊎ ((refusal ≡ Refusal.Malformed) × ((frame : Frame) → Spells bytes.now frame → ⊥))) }
+    // Whichever version it came in, it may be encoded.
+    ensures range { IfOk result IsFrame }
+    // The same by the function that reads.
+    ensures exact { Answers result (frame_of bytes.now) }
+{
+    answer(alloc, bytes)
+}
+
+fn answer(alloc: Global, bytes: &[u8]) -> Result<Frame, Refusal>
+    ensures { Answers result (frame_of bytes.now) }
+{
+    match FrameView::read(bytes) {
+        None => Err(Refusal::Malformed),
+        Some(view) => view.copy(alloc),
+    }
+}
