@@ -1,1 +1,3 @@
 mod Passed
+mod Kept
+mod Applying

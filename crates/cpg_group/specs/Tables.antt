@@ -1,9 +1,11 @@
 -- the groups' tables, as they are kept beside the records
-use Rattle.std.specs.Prelude.{ℕ, ◌≡◌, List, [], ◌∷◌, if◌then◌else◌}
+use Rattle.std.specs.Prelude.{ℕ, ◌≡◌, ◌≢◌, ◌<◌, ◌≤◌, Bool, All, length, slice_set, Some, List, [], ◌∷◌, if◌then◌else◌}
+use Rattle.std.specs.List.{slice_get}
 use Rattle.std.specs.Str.{bytes_eq}
 use Rattle.cpg_rules.specs.Tables.{Rules}
 use Rattle.cpg_record.specs.declared.records.Record.{Record}
 use Rattle.cpg_record.specs.RuleTables.{rules_of}
+use Rattle.cpg_record.specs.Verdicts.{most_rules}
 
 -- names with their tables
 abbrev pub Kept : Type 0
@@ -17,3 +19,19 @@ kept_table (pair ∷ pairs) g = if bytes_eq pair.0 g then pair.1 else kept_table
 -- the kept tables are those that the records make
 abbrev pub AreCurrent : Kept → List Record → Type 0
 AreCurrent kept records = (g : List ℕ) → kept_table kept g ≡ rules_of records g
+
+-- the pair has that name
+abbrev pub has_name : List ℕ → List ℕ × Rules → Bool
+has_name g pair = bytes_eq pair.0 g
+
+-- the table can take a rule at the index: it reaches so far, has room, and no rule of that id
+abbrev pub CanInsert : Rules → ℕ → ℕ → Type 0
+CanInsert rules index id = (index ≤ length rules) × (length rules < most_rules) × All (λ entry. entry.0 ≢ id) rules
+
+-- the name's table is changed, and every other group has the table that it had
+abbrev pub ChangesTable : (Rules → Rules) → List ℕ → Kept → Kept → Type 0
+ChangesTable change name old new = (g : List ℕ) → kept_table new g ≡ (if bytes_eq name g then change (kept_table old g) else kept_table old g)
+
+-- the table in that slot is changed, and all else stays
+abbrev pub EditsSlot : (Rules → Rules) → ℕ → Kept → Kept → Type 0
+EditsSlot change slot old new = (name : List ℕ) (rules : Rules) → slice_get old slot ≡ Some (name, rules) → new ≡ slice_set old slot (name, change rules)

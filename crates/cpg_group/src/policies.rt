@@ -1,14 +1,16 @@
 //! The judged entries, and what they come to.
 
-ghost use Rattle.std.specs.Prelude.{◌≡◌, ◌<◌, ◌≤◌, ◌++◌, ◌∷◌, [], length, OnOk, OnErr, IfOk, IfErr, IsOkUnless};
+ghost use Rattle.std.specs.Prelude.{◌≡◌, ◌≢◌, ◌<◌, ◌≤◌, ◌++◌, ◌∷◌, [], length, OnOk, OnErr, IfOk, IfErr, MatchOption, IsOkUnless};
 ghost use Rattle.cpg_record.specs.Events.{events};
-ghost use Rattle.cpg_record.specs.Judging.{judged, most_places, record_of};
+ghost use Rattle.cpg_record.specs.Judging.{judged, most_places, record_of, IsNext};
+ghost use Rattle.cpg_record.specs.RuleTables.{rules_of};
 
 use crate::tables::Tables;
 use crate::{judging, telling};
 use cpg_cred::{Refusal, Refused};
 use cpg_entry::Entry;
 use cpg_record::{ConnId, Events, Record};
+use cpg_rules::Table;
 use std::alloc::Global;
 use std::marker::Model;
 
@@ -25,14 +27,14 @@ pub struct Policy {
 impl Model for Policy {
     ghost use Rattle.std.specs.Prelude.{List};
     ghost use Rattle.cpg_entry.specs.declared.entries.Entry.{Entry};
-    ghost use Rattle.cpg_record.specs.Judging.{entries_of, AreJudged};
+    ghost use Rattle.cpg_record.specs.Judging.{entries_of, AreRecords};
     ghost use Rattle.cpg_group.specs.Tables.{AreCurrent};
 
     ghost Value = { List Entry };
 
     ghost view = { λ policy. entries_of policy.records.items };
 
-    ghost invariant = { λ policy. AreJudged policy.records.items × AreCurrent policy.tables policy.records.items };
+    ghost invariant = { λ policy. AreRecords policy.records.items × AreCurrent policy.tables policy.records.items };
 }
 
 impl Policy {
@@ -60,9 +62,37 @@ impl Policy {
         )
     }
 
-    /// How many entries were judged.
+    /// Puts the entry of a record last, where the record is its judgement here (what `judge` gives). A
+    /// refusal changes nothing and gives the record back.
+    pub fn apply(&mut self, next: Record) -> Result<(), Refused<Record>>
+        requires { IsNext self.old next }
+        ensures ok { OnOk result (self.new ≡ self.old ++ next.entry ∷ []) }
+        ensures unchanged { OnErr result (self.new ≡ self.old) }
+        ensures err { IfErr result (λ refused. refused ≡ record { refusal = Refusal.Memory; back = next }) }
+    {
+        if self.records.reserve(1).is_err() {
+            return Err(Refused {
+                refusal: Refusal::Memory,
+                back: next,
+            });
+        }
+        let place = self.records.len() as u32 + 1;
+        match self.tables.take_in(place, &next) {
+            Ok(()) => {
+                self.records.push_reserved(next);
+                Ok(())
+            }
+            Err(refusal) => Err(Refused {
+                refusal,
+                back: next,
+            }),
+        }
+    }
+
+    /// How many entries were judged, at most 1,048,576.
     pub fn len(&self) -> usize
-        ensures { result ≡ length self.now }
+        ensures value { result ≡ length self.now }
+        ensures most { result ≤ most_places }
     {
         self.records.len()
     }
@@ -72,6 +102,14 @@ impl Policy {
         ensures { result.now ≡ judged self.now }
     {
         self.records.as_slice()
+    }
+
+    /// A group's current table, where it is not empty. Takes no memory.
+    pub fn table(&self, group: &[u8]) -> Option<&Table>
+        ensures { MatchOption result (rules_of (judged self.now) group.now ≡ []) (λ table. (table.now ≡ rules_of (judged self.now) group.now) × (table.now ≢ [])) }
+    {
+        let table = self.tables.of(group);
+        if table.is_empty() { None } else { Some(table) }
     }
 
     /// What a judged place, from 1, tells a connection.

@@ -1,5 +1,5 @@
 -- The records of agreed entries: each is the judgement of its entry over the records before it.
-use Rattle.std.specs.Prelude.{ℕ, ◌≡◌, ◌≤◌, List, [], ◌∷◌, ◌++◌, length, map, Option, Some}
+use Rattle.std.specs.Prelude.{ℕ, ◌≡◌, ◌<◌, ◌≤◌, List, [], ◌∷◌, ◌++◌, length, map, Option, Some}
 use Rattle.std.specs.List.{fold}
 use Rattle.cpg_entry.specs.declared.calls.Call.TheVariants.{Join, Insert, Remove}
 use Rattle.cpg_entry.specs.declared.calls.Op.{Op}
@@ -50,3 +50,7 @@ AreJudged records = records ≡ judged (entries_of records)
 -- the records are those of their entries, of which there are not too many
 abbrev pub AreRecords : List Record → Type 0
 AreRecords records = (length records ≤ most_places) × AreJudged records
+
+-- the record is the judgement of its entry after those entries; past the last place there is none
+abbrev pub IsNext : List Entry → Record → Type 0
+IsNext entries next = (length entries < most_places) × (next ≡ record_of (judged entries) next.entry)

@@ -1,0 +1,58 @@
+-- The record of one entry more keeps records judged and tables current.
+use Rattle.std.proofs.Common.{◌≡◌, ◌≢◌, ℕ, ◌+◌, ◌<◌, ◌≤◌, List, [], ◌∷◌, ◌++◌, length, map, All, refl, sym, ap, subst, ◌∙◌, arith}
+use Rattle.std.specs.List.{fold, enumerate_from}
+use Rattle.std.proofs.lemmas.List.{map-append}
+use Rattle.std.proofs.lemmas.List.Sums.{fold_push}
+use Rattle.cpg_rules.specs.Tables.{Rules}
+use Rattle.cpg_entry.specs.declared.entries.Entry.{Entry}
+use Rattle.cpg_record.specs.declared.records.Record.{Record}
+use Rattle.cpg_record.specs.Judging.{judged, judge_next, record_of, entries_of, AreJudged}
+use Rattle.cpg_record.specs.RuleTables.{edited, rules_of}
+use Rattle.cpg_record.specs.Steps.{CanEdit}
+use Rattle.cpg_record.proofs.Growing.{rules_of_push}
+use Rattle.cpg_record.proofs.Judging.{can_edit, ids_edited}
+use Rattle.cpg_group.specs.Tables.{Kept, kept_table, AreCurrent}
+
+-- ---- judged records
+
+pub AreJudged-push : (rs : List Record) (r : Record) → AreJudged rs → r ≡ record_of (judged (entries_of rs)) r.entry → AreJudged (rs ++ r ∷ [])
+AreJudged-push rs r are is =
+    let P : Record → Type 0 = λ (q : Record). rs ++ q ∷ [] ≡ judged (entries_of rs) ++ record_of (judged (entries_of rs)) r.entry ∷ [] in
+    subst P (sym is) (ap (λ xs. xs ++ record_of (judged (entries_of rs)) r.entry ∷ []) are)
+    ∙ sym (fold_push judge_next [] (entries_of rs) r.entry)
+    ∙ ap judged (sym (map-append (λ (q : Record). q.entry) rs (r ∷ [])))
+
+pub entries_of-push : (rs : List Record) (r : Record) → entries_of (rs ++ r ∷ []) ≡ entries_of rs ++ r.entry ∷ []
+entries_of-push rs r = map-append (λ (q : Record). q.entry) rs (r ∷ [])
+
+-- ---- ids
+
+ids_from : (g : List ℕ) (rules : Rules) (n : ℕ) (rs : List Record) → All (λ entry. entry.0 ≤ n) rules →
+    All (λ entry. entry.0 ≤ n + length rs) (fold (edited g) rules (enumerate_from (n + 1) rs))
+ids_from g rules n [] low = λ k d h. omega (arith, low k d h)
+ids_from g rules n (r ∷ rs) low =
+    let later = ids_from g (edited g rules (n + 1, r)) (n + 1) rs (ids_edited g rules n r low) in
+    λ k d h. omega (arith, later k d h)
+
+-- no id of a table is above the last place
+pub ids_low : (rs : List Record) (g : List ℕ) → All (λ entry. entry.0 ≤ length rs) (rules_of rs g)
+ids_low rs g =
+    let low = ids_from g [] 0 rs (λ k d h. absurd (omega arith)) in
+    λ k d h. omega (arith, low k d h)
+
+-- ---- tables
+
+-- the next record can edit the current tables
+pub can_take : (kept : Kept) (rs : List Record) (r : Record) (place : ℕ) → AreCurrent kept rs → place ≡ length rs + 1 → r ≡ record_of rs r.entry →
+    (g : List ℕ) → CanEdit g (kept_table kept g) (place, r)
+can_take kept rs r place current is judgement g =
+    let P : Rules → Type 0 = λ (rules : Rules). CanEdit g rules (place, r) in
+    subst P (sym (current g)) (can_edit rs r g place judgement (λ k d h same. absurd (omega (arith, ids_low rs g k d h))))
+
+pub AreCurrent-push : (old new : Kept) (rs : List Record) (r : Record) (place : ℕ) → AreCurrent old rs → place ≡ length rs + 1 →
+    ((g : List ℕ) → kept_table new g ≡ edited g (kept_table old g) (place, r)) → AreCurrent new (rs ++ r ∷ [])
+AreCurrent-push old new rs r place current is taken g =
+    taken g
+    ∙ ap (λ (rules : Rules). edited g rules (place, r)) (current g)
+    ∙ ap (λ n. edited g (rules_of rs g) (n, r)) (is ∙ omega arith)
+    ∙ sym (rules_of_push rs r g)
