@@ -16,13 +16,19 @@ use bytes::{BufMut, Bytes};
 use cpg_entry::{Call, Cred, Entry, NodeId, Op, Packet, Refusal, Rule, Token, Who};
 use std::alloc::{AllocError, Global};
 
+/// How many bytes a data frame takes beside its name or message, at most.
+const DATA_ROOM: usize = 47;
+
+/// How many bytes a token's frame takes beside its places.
+const TOKEN_ROOM: usize = 25;
+
 /// The spelling of version 2 of a packet.
 pub fn encode_data(alloc: Global, packet: &Packet) -> Result<Bytes, Refusal>
     requires { IsPacket packet.now }
     ensures ok { IfOk result (λ bytes. bytes ≡ spelling Two (frames.Packet packet.now)) }
     ensures memory { IsOkUnless result Refusal.Memory }
 {
-    let mut out = Vec::new(alloc);
+    let mut out = Vec::with_capacity(alloc, DATA_ROOM + text_len(&packet.entry.op))?;
     put_head(&mut out, Kind::Data, packet.ring)?;
     put_packet(&mut out, packet)?;
     Ok(Bytes::from_vec(out)?)
@@ -34,10 +40,24 @@ pub fn encode_token(alloc: Global, token: &Token) -> Result<Bytes, Refusal>
     ensures ok { IfOk result (λ bytes. bytes ≡ spelling Two (frames.Token token.now)) }
     ensures memory { IsOkUnless result Refusal.Memory }
 {
-    let mut out = Vec::new(alloc);
+    let mut out = Vec::with_capacity(alloc, TOKEN_ROOM + 4 * token.rtr.as_slice().len())?;
     put_head(&mut out, Kind::Token, token.ring)?;
     put_token(&mut out, token)?;
     Ok(Bytes::from_vec(out)?)
+}
+
+/// How many bytes the name or the message of an op has.
+fn text_len(op: &Op) -> usize
+    requires { IsOp op.now }
+    ensures { result ≤ most_message_bytes }
+{
+    match op {
+        Op::Act(Call::Join(name) | Call::Insert(name, _, _) | Call::Remove(name, _)) => {
+            name.as_slice().len()
+        }
+        Op::Act(Call::Send(message)) => message.as_slice().len(),
+        Op::Act(Call::Leave) | Op::Gone => 0,
+    }
 }
 
 fn put_head(out: &mut Vec<u8>, kind: Kind, ring: u32) -> Result<(), AllocError>
