@@ -1,7 +1,7 @@
 -- The record of one entry more keeps records judged and tables current.
-use Rattle.std.proofs.Common.{◌≡◌, ◌≢◌, ℕ, ◌+◌, ◌<◌, ◌≤◌, List, [], ◌∷◌, ◌++◌, length, map, All, refl, sym, ap, subst, ◌∙◌, arith}
+use Rattle.std.proofs.Common.{◌≡◌, ◌≢◌, ℕ, ◌+◌, ◌<◌, ◌≤◌, List, [], ◌∷◌, ◌++◌, length, map, take, get_or, All, refl, sym, ap, subst, ◌∙◌, arith}
 use Rattle.std.specs.List.{fold, enumerate_from}
-use Rattle.std.proofs.lemmas.List.{map-append}
+use Rattle.std.proofs.lemmas.List.{map-append, take_more}
 use Rattle.std.proofs.lemmas.List.Sums.{fold_push}
 use Rattle.cpg_rules.specs.Tables.{Rules}
 use Rattle.cpg_entry.specs.declared.entries.Entry.{Entry}
@@ -10,7 +10,7 @@ use Rattle.cpg_record.specs.Judging.{judged, judge_next, record_of, entries_of, 
 use Rattle.cpg_record.specs.RuleTables.{edited, rules_of}
 use Rattle.cpg_record.specs.Steps.{CanEdit}
 use Rattle.cpg_record.proofs.Growing.{rules_of_push}
-use Rattle.cpg_record.proofs.Judging.{can_edit, ids_edited}
+use Rattle.cpg_record.proofs.Judging.{can_edit, ids_edited, Each-judged}
 use Rattle.cpg_group.specs.Tables.{Kept, kept_table, AreCurrent}
 
 -- ---- judged records
@@ -56,3 +56,22 @@ AreCurrent-push old new rs r place current is taken g =
     ∙ ap (λ (rules : Rules). edited g rules (place, r)) (current g)
     ∙ ap (λ n. edited g (rules_of rs g) (n, r)) (is ∙ omega arith)
     ∙ sym (rules_of_push rs r g)
+
+-- ---- a whole list, record by record
+
+-- the record at an index of judged records is the judgement of its entry over those before
+pub judgement_at : (rs : List Record) (i : ℕ) (r : Record) → i < length rs → r ≡ get_or rs i r → AreJudged rs → r ≡ record_of (take i rs) r.entry
+judgement_at rs i r within is are =
+    is ∙ Each-judged rs are i r within ∙ ap (λ (q : Record). record_of (take i rs) q.entry) (sym is)
+
+-- one record more that is the judgement of its entry
+pub AreJudged-more : (rs : List Record) (i : ℕ) (r : Record) → i < length rs → r ≡ get_or rs i r → AreJudged (take i rs) →
+    r ≡ record_of (judged (entries_of (take i rs))) r.entry → AreJudged (take (i + 1) rs)
+AreJudged-more rs i r within is are judgement =
+    let more : take (i + 1) rs ≡ take i rs ++ r ∷ [] = take_more rs i r within ∙ ap (λ (q : Record). take i rs ++ q ∷ []) (sym is) in
+    subst AreJudged (sym more) (AreJudged-push (take i rs) r are judgement)
+
+pub entries_of-more : (rs : List Record) (i : ℕ) (r : Record) → i < length rs → r ≡ get_or rs i r →
+    entries_of (take (i + 1) rs) ≡ entries_of (take i rs) ++ r.entry ∷ []
+entries_of-more rs i r within is =
+    ap entries_of (take_more rs i r within ∙ ap (λ (q : Record). take i rs ++ q ∷ []) (sym is)) ∙ entries_of-push (take i rs) r

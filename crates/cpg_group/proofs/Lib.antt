@@ -1,3 +1,4 @@
 mod Passed
+mod Shown
 mod Kept
 mod Applying

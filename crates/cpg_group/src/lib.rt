@@ -7,12 +7,16 @@
 
 mod history;
 mod judging;
+mod listing;
 mod policies;
 mod tables;
 mod telling;
+mod verifying;
 
 pub use cpg_record::{
     Cause, ConnId, Event, Events, MOST_MEMBERS, Member, Members, Move, Moves, Reason, Record,
     Records, Verdict,
 };
+pub use listing::{Names, Processes};
 pub use policies::{MOST_PLACES, Policy};
+pub use verifying::verify;

@@ -3,14 +3,16 @@
 ghost use Rattle.std.specs.Prelude.{◌≡◌, ◌≢◌, ◌<◌, ◌≤◌, ◌++◌, ◌∷◌, [], length, OnOk, OnErr, IfOk, IfErr, MatchOption, IsOkUnless};
 ghost use Rattle.cpg_record.specs.Events.{events};
 ghost use Rattle.cpg_record.specs.Judging.{judged, most_places, record_of, IsNext};
+ghost use Rattle.cpg_record.specs.Listings.{Answers, AreGroups, listing};
 ghost use Rattle.cpg_record.specs.RuleTables.{rules_of};
 
+use crate::listing::{self, Names, Processes};
 use crate::tables::Tables;
 use crate::{judging, telling};
 use cpg_cred::{Refusal, Refused};
 use cpg_entry::Entry;
 use cpg_record::{ConnId, Events, Record};
-use cpg_rules::Table;
+use cpg_rules::{Asker, Table};
 use std::alloc::Global;
 use std::marker::Model;
 
@@ -102,6 +104,33 @@ impl Policy {
         ensures { result.now ≡ judged self.now }
     {
         self.records.as_slice()
+    }
+
+    /// The node and the pid of each member of a group, in the order of their joins, where the asker may
+    /// list it: else `Denied` by the rule. A name that no group has gives nobody.
+    pub fn members(&self, group: &[u8], asker: Asker) -> Result<Processes, Refusal>
+        ensures { Answers (listing (judged self.now) asker group.now) result }
+    {
+        listing::list_members(
+            *self.records.allocator(),
+            self.records.as_slice(),
+            self.tables.of(group),
+            group,
+            &asker,
+        )
+    }
+
+    /// The names of the groups with members that the asker may list, in the order of their bytes.
+    pub fn groups(&self, asker: Asker) -> Result<Names, Refusal>
+        ensures ok { IfOk result (λ names. AreGroups (judged self.now) asker names) }
+        ensures memory { IsOkUnless result Refusal.Memory }
+    {
+        listing::list_groups(
+            *self.records.allocator(),
+            self.records.as_slice(),
+            &self.tables,
+            &asker,
+        )
     }
 
     /// A group's current table, where it is not empty. Takes no memory.
