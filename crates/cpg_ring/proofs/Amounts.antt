@@ -1,19 +1,18 @@
 -- What the definitions of a visit amount to.
-use Rattle.std.proofs.Common.{◌≡◌, ◌≢◌, ◌⊎◌, ◌↔◌, ℕ, zero, suc, ◌+◌, ◌-◌, ◌<◌, ◌≤◌, min, Bool, true, false, not, ◌&&◌, ◌||◌, true≢false, cond, List, [], ◌∷◌, ◌++◌, length, take, drop, Option, Some, None, Contains, refl, sym, ap, ◌∙◌, subst, inl, inr, ⊎_elim, arith, length-take, if◌then◌else◌, ◌==◌, nat_lt, nat_le, is_some, ltb-true, ltb-false, eqb-true, leb-true, le-leb}
-use Rattle.std.specs.List.{filter, list_any, All, AllByRecursion, cons_option}
+use Rattle.std.proofs.Common.{◌≡◌, ◌⊎◌, ℕ, zero, suc, ◌+◌, ◌-◌, ◌<◌, ◌≤◌, Bool, true, false, not, ◌&&◌, ◌||◌, true≢false, List, [], ◌∷◌, length, take, drop, Option, Some, None, Contains, refl, sym, ap, ◌∙◌, inl, inr, ⊎_elim, arith, length-take, if◌then◌else◌, ◌==◌, nat_lt, nat_le, is_some, ltb-false, eqb-true, leb-true, le-leb}
+use Rattle.std.specs.List.{filter, list_any, AllByRecursion, cons_option}
 use Rattle.std.specs.Option.{option_map}
 use Rattle.std.specs.FinMap.{get, insert, keys, contains_key-keys}
 use Rattle.std.specs.Ordering.{nat_cmp, eq_by_cmp}
 use Rattle.std.specs.Cmp.{unsigned_tied}
-use Rattle.std.proofs.lemmas.Option.{none-some, same_Some}
-use Rattle.std.proofs.lemmas.Bool.{cases_eq, cases_lt}
+use Rattle.std.proofs.lemmas.Option.{none-some}
+use Rattle.std.proofs.lemmas.Bool.{cases_lt}
 use Rattle.std.proofs.lemmas.List.Elements.{All-from_recursion, All-append}
 use Rattle.cpg_cred.specs.declared.refusals.Refusal.TheVariants.{Foreign, NotMine, Stale, Implausible, RingEnd}
-use Rattle.cpg_ring.specs.declared.settings.TheConstants.{MOST_PLACES, MOST_HOPS, MOST_REQUESTS, WINDOW}
+use Rattle.cpg_ring.specs.declared.settings.TheConstants.{MOST_REQUESTS, WINDOW}
 use Rattle.cpg_ring.specs.States.{Entry, Token, Packet, Settings, IsSettings, HeldPlaces, Holds, NodeState, is_held}
-use Rattle.cpg_ring.specs.Visits.{node_of, is_past, is_implausible, token_refusal, served, burst_size, placed, hold_all, held_through, reach, sets_aru, next_aru, up_to, is_wanted, next_requests, visit_with, visit_step}
+use Rattle.cpg_ring.specs.Visits.{node_of, is_past, token_refusal, served, burst_size, placed, hold_all, held_through, reach, sets_aru, next_aru, up_to, is_wanted, visit_with, visit_step}
 use Rattle.cpg_ring.specs.Laws.{Ascends, IsToken, AllHeld, IsGreatestHeld, IsMissing, IsLeastMissing, IsVisit}
-use Rattle.cpg_ring.proofs.Lists.{contains_none, contains_one}
 use Rattle.cpg_ring.proofs.Holding.{put_other, put_cases}
 use Rattle.cpg_ring.proofs.Tours.{holds_to}
 use Rattle.cpg_ring.proofs.Asking.{ascends_take, ascends_within, ascends_filter, contains_filter, passes, any_from_contains, contains_from_any}
@@ -93,25 +92,25 @@ accepted s n r t none = by_tests (t.ring == s.ring) (node_of s t.hop == n) (is_p
     }
 
 -- the places of a burst are those after seq
-placed_held : (s : Settings) (held : HeldPlaces) (seq : ℕ) (now : List Entry) (place : ℕ) → Holds (hold_all held (placed s seq now)) place → Holds held place ⊎ ((seq < place) × (place ≤ seq + length now))
+pub placed_held : (s : Settings) (held : HeldPlaces) (seq : ℕ) (now : List Entry) (place : ℕ) → Holds (hold_all held (placed s seq now)) place → Holds held place ⊎ ((seq < place) × (place ≤ seq + length now))
 placed_held s held seq [] place d = inl d
 placed_held s held seq (e ∷ now) place d = ⊎_elim
     (λ was. ⊎_elim
-        (λ (here : (place ≡ suc seq) × (e ≡ was.0)). let same = here.0 in inr (omega arith, omega arith))
-        (λ old. inl (was.0, old))
-        (put_cases held (suc seq) e place was.0 was.1))
+    (λ (here : (place ≡ suc seq) × (e ≡ was.0)). let same = here.0 in inr (omega arith, omega arith))
+    (λ old. inl (was.0, old))
+    (put_cases held (suc seq) e place was.0 was.1))
     (λ w. let l = w.0 in let h = w.1 in inr (omega arith, omega arith))
     (placed_held s (insert held (suc seq) e) (suc seq) now place d)
 
-placed_keeps : (s : Settings) (held : HeldPlaces) (seq : ℕ) (now : List Entry) (place : ℕ) → place ≤ seq → get (hold_all held (placed s seq now)) place ≡ get held place
+pub placed_keeps : (s : Settings) (held : HeldPlaces) (seq : ℕ) (now : List Entry) (place : ℕ) → place ≤ seq → get (hold_all held (placed s seq now)) place ≡ get held place
 placed_keeps s held seq [] place l = refl
 placed_keeps s held seq (e ∷ now) place l = placed_keeps s (insert held (suc seq) e) (suc seq) now place (omega arith) ∙ put_other held (suc seq) e place (λ same. omega arith)
 
 -- the test of a place asked for, in words
-is_some_of : (held : HeldPlaces) (place : ℕ) → Holds held place → is_held held place ≡ true
+pub is_some_of : (held : HeldPlaces) (place : ℕ) → Holds held place → is_held held place ≡ true
 is_some_of held place d = ap is_some d.1
 
-holds_of : (held : HeldPlaces) (place : ℕ) → is_held held place ≡ true → Holds held place
+pub holds_of : (held : HeldPlaces) (place : ℕ) → is_held held place ≡ true → Holds held place
 holds_of held place t = by_value (get held place) refl t
   where
     by_value : (o : Option Entry) → get held place ≡ o → is_some o ≡ true → Holds held place
@@ -137,7 +136,7 @@ and_whole false b c n h = ⊎_elim (λ e. rw e refl) (λ e. or_true b e) h
     or_true false e = e
 
 -- a packet of a place that the ring has
-abbrev InRange : Settings → Packet → Type 0
+abbrev pub InRange : Settings → Packet → Type 0
 InRange s p = (1 ≤ p.place) × (p.place ≤ s.places)
 
 module _ (s : Settings) (n : ℕ) (r : NodeState) (t : Token) (now rest : List Entry) (ok : Accepted s r t) (range : IsToken t) where

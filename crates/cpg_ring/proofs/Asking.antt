@@ -1,6 +1,6 @@
 -- Lists of places in ascending order.
-use Rattle.std.proofs.Common.{◌≡◌, ◌≢◌, ◌⊎◌, ◌↔◌, ℕ, zero, suc, ◌+◌, ◌<◌, ◌≤◌, Bool, true, false, cond, ◌||◌, List, [], ◌∷◌, ◌++◌, length, take, Option, Some, None, Contains, refl, sym, ap, ◌∙◌, subst, inl, inr, ⊎_elim, arith, eqb-true, eq-eqb, true≢false, append-nil, ◌==◌, IsTrue}
-use Rattle.std.specs.List.{filter, list_any, All}
+use Rattle.std.proofs.Common.{◌≡◌, ◌≢◌, ◌⊎◌, ℕ, zero, suc, ◌<◌, ◌≤◌, Bool, true, false, cond, ◌||◌, List, [], ◌∷◌, ◌++◌, take, Contains, refl, sym, ap, ◌∙◌, subst, inl, inr, ⊎_elim, arith, eqb-true, eq-eqb, true≢false, append-nil, ◌==◌}
+use Rattle.std.specs.List.{filter, list_any}
 use Rattle.std.proofs.lemmas.Bool.{cases_eq}
 use Rattle.std.proofs.lemmas.List.Elements.{filter-append, Contains-append_left, Contains-append_right, Contains-append_cases}
 use Rattle.cpg_ring.specs.Visits.{up_to}
@@ -73,16 +73,16 @@ module _ (f : ℕ → Bool) where
   pub contains_filter : (n p : ℕ) → 1 ≤ p → p ≤ n → f p ≡ true → Contains (filter f (up_to n)) p
   contains_filter zero p low high t = absurd (omega arith)
   contains_filter (suc n) p low high t = subst (λ l. Contains l p) (sym (filter-append f (up_to n) (suc n ∷ []))) (⊎_elim
-    (λ (last : p ≡ suc n). Contains-append_right (filter f (up_to n)) (filter f (suc n ∷ [])) p (subst (λ b. Contains (cond b (suc n ∷ []) []) p) (sym t ∙ ap f last) (subst (Contains (suc n ∷ [])) (sym last) (contains_head (suc n) []))))
-    (λ (less : p ≢ suc n). Contains-append_left (filter f (up_to n)) (filter f (suc n ∷ [])) p (contains_filter n p low (omega arith) t))
-    (cases_eq p (suc n)))
+      (λ (last : p ≡ suc n). Contains-append_right (filter f (up_to n)) (filter f (suc n ∷ [])) p (subst (λ b. Contains (cond b (suc n ∷ []) []) p) (sym t ∙ ap f last) (subst (Contains (suc n ∷ [])) (sym last) (contains_head (suc n) []))))
+      (λ (less : p ≢ suc n). Contains-append_left (filter f (up_to n)) (filter f (suc n ∷ [])) p (contains_filter n p low (omega arith) t))
+      (cases_eq p (suc n)))
 
   pub passes : (n p : ℕ) → Contains (filter f (up_to n)) p → (1 ≤ p) × (p ≤ n) × (f p ≡ true)
   passes zero p c = absurd (contains_none p c)
   passes (suc n) p c = ⊎_elim
-    (λ early. let w = passes n p early in let l = w.1 in (w.0, omega arith, w.2))
-    (λ last. by_test (f (suc n)) refl last)
-    (Contains-append_cases (filter f (up_to n)) (filter f (suc n ∷ [])) p (subst (λ l. Contains l p) (filter-append f (up_to n) (suc n ∷ [])) c))
+      (λ early. let w = passes n p early in let l = w.1 in (w.0, omega arith, w.2))
+      (λ last. by_test (f (suc n)) refl last)
+      (Contains-append_cases (filter f (up_to n)) (filter f (suc n ∷ [])) p (subst (λ l. Contains l p) (filter-append f (up_to n) (suc n ∷ [])) c))
     where
       by_test : (b : Bool) → f (suc n) ≡ b → Contains (cond b (suc n ∷ []) []) p → (1 ≤ p) × (p ≤ suc n) × (f p ≡ true)
       by_test true is last = let same : suc n ≡ p = contains_one (suc n) p last in (omega arith, omega arith, ap f (sym same) ∙ is)

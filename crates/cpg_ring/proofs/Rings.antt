@@ -1,5 +1,5 @@
 -- What a ring's fields tell of the places that it holds.
-use Rattle.std.proofs.Common.{◌≡◌, ◌≢◌, ◌⊎◌, ℕ, zero, suc, ◌+◌, ◌<◌, ◌≤◌, ◌^◌, Bool, true, false, not, cond, if◌then◌else◌, ◌==◌, nat_lt, ltb-false, is_some, List, [], ◌∷◌, ◌++◌, Option, Some, None, IsSome, refl, sym, ap, ◌∙◌, subst, ⊎_elim, arith, eqb, eqb-true, true≢false}
+use Rattle.std.proofs.Common.{◌≡◌, ◌≢◌, ℕ, suc, ◌+◌, ◌≤◌, Bool, true, false, not, cond, if◌then◌else◌, ◌==◌, nat_lt, ltb-false, is_some, List, [], ◌∷◌, ◌++◌, Option, Some, None, IsSome, refl, sym, ap, ◌∙◌, subst, ⊎_elim, arith, eqb, eqb-true, true≢false}
 use Rattle.std.specs.List.{AllByRecursion}
 use Rattle.std.specs.Ordering.{nat_cmp}
 use Rattle.std.specs.Cmp.{nat_cmp_total, unsigned_tied}
@@ -10,7 +10,6 @@ use Rattle.cpg_ring.specs.States.{Entry, Packet, Refusal, Settings, HeldPlaces, 
 use Rattle.cpg_cred.specs.declared.refusals.Refusal.TheVariants.{Foreign, Implausible, Held, FarAhead}
 use Rattle.cpg_ring.specs.Moves.{data_refusal}
 use Rattle.cpg_ring.specs.Rings.{Station}
-use Rattle.cpg_ring.specs.Laws.{AllHeld}
 use Rattle.cpg_ring.specs.Kept.{places_of, IsKept}
 use Rattle.cpg_ring.proofs.Kept.{get_find}
 use Rattle.cpg_ring.proofs.Holding.{put_grows}

@@ -1,5 +1,5 @@
 -- How a ring keeps what it holds: the pairs of place and entry, in the order in which they came.
-use Rattle.std.specs.Prelude.{◌≡◌, ℕ, ◌≤◌, List, [], ◌∷◌, suc, Option, Some, None}
+use Rattle.std.specs.Prelude.{ℕ, ◌≤◌, List, [], ◌∷◌, suc, Option, Some, None}
 use Rattle.std.specs.List.{AllByRecursion}
 use Rattle.std.specs.FinMap.{from_entries}
 use Rattle.cpg_ring.specs.States.{Entry, Settings, HeldPlaces}

@@ -1,8 +1,8 @@
 -- What the definitions of a visit amount to, in the words of the rules.
-use Rattle.std.specs.Prelude.{◌≡◌, ◌⊎◌, ◌↔◌, ℕ, ◌+◌, ◌<◌, ◌≤◌, min, List, [], ◌∷◌, length, take, None}
+use Rattle.std.specs.Prelude.{◌≡◌, ◌⊎◌, ◌↔◌, ℕ, ◌+◌, ◌<◌, ◌≤◌, min, List, [], ◌∷◌, length, take}
 use Rattle.std.specs.List.{Contains, All}
 use Rattle.cpg_ring.specs.declared.settings.TheConstants.{MOST_PLACES, MOST_HOPS, MOST_REQUESTS, WINDOW}
-use Rattle.cpg_ring.specs.States.{Token, Packet, Settings, HeldPlaces, Holds, NodeState}
+use Rattle.cpg_ring.specs.States.{Token, Settings, HeldPlaces, Holds, NodeState}
 use Rattle.cpg_ring.specs.Visits.{VisitStep, reach}
 
 -- strictly ascending, above low and at most high

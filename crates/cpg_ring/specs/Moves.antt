@@ -1,5 +1,5 @@
 -- What else a node does: it hears data, takes entries in, and delivers places.
-use Rattle.std.specs.Prelude.{ℕ, suc, ◌+◌, Bool, not, List, [], ◌∷◌, ◌++◌, Option, Some, None, if◌then◌else◌, nat_lt, nat_le, ◌==◌}
+use Rattle.std.specs.Prelude.{ℕ, suc, ◌+◌, Bool, not, [], ◌∷◌, ◌++◌, Option, Some, None, if◌then◌else◌, nat_lt, nat_le, ◌==◌}
 use Rattle.std.specs.FinMap.{get, insert, empty}
 use Rattle.cpg_cred.specs.declared.refusals.Refusal.TheVariants.{Foreign, Implausible, Held, FarAhead}
 use Rattle.cpg_ring.specs.declared.settings.TheConstants.{WINDOW, MOST_WAITING}

@@ -1,5 +1,6 @@
 -- A ring as its calls see it, and what they answer.
 use Rattle.std.specs.Prelude.{◌≡◌, ℕ, ◌≤◌, take, if◌then◌else◌, Option, Some, None, Result, Ok, Err}
+use Rattle.std.specs.List.{All}
 use Rattle.std.specs.FinMap as map
 use Rattle.std.specs.Coded.{Coded, coded_ℕ}
 use Rattle.cpg_cred.specs.declared.refusals.Refusal.TheVariants.{Memory, Range, QueueFull}
@@ -7,9 +8,10 @@ use Rattle.cpg_cred.specs.declared.refusals.Refused.{Refused}
 use Rattle.cpg_entry.specs.contracts.entries.Entry as entry
 use Rattle.cpg_ring.specs.declared.settings.TheConstants.{MOST_PLACES}
 use Rattle.cpg_ring.specs.declared.visit.Visit.{Visit}
-use Rattle.cpg_ring.specs.States.{Entry, Packet, Token, Refusal, Settings, IsSettings, HeldPlaces, NodeState}
+use Rattle.cpg_ring.specs.States.{Packet, Token, Refusal, Settings, IsSettings, HeldPlaces, NodeState}
 use Rattle.cpg_ring.specs.Visits.{VisitStep, token_refusal, placed, hold_all, visit_step, after_visit}
-use Rattle.cpg_ring.specs.Moves.{data_refusal, is_full, after_data, after_entry, after_delivery, new_node}
+use Rattle.cpg_ring.specs.Laws.{IsToken}
+use Rattle.cpg_ring.specs.Moves.{data_refusal, is_full, new_node}
 
 -- A node, with its ring's settings.
 pub record Station : Type 0 where
@@ -79,6 +81,13 @@ answer_of (Err refused) = Err refused.refusal
 -- a packet whose place can be spelled in a frame
 abbrev pub IsPacket : Packet → Type 0
 IsPacket p = (1 ≤ p.place) × (p.place ≤ MOST_PLACES)
+
+-- What a visit sends can be spelled in frames, and lies within the ring's places and hops.
+pub record IsInRange (s : Settings) (v : Visit) : Type 0 where
+  pub token : IsToken v.token
+  pub seq : v.token.seq ≤ s.places
+  pub hop : v.token.hop ≤ s.hops
+  pub packets : All (λ p. (1 ≤ p.place) × (p.place ≤ s.places)) v.packets
 
 -- what is held once the first so many waiting entries have the places after seq
 abbrev pub held_after : Station → ℕ → ℕ → HeldPlaces

@@ -1,6 +1,5 @@
 -- One node of the ring: what it keeps.
-use Rattle.std.specs.Prelude.{◌≡◌, ℕ, ◌≤◌, min, Bool, List, [], ◌∷◌, length, Option, Some, None, is_some, count_by}
-
+use Rattle.std.specs.Prelude.{◌≡◌, ℕ, ◌≤◌, min, Bool, List, ◌∷◌, Option, Some, is_some, count_by}
 use Rattle.std.specs.Ordering.{nat_cmp}
 use Rattle.std.specs.FinMap.{FinMap, get}
 use Rattle.cpg_entry.specs.declared.calls.Op.{Op}

@@ -1,6 +1,6 @@
 -- All nodes of a ring, and every frame that was ever sent. Frames are counted from 1; they arrive any number of times and in any order,
 -- and a loss is a frame that no event brings.
-use Rattle.std.specs.Prelude.{◌≡◌, ℕ, zero, suc, Bool, List, [], ◌∷◌, ◌++◌, length, map, set, Option, Some, None, if◌then◌else◌, ◌==◌, slice_get}
+use Rattle.std.specs.Prelude.{◌≡◌, ℕ, zero, suc, List, [], ◌∷◌, ◌++◌, length, map, set, Option, Some, None, if◌then◌else◌, ◌==◌, slice_get}
 use Rattle.cpg_entry.specs.declared.frames.Frame.TheVariants as frame
 use Rattle.cpg_ring.specs.States.{Entry, Packet, Token, Frame, Refusal, Settings, NodeState, is_held}
 use Rattle.cpg_ring.specs.Visits.{VisitStep, token_refusal, visit_step, after_visit, up_to}

@@ -12,5 +12,5 @@ pub use ring::Ring;
 pub use settings::{
     BURST, MOST_HOPS, MOST_NODES, MOST_PLACES, MOST_REQUESTS, MOST_WAITING, Settings, WINDOW,
 };
-pub use visit::{Packets, Visit};
 pub use theorem::{every_schedule, every_visit};
+pub use visit::{Packets, Visit};

@@ -11,11 +11,10 @@ ghost use Rattle.cpg_ring.specs.Moves.{is_full, after_data, after_entry, after_d
 ghost use Rattle.cpg_ring.specs.Laws.{IsToken};
 ghost use Rattle.cpg_ring.specs.Rings.{IsMade, IsAnswer, answer_of, IsPacket, refusal_of, visit_of, visited, with_state, data_refusal_of, full_refusal, held_after};
 
+mod visiting;
+
 use crate::held;
-use crate::settings::{
-    BURST, MOST_HOPS, MOST_NODES, MOST_PLACES, MOST_REQUESTS, MOST_WAITING, Settings, WINDOW,
-};
-use crate::visit::{Packets, Visit};
+use crate::settings::{MOST_HOPS, MOST_NODES, MOST_PLACES, MOST_WAITING, Settings, WINDOW};
 use cpg_cred::Refused;
 use cpg_entry::{Entry, NodeId, Op, Packet, Places, Refusal, Token};
 use std::alloc::Global;
@@ -215,47 +214,6 @@ impl Ring {
         }
         self.held.push_reserved((packet.place, packet.entry));
         Ok(())
-    }
-
-    fn token_refusal(&self, token: &Token) -> Option<Refusal>
-        ensures { result ≡ refusal_of self.now token.now }
-    {
-        if token.ring != self.settings.ring {
-            return Some(Refusal::Foreign);
-        }
-        if token.hop % u64::from(self.settings.nodes) + 1 != u64::from(self.node.get()) {
-            return Some(Refusal::NotMine);
-        }
-        if is_past(token.hop, self.last) {
-            return Some(Refusal::Stale);
-        }
-        if held::holds_above(&self.held, token.seq) || self.settings.places < token.seq {
-            return Some(Refusal::Implausible);
-        }
-        if self.settings.hops <= token.hop {
-            return Some(Refusal::RingEnd);
-        }
-        None
-    }
-
-    /// How many waiting entries take places after `seq`.
-    fn burst_size(&self, seq: u32) -> u32
-        ensures { result ≡ burst_size self.now.settings self.now.state seq }
-    {
-        let ready = self.waiting.len().min(BURST) as u32;
-        let places = self.settings.places.saturating_sub(seq);
-        let window = (self.delivered + WINDOW).saturating_sub(seq);
-        ready.min(places.min(window))
-    }
-}
-
-/// Whether that hop or a later one was accepted.
-fn is_past(hop: u64, last: Option<u64>) -> bool
-    ensures { result ≡ is_past hop last }
-{
-    match last {
-        None => false,
-        Some(last) => hop <= last,
     }
 }
 

@@ -13,11 +13,9 @@ pub fn every_schedule()
     ensures agreement { (s : Settings) (events : List Event) → IsSettings s → Agreement (run s (start s) events) }
     ensures once_in_order { (s : Settings) → IsSettings s → OnceInOrder s }
     ensures safe { (s : Settings) (events : List Event) → IsSettings s → Safe (run s (start s) events) }
-{
-}
+{}
 
 /// Holds of every token in range that a node accepts, whatever the node holds.
 pub fn every_visit()
     ensures { (s : Settings) (n : ℕ) (r : NodeState) (t : Token) → IsSettings s → IsToken t → token_refusal s n r t ≡ None → IsVisit s r t (visit_step s n r t) }
-{
-}
+{}

@@ -1,6 +1,5 @@
-use Rattle.std.proofs.Common.{◌≡◌, Some, ℕ, sym, ◌∙◌, ap, [], ◌∷◌, ◌++◌, get_or}
+use Rattle.std.proofs.Common.{◌≡◌, Some, sym, ◌∙◌, ap, [], ◌∷◌, ◌++◌, get_or}
 use Rattle.std.specs.FinMap.{get}
-use Rattle.cpg_ring.specs.States.{Entry}
 use Rattle.cpg_ring.specs.Kept.{places_of}
 use Rattle.cpg_ring.proofs.Keys.{served_one, served_none}
 use Rattle.cpg_ring.proofs.held.serve.Goals as goal

@@ -1,5 +1,4 @@
-use Rattle.std.proofs.Common.{◌≡◌, ◌≤◌, None, List, ◌∷◌, [], ◌++◌, sym, ap, subst, ◌∙◌}
-use Rattle.std.specs.FinMap.{get}
+use Rattle.std.proofs.Common.{◌≡◌, None, ◌∷◌, [], ◌++◌, sym, ap, subst, ◌∙◌}
 use Rattle.cpg_ring.specs.Moves.{after_data}
 use Rattle.cpg_ring.specs.Kept.{places_of}
 use Rattle.cpg_ring.specs.Rings.{Station, data_refusal_of, with_state}
