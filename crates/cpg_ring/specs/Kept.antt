@@ -1,9 +1,9 @@
 -- How a ring keeps what it holds: the pairs of place and entry, in the order in which they came.
-use Rattle.std.specs.Prelude.{ℕ, ◌≤◌, List, [], ◌∷◌, suc, Option, Some, None}
+use Rattle.std.specs.Prelude.{ℕ, ◌≤◌, List, [], ◌∷◌, suc, Option, Some, None, IfSome}
 use Rattle.std.specs.List.{AllByRecursion}
 use Rattle.std.specs.FinMap.{from_entries}
-use Rattle.cpg_ring.specs.States.{Entry, Settings, HeldPlaces}
-use Rattle.cpg_ring.specs.Laws.{AllHeld}
+use Rattle.cpg_ring.specs.States.{Entry, Token, Settings, HeldPlaces}
+use Rattle.cpg_ring.specs.Laws.{AllHeld, IsToken}
 use Rattle.cpg_ring.specs.Rings.{IsStation}
 
 -- what the pairs hold
@@ -21,7 +21,7 @@ newest_two (Some a) (Some b) = a ∷ b ∷ []
 newest_two (Some a) None = a ∷ []
 newest_two None b = []
 
--- What is true of every ring's fields.
+-- What is true of a ring's places.
 pub record IsKept (s : Settings) (n : ℕ) (kept : List (ℕ × Entry)) (d : ℕ) : Type 0 where
   pub station : IsStation s n
   -- no place is held that the ring does not have
@@ -29,3 +29,9 @@ pub record IsKept (s : Settings) (n : ℕ) (kept : List (ℕ × Entry)) (d : ℕ
   pub counted : d ≤ s.places
   -- the delivered places are held
   pub delivered : AllHeld (places_of kept) d
+
+-- What is true of every ring's fields.
+pub record IsRing (s : Settings) (n : ℕ) (held : List (ℕ × Entry)) (d : ℕ) (last : Option Token) : Type 0 where
+  pub kept : IsKept s n held d
+  -- the last token sent can be spelled in a frame
+  pub sent : IfSome last IsToken

@@ -4,6 +4,8 @@
 mod held;
 mod ring;
 mod settings;
+#[cfg(test)]
+mod tests;
 mod theorem;
 mod visit;
 

@@ -3,7 +3,7 @@
 //! The visit is that of Totem's single ring; the burst, the window and the limits are this project's own.
 //! Proved: each call is exactly the definition in `specs/`, of which `every_schedule` is proved.
 
-ghost use Rattle.std.specs.Prelude.{None, ◌≡◌, ◌↔◌, ◌+◌, ◌≤◌, ◌<◌, ◌^◌, ◌&&◌, ◌||◌, ◌++◌, ◌∷◌, [], not, length, take, IsTrue, IsSome, OnOk, OnErr, IfOk, IfErr, IsOkUnless, nat_le, nat_lt};
+ghost use Rattle.std.specs.Prelude.{None, ◌≡◌, ◌↔◌, ◌+◌, ◌≤◌, ◌<◌, ◌^◌, ◌&&◌, ◌||◌, ◌++◌, ◌∷◌, [], not, length, take, IsTrue, IsSome, OnOk, OnErr, IfOk, IfErr, IfSome, IsOkUnless, nat_le, nat_lt};
 ghost use Rattle.std.specs.Option.{option_copied};
 ghost use Rattle.cpg_ring.specs.States.{IsSettings, is_held, is_call, calls, safe_mark};
 ghost use Rattle.cpg_ring.specs.Visits.{burst_size, is_past, placed, reach, next_requests, is_own_or_none, next_aru, next_aru_id, next_token};
@@ -38,7 +38,7 @@ pub struct Ring {
 
 impl Model for Ring {
     ghost use Rattle.cpg_ring.specs.Rings.{Station, held_code};
-    ghost use Rattle.cpg_ring.specs.Kept.{places_of, newest_two, IsKept};
+    ghost use Rattle.cpg_ring.specs.Kept.{places_of, newest_two, IsRing};
     ghost use Rattle.std.specs.Coded.{codes};
 
     ghost Value = { Station };
@@ -47,7 +47,7 @@ impl Model for Ring {
 
     ghost view = { λ a. record { settings = a.settings; node = a.node; state = record { last = a.last; sent = a.sent; held = places_of a.held.items; delivered = a.delivered; waiting = a.waiting.items; arus = newest_two a.aru_now a.aru_before } } };
 
-    ghost invariant = { λ a. IsKept a.settings a.node a.held.items a.delivered };
+    ghost invariant = { λ a. IsRing a.settings a.node a.held.items a.delivered a.sent };
 }
 
 fn allows(settings: &Settings) -> bool
@@ -113,7 +113,8 @@ impl Ring {
     /// The last token that the node sent; at first the ring's first token at its last node, and none
     /// elsewhere.
     pub fn resend(&self) -> Option<&Token>
-        ensures { option_copied result ≡ self.now.state.sent }
+        ensures sent { option_copied result ≡ self.now.state.sent }
+        ensures in_range { IfSome self.now.state.sent IsToken }
     {
         self.sent.as_ref()
     }

@@ -3,6 +3,7 @@ use Rattle.std.proofs.lemmas.List.{length-take-le}
 use Rattle.cpg_ring.specs.Visits.{burst_size}
 use Rattle.cpg_ring.specs.Kept.{places_of, pairs_from, newest_two}
 use Rattle.cpg_ring.specs.States.{Token}
+use Rattle.cpg_ring.specs.Laws.{IsToken}
 use Rattle.cpg_ring.specs.Rings.{Station, refusal_of, step_of, visited}
 use Rattle.cpg_ring.specs.contracts.ring.Ring.{the_view}
 use Rattle.cpg_ring.proofs.Amounts.{accepted}
@@ -15,12 +16,12 @@ invariant_of-self-2 c =
     let t = c.args.token.now in
     let V = the_view c.self.inside in
     let none = subst (λ (x : Station). refusal_of x t ≡ None) (sym c.self.view_is) c.in_ok-visit.ensures.answer.0 in
-    let ready : IsReady (the_view c.self.inside) c.args.token.now = is_ready V t c.self.invariant.station.0.places.1 c.self.invariant.station.0.hops.1 c.self.invariant.delivered none in
+    let ready : IsReady (the_view c.self.inside) c.args.token.now = is_ready V t c.self.invariant.kept.station.0.places.1 c.self.invariant.kept.station.0.hops.1 c.self.invariant.kept.delivered none in
     let count : c.burst_size-count.result ≡ burst_size V.settings V.state t.seq = c.burst_size-count.ensures ∙ ap (λ (x : Station). burst_size x.settings x.state t.seq) (sym c.self.view_is) in
     let new = c.take_places.ensures.held ∙ λ i. c.reserve.ensures.items i ++ pairs_from t.seq (take (count i) c.self.inside.waiting.items) in
     let room = ready.room in
     let len = length-take-le (burst_size V.settings V.state t.seq) c.self.inside.waiting.items ready.ready in
-    kept_more c.self.inside.settings c.self.inside.node c.self.inside.delivered c.self.inside.held.items _ t.seq (take (burst_size V.settings V.state t.seq) c.self.inside.waiting.items) c.self.invariant new (omega arith) (accepted V.settings V.node V.state t none).above
+    record { kept = kept_more c.self.inside.settings c.self.inside.node c.self.inside.delivered c.self.inside.held.items _ t.seq (take (burst_size V.settings V.state t.seq) c.self.inside.waiting.items) c.self.invariant.kept new (omega arith) (accepted V.settings V.node V.state t none).above; sent = subst IsToken (sym c.in_ok-sent.ensures.ok) c.in_ok-visit.ensures.in_range.token }
 
 pub returns-clause-ok : goal.returns-clause-ok
 returns-clause-ok c =
