@@ -1,6 +1,6 @@
 -- From what a decoder answers to what the grammar says.
-use Rattle.std.proofs.Common.{◌≡◌, ℕ, List, Result, Ok, Err, ◌⊎◌, refl, inl, inr}
-use Rattle.std.specs.Prelude.{IfOk, IfErr}
+use Rattle.std.proofs.Common.{◌≡◌, ℕ, List, Option, Some, None, Result, Ok, Err, ◌⊎◌, refl, inl, inr}
+use Rattle.std.specs.Prelude.{◌↔◌, IfOk, IfErr, IsSome}
 use Rattle.cpg_cred.specs.declared.refusals.Refusal.{Refusal}
 use Rattle.cpg_cred.specs.declared.refusals.Refusal.TheVariants.{Memory, Malformed}
 use Rattle.cpg_entry.specs.declared.frames.Frame.{Frame}
@@ -15,10 +15,21 @@ pub found : (bytes : List ℕ) (answer : Result Frame Refusal) → IsBytes bytes
 found bytes (Ok frame) fits h = read_is_spelled bytes frame fits h
 found bytes (Err refusal) fits h = tt
 
-pub refused : (bytes : List ℕ) (answer : Result Frame Refusal) → Answers answer (frame_of bytes) → IfErr answer (λ refusal. (refusal ≡ Memory) ⊎ ((refusal ≡ Malformed) × ((frame : Frame) → Spells bytes frame → ⊥)))
+-- a frame that is read has a name
+the_frame : (read : Option Frame) → IsSome read → (frame : Frame) × (read ≡ Some frame)
+the_frame (Some frame) h = (frame, refl)
+the_frame None h = absurd cc
+
+pub malformed : (bytes : List ℕ) (answer : Result Frame Refusal) → IsBytes bytes → Answers answer (frame_of bytes) → (answer ≡ Err Malformed) ↔ ((frame : Frame) → Spells bytes frame → ⊥)
+malformed bytes (Ok frame) fits h = (λ e. absurd cc, λ none. absurd (none frame (read_is_spelled bytes frame fits h)))
+malformed bytes (Err Memory) fits h = (λ e. absurd cc, λ none. let f = the_frame (frame_of bytes) h in absurd (none f.0 (read_is_spelled bytes f.0 fits f.1)))
+malformed bytes (Err Malformed) fits h = (λ e frame spelled. let r = spelled_is_read bytes frame spelled in cc (h, r), λ none. refl)
+malformed bytes (Err _) fits h = absurd h
+
+pub refused : (bytes : List ℕ) (answer : Result Frame Refusal) → Answers answer (frame_of bytes) → IfErr answer (λ refusal. (refusal ≡ Malformed) ⊎ (refusal ≡ Memory))
 refused bytes (Ok frame) h = tt
-refused bytes (Err Memory) h = inl refl
-refused bytes (Err Malformed) h = inr (refl, λ frame spelled. let e = spelled_is_read bytes frame spelled in cc (h, e))
+refused bytes (Err Memory) h = inr refl
+refused bytes (Err Malformed) h = inl refl
 refused bytes (Err _) h = absurd h
 
 pub in_range : (bytes : List ℕ) (answer : Result Frame Refusal) → IfOk answer (λ frame. Spells bytes frame) → IfOk answer IsFrame

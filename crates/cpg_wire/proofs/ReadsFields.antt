@@ -6,7 +6,9 @@ use Rattle.std.proofs.lemmas.List.Elements.{All-weaker}
 use Rattle.std.proofs.lemmas.List.Sums.{AllPass-from_list_all, list_all-from_AllPass}
 use Rattle.cpg_cred.specs.declared.credentials.Cred.{Cred}
 use Rattle.cpg_entry.specs.Names.{IsName}
-use Rattle.cpg_wire.specs.Ranges.{most_name_bytes, most_message_bytes, most_u32, Within, IsU32}
+use Rattle.cpg_entry.specs.declared.names.TheConstants.{MOST_NAME_BYTES}
+use Rattle.cpg_entry.specs.declared.messages.TheConstants.{MOST_MESSAGE_BYTES}
+use Rattle.cpg_wire.specs.Ranges.{most_u32, Within, IsU32}
 use Rattle.cpg_wire.specs.Spelling.{name_bytes, message_bytes, cred_bytes}
 use Rattle.cpg_wire.specs.Reading.{number_at, u8_at, text_at, is_printing, printing_at, name_at, message_at, u32_at, cred_at}
 use Rattle.cpg_wire.proofs.Readers.{ReadsBack, reads2, reads_then}
@@ -24,15 +26,15 @@ all_printing bytes h = list_all-from_AllPass (is_in_range 0x21 0x7e) bytes (All-
 
 pub name_reads : ReadsBack (List ℕ) name_at name_bytes IsName
 unfolding name_at
-name_reads = reads_then ℕ (List ℕ) (u8_at 1 most_name_bytes) (λ n. n ∷ []) (Within 1 most_name_bytes) (u8_reads 1 most_name_bytes)
+name_reads = reads_then ℕ (List ℕ) (u8_at 1 MOST_NAME_BYTES) (λ n. n ∷ []) (Within 1 MOST_NAME_BYTES) (u8_reads 1 MOST_NAME_BYTES)
     printing_at (λ t. t) (λ n t. (length t ≡ n) × (is_printing t ≡ true)) (λ n h. printing_reads n) name_bytes IsName
     (λ n t h k. (ap (λ (m : ℕ). m ∷ t) k.0, (omega (arith, h.0, k.0), omega (arith, h.1, k.0), printing_all t k.1)))
     (λ t h. (length t, (h.0, h.1), (refl, all_printing t h.2)))
 
-pub message_reads : ReadsBack (List ℕ) message_at message_bytes (λ m. length m ≤ most_message_bytes)
+pub message_reads : ReadsBack (List ℕ) message_at message_bytes (λ m. length m ≤ MOST_MESSAGE_BYTES)
 unfolding message_at
-message_reads = reads_then ℕ (List ℕ) (number_at w16 0 most_message_bytes) (to_be_bytes w16) (Within 0 most_message_bytes) (number_reads w16 (2 ^ 16) 0 most_message_bytes wide16 (omega arith))
-    text_at (λ t. t) (λ n t. length t ≡ n) (λ n h. text_reads n) message_bytes (λ m. length m ≤ most_message_bytes)
+message_reads = reads_then ℕ (List ℕ) (number_at w16 0 MOST_MESSAGE_BYTES) (to_be_bytes w16) (Within 0 MOST_MESSAGE_BYTES) (number_reads w16 (2 ^ 16) 0 MOST_MESSAGE_BYTES wide16 (omega arith))
+    text_at (λ t. t) (λ n t. length t ≡ n) (λ n h. text_reads n) message_bytes (λ m. length m ≤ MOST_MESSAGE_BYTES)
     (λ n t h k. (ap (λ (m : ℕ). to_be_bytes w16 m ++ t) k, omega (arith, h.1, k)))
     (λ t h. (length t, (omega arith, h), refl))
 

@@ -10,12 +10,14 @@ use Rattle.cpg_entry.specs.declared.frames.Packet.{Packet}
 use Rattle.cpg_entry.specs.declared.frames.Token.{Token}
 use Rattle.cpg_entry.specs.declared.frames.Frame.{Frame}
 use Rattle.cpg_entry.specs.declared.frames.Frame.TheVariants as frames
+use Rattle.cpg_wire.specs.declared.limits.TheConstants.{MOST_PLACES}
+use Rattle.cpg_wire.specs.declared.codes.TheConstants.{MARK}
 use Rattle.cpg_wire.specs.declared.codes.Version.{Version}
 use Rattle.cpg_wire.specs.declared.codes.Version.TheVariants.{One, Two}
 use Rattle.cpg_wire.specs.declared.codes.Kind.{Kind}
 use Rattle.cpg_wire.specs.declared.codes.Kind.TheVariants as kinds
-use Rattle.cpg_wire.specs.Codes.{mark, version_code, version_of, kind_code, kind_of, versions, all_kinds}
-use Rattle.cpg_wire.specs.Ranges.{most_places, Within, IsU32, IsNode, IsPacket, IsToken, IsFrame, FitsOp, Fits}
+use Rattle.cpg_wire.specs.Codes.{version_code, version_of, kind_code, kind_of, versions, all_kinds}
+use Rattle.cpg_wire.specs.Ranges.{Within, IsU32, IsNode, IsPacket, IsToken, IsFrame, FitsOp, Fits}
 use Rattle.cpg_wire.specs.Spelling.{cred_bytes, op_bytes, packet_bytes, token_bytes, spelling, Spells}
 use Rattle.cpg_wire.specs.Reading.{◌>>=◌, number_at, u8_at, u32_at, form_at, op_at, sender_at, cred_at, packet_at, token_at, head_at, carried_at, frame_at, frame_of}
 use Rattle.cpg_wire.proofs.Readers.{IsBytes, bind_some, ReadsBack, reads1, reads2, reads3, reads4}
@@ -45,7 +47,7 @@ IsPacketOf v ring p = (p.ring ≡ ring) × IsPacket p × FitsOp v p.entry.op
 packet_reads : (v : Version) (ring : ℕ) → IsU32 ring → ReadsBack Packet (packet_at v ring) (packet_bytes v) (IsPacketOf v ring)
 unfolding packet_at
 packet_reads v ring fits = reads4 ℕ (ℕ × ℕ × ℕ) Cred Op Packet
-    (number_at w32 1 most_places) (to_be_bytes w32) (Within 1 most_places) (number_reads w32 (2 ^ 32) 1 most_places wide32 (omega arith))
+    (number_at w32 1 MOST_PLACES) (to_be_bytes w32) (Within 1 MOST_PLACES) (number_reads w32 (2 ^ 32) 1 MOST_PLACES wide32 (omega arith))
     sender_at sender_text IsSender sender_reads
     cred_at cred_bytes IsCred cred_reads
     (λ s. op_at v) (op_bytes v) (λ s. IsOpIn v) (λ s h. op_reads v)
@@ -77,20 +79,20 @@ abbrev Head : Type 0
 Head = Version × Kind × ℕ
 
 abbrev head_text : Head → List ℕ
-head_text h = mark ∷ version_code h.0 ∷ kind_code h.1 ∷ to_be_bytes w32 h.2
+head_text h = MARK ∷ version_code h.0 ∷ kind_code h.1 ∷ to_be_bytes w32 h.2
 
 abbrev IsHead : Head → Type 0
 IsHead h = IsU32 h.2
 
 head_reads : ReadsBack Head head_at head_text IsHead
 unfolding head_at
-head_reads = reads4 ℕ Version Kind ℕ Head (u8_at mark mark) (λ n. n ∷ []) (Within mark mark) (u8_reads mark mark)
+head_reads = reads4 ℕ Version Kind ℕ Head (u8_at MARK MARK) (λ n. n ∷ []) (Within MARK MARK) (u8_reads MARK MARK)
     (form_at version_of) (λ x. version_code x ∷ []) (λ x. Unit {0}) (form_reads Version version_of version_code version_law version_back)
     (form_at kind_of) (λ x. kind_code x ∷ []) (λ x. Unit {0}) (form_reads Kind kind_of kind_code kind_law kind_back)
     (λ x. u32_at) (to_be_bytes w32) (λ x. IsU32) (λ x h. u32_reads)
     (λ m v k r. (v, k, r)) head_text IsHead
-    (λ m v k r h i j l. let e : mark ≡ m = omega (arith, h.0, h.1) in (ap (λ (n : ℕ). n ∷ version_code v ∷ kind_code k ∷ to_be_bytes w32 r) e, l))
-    (λ h is. (mark, h.0, h.1, h.2, refl, (omega arith, omega arith), tt, tt, is))
+    (λ m v k r h i j l. let e : MARK ≡ m = omega (arith, h.0, h.1) in (ap (λ (n : ℕ). n ∷ version_code v ∷ kind_code k ∷ to_be_bytes w32 r) e, l))
+    (λ h is. (MARK, h.0, h.1, h.2, refl, (omega arith, omega arith), tt, tt, is))
 
 abbrev carried_text : Version → Frame → List ℕ
 carried_text v (frames.Packet p) = packet_bytes v p
@@ -121,8 +123,8 @@ abbrev IsFrameIn : Version → Frame → Type 0
 IsFrameIn v f = IsFrame f × Fits v f
 
 frame_joined : (v : Version) (k : Kind) (ring : ℕ) (f : Frame) → Carried v k ring f → (spelling v f ≡ head_text (v, k, ring) ++ carried_text v f) × IsFrameIn v f
-frame_joined v kinds.Data ring (frames.Packet p) h = (ap (λ (r : ℕ). mark ∷ version_code v ∷ kind_code kinds.Data ∷ (to_be_bytes w32 r ++ packet_bytes v p)) h.0, (h.1, h.2))
-frame_joined v kinds.Token ring (frames.Token t) h = (ap (λ (r : ℕ). mark ∷ version_code v ∷ kind_code kinds.Token ∷ (to_be_bytes w32 r ++ token_bytes t)) h.0, (h.1, tt))
+frame_joined v kinds.Data ring (frames.Packet p) h = (ap (λ (r : ℕ). MARK ∷ version_code v ∷ kind_code kinds.Data ∷ (to_be_bytes w32 r ++ packet_bytes v p)) h.0, (h.1, h.2))
+frame_joined v kinds.Token ring (frames.Token t) h = (ap (λ (r : ℕ). MARK ∷ version_code v ∷ kind_code kinds.Token ∷ (to_be_bytes w32 r ++ token_bytes t)) h.0, (h.1, tt))
 frame_joined v kinds.Data ring (frames.Token t) h = absurd h
 frame_joined v kinds.Token ring (frames.Packet p) h = absurd h
 

@@ -6,11 +6,12 @@ use Rattle.cpg_entry.specs.Names.{IsName}
 use Rattle.cpg_entry.specs.declared.calls.Call.TheVariants as calls
 use Rattle.cpg_entry.specs.declared.calls.Op.{Op}
 use Rattle.cpg_entry.specs.declared.calls.Op.TheVariants as ops
+use Rattle.cpg_entry.specs.declared.messages.TheConstants.{MOST_MESSAGE_BYTES}
 use Rattle.cpg_wire.specs.declared.codes.Version.{Version}
 use Rattle.cpg_wire.specs.declared.codes.OpCode.{OpCode}
 use Rattle.cpg_wire.specs.declared.codes.OpCode.TheVariants as codes
 use Rattle.cpg_wire.specs.Codes.{op_code, op_code_of, all_ops}
-use Rattle.cpg_wire.specs.Ranges.{most_message_bytes, Within, IsU32, IsOp, FitsOp}
+use Rattle.cpg_wire.specs.Ranges.{Within, IsU32, IsOp, FitsOp}
 use Rattle.cpg_wire.specs.Spelling.{name_bytes, message_bytes, rule_bytes, op_bytes}
 use Rattle.cpg_wire.specs.Reading.{u8_at, u32_at, form_at, name_at, message_at, rule_at, insert_at, remove_at, body_at, op_at}
 use Rattle.cpg_wire.proofs.Readers.{IsBytes, Takes, ReadsBack, reads1, reads2, reads3, reads_then}
@@ -48,7 +49,7 @@ body_bytes v ops.Gone = []
 abbrev IsBody : Version → OpCode → Op → Type 0
 IsBody v codes.Join (ops.Act (calls.Join name)) = IsName name
 IsBody v codes.Leave (ops.Act calls.Leave) = Unit {0}
-IsBody v codes.Send (ops.Act (calls.Send message)) = length message ≤ most_message_bytes
+IsBody v codes.Send (ops.Act (calls.Send message)) = length message ≤ MOST_MESSAGE_BYTES
 IsBody v codes.Insert (ops.Act (calls.Insert name position rule)) = IsName name × Within 0 255 position × IsWhoIn v rule.who
 IsBody v codes.Remove (ops.Act (calls.Remove name id)) = IsName name × IsU32 id
 IsBody v codes.Gone ops.Gone = Unit {0}
@@ -58,7 +59,7 @@ join_parts : (v : Version) (o : Op) → IsBody v codes.Join o → (name : List �
 join_parts v (ops.Act (calls.Join name)) h = (name, refl, h)
 join_parts v _ h = absurd h
 
-send_parts : (v : Version) (o : Op) → IsBody v codes.Send o → (message : List ℕ) × (ops.Act (calls.Send message) ≡ o) × (length message ≤ most_message_bytes)
+send_parts : (v : Version) (o : Op) → IsBody v codes.Send o → (message : List ℕ) × (ops.Act (calls.Send message) ≡ o) × (length message ≤ MOST_MESSAGE_BYTES)
 send_parts v (ops.Act (calls.Send message)) h = (message, refl, h)
 send_parts v _ h = absurd h
 
@@ -99,7 +100,7 @@ body_reads : (v : Version) (k : OpCode) → ReadsBack Op (body_at v k) (body_byt
 unfolding body_at
 body_reads v codes.Join = reads1 (List ℕ) Op name_at name_bytes IsName name_reads (λ g. ops.Act (calls.Join g)) (body_bytes v) (IsBody v codes.Join) (λ g h. (refl, h)) (join_parts v)
 body_reads v codes.Leave = record { takes = λ bytes x fits e. bare_takes bytes v codes.Leave (ops.Act calls.Leave) x refl tt fits e; again = λ o rest h. leave_again v o rest h }
-body_reads v codes.Send = reads1 (List ℕ) Op message_at message_bytes (λ m. length m ≤ most_message_bytes) message_reads (λ m. ops.Act (calls.Send m)) (body_bytes v) (IsBody v codes.Send) (λ m h. (refl, h)) (send_parts v)
+body_reads v codes.Send = reads1 (List ℕ) Op message_at message_bytes (λ m. length m ≤ MOST_MESSAGE_BYTES) message_reads (λ m. ops.Act (calls.Send m)) (body_bytes v) (IsBody v codes.Send) (λ m h. (refl, h)) (send_parts v)
 body_reads v codes.Insert = insert_reads v
 body_reads v codes.Remove = remove_reads v
 body_reads v codes.Gone = record { takes = λ bytes x fits e. bare_takes bytes v codes.Gone ops.Gone x refl tt fits e; again = λ o rest h. gone_again v o rest h }

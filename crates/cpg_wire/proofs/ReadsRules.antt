@@ -183,27 +183,19 @@ IsValue _ _ _ _ = ⊥
 
 any_parts : (u g m : Option ℕ) → IsValue subjects.Any u g m → (n : ℕ) × (who_of None None None ≡ who_of u g m) × Within 0 0 n
 any_parts None None None h = (0, refl, (omega arith, omega arith))
-any_parts (Some u) g m h = absurd h
-any_parts None (Some g) m h = absurd h
-any_parts None None (Some m) h = absurd h
+any_parts _ _ _ h = absurd h
 
 uid_parts : (u g m : Option ℕ) → IsValue subjects.Uid u g m → (n : ℕ) × (who_of (Some n) None None ≡ who_of u g m) × IsU32 n
 uid_parts (Some n) None None h = (n, refl, h)
-uid_parts None g m h = absurd h
-uid_parts (Some n) (Some g) m h = absurd h
-uid_parts (Some n) None (Some m) h = absurd h
+uid_parts _ _ _ h = absurd h
 
 gid_parts : (u g m : Option ℕ) → IsValue subjects.Gid u g m → (n : ℕ) × (who_of None (Some n) None ≡ who_of u g m) × IsU32 n
 gid_parts None (Some n) None h = (n, refl, h)
-gid_parts (Some u) g m h = absurd h
-gid_parts None None m h = absurd h
-gid_parts None (Some n) (Some m) h = absurd h
+gid_parts _ _ _ h = absurd h
 
 node_parts : (u g m : Option ℕ) → IsValue subjects.Node u g m → (n : ℕ) × (who_of None None (Some n) ≡ who_of u g m) × IsNode n
 node_parts None None (Some n) h = (n, refl, h)
-node_parts (Some u) g m h = absurd h
-node_parts None (Some g) m h = absurd h
-node_parts None None None h = absurd h
+node_parts _ _ _ h = absurd h
 
 value_reads : (k : Subject) → ReadsBack Who (value_at k) (λ w. value_text w.uid w.gid w.node) (λ w. IsValue k w.uid w.gid w.node)
 unfolding value_at
@@ -221,18 +213,7 @@ joined subjects.Any None None None h = (refl, (record { uid = tt; gid = tt; node
 joined subjects.Uid (Some n) None None h = (refl, (record { uid = h; gid = tt; node = tt }, omega arith))
 joined subjects.Gid None (Some n) None h = (refl, (record { uid = tt; gid = h; node = tt }, omega arith))
 joined subjects.Node None None (Some n) h = (refl, (record { uid = tt; gid = tt; node = h }, omega arith))
-joined subjects.Any (Some u) g m h = absurd h
-joined subjects.Any None (Some g) m h = absurd h
-joined subjects.Any None None (Some m) h = absurd h
-joined subjects.Uid None g m h = absurd h
-joined subjects.Uid (Some u) (Some g) m h = absurd h
-joined subjects.Uid (Some u) None (Some m) h = absurd h
-joined subjects.Gid (Some u) g m h = absurd h
-joined subjects.Gid None None m h = absurd h
-joined subjects.Gid None (Some g) (Some m) h = absurd h
-joined subjects.Node (Some u) g m h = absurd h
-joined subjects.Node None (Some g) m h = absurd h
-joined subjects.Node None None None h = absurd h
+joined _ _ _ _ h = absurd h
 
 chosen : (u g m : Option ℕ) → IsWhoIn One (who_of u g m) → (k : Subject) × Unit {0} × IsValue k u g m
 chosen None None None h = (subjects.Any, tt, tt)

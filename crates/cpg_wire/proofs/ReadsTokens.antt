@@ -4,21 +4,22 @@ use Rattle.std.specs.Prelude.{IfSome}
 use Rattle.std.specs.List.{flat_map}
 use Rattle.std.specs.Int.{w32, w64, to_be_bytes}
 use Rattle.cpg_entry.specs.declared.frames.Token.{Token}
-use Rattle.cpg_wire.specs.Ranges.{most_places, most_hops, most_requests, Within, IsU32, IsNode, Ascends, IsToken}
+use Rattle.cpg_wire.specs.declared.limits.TheConstants.{MOST_HOPS, MOST_PLACES, MOST_REQUESTS}
+use Rattle.cpg_wire.specs.Ranges.{Within, IsU32, IsNode, Ascends, IsToken}
 use Rattle.cpg_wire.specs.Spelling.{owner_code, places_bytes, token_bytes}
 use Rattle.cpg_wire.specs.Reading.{◌>>=◌, number_at, u8_at, reach_at, owner_of, owner_at, places_at, rtr_at, token_at}
 use Rattle.cpg_wire.proofs.Readers.{IsBytes, bind_some, some_is, Takes, Takes-then, ReadsBack, reads1, reads2, reads4, reads_then}
 use Rattle.cpg_wire.proofs.ReadsNumbers.{wide32, wide64, number_reads, u8_reads}
 
 abbrev pub IsReach : ℕ × ℕ → Type 0
-IsReach p = Within 0 most_places p.0 × Within 0 p.0 p.1
+IsReach p = Within 0 MOST_PLACES p.0 × Within 0 p.0 p.1
 
 abbrev pub reach_text : ℕ × ℕ → List ℕ
 reach_text p = to_be_bytes w32 p.0 ++ to_be_bytes w32 p.1
 
 pub reach_reads : ReadsBack (ℕ × ℕ) reach_at reach_text IsReach
 unfolding reach_at
-reach_reads = reads2 ℕ ℕ (ℕ × ℕ) (number_at w32 0 most_places) (to_be_bytes w32) (Within 0 most_places) (number_reads w32 (2 ^ 32) 0 most_places wide32 (omega arith))
+reach_reads = reads2 ℕ ℕ (ℕ × ℕ) (number_at w32 0 MOST_PLACES) (to_be_bytes w32) (Within 0 MOST_PLACES) (number_reads w32 (2 ^ 32) 0 MOST_PLACES wide32 (omega arith))
     (λ seq. number_at w32 0 seq) (λ seq. to_be_bytes w32) (λ seq. Within 0 seq) (λ seq h. number_reads w32 (2 ^ 32) 0 seq wide32 (omega (arith, h.1)))
     (λ a b. (a, b)) reach_text IsReach (λ a b h k. (refl, (h, k))) (λ p h. (p.0, p.1, refl, h.0, h.1))
 
@@ -73,11 +74,11 @@ places_reads count high lt = record {
 }
 
 abbrev pub IsRtr : ℕ → List ℕ → Type 0
-IsRtr seq ns = (length ns ≤ most_requests) × Ascends 0 seq ns
+IsRtr seq ns = (length ns ≤ MOST_REQUESTS) × Ascends 0 seq ns
 
 pub rtr_reads : (seq : ℕ) → seq < 2 ^ 32 → ReadsBack (List ℕ) (rtr_at seq) places_bytes (IsRtr seq)
 unfolding rtr_at
-rtr_reads seq lt = reads_then ℕ (List ℕ) (u8_at 0 most_requests) (λ n. n ∷ []) (Within 0 most_requests) (u8_reads 0 most_requests)
+rtr_reads seq lt = reads_then ℕ (List ℕ) (u8_at 0 MOST_REQUESTS) (λ n. n ∷ []) (Within 0 MOST_REQUESTS) (u8_reads 0 MOST_REQUESTS)
     (λ n. places_at n 0 seq) (flat_map (to_be_bytes w32)) (λ n ns. (length ns ≡ n) × Ascends 0 seq ns) (λ n h. places_reads n seq lt) places_bytes (IsRtr seq)
     (λ n ns h k. (ap (λ (m : ℕ). m ∷ flat_map (to_be_bytes w32) ns) k.0, (omega (arith, h.1, k.0), k.1)))
     (λ ns h. (length ns, (omega arith, h.0), (refl, h.1)))
@@ -85,7 +86,7 @@ rtr_reads seq lt = reads_then ℕ (List ℕ) (u8_at 0 most_requests) (λ n. n �
 pub token_reads : (ring : ℕ) → IsU32 ring → ReadsBack Token (token_at ring) token_bytes (λ t. (t.ring ≡ ring) × IsToken t)
 unfolding token_at
 token_reads ring fits = reads4 ℕ (ℕ × ℕ) (Option ℕ) (List ℕ) Token
-    (number_at w64 0 most_hops) (to_be_bytes w64) (Within 0 most_hops) (number_reads w64 (2 ^ 64) 0 most_hops wide64 (omega arith))
+    (number_at w64 0 MOST_HOPS) (to_be_bytes w64) (Within 0 MOST_HOPS) (number_reads w64 (2 ^ 64) 0 MOST_HOPS wide64 (omega arith))
     reach_at reach_text IsReach reach_reads
     owner_at (λ o. owner_code o ∷ []) (λ o. IfSome o IsNode) owner_reads
     (λ p. rtr_at p.0) places_bytes (λ p. IsRtr p.0) (λ p h. rtr_reads p.0 (omega (arith, h.0.1)))

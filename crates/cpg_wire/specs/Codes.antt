@@ -14,10 +14,6 @@ use Rattle.cpg_wire.specs.declared.codes.OpCode.TheVariants as ops
 use Rattle.cpg_wire.specs.declared.codes.Subject.{Subject}
 use Rattle.cpg_wire.specs.declared.codes.Subject.TheVariants as subjects
 
--- the first byte of every frame
-abbrev pub mark : ℕ
-mark = 0x43
-
 -- the byte of a version
 abbrev pub version_code : Version → ℕ
 version_code One = 1
@@ -60,44 +56,50 @@ subject_code subjects.Node = 3
 abbrev pub form_of : {Form : Type 0} → (Form → ℕ) → List Form → ℕ → Option Form
 form_of code forms byte = find (λ form. code form == byte) forms
 
--- the versions, and the one of a byte
+-- the versions
 abbrev pub versions : List Version
 versions = One ∷ Two ∷ []
 
+-- the version that a byte stands for
 unfoldable pub version_of : ℕ → Option Version
 version_of byte = form_of version_code versions byte
 
--- what a frame may carry, and what a byte says of it
+-- what a frame may carry
 abbrev pub all_kinds : List Kind
 all_kinds = kinds.Data ∷ kinds.Token ∷ []
 
+-- what a byte says of what a frame carries
 unfoldable pub kind_of : ℕ → Option Kind
 kind_of byte = form_of kind_code all_kinds byte
 
--- the ops, and the one of a byte
+-- the ops
 abbrev pub all_ops : List OpCode
 all_ops = ops.Join ∷ ops.Leave ∷ ops.Send ∷ ops.Insert ∷ ops.Remove ∷ ops.Gone ∷ []
 
+-- the op that a byte stands for
 unfoldable pub op_code_of : ℕ → Option OpCode
 op_code_of byte = form_of op_code all_ops byte
 
--- the effects, and the one of a byte
+-- the effects
 abbrev pub effects : List Effect
 effects = Allow ∷ Deny ∷ []
 
+-- the effect that a byte stands for
 unfoldable pub effect_of : ℕ → Option Effect
 effect_of byte = form_of effect_code effects byte
 
--- the rights, and the one of a byte
+-- the rights
 abbrev pub all_rights : List Right
 all_rights = rights.Join ∷ rights.Send ∷ rights.List ∷ rights.Edit ∷ []
 
+-- the right that a byte stands for
 unfoldable pub right_of : ℕ → Option Right
 right_of byte = form_of right_code all_rights byte
 
--- what a condition of version 1 may speak of, and what a byte says of it
+-- what a condition of version 1 may speak of
 abbrev pub all_subjects : List Subject
 all_subjects = subjects.Any ∷ subjects.Uid ∷ subjects.Gid ∷ subjects.Node ∷ []
 
+-- what a byte says of what a condition speaks of
 unfoldable pub subject_of : ℕ → Option Subject
 subject_of byte = form_of subject_code all_subjects byte

@@ -12,28 +12,10 @@ use Rattle.cpg_entry.specs.declared.frames.Packet.{Packet}
 use Rattle.cpg_entry.specs.declared.frames.Token.{Token}
 use Rattle.cpg_entry.specs.declared.frames.Frame.{Frame}
 use Rattle.cpg_entry.specs.declared.frames.Frame.TheVariants as frames
+use Rattle.cpg_entry.specs.declared.messages.TheConstants.{MOST_MESSAGE_BYTES}
+use Rattle.cpg_wire.specs.declared.limits.TheConstants.{MOST_HOPS, MOST_PLACES, MOST_REQUESTS}
 use Rattle.cpg_wire.specs.declared.codes.Version.{Version}
 use Rattle.cpg_wire.specs.declared.codes.Version.TheVariants.{One, Two}
-
--- how many bytes a name has at most
-abbrev pub most_name_bytes : ℕ
-most_name_bytes = 128
-
--- how many bytes a message has at most
-abbrev pub most_message_bytes : ℕ
-most_message_bytes = 8192
-
--- the last place that a ring may have
-abbrev pub most_places : ℕ
-most_places = 1048576
-
--- the last hop that a ring may have, 2 ^ 62
-abbrev pub most_hops : ℕ
-most_hops = 4611686018427387904
-
--- how many places a token asks for at most
-abbrev pub most_requests : ℕ
-most_requests = 32
 
 -- the greatest number of four bytes
 abbrev pub most_u32 : ℕ
@@ -61,7 +43,7 @@ pub record IsWho (who : Who) : Type 0 where
 abbrev pub IsCall : Call → Type 0
 IsCall (Join name) = IsName name
 IsCall Leave = Unit {0}
-IsCall (Send message) = length message ≤ most_message_bytes
+IsCall (Send message) = length message ≤ MOST_MESSAGE_BYTES
 IsCall (Insert name position rule) = IsName name × Within 0 255 position × IsWho rule.who
 IsCall (Remove name id) = IsName name × IsU32 id
 
@@ -82,7 +64,7 @@ pub record IsEntry (entry : Entry) : Type 0 where
 -- an entry at its place, which is counted from 1
 pub record IsPacket (packet : Packet) : Type 0 where
   pub ring : IsU32 packet.ring
-  pub place : Within 1 most_places packet.place
+  pub place : Within 1 MOST_PLACES packet.place
   pub entry : IsEntry packet.entry
 
 -- each number is greater than the one before it, the first than low, and the last is at most high
@@ -93,11 +75,11 @@ Ascends low high (number ∷ numbers) = (low < number) × (number ≤ high) × A
 -- Totem's token: aru is at most seq, and it asks for places up to seq, each once and in order
 pub record IsToken (token : Token) : Type 0 where
   pub ring : IsU32 token.ring
-  pub hop : Within 0 most_hops token.hop
-  pub seq : Within 0 most_places token.seq
+  pub hop : Within 0 MOST_HOPS token.hop
+  pub seq : Within 0 MOST_PLACES token.seq
   pub aru : Within 0 token.seq token.aru
   pub aru_id : IfSome token.aru_id IsNode
-  pub count : length token.rtr ≤ most_requests
+  pub count : length token.rtr ≤ MOST_REQUESTS
   pub rtr : Ascends 0 token.seq token.rtr
 
 -- what a frame may carry

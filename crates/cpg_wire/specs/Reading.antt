@@ -13,6 +13,10 @@ use Rattle.cpg_entry.specs.declared.frames.Packet.{Packet}
 use Rattle.cpg_entry.specs.declared.frames.Token.{Token}
 use Rattle.cpg_entry.specs.declared.frames.Frame.{Frame}
 use Rattle.cpg_entry.specs.declared.frames.Frame.TheVariants as frames
+use Rattle.cpg_entry.specs.declared.names.TheConstants.{MOST_NAME_BYTES}
+use Rattle.cpg_entry.specs.declared.messages.TheConstants.{MOST_MESSAGE_BYTES}
+use Rattle.cpg_wire.specs.declared.limits.TheConstants.{MOST_HOPS, MOST_PLACES, MOST_REQUESTS}
+use Rattle.cpg_wire.specs.declared.codes.TheConstants.{MARK}
 use Rattle.cpg_wire.specs.declared.codes.Version.{Version}
 use Rattle.cpg_wire.specs.declared.codes.Version.TheVariants.{One, Two}
 use Rattle.cpg_wire.specs.declared.codes.Kind.{Kind}
@@ -21,8 +25,8 @@ use Rattle.cpg_wire.specs.declared.codes.OpCode.{OpCode}
 use Rattle.cpg_wire.specs.declared.codes.OpCode.TheVariants as codes
 use Rattle.cpg_wire.specs.declared.codes.Subject.{Subject}
 use Rattle.cpg_wire.specs.declared.codes.Subject.TheVariants as subjects
-use Rattle.cpg_wire.specs.Codes.{mark, version_of, kind_of, op_code_of, effect_of, right_of, subject_of, subject_code}
-use Rattle.cpg_wire.specs.Ranges.{most_name_bytes, most_message_bytes, most_places, most_hops, most_requests, most_u32}
+use Rattle.cpg_wire.specs.Codes.{version_of, kind_of, op_code_of, effect_of, right_of, subject_of, subject_code}
+use Rattle.cpg_wire.specs.Ranges.{most_u32}
 
 -- the next step, where the one before it gave something
 infixl 10 ◌>>=◌
@@ -86,13 +90,13 @@ printing_at count bytes = do
 -- a group's name
 unfoldable pub name_at : List ℕ → Option (List ℕ × List ℕ)
 name_at bytes = do
-  count ← u8_at 1 most_name_bytes bytes
+  count ← u8_at 1 MOST_NAME_BYTES bytes
   printing_at count.0 count.1
 
 -- a message
 unfoldable pub message_at : List ℕ → Option (List ℕ × List ℕ)
 message_at bytes = do
-  count ← number_at w16 0 most_message_bytes bytes
+  count ← number_at w16 0 MOST_MESSAGE_BYTES bytes
   text_at count.0 count.1
 
 -- a condition on that subject where it comes next and one is left, and how many are left then
@@ -193,7 +197,7 @@ cred_at bytes = do
 -- a packet of the ring of that number
 unfoldable pub packet_at : Version → ℕ → List ℕ → Option (Packet × List ℕ)
 packet_at version ring bytes = do
-  place ← number_at w32 1 most_places bytes
+  place ← number_at w32 1 MOST_PLACES bytes
   sender ← sender_at place.1
   cred ← cred_at sender.1
   op ← op_at version cred.1
@@ -202,7 +206,7 @@ packet_at version ring bytes = do
 -- a token's seq and aru
 unfoldable pub reach_at : List ℕ → Option ((ℕ × ℕ) × List ℕ)
 reach_at bytes = do
-  seq ← number_at w32 0 most_places bytes
+  seq ← number_at w32 0 MOST_PLACES bytes
   aru ← number_at w32 0 seq.0 seq.1
   Some ((seq.0, aru.0), aru.1)
 
@@ -228,13 +232,13 @@ places_at (suc count) low high bytes = do
 -- a token's rtr
 unfoldable pub rtr_at : ℕ → List ℕ → Option (List ℕ × List ℕ)
 rtr_at seq bytes = do
-  count ← u8_at 0 most_requests bytes
+  count ← u8_at 0 MOST_REQUESTS bytes
   places_at count.0 0 seq count.1
 
 -- a token of the ring of that number
 unfoldable pub token_at : ℕ → List ℕ → Option (Token × List ℕ)
 token_at ring bytes = do
-  hop ← number_at w64 0 most_hops bytes
+  hop ← number_at w64 0 MOST_HOPS bytes
   reach ← reach_at hop.1
   owner ← owner_at reach.1
   rtr ← rtr_at reach.0.0 owner.1
@@ -243,7 +247,7 @@ token_at ring bytes = do
 -- the version, what is carried, and the ring's number
 unfoldable pub head_at : List ℕ → Option ((Version × Kind × ℕ) × List ℕ)
 head_at bytes = do
-  first ← u8_at mark mark bytes
+  first ← u8_at MARK MARK bytes
   version ← form_at version_of first.1
   kind ← form_at kind_of version.1
   ring ← u32_at kind.1

@@ -15,13 +15,14 @@ use Rattle.cpg_entry.specs.declared.frames.Packet.{Packet}
 use Rattle.cpg_entry.specs.declared.frames.Token.{Token}
 use Rattle.cpg_entry.specs.declared.frames.Frame.{Frame}
 use Rattle.cpg_entry.specs.declared.frames.Frame.TheVariants as frames
+use Rattle.cpg_wire.specs.declared.codes.TheConstants.{MARK}
 use Rattle.cpg_wire.specs.declared.codes.Version.{Version}
 use Rattle.cpg_wire.specs.declared.codes.Version.TheVariants.{One, Two}
 use Rattle.cpg_wire.specs.declared.codes.Kind.TheVariants as kinds
 use Rattle.cpg_wire.specs.declared.codes.OpCode.TheVariants as ops
 use Rattle.cpg_wire.specs.declared.codes.Subject.{Subject}
 use Rattle.cpg_wire.specs.declared.codes.Subject.TheVariants as subjects
-use Rattle.cpg_wire.specs.Codes.{mark, version_code, kind_code, op_code, effect_code, right_code, subject_code}
+use Rattle.cpg_wire.specs.Codes.{version_code, kind_code, op_code, effect_code, right_code, subject_code}
 use Rattle.cpg_wire.specs.Ranges.{conditions, IsFrame, Fits}
 
 -- a group's name (cpg_name of cpg_initialize(3)): its length in one byte, then its bytes
@@ -99,10 +100,10 @@ wants_bytes token = owner_code token.aru_id ∷ places_bytes token.rtr
 abbrev pub token_bytes : Token → List ℕ
 token_bytes token = to_be_bytes w64 token.hop ++ (reach_bytes token ++ wants_bytes token)
 
--- a frame: the mark, the version, what it carries, the ring's number (Totem's ring identifier), and that
+-- a frame: the MARK, the version, what it carries, the ring's number (Totem's ring identifier), and that
 abbrev pub spelling : Version → Frame → List ℕ
-spelling version (frames.Packet packet) = mark ∷ version_code version ∷ kind_code kinds.Data ∷ (to_be_bytes w32 packet.ring ++ packet_bytes version packet)
-spelling version (frames.Token token) = mark ∷ version_code version ∷ kind_code kinds.Token ∷ (to_be_bytes w32 token.ring ++ token_bytes token)
+spelling version (frames.Packet packet) = MARK ∷ version_code version ∷ kind_code kinds.Data ∷ (to_be_bytes w32 packet.ring ++ packet_bytes version packet)
+spelling version (frames.Token token) = MARK ∷ version_code version ∷ kind_code kinds.Token ∷ (to_be_bytes w32 token.ring ++ token_bytes token)
 
 -- the bytes are the frame in that version
 abbrev pub SpellsIn : Version → List ℕ → Frame → Type 0

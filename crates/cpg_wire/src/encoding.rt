@@ -7,13 +7,14 @@ ghost use Rattle.std.specs.Prelude.{◌≡◌, ◌≤◌, ◌++◌, ◌∷◌, l
 ghost use Rattle.cpg_entry.specs.declared.frames.Frame.TheVariants as frames;
 ghost use Rattle.cpg_wire.specs.declared.codes.Version.TheVariants.{Two};
 ghost use Rattle.std.specs.Int.{w32, to_be_bytes};
-ghost use Rattle.cpg_wire.specs.Codes.{mark, version_code, kind_code};
-ghost use Rattle.cpg_wire.specs.Ranges.{most_name_bytes, most_message_bytes, most_requests, IsCall, IsOp, IsPacket, IsToken, given, conditions};
+ghost use Rattle.cpg_wire.specs.Codes.{version_code, kind_code};
+ghost use Rattle.cpg_wire.specs.Ranges.{IsCall, IsOp, IsPacket, IsToken, given, conditions};
 ghost use Rattle.cpg_wire.specs.Spelling.{name_bytes, message_bytes, condition_bytes, who_bytes, rule_bytes, call_bytes, op_bytes, sender_bytes, cred_bytes, packet_bytes, owner_code, reach_bytes, places_bytes, wants_bytes, token_bytes, spelling};
 
 use crate::codes::{Kind, MARK, OpCode, Subject, Version, effect_byte, right_byte};
+use crate::limits::MOST_REQUESTS;
 use bytes::{BufMut, Bytes};
-use cpg_entry::{Call, Cred, Entry, NodeId, Op, Packet, Refusal, Rule, Token, Who};
+use cpg_entry::{Call, Cred, Entry, MOST_MESSAGE_BYTES, MOST_NAME_BYTES, NodeId, Op, Packet, Refusal, Rule, Token, Who};
 use std::alloc::{AllocError, Global};
 
 /// How many bytes a data frame takes beside its name or message, at most.
@@ -49,7 +50,7 @@ pub fn encode_token(alloc: Global, token: &Token) -> Result<Bytes, Refusal>
 /// How many bytes the name or the message of an op has.
 fn text_len(op: &Op) -> usize
     requires { IsOp op.now }
-    ensures { result ≤ most_message_bytes }
+    ensures { result ≤ MOST_MESSAGE_BYTES }
 {
     match op {
         Op::Act(Call::Join(name) | Call::Insert(name, _, _) | Call::Remove(name, _)) => {
@@ -61,7 +62,7 @@ fn text_len(op: &Op) -> usize
 }
 
 fn put_head(out: &mut Vec<u8>, kind: Kind, ring: u32) -> Result<(), AllocError>
-    ensures { OnOk result (out.new.items ≡ out.old.items ++ (mark ∷ version_code Two ∷ kind_code kind ∷ to_be_bytes w32 ring)) }
+    ensures { OnOk result (out.new.items ≡ out.old.items ++ (MARK ∷ version_code Two ∷ kind_code kind ∷ to_be_bytes w32 ring)) }
 {
     out.put_u8(MARK)?;
     out.put_u8(Version::Two.byte())?;
@@ -133,7 +134,7 @@ fn put_call(out: &mut Vec<u8>, call: &Call) -> Result<(), AllocError>
 }
 
 fn put_name(out: &mut Vec<u8>, name: &[u8]) -> Result<(), AllocError>
-    requires { length name.now ≤ most_name_bytes }
+    requires { length name.now ≤ MOST_NAME_BYTES }
     ensures { OnOk result (out.new.items ≡ out.old.items ++ name_bytes name.now) }
 {
     out.put_u8(name.len() as u8)?;
@@ -141,7 +142,7 @@ fn put_name(out: &mut Vec<u8>, name: &[u8]) -> Result<(), AllocError>
 }
 
 fn put_message(out: &mut Vec<u8>, message: &[u8]) -> Result<(), AllocError>
-    requires { length message.now ≤ most_message_bytes }
+    requires { length message.now ≤ MOST_MESSAGE_BYTES }
     ensures { OnOk result (out.new.items ≡ out.old.items ++ message_bytes message.now) }
 {
     out.put_u16(message.len() as u16)?;
@@ -195,7 +196,7 @@ fn put_condition(out: &mut Vec<u8>, subject: Subject, value: Option<u32>) -> Res
 }
 
 fn put_token(out: &mut Vec<u8>, token: &Token) -> Result<(), AllocError>
-    requires { length token.now.rtr ≤ most_requests }
+    requires { length token.now.rtr ≤ MOST_REQUESTS }
     ensures { OnOk result (out.new.items ≡ out.old.items ++ token_bytes token.now) }
 {
     out.put_u64(token.hop)?;
@@ -211,7 +212,7 @@ fn put_reach(out: &mut Vec<u8>, token: &Token) -> Result<(), AllocError>
 }
 
 fn put_wants(out: &mut Vec<u8>, token: &Token) -> Result<(), AllocError>
-    requires { length token.now.rtr ≤ most_requests }
+    requires { length token.now.rtr ≤ MOST_REQUESTS }
     ensures { OnOk result (out.new.items ≡ out.old.items ++ wants_bytes token.now) }
 {
     out.put_u8(owner_byte(token.aru_id))?;
@@ -228,7 +229,7 @@ fn owner_byte(node: Option<NodeId>) -> u8
 }
 
 fn put_places(out: &mut Vec<u8>, places: &[u32]) -> Result<(), AllocError>
-    requires { length places.now ≤ most_requests }
+    requires { length places.now ≤ MOST_REQUESTS }
     ensures { OnOk result (out.new.items ≡ out.old.items ++ places_bytes places.now) }
 {
     out.put_u8(places.len() as u8)?;

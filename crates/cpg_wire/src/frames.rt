@@ -3,7 +3,7 @@
 //! The bytes are read to their end before any memory is asked for. Proved: what is read is the definition
 //! `frame_of`, which answers exactly what the grammar `Spells` says.
 
-ghost use Rattle.std.specs.Prelude.{◌≡◌, ◌⊎◌, IfOk, IfErr, IsOkUnless, Some, None, MatchOption, option_map};
+ghost use Rattle.std.specs.Prelude.{◌≡◌, ◌↔◌, ◌⊎◌, IfOk, IfErr, IsOkUnless, option_map};
 ghost use Rattle.cpg_entry.specs.declared.frames.Frame.{Frame};
 ghost use Rattle.cpg_wire.specs.Answering.{Answers};
 ghost use Rattle.cpg_wire.specs.Ranges.{IsFrame};
@@ -90,8 +90,8 @@ fn read_head(input: &mut Input<'_>) -> Option<(Version, Kind, u32)>
 pub fn decode(alloc: Global, bytes: &[u8]) -> Result<Frame, Refusal>
     // What is given is spelled so, and no bytes spell two frames.
     ensures ok { IfOk result (λ frame. Spells bytes.now frame) }
-    // Malformed is answered exactly where the bytes spell no frame, and else nothing but Memory.
-    ensures err { IfErr result (λ refusal. (refusal ≡ Refusal.Memory) ⊎ ((refusal ≡ Refusal.Malformed) × ((frame : Frame) → Spells bytes.now frame → ⊥))) }
+    ensures malformed { (result ≡ Err Refusal.Malformed) ↔ ((frame : Frame) → Spells bytes.now frame → ⊥) }
+    ensures err { IfErr result (λ refusal. (refusal ≡ Refusal.Malformed) ⊎ (refusal ≡ Refusal.Memory)) }
     // Whichever version it came in, it may be encoded.
     ensures range { IfOk result IsFrame }
     // The same by the function that reads.

@@ -9,12 +9,10 @@ ghost use Rattle.cpg_wire.specs.Views.{packet_seen};
 use crate::codes::Version;
 use crate::fields::read_node;
 use crate::input::Input;
+use crate::limits::MOST_PLACES;
 use crate::ops::OpView;
 use cpg_entry::{Cred, Entry, NodeId, Packet, Refusal};
 use std::alloc::Global;
-
-/// The last place that a ring may have.
-pub const MOST_PLACES: u32 = 1_048_576;
 
 /// A packet whose name or message stands in the frame.
 #[derive(Clone, Copy)]

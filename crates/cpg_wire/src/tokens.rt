@@ -3,22 +3,15 @@
 //! Proved: what is read is the definition `token_at`, and a copy is the token that the view shows.
 
 ghost use Rattle.std.specs.Prelude.{◌≡◌, ◌≤◌, IfOk, IfSome, IsOkUnless, option_map};
-ghost use Rattle.cpg_wire.specs.Ranges.{most_places, most_requests};
 ghost use Rattle.cpg_wire.specs.Reading.{Reads, reach_at, places_at, rtr_at, token_at};
 ghost use Rattle.cpg_wire.specs.Views.{token_seen};
 
 use crate::fields::read_owner;
 use crate::input::Input;
-use crate::packets::MOST_PLACES;
+use crate::limits::{MOST_HOPS, MOST_PLACES, MOST_REQUESTS};
 use arrayvec::ArrayVec;
 use cpg_entry::{NodeId, Places, Refusal, Token};
 use std::alloc::Global;
-
-/// How many places a token asks for at most.
-const MOST_REQUESTS: usize = 32;
-
-/// The last hop that a ring may have.
-const MOST_HOPS: u64 = 4_611_686_018_427_387_904;
 
 /// A token whose places take no memory.
 #[derive(Drop)]
@@ -71,7 +64,7 @@ impl TokenView {
 #[tactic(auto, unfolding(crate::specs::Reading::reach_at))]
 fn read_reach(input: &mut Input<'_>) -> Option<(u32, u32)>
     ensures reads { Reads result input.new (reach_at input.old) }
-    ensures range { IfSome result (λ reach. reach.0 ≤ most_places) }
+    ensures range { IfSome result (λ reach. reach.0 ≤ MOST_PLACES) }
 {
     let seq = input.u32_within(0, MOST_PLACES)?;
     let aru = input.u32_within(0, seq)?;
@@ -81,7 +74,7 @@ fn read_reach(input: &mut Input<'_>) -> Option<(u32, u32)>
 /// The places that are asked for, each up to `seq`.
 #[tactic(auto, unfolding(crate::specs::Reading::rtr_at))]
 fn read_rtr(input: &mut Input<'_>, seq: u32) -> Option<ArrayVec<u32, MOST_REQUESTS>>
-    requires { seq ≤ most_places }
+    requires { seq ≤ MOST_PLACES }
     ensures { Reads (option_map (λ rtr. rtr.items) result) input.new (rtr_at seq input.old) }
 {
     let count = input.u8_within(0, MOST_REQUESTS as u8)?;
@@ -90,8 +83,8 @@ fn read_rtr(input: &mut Input<'_>, seq: u32) -> Option<ArrayVec<u32, MOST_REQUES
 
 /// That many places in ascending order, each at most `high`.
 fn read_places(input: &mut Input<'_>, count: u8, high: u32) -> Option<ArrayVec<u32, MOST_REQUESTS>>
-    requires count { count ≤ most_requests }
-    requires high { high ≤ most_places }
+    requires count { count ≤ MOST_REQUESTS }
+    requires high { high ≤ MOST_PLACES }
     ensures { Reads (option_map (λ places. places.items) result) input.new (places_at count 0 high input.old) }
 {
     let mut places = ArrayVec::new();
