@@ -1,0 +1,48 @@
+-- entries as lines, both ways: `NODE.CONN PID UID GID CALL`, with `gone` for CALL where the connection ends
+use Rattle.std.specs.Prelude.{ℕ, List, ◌∷◌, ◌++◌, codes, decimal, Option, Some, None, if◌then◌else◌}
+use Rattle.cpg_entry.specs.declared.calls.Op.{Op}
+use Rattle.cpg_entry.specs.declared.entries.Entry.{Entry}
+use Rattle.cpg_record.specs.declared.connections.ConnId.{ConnId}
+use Rattle.cpg_record.specs.Connections.{conn_of}
+use Rattle.cpg_text.specs.Numbers.{number_in}
+use Rattle.cpg_console.specs.Calls.{op_of, op_text, is_enterable}
+use Rattle.cpg_console.specs.Words.{◌>>=◌, u32_of, cut_at}
+
+-- NODE.CONN
+abbrev pub conn_text : ConnId → List ℕ
+conn_text conn = decimal conn.node ++ codes "." ++ decimal conn.conn
+
+-- NODE.CONN PID UID GID CALL
+unfoldable pub entry_text : Entry → List ℕ
+entry_text entry =
+    conn_text (conn_of entry) ++ codes " " ++ decimal entry.pid ++ codes " " ++ decimal entry.cred.uid
+    ++ codes " " ++ decimal entry.cred.gid ++ codes " " ++ op_text entry.op
+
+-- the connection of NODE and CONN
+abbrev pub conn_in_parts : List ℕ × List ℕ → Option ConnId
+conn_in_parts parts = do
+  node ← number_in 1 8 parts.0
+  conn ← number_in 1 65535 parts.1
+  Some (record { node = node; conn = conn })
+
+-- the connection of NODE.CONN
+abbrev pub conn_of_word : List ℕ → Option ConnId
+conn_of_word word = cut_at 46 word >>= conn_in_parts
+
+-- who makes an entry: NODE.CONN PID UID GID, the op still to come
+abbrev pub entry_by : List ℕ → List ℕ → List ℕ → List ℕ → Op → Option Entry
+entry_by conn pid uid gid op = do
+  c ← conn_of_word conn
+  p ← u32_of pid
+  u ← u32_of uid
+  g ← u32_of gid
+  Some (record { node = c.node; conn = c.conn; pid = p; cred = record { uid = u; gid = g }; op = op })
+
+-- the op of the words, within the limits of calls
+abbrev pub enterable_op : List (List ℕ) → Option Op
+enterable_op words = op_of words >>= λ op. if is_enterable op then Some op else None
+
+-- the entry of a line's words
+abbrev pub entry_of : List (List ℕ) → Option Entry
+entry_of (conn ∷ pid ∷ uid ∷ gid ∷ words) = enterable_op words >>= entry_by conn pid uid gid
+entry_of _ = None

@@ -1,0 +1,32 @@
+-- members and records as they are printed
+use Rattle.std.specs.Prelude.{ℕ, List, [], ◌++◌, codes, decimal, Option, Some, None}
+use Rattle.cpg_record.specs.declared.memberships.Member.{Member}
+use Rattle.cpg_record.specs.declared.records.Record.{Record}
+use Rattle.cpg_console.specs.Entries.{entry_text}
+use Rattle.cpg_console.specs.Verdicts.{verdict_text}
+use Rattle.cpg_console.specs.Words.{listed}
+
+-- NODE/PID
+abbrev pub member_text : Member → List ℕ
+member_text member = decimal member.node ++ codes "/" ++ decimal member.pid
+
+-- L, a list of members
+abbrev pub members_text : List Member → List ℕ
+members_text members = listed member_text members
+
+-- the group and its members, where there is a group
+abbrev pub group_text : Option (List ℕ) → List Member → List ℕ
+group_text None members = []
+group_text (Some g) members = codes " group " ++ g ++ codes " members " ++ members_text members
+
+-- what an entry was answered, with the group
+abbrev pub outcome_text : Record → List ℕ
+outcome_text past = verdict_text past.verdict ++ group_text past.group past.members
+
+-- PLACE NODE.CONN PID UID GID CALL -> VERDICT, and ` group GROUP members L` where the entry has a group
+unfoldable pub audit_line : ℕ → Record → List ℕ
+audit_line place past = decimal place ++ codes " " ++ entry_text past.entry ++ codes " -> " ++ outcome_text past ++ codes "\n"
+
+-- how many records there are
+abbrev pub count_line : ℕ → List ℕ
+count_line count = codes "records " ++ decimal count ++ codes "\n"

@@ -1,0 +1,206 @@
+//! Calls and ops as words, both ways.
+
+ghost use Rattle.std.specs.Prelude.{◌≡◌, ◌<◌, ◌++◌, OnOk, IfOk, IfSome, IsOkUnless};
+ghost use Rattle.cpg_console.specs.Calls.{call_text, op_text, join_of, leave_of, send_of, insert_at, insert_of, remove_of, call_of, is_gone, op_of, is_name, is_within_limits, is_enterable};
+ghost use Rattle.cpg_console.specs.Steps.{texts};
+
+use crate::rules::{put_rule, read_rule};
+use crate::words::{is, put, put_bytes, read_u32};
+use cpg_cred::Refusal;
+use cpg_entry::{Call, MOST_MESSAGE_BYTES, Message, Name, Op, accepts_name};
+use cpg_rules::Rule;
+use cpg_text::{push_message, push_number, read_message};
+use std::alloc::Global;
+
+/// Puts CALL, or `gone`, at the line's end.
+pub fn put_op(line: &mut Vec<u8>, op: &Op) -> Result<(), Refusal>
+    ensures ok { OnOk result (line.new.items ≡ line.old.items ++ op_text op.now) }
+    ensures memory { IsOkUnless result Refusal.Memory }
+{
+    match op {
+        Op::Act(call) => put_call(line, call),
+        Op::Gone => put(line, "gone"),
+    }
+}
+
+fn put_call(line: &mut Vec<u8>, call: &Call) -> Result<(), Refusal>
+    ensures ok { OnOk result (line.new.items ≡ line.old.items ++ call_text call.now) }
+    ensures memory { IsOkUnless result Refusal.Memory }
+{
+    match call {
+        Call::Join(group) => {
+            put(line, "join ")?;
+            put_bytes(line, group.as_slice())
+        }
+        Call::Leave => put(line, "leave"),
+        Call::Send(message) => {
+            put(line, "send ")?;
+            push_message(line, message.as_slice())
+        }
+        Call::Insert(group, index, rule) => {
+            put(line, "insert ")?;
+            put_bytes(line, group.as_slice())?;
+            put(line, " ")?;
+            push_number(line, u64::from(*index))?;
+            put(line, " ")?;
+            put_rule(line, *rule)
+        }
+        Call::Remove(group, id) => {
+            put(line, "remove ")?;
+            put_bytes(line, group.as_slice())?;
+            put(line, " ")?;
+            push_number(line, u64::from(*id))
+        }
+    }
+}
+
+/// The op that the words of CALL or `gone` say; names and messages of any length.
+pub fn read_op(alloc: Global, words: &[&[u8]]) -> Result<Option<Op>, Refusal>
+    ensures ok { IfOk result (λ found. found ≡ op_of (texts words.now)) }
+    ensures memory { IsOkUnless result Refusal.Memory }
+{
+    if is_gone(words) {
+        return Ok(Some(Op::Gone));
+    }
+    Ok(read_call(alloc, words)?.map(|call| Op::Act(call)))
+}
+
+fn is_gone(words: &[&[u8]]) -> bool
+    ensures { result ≡ is_gone (texts words.now) }
+{
+    match words {
+        [word] => is(word, b"gone".as_slice()),
+        _ => false,
+    }
+}
+
+/// The call that the words of CALL say; names and messages of any length.
+pub fn read_call(alloc: Global, words: &[&[u8]]) -> Result<Option<Call>, Refusal>
+    ensures ok { IfOk result (λ found. found ≡ call_of (texts words.now)) }
+    ensures memory { IsOkUnless result Refusal.Memory }
+{
+    match words {
+        [] => Ok(None),
+        [word, arguments @ ..] => {
+            if is(word, b"join".as_slice()) {
+                read_join(alloc, arguments)
+            } else if is(word, b"leave".as_slice()) {
+                Ok(read_leave(arguments))
+            } else if is(word, b"send".as_slice()) {
+                read_send(alloc, arguments)
+            } else if is(word, b"insert".as_slice()) {
+                read_insert(alloc, arguments)
+            } else if is(word, b"remove".as_slice()) {
+                read_remove(alloc, arguments)
+            } else {
+                Ok(None)
+            }
+        }
+    }
+}
+
+fn read_join(alloc: Global, arguments: &[&[u8]]) -> Result<Option<Call>, Refusal>
+    ensures ok { IfOk result (λ found. found ≡ join_of (texts arguments.now)) }
+    ensures memory { IsOkUnless result Refusal.Memory }
+{
+    match arguments {
+        [group] => Ok(Some(Call::Join(Name::from_slice(alloc, group)?))),
+        _ => Ok(None),
+    }
+}
+
+fn read_leave(arguments: &[&[u8]]) -> Option<Call>
+    ensures { result ≡ leave_of (texts arguments.now) }
+{
+    match arguments {
+        [] => Some(Call::Leave),
+        _ => None,
+    }
+}
+
+fn read_send(alloc: Global, arguments: &[&[u8]]) -> Result<Option<Call>, Refusal>
+    ensures ok { IfOk result (λ found. found ≡ send_of (texts arguments.now)) }
+    ensures memory { IsOkUnless result Refusal.Memory }
+{
+    match arguments {
+        [text] => {
+            let message = read_message(alloc, text)?;
+            Ok(message.map(|bytes| Call::Send(Message::from_vec(bytes))))
+        }
+        _ => Ok(None),
+    }
+}
+
+#[tactic(auto, using(crate::proofs::Lengths::insert_of_short))]
+fn read_insert(alloc: Global, arguments: &[&[u8]]) -> Result<Option<Call>, Refusal>
+    ensures ok { IfOk result (λ found. found ≡ insert_of (texts arguments.now)) }
+    ensures memory { IsOkUnless result Refusal.Memory }
+{
+    match arguments {
+        [group, position, effect, right, who @ ..] => {
+            let rule = read_rule(effect, right, who);
+            insert_at(alloc, group, read_u32(0, 255, position), rule)
+        }
+        _ => Ok(None),
+    }
+}
+
+fn insert_at(
+    alloc: Global,
+    group: &[u8],
+    position: Option<u32>,
+    rule: Option<Rule>,
+) -> Result<Option<Call>, Refusal>
+    requires { IfSome position (λ index. index < 256) }
+    ensures ok { IfOk result (λ found. found ≡ insert_at group.now position rule) }
+    ensures memory { IsOkUnless result Refusal.Memory }
+{
+    match (position, rule) {
+        (Some(index), Some(rule)) => {
+            let group = Name::from_slice(alloc, group)?;
+            Ok(Some(Call::Insert(group, index as u8, rule)))
+        }
+        _ => Ok(None),
+    }
+}
+
+fn read_remove(alloc: Global, arguments: &[&[u8]]) -> Result<Option<Call>, Refusal>
+    ensures ok { IfOk result (λ found. found ≡ remove_of (texts arguments.now)) }
+    ensures memory { IsOkUnless result Refusal.Memory }
+{
+    match arguments {
+        [group, id] => match read_u32(0, u32::MAX, id) {
+            None => Ok(None),
+            Some(id) => Ok(Some(Call::Remove(Name::from_slice(alloc, group)?, id))),
+        },
+        _ => Ok(None),
+    }
+}
+
+/// Whether the names of a call are accepted and its message is not too long.
+pub fn is_enterable(op: &Op) -> bool
+    ensures { result ≡ is_enterable op.now }
+{
+    match op {
+        Op::Act(call) => is_within_limits(call),
+        Op::Gone => true,
+    }
+}
+
+fn is_within_limits(call: &Call) -> bool
+    ensures { result ≡ is_within_limits call.now }
+{
+    match call {
+        Call::Leave => true,
+        Call::Send(message) => message.as_slice().len() <= MOST_MESSAGE_BYTES,
+        Call::Join(group) | Call::Insert(group, _, _) | Call::Remove(group, _) => is_name(
+            group.as_slice(),
+        ),
+    }
+}
+
+fn is_name(bytes: &[u8]) -> bool
+    ensures { result ≡ is_name bytes.now }
+{
+    accepts_name(bytes)
+}

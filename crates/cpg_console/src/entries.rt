@@ -1,0 +1,101 @@
+//! Entries as lines, both ways: `NODE.CONN PID UID GID CALL`, or `gone` for CALL.
+
+ghost use Rattle.std.specs.Prelude.{◌≡◌, ◌++◌, OnOk, IfOk, IsOkUnless, option_map};
+ghost use Rattle.cpg_console.specs.Entries.{conn_text, entry_text, conn_of_word, entry_by, enterable_op, entry_of};
+ghost use Rattle.cpg_console.specs.Steps.{texts};
+
+use crate::calls::{is_enterable, put_op, read_op};
+use crate::words::{cut, put, read_u32};
+use cpg_cred::{Cred, NodeId, Refusal};
+use cpg_entry::{Entry, Op};
+use cpg_record::ConnId;
+use cpg_text::push_number;
+use std::alloc::Global;
+
+/// Puts NODE.CONN at the line's end.
+pub fn put_conn(line: &mut Vec<u8>, conn: &ConnId) -> Result<(), Refusal>
+    ensures ok { OnOk result (line.new.items ≡ line.old.items ++ conn_text conn.now) }
+    ensures memory { IsOkUnless result Refusal.Memory }
+{
+    push_number(line, u64::from(conn.node.get()))?;
+    put(line, ".")?;
+    push_number(line, u64::from(conn.conn))
+}
+
+/// Puts NODE.CONN PID UID GID CALL at the line's end.
+#[tactic(auto, unfolding(crate::specs::Entries::entry_text))]
+pub fn put_entry(line: &mut Vec<u8>, entry: &Entry) -> Result<(), Refusal>
+    ensures ok { OnOk result (line.new.items ≡ line.old.items ++ entry_text entry.now) }
+    ensures memory { IsOkUnless result Refusal.Memory }
+{
+    put_conn(line, &ConnId::of(entry))?;
+    put(line, " ")?;
+    push_number(line, u64::from(entry.pid))?;
+    put(line, " ")?;
+    push_number(line, u64::from(entry.cred.uid))?;
+    put(line, " ")?;
+    push_number(line, u64::from(entry.cred.gid))?;
+    put(line, " ")?;
+    put_op(line, &entry.op)
+}
+
+/// The entry that a line's words say, with an op within its limits.
+#[tactic(auto, using(crate::proofs::Lengths::entry_of_short))]
+pub fn read_entry(alloc: Global, words: &[&[u8]]) -> Result<Option<Entry>, Refusal>
+    ensures ok { IfOk result (λ found. found ≡ entry_of (texts words.now)) }
+    ensures memory { IsOkUnless result Refusal.Memory }
+{
+    match words {
+        [conn, pid, uid, gid, op @ ..] => match read_enterable(alloc, op)? {
+            None => Ok(None),
+            Some(op) => Ok(entry_by(conn, pid, uid, gid, op)),
+        },
+        _ => Ok(None),
+    }
+}
+
+fn read_enterable(alloc: Global, words: &[&[u8]]) -> Result<Option<Op>, Refusal>
+    ensures ok { IfOk result (λ found. found ≡ enterable_op (texts words.now)) }
+    ensures memory { IsOkUnless result Refusal.Memory }
+{
+    match read_op(alloc, words)? {
+        None => Ok(None),
+        Some(op) => {
+            if is_enterable(&op) {
+                Ok(Some(op))
+            } else {
+                Ok(None)
+            }
+        }
+    }
+}
+
+fn entry_by(conn: &[u8], pid: &[u8], uid: &[u8], gid: &[u8], op: Op) -> Option<Entry>
+    ensures { result ≡ entry_by conn.now pid.now uid.now gid.now op }
+{
+    let conn = read_conn(conn)?;
+    let pid = read_u32(0, u32::MAX, pid)?;
+    let uid = read_u32(0, u32::MAX, uid)?;
+    let gid = read_u32(0, u32::MAX, gid)?;
+    Some(Entry {
+        node: conn.node,
+        conn: conn.conn,
+        pid,
+        cred: Cred { uid, gid },
+        op,
+    })
+}
+
+/// The connection of NODE.CONN.
+fn read_conn(word: &[u8]) -> Option<ConnId>
+    ensures { result ≡ conn_of_word word.now }
+{
+    let (node, conn) = cut(b'.', word)?;
+    let node = read_u32(1, 8, node)?;
+    let conn = read_u32(1, 65_535, conn)?;
+    let node = NodeId::new(node as u8)?;
+    Some(ConnId {
+        node,
+        conn: conn as u16,
+    })
+}

@@ -1,0 +1,167 @@
+//! `cpgring judge`: a script of agreed entries is judged.
+//!
+//! The script is read and checked whole; then each entry's audit line is written after it is judged, and at
+//! last the count and the inboxes. Proved: the bytes, after success and after each fault.
+
+ghost use Rattle.std.specs.Prelude.{◌≡◌, ◌+◌, ◌<◌, ◌≤◌, ◌∷◌, ◌++◌, [], None, length, OnOk, IfOk, IfErr, IfSome, IsOkUnless};
+ghost use Rattle.std.specs.List.{concat, list_any};
+ghost use Rattle.std.specs.Io.KnownBytes.{Appends};
+ghost use Rattle.cpg_record.specs.Connections.{is_conn};
+ghost use Rattle.cpg_record.specs.Judging.{judged, most_places, record_of, IsNext};
+ghost use Rattle.cpg_console.specs.Judging.{audit_lines, with_conn, conns_of, judge_lines, IsWritten, Leaves, WritesLate};
+ghost use Rattle.cpg_console.specs.Records.{audit_line};
+ghost use Rattle.cpg_console.specs.Scripts.{entries_of_script};
+ghost use Rattle.cpg_console.specs.Written.{LeavesLines};
+
+use crate::faults::Fault;
+use crate::output::{write_count, write_inboxes, write_line};
+use crate::records::put_audit;
+use crate::scripts::read_entries;
+use cpg_cred::Refusal;
+use cpg_entry::Entry;
+use cpg_group::Policy;
+use cpg_record::{ConnId, Record};
+use cpg_text::{MOST_BYTES, read_whole};
+use std::alloc::Global;
+use std::io::{Read, Write};
+
+/// Judges the entries of a script, and writes what is printed of them.
+///
+/// The faults come in this order: `Read`, then `BadCommand` with the first bad line, both with nothing
+/// written; then `Memory`, which leaves whole lines, or `Write`, which leaves a front of the text. `Memory`
+/// before all is read and checked leaves nothing written.
+pub fn judge_script<R: Read, W: Write>(
+    alloc: Global,
+    reader: &mut R,
+    writer: &mut W,
+) -> Result<(), Fault>
+    ensures ok { OnOk result (IfSome (R.remaining reader.old) (λ script.
+        (length script ≤ MOST_BYTES) × IsWritten (entries_of_script script) (W.contents writer.old) (W.contents writer.new))) }
+    ensures err { IfErr result (λ fault. IfSome (R.remaining reader.old) (λ script.
+        Leaves (entries_of_script script) fault.refusal (W.contents writer.old) (W.contents writer.new))) }
+
+    // Nothing is written before the script was read and checked, even where the reader tells no bytes.
+    ensures late { IfErr result (λ fault. WritesLate fault.refusal (W.contents writer.old) (W.contents writer.new)) }
+    ensures whole { IfErr result (λ fault. fault.part ≡ None) }
+{
+    match judge_whole(alloc, reader, writer) {
+        Ok(()) => Ok(()),
+        Err(refusal) => Err(Fault::from(refusal)),
+    }
+}
+
+fn judge_whole<R: Read, W: Write>(
+    alloc: Global,
+    reader: &mut R,
+    writer: &mut W,
+) -> Result<(), Refusal>
+    ensures ok { OnOk result (IfSome (R.remaining reader.old) (λ script.
+        (length script ≤ MOST_BYTES) × IsWritten (entries_of_script script) (W.contents writer.old) (W.contents writer.new))) }
+    ensures err { IfErr result (λ refusal. IfSome (R.remaining reader.old) (λ script.
+        Leaves (entries_of_script script) refusal (W.contents writer.old) (W.contents writer.new))) }
+    ensures late { IfErr result (λ refusal. WritesLate refusal (W.contents writer.old) (W.contents writer.new)) }
+{
+    let script = read_whole(alloc, reader)?;
+    let entries = read_entries(alloc, script.as_slice())?;
+    write_judgement(alloc, writer, entries.as_slice())
+}
+
+/// Judges the entries, and writes what is printed of them.
+fn write_judgement<W: Write>(
+    alloc: Global,
+    writer: &mut W,
+    entries: &[Entry],
+) -> Result<(), Refusal>
+    requires { length entries.now ≤ most_places }
+    ensures ok { OnOk result (Appends (W.contents writer.old) (W.contents writer.new) (concat (judge_lines entries.now))) }
+    ensures err { IfErr result (λ refusal. LeavesLines (judge_lines entries.now) refusal (W.contents writer.old) (W.contents writer.new)) }
+{
+    let mut line = Vec::new(alloc);
+    let mut policy = Policy::new(alloc);
+    judge_entries(writer, &mut line, &mut policy, entries)?;
+    write_count(writer, &mut line, policy.len() as u32)?;
+    let conns = list_conns(alloc, entries)?;
+    write_inboxes(writer, &mut line, &policy, conns.as_slice())
+}
+
+/// Judges the entries one after the other, and writes the line of each.
+fn judge_entries<W: Write>(
+    writer: &mut W,
+    line: &mut Vec<u8>,
+    policy: &mut Policy,
+    entries: &[Entry],
+) -> Result<(), Refusal>
+    requires few { length entries.now ≤ most_places }
+    requires fresh { policy.old ≡ [] }
+    ensures ok { OnOk result ((policy.new ≡ entries.now) × Appends (W.contents writer.old) (W.contents writer.new) (concat (audit_lines (judged entries.now)))) }
+    ensures err { IfErr result (λ refusal. LeavesLines (audit_lines (judged entries.now)) refusal (W.contents writer.old) (W.contents writer.new)) }
+{
+    for entry in entries {
+        match judge_entry(writer, line, policy, entry) {
+            Ok(()) => {}
+            Err(refusal) => return Err(refusal),
+        }
+    }
+    Ok(())
+}
+
+/// Judges one entry more, and then writes its line.
+#[tactic(auto, using(crate::proofs::Lined::none_written))]
+fn judge_entry<W: Write>(
+    writer: &mut W,
+    line: &mut Vec<u8>,
+    policy: &mut Policy,
+    entry: &Entry,
+) -> Result<(), Refusal>
+    requires { length policy.old < most_places }
+    ensures ok { OnOk result ((policy.new ≡ policy.old ++ entry.now ∷ []) × Appends (W.contents writer.old) (W.contents writer.new) (audit_line (length policy.old + 1) (record_of (judged policy.old) entry.now))) }
+    ensures err { IfErr result (λ refusal. LeavesLines (audit_line (length policy.old + 1) (record_of (judged policy.old) entry.now) ∷ []) refusal (W.contents writer.old) (W.contents writer.new)) }
+{
+    let next = policy.judge(entry)?;
+    let place = policy.len() as u32 + 1;
+    line.clear();
+    put_audit(line, place, &next)?;
+    apply(policy, next)?;
+    write_line(writer, line.as_slice())
+}
+
+/// Puts the record's entry last.
+fn apply(policy: &mut Policy, next: Record) -> Result<(), Refusal>
+    requires { IsNext policy.old next }
+    ensures ok { OnOk result (policy.new ≡ policy.old ++ next.entry ∷ []) }
+    ensures memory { IsOkUnless result Refusal.Memory }
+{
+    match policy.apply(next) {
+        Ok(()) => Ok(()),
+        Err(_) => Err(Refusal::Memory),
+    }
+}
+
+/// The connections of the entries, each once, in the order of their first entries.
+fn list_conns(alloc: Global, entries: &[Entry]) -> Result<Vec<ConnId>, Refusal>
+    ensures ok { IfOk result (λ conns. conns.items ≡ conns_of entries.now) }
+    ensures memory { IsOkUnless result Refusal.Memory }
+{
+    let mut conns = Vec::new(alloc);
+    for entry in entries {
+        add_conn(&mut conns, &ConnId::of(entry))?;
+    }
+    Ok(conns)
+}
+
+/// Puts the connection last, if it is absent.
+fn add_conn(conns: &mut Vec<ConnId>, conn: &ConnId) -> Result<(), Refusal>
+    ensures ok { OnOk result (conns.new.items ≡ with_conn conns.old.items conn.now) }
+    ensures memory { IsOkUnless result Refusal.Memory }
+{
+    if !has_conn(conns.as_slice(), conn) {
+        conns.push(*conn)?;
+    }
+    Ok(())
+}
+
+fn has_conn(conns: &[ConnId], conn: &ConnId) -> bool
+    ensures { result ≡ list_any (is_conn conn.now) conns.now }
+{
+    conns.iter().any(|other| conn.is(other))
+}

@@ -1,0 +1,21 @@
+//! Scripts, as text both ways: lines to entries, and records and events to lines.
+//!
+//! The forms are this project's own. Proved: what is read and what is written are the definitions in
+//! `specs/`, byte for byte, where the reader and the writer tell their bytes.
+#![tactic(auto)]
+
+mod calls;
+mod entries;
+mod events;
+mod faults;
+mod judging;
+mod output;
+mod records;
+mod rules;
+mod scripts;
+mod verdicts;
+mod words;
+
+pub use faults::{Fault, put_fault};
+pub use judging::judge_script;
+pub use scripts::MOST_ENTRIES;

@@ -1,0 +1,96 @@
+//! Members and records as they are printed.
+
+ghost use Rattle.std.specs.Prelude.{◌≡◌, ◌++◌, codes, OnOk, IsOkUnless};
+ghost use Rattle.std.specs.Option.{option_copied};
+ghost use Rattle.std.specs.List.{flat_map};
+ghost use Rattle.cpg_console.specs.Records.{member_text, members_text, group_text, outcome_text, audit_line, count_line};
+
+use crate::entries::put_entry;
+use crate::verdicts::put_verdict;
+use crate::words::{put, put_bytes};
+use cpg_cred::Refusal;
+use cpg_entry::Name;
+use cpg_record::{Member, Record};
+use cpg_text::push_number;
+
+/// Puts the audit line of a record, which stands at that place, at the line's end.
+#[tactic(auto, unfolding(crate::specs::Records::audit_line))]
+pub fn put_audit(line: &mut Vec<u8>, place: u32, past: &Record) -> Result<(), Refusal>
+    ensures ok { OnOk result (line.new.items ≡ line.old.items ++ audit_line place past.now) }
+    ensures memory { IsOkUnless result Refusal.Memory }
+{
+    push_number(line, u64::from(place))?;
+    put(line, " ")?;
+    put_entry(line, &past.entry)?;
+    put(line, " -> ")?;
+    put_outcome(line, past)?;
+    put(line, "\n")
+}
+
+fn put_outcome(line: &mut Vec<u8>, past: &Record) -> Result<(), Refusal>
+    ensures ok { OnOk result (line.new.items ≡ line.old.items ++ outcome_text past.now) }
+    ensures memory { IsOkUnless result Refusal.Memory }
+{
+    put_verdict(line, past.verdict)?;
+    put_group(line, past.group.as_ref(), past.members.as_slice())
+}
+
+fn put_group(line: &mut Vec<u8>, group: Option<&Name>, members: &[Member]) -> Result<(), Refusal>
+    ensures ok { OnOk result (line.new.items ≡ line.old.items ++ group_text (option_copied group.entry) members.now) }
+    ensures memory { IsOkUnless result Refusal.Memory }
+{
+    match group {
+        None => Ok(()),
+        Some(group) => {
+            put(line, " group ")?;
+            put_bytes(line, group.as_slice())?;
+            put(line, " members ")?;
+            put_members(line, members)
+        }
+    }
+}
+
+/// Puts the list of members at the line's end.
+pub fn put_members(line: &mut Vec<u8>, members: &[Member]) -> Result<(), Refusal>
+    ensures ok { OnOk result (line.new.items ≡ line.old.items ++ members_text members.now) }
+    ensures memory { IsOkUnless result Refusal.Memory }
+{
+    match members {
+        [] => put(line, "-"),
+        [first, others @ ..] => {
+            put_member(line, *first)?;
+            put_more_members(line, others)
+        }
+    }
+}
+
+fn put_more_members(line: &mut Vec<u8>, members: &[Member]) -> Result<(), Refusal>
+    ensures ok { OnOk result (line.new.items ≡ line.old.items ++ flat_map (λ member. codes "," ++ member_text member) members.now) }
+    ensures memory { IsOkUnless result Refusal.Memory }
+{
+    for member in members {
+        put(line, ",")?;
+        put_member(line, *member)?;
+    }
+    Ok(())
+}
+
+/// Puts NODE/PID at the line's end.
+pub fn put_member(line: &mut Vec<u8>, member: Member) -> Result<(), Refusal>
+    ensures ok { OnOk result (line.new.items ≡ line.old.items ++ member_text member) }
+    ensures memory { IsOkUnless result Refusal.Memory }
+{
+    push_number(line, u64::from(member.node.get()))?;
+    put(line, "/")?;
+    push_number(line, u64::from(member.pid))
+}
+
+/// Puts the count of records at the line's end.
+pub fn put_count(line: &mut Vec<u8>, count: u32) -> Result<(), Refusal>
+    ensures ok { OnOk result (line.new.items ≡ line.old.items ++ count_line count) }
+    ensures memory { IsOkUnless result Refusal.Memory }
+{
+    put(line, "records ")?;
+    push_number(line, u64::from(count))?;
+    put(line, "\n")
+}

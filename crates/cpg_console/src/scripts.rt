@@ -1,0 +1,79 @@
+//! Scripts of entries, read and checked whole.
+
+ghost use Rattle.std.specs.Prelude.{◌≡◌, ◌≤◌, ◌∷◌, ◌-◌, ◌+◌, ◌==◌, ℕ, List, Ok, length, not, IfOk, IfErr, OnOk, IsOkUnless};
+ghost use Rattle.cpg_record.specs.Judging.{most_places};
+ghost use Rattle.cpg_text.specs.Lines.{words_of};
+ghost use Rattle.cpg_console.specs.Entries.{entry_of};
+ghost use Rattle.cpg_console.specs.Scripts.{entry_in, entries_of_script};
+ghost use Rattle.cpg_console.specs.Steps.{entries_with, FailsAs};
+
+use crate::entries::read_entry;
+use cpg_cred::Refusal;
+use cpg_entry::Entry;
+use cpg_text::{Lines, first_words, is_ignored, trim};
+use std::alloc::Global;
+
+/// How many entries a script has at most.
+pub const MOST_ENTRIES: usize = 1_048_576;
+
+/// The words of the longest line, and one more.
+const WORDS: usize = 11;
+
+/// The entries of a script, or `BadCommand` with its first bad line.
+#[tactic(auto, using(crate::proofs::Lengths::lines_few, crate::proofs::Reading::entries_with_none))]
+pub fn read_entries(alloc: Global, script: &[u8]) -> Result<Vec<Entry>, Refusal>
+    requires { length script.now ≤ 16777216 }
+    ensures ok { IfOk result (λ entries. entries_of_script script.now ≡ Ok entries.items) }
+    ensures err { IfErr result (λ refusal. FailsAs (entries_of_script script.now) refusal) }
+{
+    let mut entries = Vec::new(alloc);
+    let mut number = 0u32;
+    for line in Lines::of(script) {
+        number += 1;
+        take_line(alloc, &mut entries, number, line)?;
+    }
+    Ok(entries)
+}
+
+/// Takes in a line of that number, of which the lines before were taken in.
+fn take_line(
+    alloc: Global,
+    entries: &mut Vec<Entry>,
+    number: u32,
+    line: &[u8],
+) -> Result<(), Refusal>
+    ensures ok { OnOk result ((lines : List (List ℕ)) → entries_with entries.old.items number (line.now ∷ lines) ≡ entries_with entries.new.items (number + 1) lines) }
+    ensures err { IfErr result (λ refusal. (lines : List (List ℕ)) → FailsAs (entries_with entries.old.items number (line.now ∷ lines)) refusal) }
+{
+    let line = trim(line);
+    if is_ignored(line) {
+        return Ok(());
+    }
+    match read_line(alloc, entries.len(), line)? {
+        None => Err(Refusal::BadCommand(number)),
+        Some(entry) => {
+            entries.push(entry)?;
+            Ok(())
+        }
+    }
+}
+
+/// The entry of a line, if there is room for one after so many.
+fn read_line(alloc: Global, count: usize, line: &[u8]) -> Result<Option<Entry>, Refusal>
+    ensures ok { IfOk result (λ found. found ≡ entry_in (most_places - count) line.now) }
+    ensures memory { IsOkUnless result Refusal.Memory }
+{
+    if count >= MOST_ENTRIES {
+        return Ok(None);
+    }
+    read_words(alloc, line)
+}
+
+#[tactic(auto, using(crate::proofs::Lengths::entry_of_first))]
+fn read_words(alloc: Global, line: &[u8]) -> Result<Option<Entry>, Refusal>
+    ensures ok { IfOk result (λ found. found ≡ entry_of (words_of line.now)) }
+    ensures memory { IsOkUnless result Refusal.Memory }
+{
+    let words = first_words(alloc, WORDS, line)?;
+    read_entry(alloc, words.as_slice())
+}
