@@ -13,6 +13,8 @@ mod output;
 mod records;
 mod rules;
 mod scripts;
+#[cfg(test)]
+mod tests;
 mod verdicts;
 mod words;
 
