@@ -7,6 +7,8 @@
 mod decisions;
 mod rules;
 mod tables;
+#[cfg(test)]
+mod tests;
 
 pub use cpg_cred::{By, Cred, NodeId, Refusal};
 pub use decisions::Decision;

@@ -1,0 +1,19 @@
+//! Tests that cross crates: worked rows on a policy, copies of every type, and plain programs of the
+//! definitions beside the calls that are proved of them. Nothing here is used by the other crates.
+#![tactic(auto)]
+
+#[cfg(test)]
+mod copies;
+#[cfg(test)]
+mod entering;
+#[cfg(test)]
+mod fullness;
+#[cfg(test)]
+mod listings;
+#[cfg(test)]
+mod plain;
+#[cfg(test)]
+mod rejoining;
+
+/// The crate has tests alone; a library has to have an item.
+pub const TESTS_ALONE: bool = true;
