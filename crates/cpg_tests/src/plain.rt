@@ -88,8 +88,16 @@ fn has_ids(table: Option<&Table>, ids: &[u32]) -> bool {
     let Some(table) = table else {
         return ids.is_empty();
     };
-    table.len() == ids.len()
-        && ids.iter().enumerate().all(|(i, id)| table.get(i).is_some_and(|(kept, _)| kept == *id))
+    if table.len() != ids.len() {
+        return false;
+    }
+    for (i, id) in ids.iter().enumerate() {
+        match table.get(i) {
+            Some((kept, _)) if kept == *id => {}
+            _ => return false,
+        }
+    }
+    true
 }
 
 #[test]
