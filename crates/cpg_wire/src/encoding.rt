@@ -14,7 +14,10 @@ ghost use Rattle.cpg_wire.specs.Spelling.{name_bytes, message_bytes, condition_b
 use crate::codes::{Kind, MARK, OpCode, Subject, Version, effect_byte, right_byte};
 use crate::limits::MOST_REQUESTS;
 use bytes::{BufMut, Bytes};
-use cpg_entry::{Call, Cred, Entry, MOST_MESSAGE_BYTES, MOST_NAME_BYTES, NodeId, Op, Packet, Refusal, Rule, Token, Who};
+use cpg_entry::{
+    Call, Cred, Entry, MOST_MESSAGE_BYTES, MOST_NAME_BYTES, NodeId, Op, Packet, Refusal, Rule,
+    Token, Who,
+};
 use std::alloc::{AllocError, Global};
 
 /// How many bytes a data frame takes beside its name or message, at most.
