@@ -31,9 +31,21 @@ fn nodes_are_one_to_eight(rt: HostRuntime) -> Result<(), Fail> {
 #[test]
 fn refusals_are_printed_with_number_and_name(rt: HostRuntime) -> Result<(), Fail> {
     let alloc = rt.alloc();
-    assert_eq!(rt; format!(in alloc; "{}", Refusal::Access)?.as_str(), "2 Access");
-    assert_eq!(rt; format!(in alloc; "{}", Refusal::Behind(7))?.as_str(), "19 Behind 7");
-    assert_eq!(rt; format!(in alloc; "{}", Refusal::Denied(By::Rule(3)))?.as_str(), "21 Denied rule 3");
-    assert_eq!(rt; format!(in alloc; "{}", Refusal::BadValue(2))?.as_str(), "35 BadValue 2");
+    assert_eq!(rt;
+        format!(in alloc; "{}", Refusal::Access)?.as_str(),
+        "2 Access"
+    );
+    assert_eq!(rt;
+        format!(in alloc; "{}", Refusal::Behind(7))?.as_str(),
+        "19 Behind 7"
+    );
+    assert_eq!(rt;
+        format!(in alloc; "{}", Refusal::Denied(By::Rule(3)))?.as_str(),
+        "21 Denied rule 3"
+    );
+    assert_eq!(rt;
+        format!(in alloc; "{}", Refusal::BadValue(2))?.as_str(),
+        "35 BadValue 2"
+    );
     Ok(())
 }

@@ -20,10 +20,19 @@ fn the_first_matching_rule_decides(rt: HostRuntime) -> Result<(), Fail> {
         cred: Cred { uid: 7, gid: 100 },
     };
     let mut table = Table::new(alloc);
-    assert_eq!(rt; table.decide(Right::Send, asker), Decision::Allowed(By::Default));
-    assert_eq!(rt; table.decide(Right::Edit, asker), Decision::Denied(By::Default));
+    assert_eq!(rt;
+        table.decide(Right::Send, asker),
+        Decision::Allowed(By::Default)
+    );
+    assert_eq!(rt;
+        table.decide(Right::Edit, asker),
+        Decision::Denied(By::Default)
+    );
     table.insert(0, 4, rule(Effect::Deny, Who::gid(100)))?;
-    assert_eq!(rt; table.decide(Right::Send, asker), Decision::Denied(By::Rule(4)));
+    assert_eq!(rt;
+        table.decide(Right::Send, asker),
+        Decision::Denied(By::Rule(4))
+    );
     let copy = table.copy(alloc)?;
     assert_eq!(rt; copy.len(), 1);
     assert_eq!(rt; copy.get(0), Some((4, rule(Effect::Deny, Who::gid(100)))));
