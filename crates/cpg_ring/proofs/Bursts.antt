@@ -9,7 +9,7 @@ use Rattle.cpg_ring.specs.States.{Entry, Settings, HeldPlaces, Holds, is_held}
 use Rattle.cpg_ring.specs.Visits.{placed, hold_all, held_through, reach, up_to, is_wanted}
 use Rattle.cpg_ring.specs.Laws.{AllHeld}
 use Rattle.cpg_ring.specs.Kept.{places_of, pairs_from}
-use Rattle.cpg_ring.specs.Rings.{Station, held_after}
+use Rattle.cpg_ring.specs.Rings.{RingNode, held_after}
 use Rattle.cpg_ring.proofs.Holding.{put_same, put_other}
 use Rattle.cpg_ring.proofs.Kept.{reach_on}
 use Rattle.cpg_ring.proofs.Amounts.{placed_held, holds_of, is_some_of}
@@ -63,10 +63,10 @@ burst_test s held seq now place = same_bool (is_held (hold_all held (placed s se
     (or_cases (is_held held place) (nat_lt seq place) (nat_le place (seq + length now)) t)))
 
 -- the test that the code makes
-pub after_is : (x : Station) (seq count place : ℕ) → count ≤ length x.state.waiting → is_held (held_after x seq count) place ≡ (is_held x.state.held place || nat_lt seq place && nat_le place (seq + count))
+pub after_is : (x : RingNode) (seq count place : ℕ) → count ≤ length x.state.waiting → is_held (held_after x seq count) place ≡ (is_held x.state.held place || nat_lt seq place && nat_le place (seq + count))
 after_is x seq count place h = burst_test x.settings x.state.held seq (take count x.state.waiting) place ∙ ap (λ n. is_held x.state.held place || nat_lt seq place && nat_le place (seq + n)) (length-take-le count x.state.waiting h)
 
-pub after_keeps : (x : Station) (seq count d : ℕ) → AllHeld x.state.held d → AllHeld (held_after x seq count) d
+pub after_keeps : (x : RingNode) (seq count d : ℕ) → AllHeld x.state.held d → AllHeld (held_after x seq count) d
 after_keeps x seq count d all place low high = burst_keeps x.settings x.state.held seq (take count x.state.waiting) place (all place low high)
 
 -- the search for the reach may begin past places that are held

@@ -9,7 +9,7 @@ use Rattle.std.proofs.lemmas.Bool.{cases_eq}
 use Rattle.cpg_ring.specs.States.{Entry, Packet, Refusal, Settings, HeldPlaces, NodeState, Holds}
 use Rattle.cpg_cred.specs.declared.refusals.Refusal.TheVariants.{Foreign, Implausible, Held, FarAhead}
 use Rattle.cpg_ring.specs.Moves.{data_refusal}
-use Rattle.cpg_ring.specs.Rings.{Station}
+use Rattle.cpg_ring.specs.Rings.{RingNode}
 use Rattle.cpg_ring.specs.Kept.{places_of, IsKept}
 use Rattle.cpg_ring.proofs.Kept.{get_find}
 use Rattle.cpg_ring.proofs.Holding.{put_grows}
@@ -36,7 +36,7 @@ holds_some held place h = by_value (get held place) refl h
 -- one place more is delivered
 pub one_further : (s : Settings) (n : ℕ) (kept : List (ℕ × Entry)) (d : ℕ) → IsKept s n kept d → IsSome (get (places_of kept) (suc d)) → IsKept s n kept (d + 1)
 one_further s n kept d h next = record {
-  station = h.station;
+  ring_node = h.ring_node;
   within = h.within;
   counted = let l = held_within s.places kept (suc d) h.within (holds_some (places_of kept) (suc d) next) in omega arith;
   delivered = λ place low high. ⊎_elim
@@ -68,12 +68,12 @@ within_append m (x ∷ xs) ys a b = (a.0, within_append m xs ys a.1 b)
 
 pub kept_one_more : (s : Settings) (n d : ℕ) (kept new : List (ℕ × Entry)) (place : ℕ) (e : Entry) → IsKept s n kept d → new ≡ kept ++ (place, e) ∷ [] → place ≤ s.places → get (places_of kept) place ≡ None → IsKept s n new d
 kept_one_more s n d kept new place e h is within none = subst (λ l. IsKept s n l d) (sym is) record {
-  station = h.station;
+  ring_node = h.ring_node;
   within = within_append s.places kept ((place, e) ∷ []) h.within (within, tt);
   counted = h.counted;
   delivered = λ q low high. let was = h.delivered q low high in subst (λ m. Holds m q) (sym (kept_push kept place e none)) (was.0, (put_grows (places_of kept) place e none).at q was.0 was.1);
 }
 
--- the station holding something else
-abbrev pub with_held : Station → HeldPlaces → Station
+-- the node holding something else
+abbrev pub with_held : RingNode → HeldPlaces → RingNode
 with_held x held = record { settings = x.settings; node = x.node; state = record { last = x.state.last; sent = x.state.sent; held = held; delivered = x.state.delivered; waiting = x.state.waiting; arus = x.state.arus } }

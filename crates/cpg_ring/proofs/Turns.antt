@@ -7,19 +7,19 @@ use Rattle.cpg_ring.specs.Visits.{burst_size, served, placed, next_token}
 use Rattle.cpg_ring.specs.declared.visit.Visit.{Visit}
 use Rattle.cpg_ring.specs.Laws.{AllHeld, IsToken}
 use Rattle.cpg_ring.specs.Kept.{places_of, pairs_from, newest_two, IsKept}
-use Rattle.cpg_ring.specs.Rings.{Station, IsInRange, refusal_of, step_of, visit_of, visited, held_after}
+use Rattle.cpg_ring.specs.Rings.{RingNode, IsInRange, refusal_of, step_of, visit_of, visited, held_after}
 use Rattle.cpg_ring.proofs.Amounts.{Accepted, accepted, visit_is}
 use Rattle.cpg_ring.proofs.Bursts.{burst_keeps, burst_kept}
 
 -- what the parts of a visit require
-pub record IsReady (x : Station) (t : Token) : Type 0 where
+pub record IsReady (x : RingNode) (t : Token) : Type 0 where
   pub ready : burst_size x.settings x.state t.seq ≤ length x.state.waiting
   pub room : t.seq + burst_size x.settings x.state t.seq ≤ x.settings.places
   pub fits : t.seq + burst_size x.settings x.state t.seq < 2 ^ 32
   pub hop : t.hop < 2 ^ 63
   pub delivered : x.state.delivered ≤ t.seq
 
-pub is_ready : (x : Station) (t : Token) → x.settings.places ≤ 1048576 → x.settings.hops ≤ 4611686018427387904 → AllHeld x.state.held x.state.delivered → refusal_of x t ≡ None → IsReady x t
+pub is_ready : (x : RingNode) (t : Token) → x.settings.places ≤ 1048576 → x.settings.hops ≤ 4611686018427387904 → AllHeld x.state.held x.state.delivered → refusal_of x t ≡ None → IsReady x t
 is_ready x t places hops all none =
     let ok : Accepted x.settings x.state t = accepted x.settings x.node x.state t none in
     let seq = ok.seq in
@@ -37,11 +37,11 @@ is_ready x t places hops all none =
     low (suc d) all = (accepted x.settings x.node x.state t none).above (suc d) (all (suc d) (omega arith) (omega arith))
 
 -- the parts make the visit
-pub visit_made : (x : Station) (t next : Token) (first packets : List Packet) (count : ℕ) → IsReady x t → count ≡ burst_size x.settings x.state t.seq → first ≡ served x.settings x.state.held t.rtr → packets ≡ first ++ placed x.settings t.seq (take count x.state.waiting) → next ≡ next_token x.node t (t.seq + count) (held_after x t.seq count) x.state.delivered → let v : Visit = record { packets = packets; token = next } in v ≡ visit_of x t
+pub visit_made : (x : RingNode) (t next : Token) (first packets : List Packet) (count : ℕ) → IsReady x t → count ≡ burst_size x.settings x.state t.seq → first ≡ served x.settings x.state.held t.rtr → packets ≡ first ++ placed x.settings t.seq (take count x.state.waiting) → next ≡ next_token x.node t (t.seq + count) (held_after x t.seq count) x.state.delivered → let v : Visit = record { packets = packets; token = next } in v ≡ visit_of x t
 visit_made x t next first packets count h c f p n = λ i. record { packets = (p ∙ λ j. f j ++ placed x.settings t.seq (take (c j) x.state.waiting)) i; token = (n ∙ (ap (λ k. next_token x.node t (t.seq + k) (held_after x t.seq k) x.state.delivered) c ∙ ap (λ m. next_token x.node t (t.seq + m) (held_after x t.seq (burst_size x.settings x.state t.seq)) x.state.delivered) (sym (length-take-le (burst_size x.settings x.state t.seq) x.state.waiting h.ready)))) i }
 
-pub in_range : (x : Station) (t : Token) (v : Visit) (kept : List (ℕ × Entry)) (d : ℕ) → IsKept x.settings x.node kept d → IsToken t → refusal_of x t ≡ None → v ≡ visit_of x t → IsInRange x.settings v
-in_range x t v kept d h range none is = subst (IsInRange x.settings) (sym is) (let w = visit_is x.settings x.node x.state t h.station.0 range none in record { token = w.token; seq = w.seq; hop = w.hop; packets = w.packets })
+pub in_range : (x : RingNode) (t : Token) (v : Visit) (kept : List (ℕ × Entry)) (d : ℕ) → IsKept x.settings x.node kept d → IsToken t → refusal_of x t ≡ None → v ≡ visit_of x t → IsInRange x.settings v
+in_range x t v kept d h range none is = subst (IsInRange x.settings) (sym is) (let w = visit_is x.settings x.node x.state t h.ring_node.0 range none in record { token = w.token; seq = w.seq; hop = w.hop; packets = w.packets })
 
 pairs_within : (m seq : ℕ) (es : List Entry) → seq + length es ≤ m → AllByRecursion (λ p. p.0 ≤ m) (pairs_from seq es)
 pairs_within m seq [] l = tt
@@ -54,7 +54,7 @@ within_append m (x ∷ xs) ys a b = (a.0, within_append m xs ys a.1 b)
 -- a burst's pairs are kept, too
 pub kept_more : (s : Settings) (n d : ℕ) (kept new : List (ℕ × Entry)) (seq : ℕ) (now : List Entry) → IsKept s n kept d → new ≡ kept ++ pairs_from seq now → seq + length now ≤ s.places → ((place : ℕ) → Holds (places_of kept) place → place ≤ seq) → IsKept s n new d
 kept_more s n d kept new seq now h is room above = subst (λ l. IsKept s n l d) (sym is) record {
-  station = h.station;
+  ring_node = h.ring_node;
   within = within_append s.places kept (pairs_from seq now) h.within (pairs_within s.places seq now room);
   counted = h.counted;
   delivered = λ place low high. subst (λ m. Holds m place) (sym (burst_kept s kept seq now above)) (burst_keeps s (places_of kept) seq now place (h.delivered place low high));
@@ -67,5 +67,5 @@ newest_first a (Some b) None = refl
 newest_first a (Some b) (Some c) = refl
 
 -- the ring after the visit, from its parts
-pub visited_made : (x : Station) (t sent : Token) (held : HeldPlaces) (waiting : List Entry) (arus : List ℕ) → sent ≡ (step_of x t).token → held ≡ (step_of x t).held → waiting ≡ (step_of x t).rest → arus ≡ take 2 ((step_of x t).token.aru ∷ x.state.arus) → let y : Station = record { settings = x.settings; node = x.node; state = record { last = Some t.hop; sent = Some sent; held = held; delivered = x.state.delivered; waiting = waiting; arus = arus } } in y ≡ visited x t
+pub visited_made : (x : RingNode) (t sent : Token) (held : HeldPlaces) (waiting : List Entry) (arus : List ℕ) → sent ≡ (step_of x t).token → held ≡ (step_of x t).held → waiting ≡ (step_of x t).rest → arus ≡ take 2 ((step_of x t).token.aru ∷ x.state.arus) → let y : RingNode = record { settings = x.settings; node = x.node; state = record { last = Some t.hop; sent = Some sent; held = held; delivered = x.state.delivered; waiting = waiting; arus = arus } } in y ≡ visited x t
 visited_made x t sent held waiting arus a b c d = λ i. record { settings = x.settings; node = x.node; state = record { last = Some t.hop; sent = Some (a i); held = b i; delivered = x.state.delivered; waiting = c i; arus = d i } }

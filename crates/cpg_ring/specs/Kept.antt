@@ -4,7 +4,7 @@ use Rattle.std.specs.List.{AllByRecursion}
 use Rattle.std.specs.FinMap.{from_entries}
 use Rattle.cpg_ring.specs.States.{Entry, Token, Settings, HeldPlaces}
 use Rattle.cpg_ring.specs.Laws.{AllHeld, IsToken}
-use Rattle.cpg_ring.specs.Rings.{IsStation}
+use Rattle.cpg_ring.specs.Rings.{IsRingNode}
 
 -- what the pairs hold
 abbrev pub places_of : List (ℕ × Entry) → HeldPlaces
@@ -23,7 +23,7 @@ newest_two None b = []
 
 -- What is true of a ring's places.
 pub record IsKept (s : Settings) (n : ℕ) (kept : List (ℕ × Entry)) (d : ℕ) : Type 0 where
-  pub station : IsStation s n
+  pub ring_node : IsRingNode s n
   -- no place is held that the ring does not have
   pub within : AllByRecursion (λ p. p.0 ≤ s.places) kept
   pub counted : d ≤ s.places

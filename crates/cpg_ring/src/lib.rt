@@ -1,4 +1,7 @@
 //! The ring: the token's visits, the window of places, and the order that all nodes agree on.
+//!
+//! The token and its visits are those of Totem's single ring; burst, window and limits are this project's
+//! own. Proved: `every_schedule`, for every list of events, and that each call of `Ring` is the definition.
 #![tactic(auto)]
 
 mod held;

@@ -37,11 +37,11 @@ pub struct Ring {
 }
 
 impl Model for Ring {
-    ghost use Rattle.cpg_ring.specs.Rings.{Station, held_code};
+    ghost use Rattle.cpg_ring.specs.Rings.{RingNode, held_code};
     ghost use Rattle.cpg_ring.specs.Kept.{places_of, newest_two, IsRing};
     ghost use Rattle.std.specs.Coded.{codes};
 
-    ghost Value = { Station };
+    ghost Value = { RingNode };
 
     ghost coded = { Prim.hlevel (codes, held_code) };
 

@@ -1,7 +1,7 @@
 use Rattle.std.proofs.Common.{◌≡◌, ◌+◌, ◌<◌, ◌++◌, ◌∷◌, [], sym, ap, ◌∙◌, arith, take, length, get_or, append_assoc, true≢false}
 use Rattle.cpg_ring.specs.States.{Packet}
 use Rattle.cpg_ring.specs.Visits.{placed}
-use Rattle.cpg_ring.specs.Rings.{Station}
+use Rattle.cpg_ring.specs.Rings.{RingNode}
 use Rattle.cpg_ring.proofs.Bursts.{placed_more}
 use Rattle.cpg_ring.proofs.ring.Ring.place.Goals as goal
 use Rattle.cpg_ring.proofs.ring.Ring.place.Goals.{in-Some+in_ok-entry+in_ok-push, in_default}
@@ -14,8 +14,8 @@ loop-i-preserved c =
     let S = c.args.self.now.settings in
     let old = c.args.packets.now.items in
     let within : c.loop-i.i < length W = omega arith in
-    let wait : c.self.inside.waiting.items ≡ W = ap (λ (x : Station). x.state.waiting) c.self.view_is in
-    let ring : c.self.inside.settings ≡ S = ap (λ (x : Station). x.settings) c.self.view_is in
+    let wait : c.self.inside.waiting.items ≡ W = ap (λ (x : RingNode). x.state.waiting) c.self.view_is in
+    let ring : c.self.inside.settings ≡ S = ap (λ (x : RingNode). x.settings) c.self.view_is in
     elim c.match-get.branch [
       | in-Some+in_ok-entry+in_ok-push w ↦
           let same : w.in_ok-entry.entry ≡ get_or W c.loop-i.i w.in-Some.entry.now = w.in_ok-entry.ensures.ok ∙ (w.in-Some.ensures.lookup ∙ ap (λ l. get_or l c.loop-i.i w.in-Some.entry.now) wait) in

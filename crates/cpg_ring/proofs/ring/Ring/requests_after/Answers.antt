@@ -1,7 +1,7 @@
 use Rattle.std.proofs.Common.{ℕ, sym, subst, ap, ◌∙◌, arith, take}
 use Rattle.cpg_ring.specs.Visits.{is_wanted}
 use Rattle.cpg_ring.specs.Laws.{AllHeld}
-use Rattle.cpg_ring.specs.Rings.{Station, held_after}
+use Rattle.cpg_ring.specs.Rings.{RingNode, held_after}
 use Rattle.cpg_ring.specs.contracts.ring.Ring.{the_view}
 use Rattle.cpg_ring.proofs.Kept.{asks_one, asks_none, asks_full}
 use Rattle.cpg_ring.proofs.Bursts.{after_keeps, none_wanted}
@@ -10,7 +10,7 @@ use Rattle.cpg_ring.proofs.ring.Ring.requests_after.Goals.{then-len-lt-MOST_REQU
 
 pub loop-i-init : goal.loop-i-init
 loop-i-init c =
-    let all = subst (λ (x : Station). AllHeld (held_after x c.args.seq c.args.count) c.self.inside.delivered) c.self.view_is (after_keeps (the_view c.self.inside) c.args.seq c.args.count c.self.inside.delivered c.self.invariant.kept.delivered) in
+    let all = subst (λ (x : RingNode). AllHeld (held_after x c.args.seq c.args.count) c.self.inside.delivered) c.self.view_is (after_keeps (the_view c.self.inside) c.args.seq c.args.count c.self.inside.delivered c.self.invariant.kept.delivered) in
     c.new-requests.ensures.items ∙ sym (ap (take 32) (none_wanted (held_after c.args.self.now c.args.seq c.args.count) c.args.self.now.state.delivered c.args.asked.now c.self.inside.delivered all))
 
 pub loop-i-preserved : goal.loop-i-preserved
