@@ -110,11 +110,6 @@ impl Records {
         self.records.len()
     }
 
-    /// The allocator that the list grows by.
-    pub fn allocator(&self) -> Global {
-        *self.records.allocator()
-    }
-
     /// The same records.
     pub fn copy(&self, alloc: Global) -> Result<Records, Refusal>
         ensures ok { IfOk result (λ copy. copy ≡ self.now) }
