@@ -1,6 +1,6 @@
 //! The members of groups.
 
-ghost use Rattle.std.specs.Prelude.{◌≡◌, ◌↔◌, IsTrue, [], length, OnOk, IfOk, IsOkUnless};
+ghost use Rattle.std.specs.Prelude.{◌≡◌, ◌↔◌, IsTrue, [], length, OnOk, OnErr, IfOk, IsOkUnless};
 ghost use Rattle.cpg_record.specs.Connections.{conn_in, member_of};
 ghost use Rattle.cpg_record.specs.Steps.{members_after, without};
 ghost use Rattle.cpg_record.specs.Verdicts.{has_process};
@@ -124,6 +124,7 @@ impl Members {
     /// Brings the members of a group past one record more.
     pub fn take_in(&mut self, past: &Record, group: &[u8]) -> Result<(), Refusal>
         ensures ok { OnOk result (self.new ≡ members_after past.now group.now self.old) }
+        ensures err { OnErr result (self.new ≡ self.old) }
         ensures memory { IsOkUnless result Refusal.Memory }
     {
         if !past.verdict.is_allowed() {
