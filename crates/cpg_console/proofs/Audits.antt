@@ -12,11 +12,11 @@ use Rattle.cpg_record.specs.Connections.{conn_of}
 use Rattle.cpg_record.specs.Judging.{judged, judge_next, record_of}
 use Rattle.cpg_record.proofs.Denials.{each_entry_is_judged, prefixes_are_judged_alike}
 use Rattle.cpg_text.specs.Lines.{words_of}
+use Rattle.cpg_script.proofs.Lined.{enumerate_from-append}
 use Rattle.cpg_console.specs.Entries.{entry_of}
 use Rattle.cpg_console.specs.Judging.{audit_lines, conns_of, with_conn}
 use Rattle.cpg_console.specs.Records.{audit_line}
 use Rattle.cpg_console.specs.Scripts.{entries_from, entry_then}
-use Rattle.cpg_console.proofs.Lined.{enumerate_from-append}
 
 -- the lines of records, and then those of more records
 lines_parted : (records more : List Record) → audit_lines (records ++ more) ≡ audit_lines records ++ map (λ past. audit_line past.0 past.1) (enumerate_from (1 + length records) more)

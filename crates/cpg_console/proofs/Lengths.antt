@@ -1,9 +1,6 @@
--- how many words and lines there are
-use Rattle.std.proofs.Common.{◌≡◌, ℕ, ◌+◌, ◌<◌, ◌≤◌, List, [], ◌∷◌, length, take, None, refl, arith}
+-- how many words there are
+use Rattle.std.proofs.Common.{◌≡◌, ℕ, ◌<◌, List, [], ◌∷◌, length, take, None, refl, arith}
 use Rattle.std.specs.Borrow.{Bor}
-use Rattle.std.proofs.lemmas.List.Splits.{length-slice_split}
-use Rattle.std.proofs.lemmas.List.Sums.{count_by-le-length}
-use Rattle.cpg_text.specs.Lines.{is_line_feed, lines_of}
 use Rattle.cpg_console.specs.Calls.{insert_of}
 use Rattle.cpg_console.specs.Entries.{entry_of}
 use Rattle.cpg_console.specs.Rules.{rule_of}
@@ -32,10 +29,6 @@ entry_of_first (a ∷ b ∷ c ∷ d ∷ e ∷ f ∷ g ∷ h ∷ []) = refl
 entry_of_first (a ∷ b ∷ c ∷ d ∷ e ∷ f ∷ g ∷ h ∷ i ∷ []) = refl
 entry_of_first (a ∷ b ∷ c ∷ d ∷ e ∷ f ∷ g ∷ h ∷ i ∷ j ∷ []) = refl
 entry_of_first (a ∷ b ∷ c ∷ d ∷ e ∷ f ∷ g ∷ h ∷ i ∷ j ∷ k ∷ more) = refl
-
--- a text has no more lines than bytes, and one
-pub lines_few : (text : List ℕ) → length (lines_of text) ≤ length text + 1
-lines_few text = omega (arith, length-slice_split is_line_feed text, count_by-le-length is_line_feed text)
 
 -- no insert is of fewer than four words
 pub insert_of_short : (words : List (Bor (List ℕ))) → length words < 4 → insert_of (texts words) ≡ None

@@ -5,7 +5,8 @@ use Rattle.cpg_cred.specs.declared.refusals.Refusal.{Refusal}
 use Rattle.cpg_entry.specs.declared.entries.Entry.{Entry}
 use Rattle.cpg_record.specs.Judging.{most_places}
 use Rattle.cpg_text.specs.Lines.{trimmed, is_ignored}
-use Rattle.cpg_console.specs.Scripts.{commands_from, entry_in, entry_then, entries_from}
+use Rattle.cpg_script.specs.Commands.{commands_from}
+use Rattle.cpg_console.specs.Scripts.{entry_in, entry_then, entries_from}
 use Rattle.cpg_console.specs.Steps.{entries_before, entries_with, FailsAs}
 
 -- no line is left

@@ -7,10 +7,10 @@ use Rattle.cpg_record.specs.declared.moves.Cause.{Cause}
 use Rattle.cpg_record.specs.declared.moves.Cause.TheVariants as cause
 use Rattle.cpg_record.specs.declared.moves.Move.{Move}
 use Rattle.cpg_text.specs.Percent.{text_of}
+use Rattle.cpg_script.specs.Words.{listed}
 use Rattle.cpg_console.specs.Entries.{conn_text}
 use Rattle.cpg_console.specs.Records.{member_text, members_text}
 use Rattle.cpg_console.specs.Verdicts.{verdict_text}
-use Rattle.cpg_console.specs.Words.{listed}
 
 -- why a member left or joined
 abbrev pub cause_text : Cause → List ℕ

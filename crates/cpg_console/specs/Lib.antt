@@ -1,12 +1,9 @@
 pub mod Calls
 pub mod Entries
 pub mod Events
-pub mod Faults
 pub mod Judging
 pub mod Records
 pub mod Rules
 pub mod Scripts
 pub mod Steps
 pub mod Verdicts
-pub mod Words
-pub mod Written

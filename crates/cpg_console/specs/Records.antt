@@ -2,9 +2,9 @@
 use Rattle.std.specs.Prelude.{ℕ, List, [], ◌++◌, codes, decimal, Option, Some, None}
 use Rattle.cpg_record.specs.declared.memberships.Member.{Member}
 use Rattle.cpg_record.specs.declared.records.Record.{Record}
+use Rattle.cpg_script.specs.Words.{listed}
 use Rattle.cpg_console.specs.Entries.{entry_text}
 use Rattle.cpg_console.specs.Verdicts.{verdict_text}
-use Rattle.cpg_console.specs.Words.{listed}
 
 -- NODE/PID
 abbrev pub member_text : Member → List ℕ

@@ -1,18 +1,10 @@
--- scripts as lines of commands, and a script of entries
-use Rattle.std.specs.Prelude.{ℕ, ◌-◌, List, [], ◌∷◌, map, not, ◌==◌, Option, Some, None, Result, Ok, Err, if◌then◌else◌}
-use Rattle.std.specs.List.{filter, enumerate_from}
+-- a script of entries
+use Rattle.std.specs.Prelude.{ℕ, ◌-◌, List, [], ◌∷◌, ◌==◌, Option, Some, None, Result, Ok, Err, if◌then◌else◌}
 use Rattle.cpg_entry.specs.declared.entries.Entry.{Entry}
 use Rattle.cpg_record.specs.Judging.{most_places}
-use Rattle.cpg_text.specs.Lines.{lines_of, trimmed, words_of, is_ignored}
+use Rattle.cpg_text.specs.Lines.{words_of}
+use Rattle.cpg_script.specs.Commands.{commands_of}
 use Rattle.cpg_console.specs.Entries.{entry_of}
-
--- the lines that are not ignored, trimmed, each with its number, where the first line has that number
-abbrev pub commands_from : ℕ → List (List ℕ) → List (ℕ × List ℕ)
-commands_from number lines = filter (λ command. not (is_ignored command.1)) (enumerate_from number (map trimmed lines))
-
--- the commands of a script; lines are counted from 1
-abbrev pub commands_of : List ℕ → List (ℕ × List ℕ)
-commands_of script = commands_from 1 (lines_of script)
 
 -- the entry of a line, if there is room for one
 abbrev pub entry_in : ℕ → List ℕ → Option Entry

@@ -5,7 +5,8 @@ use Rattle.cpg_cred.specs.declared.refusals.Refusal.{Refusal}
 use Rattle.cpg_cred.specs.declared.refusals.Refusal.TheVariants as refusal
 use Rattle.cpg_entry.specs.declared.entries.Entry.{Entry}
 use Rattle.cpg_record.specs.Judging.{most_places}
-use Rattle.cpg_console.specs.Scripts.{commands_from, entries_from}
+use Rattle.cpg_script.specs.Commands.{commands_from}
+use Rattle.cpg_console.specs.Scripts.{entries_from}
 
 -- the bytes of words
 abbrev pub texts : List (Bor (List ℕ)) → List (List ℕ)

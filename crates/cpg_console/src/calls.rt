@@ -5,10 +5,10 @@ ghost use Rattle.cpg_console.specs.Calls.{call_text, op_text, join_of, leave_of,
 ghost use Rattle.cpg_console.specs.Steps.{texts};
 
 use crate::rules::{put_rule, read_rule};
-use crate::words::{is, put, put_bytes, read_u32};
 use cpg_cred::Refusal;
 use cpg_entry::{Call, MOST_MESSAGE_BYTES, Message, Name, Op, accepts_name};
 use cpg_rules::Rule;
+use cpg_script::{is, put, put_bytes, read_u32};
 use cpg_text::{push_message, push_number, read_message};
 use std::alloc::Global;
 

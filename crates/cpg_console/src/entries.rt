@@ -5,10 +5,10 @@ ghost use Rattle.cpg_console.specs.Entries.{conn_text, entry_text, conn_of_word,
 ghost use Rattle.cpg_console.specs.Steps.{texts};
 
 use crate::calls::{is_enterable, put_op, read_op};
-use crate::words::{cut, put, read_u32};
 use cpg_cred::{Cred, NodeId, Refusal};
 use cpg_entry::{Entry, Op};
 use cpg_record::ConnId;
+use cpg_script::{cut, put, read_u32};
 use cpg_text::push_number;
 use std::alloc::Global;
 

@@ -7,9 +7,9 @@ ghost use Rattle.cpg_console.specs.Events.{cause_text, move_text, moves_text, ne
 use crate::entries::put_conn;
 use crate::records::{put_member, put_members};
 use crate::verdicts::put_verdict;
-use crate::words::{put, put_bytes};
 use cpg_cred::Refusal;
 use cpg_record::{Cause, ConnId, Event, Move};
+use cpg_script::{put, put_bytes};
 use cpg_text::{push_message, push_number};
 
 /// Puts the head of a connection's events at the line's end.

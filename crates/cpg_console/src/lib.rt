@@ -7,7 +7,6 @@
 mod calls;
 mod entries;
 mod events;
-mod faults;
 mod judging;
 mod output;
 mod records;
@@ -16,8 +15,8 @@ mod scripts;
 #[cfg(test)]
 mod tests;
 mod verdicts;
-mod words;
 
-pub use faults::{Fault, put_fault};
+pub use cpg_accept::accept_script;
+pub use cpg_script::{Fault, put_fault};
 pub use judging::judge_script;
 pub use scripts::MOST_ENTRIES;

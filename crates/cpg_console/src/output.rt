@@ -7,30 +7,18 @@ ghost use Rattle.std.specs.List.{concat, flat_map};
 ghost use Rattle.std.specs.Io.KnownBytes.{Appends};
 ghost use Rattle.cpg_record.specs.Events.{events, inbox};
 ghost use Rattle.cpg_record.specs.Judging.{judged};
+ghost use Rattle.cpg_script.specs.Written.{LeavesLines};
 ghost use Rattle.cpg_console.specs.Events.{event_line, inbox_line};
 ghost use Rattle.cpg_console.specs.Judging.{inbox_lines};
 ghost use Rattle.cpg_console.specs.Records.{count_line};
-ghost use Rattle.cpg_console.specs.Written.{LeavesLines};
 
 use crate::events::{put_event, put_inbox};
 use crate::records::put_count;
 use cpg_cred::Refusal;
 use cpg_group::Policy;
 use cpg_record::{ConnId, Event};
-use cpg_text::write_whole;
+use cpg_script::write_line;
 use std::io::Write;
-
-/// Writes a line.
-#[tactic(auto, using(crate::proofs::Lined::front_of_line))]
-pub fn write_line<W: Write>(writer: &mut W, line: &[u8]) -> Result<(), Refusal>
-    ensures ok { OnOk result (Appends (W.contents writer.old) (W.contents writer.new) line.now) }
-    ensures err { IfErr result (λ refusal. LeavesLines (line.now ∷ []) refusal (W.contents writer.old) (W.contents writer.new)) }
-{
-    match write_whole(writer, line) {
-        Ok(()) => Ok(()),
-        Err(_) => Err(Refusal::Write),
-    }
-}
 
 /// Writes how many records there are.
 #[tactic(auto, using(crate::proofs::Lined::none_written))]

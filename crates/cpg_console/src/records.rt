@@ -7,10 +7,10 @@ ghost use Rattle.cpg_console.specs.Records.{member_text, members_text, group_tex
 
 use crate::entries::put_entry;
 use crate::verdicts::put_verdict;
-use crate::words::{put, put_bytes};
 use cpg_cred::Refusal;
 use cpg_entry::Name;
 use cpg_record::{Member, Record};
+use cpg_script::{put, put_bytes};
 use cpg_text::push_number;
 
 /// Puts the audit line of a record, which stands at that place, at the line's end.

@@ -20,7 +20,7 @@ pub const MOST_ENTRIES: usize = 1_048_576;
 const WORDS: usize = 11;
 
 /// The entries of a script, or `BadCommand` with its first bad line.
-#[tactic(auto, using(crate::proofs::Lengths::lines_few, crate::proofs::Reading::entries_with_none))]
+#[tactic(auto, using(crate::proofs::Lined::lines_few, crate::proofs::Reading::entries_with_none))]
 pub fn read_entries(alloc: Global, script: &[u8]) -> Result<Vec<Entry>, Refusal>
     requires { length script.now ≤ 16777216 }
     ensures ok { IfOk result (λ entries. entries_of_script script.now ≡ Ok entries.items) }

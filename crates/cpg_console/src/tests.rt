@@ -1,6 +1,6 @@
 //! Worked rows through `judge_script`, bad lines, and streams that fail.
 
-use crate::{Fault, judge_script, put_fault};
+use crate::judge_script;
 use cpg_cred::Refusal;
 use std::alloc::Global;
 use std::io::{self, Error, ErrorKind, Read, Write};
@@ -304,29 +304,4 @@ fn a_writer_that_fails_has_a_front(rt: HostRuntime) {
             assert!(rt; writer.got.as_slice() == &answer[..until]);
         }
     }
-}
-
-/// Checks how the fault is printed, both ways.
-fn expect_fault(rt: &impl Abort, alloc: Global, fault: Fault, text: &str) -> Result<(), Fail> {
-    let mut line = Vec::new(alloc);
-    put_fault(alloc, &mut line, &fault)?;
-    assert!(rt; line.as_slice() == text.as_bytes());
-    let shown = format!(in alloc; "{fault}")?;
-    assert!(rt; shown.as_str() == text);
-    Ok(())
-}
-
-#[test]
-fn faults_are_printed(rt: HostRuntime) -> Result<(), Fail> {
-    expect_fault(
-        &rt,
-        rt.alloc(),
-        Fault::from(Refusal::BadCommand(2)),
-        "41 BadCommand 2",
-    )?;
-    let part = Fault {
-        part: Some(2),
-        refusal: Refusal::BadValue(2),
-    };
-    expect_fault(&rt, rt.alloc(), part, "part 2: 35 BadValue 2")
 }

@@ -4,9 +4,9 @@ ghost use Rattle.std.specs.Prelude.{◌≡◌, ◌++◌, OnOk, IsOkUnless};
 ghost use Rattle.cpg_cred.specs.Shown.{by_text};
 ghost use Rattle.cpg_console.specs.Verdicts.{reason_text, verdict_text};
 
-use crate::words::put;
 use cpg_cred::{By, Refusal};
 use cpg_record::{Reason, Verdict};
+use cpg_script::put;
 use cpg_text::push_number;
 
 /// Puts the verdict at the line's end.

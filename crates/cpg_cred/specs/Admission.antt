@@ -11,6 +11,6 @@ abbrev pub via_of : Listed → Cred → Option Via
 via_of list cred =
     if cred.uid == 0 then Some RootUser
     else if cred.gid == 0 then Some RootGroup
-    else if list_any (λ listed. listed == cred.uid) list.users then Some User
-    else if list_any (λ listed. listed == cred.gid) list.groups then Some Group
+    else if list_any (λ listed. cred.uid == listed) list.users then Some User
+    else if list_any (λ listed. cred.gid == listed) list.groups then Some Group
     else None

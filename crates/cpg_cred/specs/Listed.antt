@@ -1,6 +1,6 @@
 -- the numbers that an accept list has, and how it grows
 use Rattle.std.specs.Prelude.{ℕ, ◌==◌, List, [], ◌∷◌, ◌++◌, if◌then◌else◌}
-use Rattle.std.specs.List.{list_any}
+use Rattle.std.specs.List.{fold, list_any}
 
 -- an accept list, as contracts see it: its users and its groups, each in the order of their addition
 pub record Listed : Type 0 where
@@ -9,7 +9,11 @@ pub record Listed : Type 0 where
 
 -- the numbers with one more at the end, if it was absent
 abbrev pub with_number : List ℕ → ℕ → List ℕ
-with_number numbers number = if list_any (λ listed. listed == number) numbers then numbers else numbers ++ number ∷ []
+with_number numbers number = if list_any (λ listed. number == listed) numbers then numbers else numbers ++ number ∷ []
+
+-- the numbers with more at the end, one after the other, each if it was absent
+abbrev pub with_numbers : List ℕ → List ℕ → List ℕ
+with_numbers numbers more = fold with_number numbers more
 
 -- the list with one user more, at the end, if it was absent
 abbrev pub with_user : Listed → ℕ → Listed
@@ -18,3 +22,7 @@ with_user list uid = record list { users = with_number list.users uid }
 -- the list with one group more, at the end, if it was absent
 abbrev pub with_group : Listed → ℕ → Listed
 with_group list gid = record list { groups = with_number list.groups gid }
+
+-- the list with more users and more groups, one after the other, each at the end if it was absent
+abbrev pub with_listed : Listed → Listed → Listed
+with_listed list more = record { users = with_numbers list.users more.users; groups = with_numbers list.groups more.groups }

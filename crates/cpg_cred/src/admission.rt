@@ -2,10 +2,11 @@
 
 ghost use Rattle.std.specs.Prelude.{◌≡◌, [], Some, None, IfOk, OnOk, OnErr, IsOkUnless};
 ghost use Rattle.std.specs.Option.{ok_or};
-ghost use Rattle.cpg_cred.specs.Listed.{with_number};
+ghost use Rattle.cpg_cred.specs.Listed.{with_number, with_numbers};
 
 use crate::credentials::Cred;
 use crate::refusals::Refusal;
+use indexmap::IndexSet;
 use std::alloc::Global;
 use std::marker::Model;
 
@@ -26,8 +27,8 @@ pub enum Via {
 /// were added.
 #[derive(Debug, Drop)]
 pub struct AcceptList {
-    users: Vec<u32>,
-    groups: Vec<u32>,
+    users: IndexSet<u32>,
+    groups: IndexSet<u32>,
 }
 
 impl Model for AcceptList {
@@ -35,11 +36,11 @@ impl Model for AcceptList {
 
     ghost Value = { Listed };
 
-    ghost view = { λ list. record { users = list.users.items; groups = list.groups.items } };
+    ghost view = { λ list. record { users = list.users.keys; groups = list.groups.keys } };
 }
 
 impl AcceptList {
-    ghost use Rattle.cpg_cred.specs.Listed.{with_user, with_group};
+    ghost use Rattle.cpg_cred.specs.Listed.{with_user, with_group, with_listed};
     ghost use Rattle.cpg_cred.specs.Admission.{via_of};
 
     /// The empty list, which lets in user 0 and group 0 alone.
@@ -47,8 +48,8 @@ impl AcceptList {
         ensures { result ≡ record { users = []; groups = [] } }
     {
         AcceptList {
-            users: Vec::new(alloc),
-            groups: Vec::new(alloc),
+            users: IndexSet::new(alloc),
+            groups: IndexSet::new(alloc),
         }
     }
 
@@ -68,6 +69,24 @@ impl AcceptList {
         ensures memory { IsOkUnless result Refusal.Memory }
     {
         add(&mut self.groups, gid)
+    }
+
+    /// Puts the users at the end of the listed users, one after the other, each if it is not among them, and
+    /// the groups likewise: all of them or, where memory was refused, none.
+    pub fn add_all(&mut self, users: &[u32], groups: &[u32]) -> Result<(), Refusal>
+        ensures ok { OnOk result (self.new ≡ with_listed self.old (record { users = users.now; groups = groups.now })) }
+        ensures err { OnErr result (self.new ≡ self.old) }
+        ensures memory { IsOkUnless result Refusal.Memory }
+    {
+        let count = self.users.len();
+        add_each(&mut self.users, users)?;
+        match add_each(&mut self.groups, groups) {
+            Ok(()) => Ok(()),
+            Err(refusal) => {
+                self.users.truncate(count);
+                Err(refusal)
+            }
+        }
     }
 
     /// What lets the credentials in, or `Access` where nothing does.
@@ -92,20 +111,47 @@ impl AcceptList {
         ensures ok { IfOk result (λ copy. copy ≡ self.now) }
         ensures memory { IsOkUnless result Refusal.Memory }
     {
-        let users = Vec::from_slice(alloc, self.users.as_slice())?;
-        let groups = Vec::from_slice(alloc, self.groups.as_slice())?;
+        let users = copy_of(alloc, &self.users)?;
+        let groups = copy_of(alloc, &self.groups)?;
         Ok(AcceptList { users, groups })
     }
 }
 
 /// Puts the number at the list's end, if the list lacks it.
-fn add(numbers: &mut Vec<u32>, number: u32) -> Result<(), Refusal>
-    ensures ok { OnOk result (numbers.new.items ≡ with_number numbers.old.items number) }
-    ensures err { OnErr result (numbers.new.items ≡ numbers.old.items) }
+fn add(numbers: &mut IndexSet<u32>, number: u32) -> Result<(), Refusal>
+    ensures ok { OnOk result (numbers.new.keys ≡ with_number numbers.old.keys number) }
+    ensures err { OnErr result (numbers.new.keys ≡ numbers.old.keys) }
     ensures memory { IsOkUnless result Refusal.Memory }
 {
-    if !numbers.contains(&number) {
-        numbers.push(number)?;
+    numbers.insert(number)?;
+    Ok(())
+}
+
+/// Puts the numbers at the list's end, each if the list lacks it: all or none.
+fn add_each(numbers: &mut IndexSet<u32>, more: &[u32]) -> Result<(), Refusal>
+    ensures ok { OnOk result (numbers.new.keys ≡ with_numbers numbers.old.keys more.now) }
+    ensures err { OnErr result (numbers.new.keys ≡ numbers.old.keys) }
+    ensures memory { IsOkUnless result Refusal.Memory }
+{
+    let count = numbers.len();
+    for number in more {
+        match add(numbers, *number) {
+            Ok(()) => {}
+            Err(refusal) => {
+                numbers.truncate(count);
+                return Err(refusal);
+            }
+        }
     }
     Ok(())
+}
+
+/// A set of the same numbers, in their order.
+fn copy_of(alloc: Global, numbers: &IndexSet<u32>) -> Result<IndexSet<u32>, Refusal>
+    ensures ok { IfOk result (λ copy. copy.keys ≡ numbers.now.keys) }
+    ensures memory { IsOkUnless result Refusal.Memory }
+{
+    let mut copy = IndexSet::new(alloc);
+    add_each(&mut copy, numbers.as_slice())?;
+    Ok(copy)
 }

@@ -1,10 +1,9 @@
-//! Entries by short words, and their way into a policy.
+//! Calls in short words, and their way into a policy.
 
-use cpg_entry::{Call, Cred, Entry, Message, Name, NodeId, Op, Rule};
-use cpg_group::{MOST_PLACES, Policy, Verdict};
+use cpg_entry::{Call, Cred, Entry, Message, Name, NodeId, Op, Refusal, Rule};
+use cpg_group::{MOST_PLACES, Members, Policy, Record, Records, Verdict};
 use cpg_rules::{Effect, Right, Who};
 use std::alloc::Global;
-use std::test::Fail;
 
 /// A connection with its process and credentials.
 #[derive(Clone, Copy)]
@@ -27,60 +26,161 @@ pub fn client(node: u8, conn: u16, pid: u32, uid: u32) -> Source {
     }
 }
 
-impl Source {
-    /// The entry of an op.
-    pub fn entry(&self, op: Op) -> Result<Entry, Fail> {
-        let node = NodeId::new(self.node).ok_or("node")?;
-        Ok(Entry {
-            node,
-            conn: self.conn,
-            pid: self.pid,
-            cred: Cred {
-                uid: self.uid,
-                gid: self.gid,
-            },
-            op,
-        })
-    }
-
-    /// The entry of a call.
-    pub fn call(&self, call: Call) -> Result<Entry, Fail> {
-        self.entry(Op::Act(call))
-    }
-}
-
-/// The name of those characters.
-pub fn name(alloc: Global, text: &str) -> Result<Name, Fail> {
-    Ok(Name::from_slice(alloc, text.as_bytes())?)
-}
-
-/// A join of the group.
-pub fn join(alloc: Global, group: &str) -> Result<Call, Fail> {
-    Ok(Call::Join(name(alloc, group)?))
-}
-
-/// A message of those characters.
-pub fn send(alloc: Global, text: &str) -> Result<Call, Fail> {
-    Ok(Call::Send(Message::from_slice(alloc, text.as_bytes())?))
+/// What a connection asks, with the names as text.
+#[derive(Clone, Copy)]
+pub enum Ask<'a> {
+    Join(&'a str),
+    Leave,
+    Send(&'a str),
+    /// To put the rule at the front of the group's table.
+    Insert(&'a str, Rule),
+    /// To take the rule of that id out of the group's table.
+    Remove(&'a str, u32),
 }
 
 /// An insert of a denial at the front of the group's table.
-pub fn deny(alloc: Global, group: &str, right: Right, who: Who) -> Result<Call, Fail> {
+pub fn deny(group: &str, right: Right, who: Who) -> Ask<'_> {
     let rule = Rule {
         effect: Effect::Deny,
         right,
         who,
     };
-    Ok(Call::Insert(name(alloc, group)?, 0, rule))
+    Ask::Insert(group, rule)
 }
 
-/// Judges the entry and puts it last.
-pub fn enter(policy: &mut Policy, entry: &Entry) -> Result<Verdict, Fail> {
+/// The name of those characters.
+fn name(alloc: Global, text: &str) -> Result<Name, Refusal> {
+    Name::from_slice(alloc, text.as_bytes())
+}
+
+/// The call that asks it.
+fn call(alloc: Global, ask: &Ask) -> Result<Call, Refusal> {
+    Ok(match ask {
+        Ask::Join(group) => Call::Join(name(alloc, group)?),
+        Ask::Leave => Call::Leave,
+        Ask::Send(text) => Call::Send(Message::from_slice(alloc, text.as_bytes())?),
+        Ask::Insert(group, rule) => Call::Insert(name(alloc, group)?, 0, *rule),
+        Ask::Remove(group, id) => Call::Remove(name(alloc, group)?, *id),
+    })
+}
+
+/// The node of that number; `Range` where there is none.
+pub fn node(number: u8) -> Result<NodeId, Refusal> {
+    NodeId::new(number).ok_or(Refusal::Range)
+}
+
+/// The entry of a connection that asks it.
+pub fn entry(alloc: Global, from: &Source, ask: &Ask) -> Result<Entry, Refusal> {
+    let node = node(from.node)?;
+    let call = call(alloc, ask)?;
+    Ok(Entry {
+        node,
+        conn: from.conn,
+        pid: from.pid,
+        cred: Cred {
+            uid: from.uid,
+            gid: from.gid,
+        },
+        op: Op::Act(call),
+    })
+}
+
+/// Judges the entry and puts it last; a policy that is full refuses it.
+pub fn enter(policy: &mut Policy, entry: &Entry) -> Result<Verdict, Refusal> {
     if policy.len() >= MOST_PLACES {
-        return Err(Fail::from("the policy is full"));
+        return Err(Refusal::BoardFull);
     }
     let next = policy.judge(entry)?;
     let verdict = next.verdict;
-    policy.apply(next)?;
-    Ok(verdict)
+    match policy.apply(next) {
+        Ok(()) => Ok(verdict),
+        Err(refused) => Err(refused.refusal),
+    }
+}
+
+/// What the connection is answered when it asks it.
+pub fn answer(
+    alloc: Global,
+    policy: &mut Policy,
+    from: &Source,
+    ask: &Ask,
+) -> Result<Verdict, Refusal> {
+    let entry = entry(alloc, from, ask)?;
+    enter(policy, &entry)
+}
+
+/// Judges those rows, from the first on.
+pub fn enter_rows(
+    alloc: Global,
+    policy: &mut Policy,
+    rows: &[(Source, Ask)],
+) -> Result<(), Refusal> {
+    for (from, ask) in rows {
+        answer(alloc, policy, from, ask)?;
+    }
+    Ok(())
+}
+
+/// What is changed in a record.
+#[derive(Clone, Copy)]
+pub enum Change {
+    Verdict(Verdict),
+    NoMembers,
+}
+
+/// A copy of the record with that change.
+fn changed(alloc: Global, past: &Record, change: &Change) -> Result<Record, Refusal> {
+    let mut copy = past.copy(alloc)?;
+    match change {
+        Change::Verdict(verdict) => copy.verdict = *verdict,
+        Change::NoMembers => copy.members = Members::new(alloc),
+    }
+    Ok(copy)
+}
+
+/// A copy of the record, changed if it is the one.
+fn changed_if(
+    alloc: Global,
+    past: &Record,
+    is_one: bool,
+    change: &Change,
+) -> Result<Record, Refusal> {
+    if is_one {
+        changed(alloc, past, change)
+    } else {
+        past.copy(alloc)
+    }
+}
+
+/// Copies of the records, the one at the index with that change.
+pub fn changed_at(
+    alloc: Global,
+    records: &[Record],
+    index: usize,
+    change: &Change,
+) -> Result<Records, Refusal> {
+    let mut copies = Records::new(alloc);
+    for past in records {
+        let is_one = copies.len() == index;
+        copies.push(changed_if(alloc, past, is_one, change)?)?;
+    }
+    Ok(copies)
+}
+
+/// Whether the records are equal, pair by pair.
+pub fn are_equal(a: &[Record], b: &[Record]) -> bool {
+    for (one, other) in a.iter().zip(b) {
+        if !one.equals(other) {
+            return false;
+        }
+    }
+    true
+}
+
+/// How many rules the group's table has.
+pub fn count_rules(policy: &Policy, group: &[u8]) -> usize {
+    match policy.table(group) {
+        Some(table) => table.len(),
+        None => 0,
+    }
 }

@@ -1,63 +1,97 @@
 //! Groups and tables that are full.
 
-use crate::entering::{client, deny, enter, join, name};
-use cpg_entry::{By, Call};
+use crate::entering::{Ask, Source, answer, client, count_rules, deny};
+use cpg_entry::{By, Refusal};
 use cpg_group::{Policy, Reason, Verdict};
 use cpg_rules::{Right, Who};
-use std::test::Fail;
+use std::alloc::Global;
 
-#[test]
-fn the_129th_join_is_denied(rt: HostRuntime) -> Result<(), Fail> {
-    let alloc = rt.alloc();
-    let mut policy = Policy::new(alloc);
+/// Whether 128 connections may join the group.
+fn lets_128_join(alloc: Global, policy: &mut Policy) -> Result<bool, Refusal> {
     for number in 1..129u16 {
         let member = client(1, number, u32::from(number), 7);
-        let verdict = enter(&mut policy, &member.call(join(alloc, "db")?)?)?;
-        assert!(rt; verdict.is_allowed());
+        if !answer(alloc, policy, &member, &Ask::Join("db"))?.is_allowed() {
+            return Ok(false);
+        }
     }
+    Ok(true)
+}
+
+/// Whether 128 connections may join the group, and the next is denied since it is full.
+fn lets_128_join_alone(alloc: Global, policy: &mut Policy) -> Result<bool, Refusal> {
     let late = client(2, 1, 129, 7);
-    let verdict = enter(&mut policy, &late.call(join(alloc, "db")?)?)?;
-    assert_eq!(rt; verdict, Verdict::Denied(Reason::Full));
-    Ok(())
+    Ok(
+        lets_128_join(alloc, policy)?
+            && answer(alloc, policy, &late, &Ask::Join("db"))? == Verdict::Denied(Reason::Full),
+    )
 }
 
 #[test]
-fn the_65th_rule_is_denied(rt: HostRuntime) -> Result<(), Fail> {
-    let alloc = rt.alloc();
-    let root = client(1, 1, 40, 0);
-    let mut policy = Policy::new(alloc);
+fn the_129th_join_is_denied(rt: HostRuntime) {
+    let mut policy = Policy::new(rt.alloc());
+    assert!(rt; lets_128_join_alone(rt.alloc(), &mut policy) == Ok(true));
+}
+
+/// The user who may edit every table.
+fn root() -> Source {
+    client(1, 1, 40, 0)
+}
+
+/// What user 0 is answered who puts a rule into the group's table.
+fn insert(alloc: Global, policy: &mut Policy) -> Result<Verdict, Refusal> {
+    answer(
+        alloc,
+        policy,
+        &root(),
+        &deny("db", Right::Join, Who::uid(7)),
+    )
+}
+
+/// Whether 64 rules may be put into the group's table.
+fn lets_64_rules_in(alloc: Global, policy: &mut Policy) -> Result<bool, Refusal> {
     for _ in 0..64 {
-        let verdict = enter(
-            &mut policy,
-            &root.call(deny(alloc, "db", Right::Join, Who::uid(7))?)?,
-        )?;
-        assert!(rt; verdict.is_allowed());
+        if !insert(alloc, policy)?.is_allowed() {
+            return Ok(false);
+        }
     }
-    let verdict = enter(
-        &mut policy,
-        &root.call(deny(alloc, "db", Right::Join, Who::uid(7))?)?,
-    )?;
-    assert_eq!(rt; verdict, Verdict::Denied(Reason::TableFull));
-    Ok(())
+    Ok(true)
+}
+
+/// Whether 64 rules may be put into the group's table, and the next is denied since it is full.
+fn lets_64_rules_in_alone(alloc: Global, policy: &mut Policy) -> Result<bool, Refusal> {
+    Ok(
+        lets_64_rules_in(alloc, policy)?
+            && insert(alloc, policy)? == Verdict::Denied(Reason::TableFull),
+    )
 }
 
 #[test]
-fn a_full_table_can_be_removed_from(rt: HostRuntime) -> Result<(), Fail> {
-    let alloc = rt.alloc();
-    let root = client(1, 1, 40, 0);
-    let mut policy = Policy::new(alloc);
-    for _ in 0..64 {
-        enter(
-            &mut policy,
-            &root.call(deny(alloc, "db", Right::Join, Who::uid(7))?)?,
-        )?;
-    }
-    let removal = root.call(Call::Remove(name(alloc, "db")?, 5))?;
-    assert_eq!(rt; enter(&mut policy, &removal)?, Verdict::Allowed(By::Root));
-    assert_eq!(rt;
-        enter(&mut policy, &removal)?,
-        Verdict::Denied(Reason::Absent)
-    );
-    assert_eq!(rt; policy.table(b"db").map_or(0, |table| table.len()), 63);
-    Ok(())
+fn the_65th_rule_is_denied(rt: HostRuntime) {
+    let mut policy = Policy::new(rt.alloc());
+    assert!(rt; lets_64_rules_in_alone(rt.alloc(), &mut policy) == Ok(true));
+}
+
+/// What user 0 is answered who takes the rule of id 5 out of the group's table.
+fn remove(alloc: Global, policy: &mut Policy) -> Result<Verdict, Refusal> {
+    answer(alloc, policy, &root(), &Ask::Remove("db", 5))
+}
+
+/// Whether that rule is taken out once, is absent the second time, and 63 are left.
+fn removes_once(alloc: Global, policy: &mut Policy) -> Result<bool, Refusal> {
+    Ok(
+        remove(alloc, policy)? == Verdict::Allowed(By::Root)
+            && remove(alloc, policy)? == Verdict::Denied(Reason::Absent)
+            && count_rules(policy, b"db") == 63,
+    )
+}
+
+/// Whether that is so of a table of 64 rules.
+fn removes_from_full(alloc: Global, policy: &mut Policy) -> Result<bool, Refusal> {
+    Ok(lets_64_rules_in(alloc, policy)? && removes_once(alloc, policy)?)
+}
+
+#[test]
+fn a_full_table_can_be_removed_from(rt: HostRuntime) {
+    let mut policy = Policy::new(rt.alloc());
+    assert!(rt; removes_from_full(rt.alloc(), &mut policy) == Ok(true));
 }

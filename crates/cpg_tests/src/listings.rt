@@ -1,36 +1,32 @@
 //! What askers see, and the check of records.
 
-use crate::entering::{client, deny, enter, join};
+use crate::entering::{Ask, Change, changed_at, client, count_rules, deny, enter_rows, node};
 use cpg_entry::{Asker, By, Cred, NodeId, Refusal};
-use cpg_group::{Policy, Records, Verdict, verify};
+use cpg_group::{Names, Policy, Record, Verdict, verify};
 use cpg_rules::{Right, Who};
 use std::alloc::Global;
-use std::test::Fail;
 
-/// Two groups, one of which user 8 may not list.
-fn two_groups(alloc: Global) -> Result<Policy, Fail> {
-    let mut policy = Policy::new(alloc);
-    enter(&mut policy, &client(1, 1, 40, 7).call(join(alloc, "db")?)?)?;
-    enter(&mut policy, &client(1, 2, 41, 7).call(join(alloc, "app")?)?)?;
+/// Judges two joins, of one group each, and a rule by which user 8 may not list one of the groups.
+fn enter_two_groups(alloc: Global, policy: &mut Policy) -> Result<(), Refusal> {
     let mut root = client(2, 1, 50, 0);
     root.gid = 0;
-    enter(
-        &mut policy,
-        &root.call(deny(alloc, "db", Right::List, Who::uid(8))?)?,
-    )?;
-    Ok(policy)
+    let rows = [
+        (client(1, 1, 40, 7), Ask::Join("db")),
+        (client(1, 2, 41, 7), Ask::Join("app")),
+        (root, deny("db", Right::List, Who::uid(8))),
+    ];
+    enter_rows(alloc, policy, rows.as_slice())
 }
 
-fn asker(uid: u32) -> Result<Asker, Fail> {
+fn asker(uid: u32) -> Result<Asker, Refusal> {
     Ok(Asker {
-        node: NodeId::new(1).ok_or("node")?,
+        node: node(1)?,
         cred: Cred { uid, gid: 100 },
     })
 }
 
-/// The names of the groups that the asker sees, joined by blanks.
-fn names_for(alloc: Global, policy: &Policy, asker: Asker) -> Result<Vec<u8>, Fail> {
-    let names = policy.groups(asker)?;
+/// The names, each with a blank behind it.
+fn spelled(alloc: Global, names: &Names) -> Result<Vec<u8>, Refusal> {
     let mut text = Vec::new(alloc);
     for name in names.as_slice() {
         text.extend_from_slice(name.as_slice())?;
@@ -39,52 +35,78 @@ fn names_for(alloc: Global, policy: &Policy, asker: Asker) -> Result<Vec<u8>, Fa
     Ok(text)
 }
 
-#[test]
-fn a_denied_asker_sees_neither_group_nor_members(rt: HostRuntime) -> Result<(), Fail> {
-    let policy = two_groups(rt.alloc())?;
-    assert_eq!(rt;
-        names_for(rt.alloc(), &policy, asker(8)?)?.as_slice(),
-        b"app ".as_slice()
-    );
-    match policy.members(b"db", asker(8)?) {
-        Err(refusal) => assert_eq!(rt; refusal, Refusal::Denied(By::Rule(3))),
-        Ok(_) => return Err(Fail::from("listed")),
+/// Whether the user sees the groups of those names.
+fn sees(alloc: Global, policy: &Policy, uid: u32, names: &[u8]) -> Result<bool, Refusal> {
+    let seen = policy.groups(asker(uid)?)?;
+    Ok(spelled(alloc, &seen)?.as_slice() == names)
+}
+
+/// Whether the user may not list the group `db`, for that reason.
+fn refuses(policy: &Policy, uid: u32, reason: Refusal) -> Result<bool, Refusal> {
+    match policy.members(b"db", asker(uid)?) {
+        Err(refusal) => Ok(refusal == reason),
+        Ok(_) => Ok(false),
     }
-    Ok(())
+}
+
+/// Whether user 8 sees the other of the two groups alone, and is refused the members of `db` by its rule.
+fn hides_db(alloc: Global, policy: &mut Policy) -> Result<bool, Refusal> {
+    enter_two_groups(alloc, policy)?;
+    Ok(sees(alloc, policy, 8, b"app ")? && refuses(policy, 8, Refusal::Denied(By::Rule(3)))?)
 }
 
 #[test]
-fn another_asker_sees_both(rt: HostRuntime) -> Result<(), Fail> {
-    let policy = two_groups(rt.alloc())?;
-    assert_eq!(rt;
-        names_for(rt.alloc(), &policy, asker(7)?)?.as_slice(),
-        b"app db ".as_slice()
-    );
-    let node = NodeId::new(1).ok_or("node")?;
-    assert_eq!(rt;
-        policy.members(b"db", asker(7)?)?.as_slice(),
-        [(node, 40)].as_slice()
-    );
-    assert_eq!(rt; policy.members(b"zz", asker(7)?)?.as_slice().len(), 0);
-    assert_eq!(rt; policy.table(b"db").map_or(0, |table| table.len()), 1);
-    assert!(rt; policy.table(b"app").is_none());
-    Ok(())
+fn a_denied_asker_sees_neither_group_nor_members(rt: HostRuntime) {
+    let mut policy = Policy::new(rt.alloc());
+    assert!(rt; hides_db(rt.alloc(), &mut policy) == Ok(true));
+}
+
+/// Whether the group has those members for user 7.
+fn lists(policy: &Policy, group: &[u8], members: &[(NodeId, u32)]) -> Result<bool, Refusal> {
+    Ok(policy.members(group, asker(7)?)?.as_slice() == members)
+}
+
+/// Whether the group has no members for user 7.
+fn lists_nobody(policy: &Policy, group: &[u8]) -> Result<bool, Refusal> {
+    Ok(policy.members(group, asker(7)?)?.as_slice().is_empty())
+}
+
+/// Whether user 7 sees both groups, the member of `db`, and nobody in a group that is not there; and
+/// whether `db` alone has a table, of one rule.
+fn shows_both(alloc: Global, policy: &mut Policy) -> Result<bool, Refusal> {
+    enter_two_groups(alloc, policy)?;
+    let member = [(node(1)?, 40)];
+    Ok(
+        sees(alloc, policy, 7, b"app db ")?
+            && lists(policy, b"db", member.as_slice())?
+            && lists_nobody(policy, b"zz")?
+            && count_rules(policy, b"db") == 1
+            && policy.table(b"app").is_none(),
+    )
 }
 
 #[test]
-fn records_are_verified(rt: HostRuntime) -> Result<(), Fail> {
-    let alloc = rt.alloc();
-    let policy = two_groups(alloc)?;
-    assert!(rt; verify(alloc, &[])?);
-    assert!(rt; verify(alloc, policy.records())?);
-    let mut changed = Records::new(alloc);
-    for past in policy.records() {
-        let mut copy = past.copy(alloc)?;
-        if changed.len() == 2 {
-            copy.verdict = Verdict::Allowed(By::Default);
-        }
-        changed.push(copy)?;
-    }
-    assert!(rt; !verify(alloc, changed.as_slice())?);
-    Ok(())
+fn another_asker_sees_both(rt: HostRuntime) {
+    let mut policy = Policy::new(rt.alloc());
+    assert!(rt; shows_both(rt.alloc(), &mut policy) == Ok(true));
+}
+
+/// Whether the records are verified once the third is allowed by default.
+fn verifies_changed(alloc: Global, records: &[Record]) -> Result<bool, Refusal> {
+    let allowed = Change::Verdict(Verdict::Allowed(By::Default));
+    let changed = changed_at(alloc, records, 2, &allowed)?;
+    verify(alloc, changed.as_slice())
+}
+
+/// Whether no records and those of the two groups are verified, and changed ones are not.
+fn verifies_two_groups(alloc: Global, policy: &mut Policy) -> Result<bool, Refusal> {
+    enter_two_groups(alloc, policy)?;
+    let records = policy.records();
+    Ok(verify(alloc, &[])? && verify(alloc, records)? && !verifies_changed(alloc, records)?)
+}
+
+#[test]
+fn records_are_verified(rt: HostRuntime) {
+    let mut policy = Policy::new(rt.alloc());
+    assert!(rt; verifies_two_groups(rt.alloc(), &mut policy) == Ok(true));
 }

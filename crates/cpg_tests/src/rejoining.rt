@@ -1,47 +1,61 @@
 //! A member that leaves and may not join again, and what its connection is told.
 
-use crate::entering::{client, deny, enter, join, send};
-use cpg_entry::{By, Call, NodeId};
-use cpg_group::{ConnId, Event, Policy, Reason, Verdict};
+use crate::entering::{Ask, client, deny, enter_rows, node};
+use cpg_entry::{By, Refusal};
+use cpg_group::{ConnId, Event, Events, Policy, Reason, Record, Verdict};
 use cpg_rules::{Right, Who};
 use std::alloc::Global;
-use std::test::Fail;
 
-/// A policy after: a join, a rule against it, a message, a leave and a second join.
-pub fn rejoin(alloc: Global) -> Result<Policy, Fail> {
+/// Judges a join, a rule against it, a message, a leave and a second join.
+pub fn rejoin(alloc: Global, policy: &mut Policy) -> Result<(), Refusal> {
     let member = client(1, 1, 40, 7);
     let root = client(1, 2, 41, 0);
-    let mut policy = Policy::new(alloc);
-    enter(&mut policy, &member.call(join(alloc, "db")?)?)?;
-    enter(
-        &mut policy,
-        &root.call(deny(alloc, "db", Right::Join, Who::uid(7))?)?,
-    )?;
-    enter(&mut policy, &member.call(send(alloc, "hi")?)?)?;
-    enter(&mut policy, &member.call(Call::Leave)?)?;
-    enter(&mut policy, &member.call(join(alloc, "db")?)?)?;
-    Ok(policy)
+    let rows = [
+        (member, Ask::Join("db")),
+        (root, deny("db", Right::Join, Who::uid(7))),
+        (member, Ask::Send("hi")),
+        (member, Ask::Leave),
+        (member, Ask::Join("db")),
+    ];
+    enter_rows(alloc, policy, rows.as_slice())
+}
+
+/// The connection of the member.
+pub fn member_conn() -> Result<ConnId, Refusal> {
+    Ok(ConnId {
+        node: node(1)?,
+        conn: 1,
+    })
+}
+
+/// Whether the records have those verdicts.
+fn have_verdicts(records: &[Record], verdicts: &[Verdict]) -> bool {
+    for (past, verdict) in records.iter().zip(verdicts) {
+        if past.verdict != *verdict {
+            return false;
+        }
+    }
+    records.len() == verdicts.len()
+}
+
+/// Whether the rejoining is answered so: allowed by default, by user 0, by default and freely, and then
+/// denied by the rule of id 2.
+fn keeps_leaver_out(alloc: Global, policy: &mut Policy) -> Result<bool, Refusal> {
+    let verdicts = [
+        Verdict::Allowed(By::Default),
+        Verdict::Allowed(By::Root),
+        Verdict::Allowed(By::Default),
+        Verdict::Allowed(By::Free),
+        Verdict::Denied(Reason::Rule(2)),
+    ];
+    rejoin(alloc, policy)?;
+    Ok(have_verdicts(policy.records(), verdicts.as_slice()))
 }
 
 #[test]
-fn a_leaver_that_a_rule_denies_stays_out(rt: HostRuntime) -> Result<(), Fail> {
-    let policy = rejoin(rt.alloc())?;
-    let mut verdicts = Vec::new(rt.alloc());
-    for past in policy.records() {
-        verdicts.push(past.verdict)?;
-    }
-    assert_eq!(rt;
-        verdicts.as_slice(),
-        [
-            Verdict::Allowed(By::Default),
-            Verdict::Allowed(By::Root),
-            Verdict::Allowed(By::Default),
-            Verdict::Allowed(By::Free),
-            Verdict::Denied(Reason::Rule(2)),
-        ]
-        .as_slice()
-    );
-    Ok(())
+fn a_leaver_that_a_rule_denies_stays_out(rt: HostRuntime) {
+    let mut policy = Policy::new(rt.alloc());
+    assert!(rt; keeps_leaver_out(rt.alloc(), &mut policy) == Ok(true));
 }
 
 /// The kind of an event as a letter: verdict, message, change, rules.
@@ -54,22 +68,41 @@ fn kind_of(event: &Event) -> char {
     }
 }
 
-#[test]
-fn each_place_tells_what_it_has_to(rt: HostRuntime) -> Result<(), Fail> {
-    let policy = rejoin(rt.alloc())?;
-    let conn = ConnId {
-        node: NodeId::new(1).ok_or("node")?,
-        conn: 1,
-    };
-    let mut told = String::new(rt.alloc());
-    for place in 1..6u32 {
-        assert!(rt; place as usize <= policy.len());
-        let events = policy.events_at(place, conn)?;
-        for event in events.as_slice() {
-            told.push(kind_of(event))?;
-        }
-        told.push('.')?;
+/// What the place tells the connection; `Range` where the policy has no such place.
+pub fn events_at(policy: &Policy, place: u32, conn: &ConnId) -> Result<Events, Refusal> {
+    if place == 0 || place as usize > policy.len() {
+        return Err(Refusal::Range);
     }
-    assert_eq!(rt; told.as_str(), "vc.r.vm.vc.v.");
+    policy.events_at(place, *conn)
+}
+
+/// Adds the kinds of the events, and a full stop.
+fn push_kinds(told: &mut String, events: &[Event]) -> Result<(), Refusal> {
+    for event in events {
+        told.push(kind_of(event))?;
+    }
+    told.push('.')?;
     Ok(())
+}
+
+/// The kinds of what the first five places tell the member.
+fn kinds_told(alloc: Global, policy: &Policy) -> Result<String, Refusal> {
+    let conn = member_conn()?;
+    let mut told = String::new(alloc);
+    for place in 1..6u32 {
+        push_kinds(&mut told, events_at(policy, place, &conn)?.as_slice())?;
+    }
+    Ok(told)
+}
+
+/// Whether the rejoining tells the member events of those kinds.
+fn tells(alloc: Global, policy: &mut Policy, kinds: &str) -> Result<bool, Refusal> {
+    rejoin(alloc, policy)?;
+    Ok(kinds_told(alloc, policy)?.as_str() == kinds)
+}
+
+#[test]
+fn each_place_tells_what_it_has_to(rt: HostRuntime) {
+    let mut policy = Policy::new(rt.alloc());
+    assert!(rt; tells(rt.alloc(), &mut policy, "vc.r.vm.vc.v.") == Ok(true));
 }

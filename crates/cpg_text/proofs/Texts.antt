@@ -4,6 +4,7 @@ use Rattle.std.proofs.lemmas.List.Splits.{slice_split_first, slice_split_none}
 use Rattle.std.proofs.lemmas.List.{take_all, length-drop}
 use Rattle.std.proofs.lemmas.List.Elements.{All-from_get_or}
 use Rattle.std.proofs.lemmas.List.Sums.{fails_before_first}
+use Rattle.std.specs.Prelude.{All}
 use Rattle.std.specs.List.{position, position_or_len}
 use Rattle.cpg_text.specs.Percent.{before}
 use Rattle.cpg_text.specs.Steps.{after}
@@ -25,8 +26,12 @@ first_of_lines text end e =
     let all = take_all (length text - (end + 1)) (drop (end + 1) text) (omega (arith, length-drop (end + 1) text)) in
     rw (all, ← p.1) (slice_split_first is_line_feed text 0 p.0)
 
+-- no place: no item passes
+pub none_passes : (p : ℕ → Bool) (text : List ℕ) → position p text ≡ None → All (λ x. p x ≡ false) text
+none_passes p text e =
+    let past : length text ≤ position_or_len p text = grind (arith, nat_tests) in
+    All-from_get_or (λ x. p x ≡ false) text 0 (λ i within. fails_before_first p text i 0 (omega arith))
+
 -- no line feed: the text is the last line
 pub last_of_lines : (text : List ℕ) → position is_line_feed text ≡ None → lines_of text ≡ text ∷ []
-last_of_lines text e =
-    let past : length text ≤ position_or_len is_line_feed text = grind (arith, nat_tests) in
-    slice_split_none is_line_feed text (All-from_get_or (λ x. is_line_feed x ≡ false) text 0 (λ i within. fails_before_first is_line_feed text i 0 (omega arith)))
+last_of_lines text e = slice_split_none is_line_feed text (none_passes is_line_feed text e)

@@ -1,6 +1,7 @@
 -- steps of the reading functions, which no contract of a public function cites
-use Rattle.std.specs.Prelude.{ℕ, ◌+◌, ◌*◌, ◌-◌, List, [], ◌∷◌, ◌++◌, ◌&&◌, nat_le, if◌then◌else◌, Option, Some, None, option_map}
+use Rattle.std.specs.Prelude.{◌≡◌, ⊤, false, ℕ, ◌+◌, ◌*◌, ◌-◌, List, [], ◌∷◌, ◌++◌, ◌&&◌, nat_le, if◌then◌else◌, Option, Some, None, option_map}
 use Rattle.std.specs.Char.{is_ascii_digit}
+use Rattle.cpg_text.specs.Lines.{is_blank}
 
 -- the number after one digit more, where it is at most `most`
 abbrev pub one_more : ℕ → ℕ → ℕ → Option ℕ
@@ -15,3 +16,8 @@ read_on most (Some number) (byte ∷ word) = read_on most (one_more most number 
 -- bytes, and then what the rest stands for
 abbrev pub after : List ℕ → Option (List ℕ) → Option (List ℕ)
 after front more = option_map (λ bytes. front ++ bytes) more
+
+-- the line does not begin with a blank
+abbrev pub StartsWord : List ℕ → Type 0
+StartsWord [] = ⊤
+StartsWord (byte ∷ rest) = is_blank byte ≡ false

@@ -11,9 +11,11 @@ mod percent;
 mod streams;
 #[cfg(test)]
 mod tests;
+mod words;
 
 pub use laws::reads_what_is_spelled;
-pub use lines::{Lines, first_words, is_ignored, trim};
+pub use lines::{Lines, is_ignored, trim};
 pub use numbers::{is_number, push_number, read_number};
 pub use percent::{push_message, read_message};
 pub use streams::{MOST_BYTES, MOST_READS, read_whole, write_whole};
+pub use words::{Words, first_words};

@@ -1,15 +1,12 @@
-//! Lines and words.
+//! Lines.
 //!
-//! Lines end at LF, and the last may lack it; space, tab and CR are trimmed; words stand between spaces and
-//! tabs. Proved: each function is the definition in `specs/Lines.antt` that it names.
+//! Lines end at LF, and the last may lack it; space, tab and CR are trimmed. Proved: each function is the
+//! definition in `specs/Lines.antt` that it names.
 
-ghost use Rattle.std.specs.Prelude.{◌≡◌, ◌∷◌, not, ℕ, List, length, map, take, IfOk, IsOkUnless, option_map};
+ghost use Rattle.std.specs.Prelude.{◌≡◌, ◌∷◌, not, ℕ, List, length, option_map};
 ghost use Rattle.std.specs.List.{position};
 ghost use Rattle.std.specs.Iterator.{YieldsFirstRef, item_count};
-ghost use Rattle.cpg_text.specs.Lines.{is_line_feed, is_blank, is_edge, lines_of, lines_left, trimmed_front, trimmed_end, trimmed, words_of, is_ignored};
-
-use cpg_cred::Refusal;
-use std::alloc::{AllocError, Global};
+ghost use Rattle.cpg_text.specs.Lines.{is_line_feed, is_blank, is_edge, lines_of, lines_left, trimmed_front, trimmed_end, trimmed, is_ignored};
 
 /// The lines of a text, first to last, without their line feeds.
 #[derive(Drop)]
@@ -96,7 +93,8 @@ fn is_edge(byte: u8) -> bool
     is_blank(byte) || byte == b'\r'
 }
 
-fn is_blank(byte: u8) -> bool
+/// Whether the byte is a space or a tab.
+pub fn is_blank(byte: u8) -> bool
     ensures { result ≡ is_blank byte }
 {
     byte == b' ' || byte == b'\t'
@@ -110,22 +108,4 @@ pub fn is_ignored(line: &[u8]) -> bool
         [] => true,
         [byte, ..] => *byte == b'#',
     }
-}
-
-/// The first words of a line, at most `most`. One word more than a shape has room for tells that a line is
-/// too long, and bounds what a line can take of memory.
-pub fn first_words(alloc: Global, most: usize, line: &[u8]) -> Result<Vec<&[u8]>, Refusal>
-    ensures ok { IfOk result (λ words. map (λ word. word.now) words.items ≡ take most (words_of line.now)) }
-    ensures memory { IsOkUnless result Refusal.Memory }
-{
-    Ok(words(alloc, most, line)?)
-}
-
-fn words(alloc: Global, most: usize, line: &[u8]) -> Result<Vec<&[u8]>, AllocError>
-    ensures { IfOk result (λ words. map (λ word. word.now) words.items ≡ take most (words_of line.now)) }
-{
-    line.split(|byte| is_blank(*byte))
-        .filter(|word| !word.is_empty())
-        .take(most)
-        .collect(alloc)
 }

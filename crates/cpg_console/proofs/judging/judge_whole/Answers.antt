@@ -1,6 +1,6 @@
 use Rattle.std.proofs.Common.{◌≤◌, length, sym, subst}
 use Rattle.cpg_record.specs.Judging.{most_places}
-use Rattle.cpg_console.specs.Scripts.{commands_of}
+use Rattle.cpg_script.specs.Commands.{commands_of}
 use Rattle.cpg_console.proofs.Audits.{entries_fit}
 use Rattle.cpg_console.proofs.judging.judge_whole.Goals as goal
 

@@ -1,8 +1,8 @@
 use Rattle.std.proofs.Common.{◌<◌, length, take, sym, arith}
 use Rattle.std.specs.List.{flat_map}
 use Rattle.cpg_record.specs.Judging.{judged}
+use Rattle.cpg_script.proofs.Lined.{leaves_amid, flat_around, flat_one_more, lines_after}
 use Rattle.cpg_console.specs.Judging.{inbox_lines}
-use Rattle.cpg_console.proofs.Lined.{leaves_amid, flat_around, flat_one_more, lines_after}
 use Rattle.cpg_console.proofs.output.write_inboxes.Goals as goal
 
 pub returns-in-Err-clause-err : goal.returns-in-Err-clause-err

@@ -2,7 +2,7 @@
 
 ghost use Rattle.std.specs.Prelude.{◌≡◌, ◌++◌, None, OnOk, IsOkUnless};
 ghost use Rattle.cpg_cred.specs.Shown.{refusal_text};
-ghost use Rattle.cpg_console.specs.Faults.{fault_text, part_text};
+ghost use Rattle.cpg_script.specs.Faults.{fault_text, part_text};
 
 use crate::words::{put, put_bytes};
 use cpg_cred::Refusal;

@@ -4,7 +4,7 @@ ghost use Rattle.std.specs.Prelude.{◌≡◌, ◌==◌, ◌++◌, OnOk, IsOkUnl
 ghost use Rattle.std.specs.Str.{bytes_eq};
 ghost use Rattle.std.specs.List.{position};
 ghost use Rattle.cpg_text.specs.Numbers.{number_in};
-ghost use Rattle.cpg_console.specs.Words.{after_name, cut_at, u32_of};
+ghost use Rattle.cpg_script.specs.Words.{after_name, cut_at};
 
 use cpg_cred::Refusal;
 use cpg_text::read_number;

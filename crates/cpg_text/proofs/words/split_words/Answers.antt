@@ -3,7 +3,7 @@ use Rattle.std.proofs.lemmas.Iterator.{YieldsList-from_take}
 use Rattle.std.proofs.lemmas.Iterator.Consumers.{map_from_collect, YieldsList-from_filter}
 use Rattle.std.proofs.lemmas.Iterator.Splits.{YieldsList-from_slice_split}
 use Rattle.cpg_text.specs.Lines.{is_blank}
-use Rattle.cpg_text.proofs.lines.words.Goals as goal
+use Rattle.cpg_text.proofs.words.split_words.Goals as goal
 
 pub returns : goal.returns
 returns c =

@@ -1,7 +1,7 @@
 -- faults of scripts as they are printed
 use Rattle.std.specs.Prelude.{ℕ, List, [], ◌++◌, codes, decimal, Option, Some, None}
 use Rattle.cpg_cred.specs.Shown.{refusal_text}
-use Rattle.cpg_console.specs.declared.faults.Fault.{Fault}
+use Rattle.cpg_script.specs.declared.faults.Fault.{Fault}
 
 -- the number of the part, where the fault is that of a part
 abbrev pub part_text : Option ℕ → List ℕ

@@ -1,0 +1,95 @@
+-- what is printed of a script of names, conf texts and asks, and what its faults leave
+use Rattle.std.specs.Prelude.{◌≡◌, ◌⊎◌, ⊤, ℕ, List, [], ◌∷◌, ◌++◌, map, if◌then◌else◌, Option, Some, None, Result, Ok, Err}
+use Rattle.std.specs.List.{concat}
+use Rattle.std.specs.Io.KnownBytes.{Appends, Keeps}
+use Rattle.cpg_cred.specs.Listed.{Listed, with_listed}
+use Rattle.cpg_cred.specs.declared.admission.Via.{Via}
+use Rattle.cpg_cred.specs.declared.refusals.Refusal.{Refusal}
+use Rattle.cpg_cred.specs.declared.refusals.Refusal.TheVariants as refusal
+use Rattle.cpg_text.specs.Lines.{lines_of, trimmed, is_ignored}
+use Rattle.cpg_text.specs.Streams.{AppendsFront}
+use Rattle.cpg_conf.specs.Listed.{listed}
+use Rattle.cpg_conf.specs.Names.{Known, no_names, known_of, next_number}
+use Rattle.cpg_script.specs.declared.faults.Fault.{Fault}
+use Rattle.cpg_accept.specs.Asks.{answers_from, answer_line}
+use Rattle.cpg_accept.specs.Parts.{Piece, parts_from, text_before}
+use Rattle.cpg_accept.specs.declared.parts.Kind.{Kind}
+use Rattle.cpg_accept.specs.declared.parts.Kind.TheVariants.{Names, Conf, Ask}
+
+-- what the parts before have made: the names, the list, and the answers
+pub record Admitted : Type 0 where
+  pub names : Known
+  pub list : Listed
+  pub answers : List (Option Via)
+
+-- no names, nobody listed, nothing asked
+abbrev pub nobody : Admitted
+nobody = record { names = no_names; list = record { users = []; groups = [] }; answers = [] }
+
+-- what is made of what was read, or its fault as one of a part
+abbrev pub read_in : {A : Type 0} → Option ℕ → (A → Admitted) → Result A Refusal → Result Admitted Fault
+read_in part make (Ok read) = Ok (make read)
+read_in part make (Err refusal) = Err (record { part = part; refusal = refusal })
+
+-- a names part makes the names anew, a conf part adds to the list, and an ask part is answered by the list
+abbrev pub taken : Kind → ℕ → ℕ → List ℕ → Admitted → Result Admitted Fault
+taken Names part line text admitted = read_in (Some part) (λ names. record admitted { names = names }) (known_of text)
+taken Conf part line text admitted = read_in (Some part) (λ more. record admitted { list = with_listed admitted.list more }) (listed admitted.names text)
+taken Ask part line text admitted =
+    read_in None (λ answers. record admitted { answers = admitted.answers ++ answers }) (answers_from admitted.list (next_number line) (lines_of text))
+
+-- and then, unless there is a fault: the first one counts
+abbrev pub and_then : Result Admitted Fault → (Admitted → Result Admitted Fault) → Result Admitted Fault
+and_then (Ok admitted) more = more admitted
+and_then (Err fault) more = Err fault
+
+-- what parts make, the first of which has that number
+abbrev pub all_taken : ℕ → List Piece → Admitted → Result Admitted Fault
+all_taken part [] admitted = Ok admitted
+all_taken part (piece ∷ later) admitted = and_then (taken piece.kind part piece.line piece.text admitted) (all_taken (next_number part) later)
+
+-- the number of the first line that is not ignored, the first line having that number
+abbrev pub first_command : ℕ → List (List ℕ) → Option ℕ
+first_command line [] = None
+first_command line (text ∷ later) = if is_ignored (trimmed text) then first_command (next_number line) later else Some line
+
+-- a fault of the script as a whole
+abbrev pub whole_fault : Refusal → Fault
+whole_fault refused = record { part = None; refusal = refused }
+
+-- what a script makes, unless a command stands before its first part
+abbrev pub taken_after : Option ℕ → List Piece → Result Admitted Fault
+taken_after (Some line) parts = Err (whole_fault (refusal.BadCommand line))
+taken_after None parts = all_taken 1 parts nobody
+
+-- what the parts of a script make, in order, or its first fault
+abbrev pub admitted_by : List ℕ → Result Admitted Fault
+admitted_by script = taken_after (first_command 1 (lines_of (text_before (lines_of script)))) (parts_from 1 (lines_of script))
+
+-- the lines that are printed of answers
+abbrev pub answer_lines : Admitted → List (List ℕ)
+answer_lines admitted = map answer_line admitted.answers
+
+-- all is written where the script has no fault
+abbrev pub IsWritten : Result Admitted Fault → Option (List ℕ) → Option (List ℕ) → Type 0
+IsWritten (Ok admitted) old new = Appends old new (concat (answer_lines admitted))
+IsWritten (Err fault) old new = ⊥
+
+-- a front of the text is written where a write failed
+abbrev pub LeavesFront : Result Admitted Fault → Option (List ℕ) → Option (List ℕ) → Type 0
+LeavesFront (Ok admitted) old new = AppendsFront old new (concat (answer_lines admitted))
+LeavesFront (Err fault) old new = ⊥
+
+-- why a script ends with a fault, and what is left written then: it could not be read, a write failed,
+-- memory was refused, or the fault is the script's first
+abbrev pub Ends : Result Admitted Fault → Fault → Option (List ℕ) → Option (List ℕ) → Type 0
+Ends meaning fault old new =
+    ((fault ≡ whole_fault refusal.Read) × Keeps old new)
+    ⊎ (((fault ≡ whole_fault refusal.Write) × LeavesFront meaning old new)
+    ⊎ (((fault.refusal ≡ refusal.Memory) × Keeps old new)
+    ⊎ ((meaning ≡ Err fault) × Keeps old new)))
+
+-- whatever the reader tells, nothing is written before all was read
+abbrev pub WritesLate : Refusal → Option (List ℕ) → Option (List ℕ) → Type 0
+WritesLate refusal.Write old new = ⊤
+WritesLate refused old new = Keeps old new

@@ -1,0 +1,4 @@
+pub mod Accepting
+pub mod Asks
+pub mod Parts
+pub mod Steps

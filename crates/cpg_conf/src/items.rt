@@ -1,0 +1,84 @@
+//! What the lines of a conf text list.
+//!
+//! Proved: a line lists what `said_at` says where it stands, and its fault is that one.
+
+ghost use Rattle.std.specs.Prelude.{◌≡◌, Ok, Err, IfOk, IfErr};
+ghost use Rattle.cpg_conf.specs.Listed.{key_said, number_said};
+ghost use Rattle.cpg_conf.specs.Names.{number_of};
+ghost use Rattle.cpg_conf.specs.Steps.{item_seen, line_seen, said_at};
+
+use crate::lines::LineView;
+use crate::names::Names;
+use crate::namings::read_value;
+use crate::nesting::Nesting;
+use cpg_cred::Refusal;
+use cpg_text::is_number;
+
+/// What a line of a conf text lists.
+#[derive(Debug, Clone, Copy)]
+pub enum Item {
+    Nothing,
+    User(u32),
+    Group(u32),
+}
+
+impl Item {
+    /// What the line of that number lists, which stands there.
+    pub fn read(
+        names: &Names,
+        nesting: &Nesting,
+        number: u32,
+        line: &LineView<'_>,
+    ) -> Result<Item, Refusal>
+        ensures ok { IfOk result (λ item. said_at names.now nesting.now number (line_seen line.now) ≡ Ok (item_seen item)) }
+        ensures err { IfErr result (λ refusal. said_at names.now nesting.now number (line_seen line.now) ≡ Err refusal) }
+    {
+        match line {
+            LineView::Bad => Err(Refusal::BadLine(number)),
+            LineView::Close => {
+                if nesting.depth == 0 {
+                    Err(Refusal::Unopened(number))
+                } else {
+                    Ok(Item::Nothing)
+                }
+            }
+            LineView::Key(key, value) => {
+                if nesting.is_read() {
+                    read_key(names, number, key, value)
+                } else {
+                    Ok(Item::Nothing)
+                }
+            }
+            LineView::Ignored | LineView::Open(_) => Ok(Item::Nothing),
+        }
+    }
+}
+
+/// What a key that is read lists: `uid` a user, `gid` a group.
+fn read_key(names: &Names, number: u32, key: &[u8], value: &[u8]) -> Result<Item, Refusal>
+    ensures ok { IfOk result (λ item. key_said names.now number key.now value.now ≡ Ok (item_seen item)) }
+    ensures err { IfErr result (λ refusal. key_said names.now number key.now value.now ≡ Err refusal) }
+{
+    if key == b"uid".as_slice() {
+        let uid = choose_number(number, value, names.user(value))?;
+        Ok(Item::User(uid))
+    } else if key == b"gid".as_slice() {
+        let gid = choose_number(number, value, names.group(value))?;
+        Ok(Item::Group(gid))
+    } else {
+        Err(Refusal::BadItem(number))
+    }
+}
+
+/// The number that a value stands for: its digits' own, or that of the name, if it is known.
+fn choose_number(number: u32, value: &[u8], named: Option<u32>) -> Result<u32, Refusal>
+    ensures { result ≡ number_said number value.now named }
+{
+    if value.is_empty() {
+        Err(Refusal::BadValue(number))
+    } else if is_number(value) {
+        read_value(number, value)
+    } else {
+        named.ok_or(Refusal::UnknownName(number))
+    }
+}

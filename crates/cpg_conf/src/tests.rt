@@ -1,0 +1,202 @@
+//! The worked forms of conf and names texts, and that memory suffices for each call.
+
+use crate::{Names, read_conf};
+use cpg_cred::{AcceptList, Cred, Refusal, Via};
+use std::alloc::Global;
+use std::test::Fail;
+
+/// Names of a user and of a group.
+const NAMES: &str = "user alice 1000\ngroup ops 20\n";
+
+/// A conf text that lists both.
+const CONF: &str = "uidgid {\nuid: alice\ngid: ops\n}\n";
+
+/// The names text's fault, where it has one.
+fn names_fault(alloc: Global, text: &str) -> Option<Refusal> {
+    match Names::read(alloc, text.as_bytes()) {
+        Ok(_) => None,
+        Err(refusal) => Some(refusal),
+    }
+}
+
+/// The list that a conf text makes of the empty one, by those names.
+fn listed(alloc: Global, names: &Names, text: &[u8]) -> Result<AcceptList, Refusal> {
+    match read_conf(alloc, text, names, AcceptList::new(alloc)) {
+        Ok(list) => Ok(list),
+        Err(refused) => Err(refused.refusal),
+    }
+}
+
+/// The conf text's fault, where it has one, by those names.
+fn fault_by(alloc: Global, names: &Names, text: &[u8]) -> Option<Refusal> {
+    match listed(alloc, names, text) {
+        Ok(_) => None,
+        Err(refusal) => Some(refusal),
+    }
+}
+
+/// The conf text's fault, where it has one, without names.
+fn fault(alloc: Global, text: &str) -> Option<Refusal> {
+    fault_by(alloc, &Names::new(alloc), text.as_bytes())
+}
+
+/// Whether the conf text lists the user, without names.
+fn lists_user(alloc: Global, text: &str, uid: u32) -> bool {
+    match listed(alloc, &Names::new(alloc), text.as_bytes()) {
+        Ok(list) => list.accepts(Cred { uid, gid: 9 }) == Ok(Via::User),
+        Err(_) => false,
+    }
+}
+
+#[test]
+fn names_stand_for_numbers(rt: HostRuntime) -> Result<(), Fail> {
+    let alloc = rt.alloc();
+    let text = "# people\n\n user\talice  01000\r\nuser alice 7\ngroup alice 20\nuser 5 6";
+    let names = Names::read(alloc, text.as_bytes())?;
+    assert_eq!(rt; names.user(b"alice"), Some(1000));
+    assert_eq!(rt; names.group(b"alice"), Some(20));
+    assert_eq!(rt; names.user(b"5"), Some(6));
+    assert_eq!(rt; names.user(b"bob"), None);
+    assert_eq!(rt; Names::new(alloc).user(b"alice"), None);
+    Ok(())
+}
+
+#[test]
+fn names_texts_have_faults(rt: HostRuntime) {
+    let alloc = rt.alloc();
+    assert_eq!(rt; names_fault(alloc, NAMES), None);
+    assert_eq!(rt; names_fault(alloc, "user alice"), Some(Refusal::BadLine(1)));
+    assert_eq!(rt;
+        names_fault(alloc, "user alice 1 2"),
+        Some(Refusal::BadLine(1))
+    );
+    assert_eq!(rt;
+        names_fault(alloc, "User alice 1"),
+        Some(Refusal::BadLine(1))
+    );
+    assert_eq!(rt;
+        names_fault(alloc, "user alice x"),
+        Some(Refusal::BadValue(1))
+    );
+    assert_eq!(rt;
+        names_fault(alloc, "user alice -1"),
+        Some(Refusal::BadValue(1))
+    );
+    assert_eq!(rt;
+        names_fault(alloc, "\nuser alice 4294967295\nuser alice 4294967296"),
+        Some(Refusal::BadValue(3))
+    );
+    assert_eq!(rt;
+        names_fault(alloc, "user alice x\nuser"),
+        Some(Refusal::BadValue(1))
+    );
+}
+
+#[test]
+fn a_conf_text_lists_numbers_and_names(rt: HostRuntime) -> Result<(), Fail> {
+    let alloc = rt.alloc();
+    let names = Names::read(alloc, NAMES.as_bytes())?;
+    let list = listed(alloc, &names, CONF.as_bytes())?;
+    assert_eq!(rt; list.accepts(Cred { uid: 1000, gid: 9 }), Ok(Via::User));
+    assert_eq!(rt; list.accepts(Cred { uid: 9, gid: 20 }), Ok(Via::Group));
+    assert_eq!(rt;
+        list.accepts(Cred { uid: 20, gid: 1000 }),
+        Err(Refusal::Access)
+    );
+    Ok(())
+}
+
+#[test]
+fn a_refused_conf_text_leaves_the_list(rt: HostRuntime) -> Result<(), Fail> {
+    let alloc = rt.alloc();
+    let mut list = AcceptList::new(alloc);
+    list.add_uid(7)?;
+    match read_conf(alloc, b"uidgid {\nuid: 8\n", &Names::new(alloc), list) {
+        Ok(_) => assert!(rt; false),
+        Err(refused) => {
+            assert_eq!(rt; refused.refusal, Refusal::Unclosed);
+            assert_eq!(rt;
+                refused.back.accepts(Cred { uid: 7, gid: 9 }),
+                Ok(Via::User)
+            );
+            assert_eq!(rt;
+                refused.back.accepts(Cred { uid: 8, gid: 9 }),
+                Err(Refusal::Access)
+            );
+        }
+    }
+    Ok(())
+}
+
+#[test]
+fn shapes_of_lines(rt: HostRuntime) {
+    let alloc = rt.alloc();
+    assert_eq!(rt; fault(alloc, "a: b {\n}"), None);
+    assert_eq!(rt; fault(alloc, "a: b {"), Some(Refusal::Unclosed));
+    assert_eq!(rt; fault(alloc, "{"), Some(Refusal::BadLine(1)));
+    assert_eq!(rt; fault(alloc, " \t{ \r"), Some(Refusal::BadLine(1)));
+    assert_eq!(rt; fault(alloc, "{ x: y"), None);
+    assert_eq!(rt; fault(alloc, "} x"), Some(Refusal::BadLine(1)));
+    assert_eq!(rt; fault(alloc, "} {\n}"), None);
+    assert_eq!(rt; fault(alloc, "uidgid {\n: 5\n}"), Some(Refusal::BadItem(2)));
+    assert_eq!(rt;
+        fault(alloc, "uidgid {\n{ x: y\n}"),
+        Some(Refusal::BadItem(2))
+    );
+    assert_eq!(rt;
+        fault(alloc, "uidgid {\nuid: a b\n}"),
+        Some(Refusal::UnknownName(2))
+    );
+    assert_eq!(rt;
+        fault(alloc, "uidgid {\nuid: +5\n}"),
+        Some(Refusal::UnknownName(2))
+    );
+    assert!(rt; lists_user(alloc, "uidgid{\n\tuid :0012 \r\n}", 12));
+}
+
+#[test]
+fn sections_nest_and_close(rt: HostRuntime) {
+    let alloc = rt.alloc();
+    let nested = "uidgid {\ninner {\nuid: x\n}\nuid: 5\n}";
+    assert!(rt; lists_user(alloc, nested, 5));
+    assert!(rt; !lists_user(alloc, "a {\nuidgid {\nuid: 5\n}\n}", 5));
+    assert!(rt; !lists_user(alloc, "uidgid {\n}\nuid: 5", 5));
+    assert!(rt; lists_user(alloc, "a {\n}\nuidgid {\nuid: 5\n}", 5));
+    assert_eq!(rt;
+        fault(alloc, "totem {\nversion: 2\nmode\n}"),
+        Some(Refusal::BadLine(3))
+    );
+    assert_eq!(rt; fault(alloc, "totem {\n}\n}"), Some(Refusal::Unopened(3)));
+    assert_eq!(rt; fault(alloc, "totem {\na {\n}"), Some(Refusal::Unclosed));
+    assert_eq!(rt; fault(alloc, "}\nmode"), Some(Refusal::Unopened(1)));
+    assert_eq!(rt;
+        fault(alloc, "uidgid {\nuid: 4294967295\ngid:\nmode"),
+        Some(Refusal::BadValue(3))
+    );
+}
+
+/// The fault of the conf text's first bytes.
+fn cut_fault(len: usize) -> Option<Refusal> {
+    match len {
+        0 | 30 | 31 => None,
+        1..=7 => Some(Refusal::BadLine(1)),
+        10..=12 => Some(Refusal::BadLine(2)),
+        13 | 14 => Some(Refusal::BadValue(2)),
+        15..=18 => Some(Refusal::UnknownName(2)),
+        21..=23 => Some(Refusal::BadLine(3)),
+        24 | 25 => Some(Refusal::BadValue(3)),
+        26 | 27 => Some(Refusal::UnknownName(3)),
+        _ => Some(Refusal::Unclosed),
+    }
+}
+
+#[test]
+fn a_conf_text_cut_short(rt: HostRuntime) -> Result<(), Fail> {
+    let names = Names::read(rt.alloc(), NAMES.as_bytes())?;
+    let text = CONF.as_bytes();
+    assert_eq!(rt; text.len(), 31);
+    for len in 0..32 {
+        assert_eq!(rt; fault_by(rt.alloc(), &names, &text[..len]), cut_fault(len));
+    }
+    Ok(())
+}

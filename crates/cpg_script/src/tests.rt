@@ -1,0 +1,58 @@
+//! How faults are printed, words taken apart, and lines that a writer takes in part.
+
+use crate::{Fault, cut, is, put, put_bytes, put_fault, read_u32, strip_name, write_line};
+use cpg_cred::Refusal;
+use std::alloc::Global;
+use std::process::Abort;
+use std::test::Fail;
+
+/// Checks how the fault is printed, both ways.
+fn expect_fault(rt: &impl Abort, alloc: Global, fault: Fault, text: &str) -> Result<(), Fail> {
+    let mut line = Vec::new(alloc);
+    put_fault(alloc, &mut line, &fault)?;
+    assert!(rt; line.as_slice() == text.as_bytes());
+    let shown = format!(in alloc; "{fault}")?;
+    assert!(rt; shown.as_str() == text);
+    Ok(())
+}
+
+#[test]
+fn faults_are_printed(rt: HostRuntime) -> Result<(), Fail> {
+    expect_fault(
+        &rt,
+        rt.alloc(),
+        Fault::from(Refusal::BadCommand(2)),
+        "41 BadCommand 2",
+    )?;
+    let part = Fault {
+        part: Some(2),
+        refusal: Refusal::BadValue(2),
+    };
+    expect_fault(&rt, rt.alloc(), part, "part 2: 35 BadValue 2")
+}
+
+#[test]
+fn words_are_taken_apart(rt: HostRuntime) {
+    let (front, rest) = cut(b'.', b"1.2.3").unwrap_or((b"", b""));
+    assert!(rt; is(front, b"1") && is(rest, b"2.3"));
+    assert!(rt; cut(b'.', b"12").is_none());
+    let number = strip_name(b"uid:", b"uid:07").and_then(|word| read_u32(1, 8, word));
+    assert!(rt; number == Some(7));
+    assert!(rt; strip_name(b"uid:", b"uid").is_none());
+    assert!(rt; read_u32(1, 8, b"9").is_none());
+}
+
+#[test]
+fn lines_are_put_and_written(rt: HostRuntime) -> Result<(), Fail> {
+    let mut line = Vec::new(rt.alloc());
+    put(&mut line, "records ")?;
+    put_bytes(&mut line, b"0\n")?;
+    let mut written = Vec::new(rt.alloc());
+    write_line(&mut written, line.as_slice())?;
+    write_line(&mut written, line.as_slice())?;
+    assert!(rt; written.as_slice() == b"records 0\nrecords 0\n".as_slice());
+    let mut short = [0u8; 4];
+    let done = write_line(&mut short.as_mut_slice(), line.as_slice());
+    assert!(rt; matches!(done, Err(Refusal::Write)));
+    Ok(())
+}

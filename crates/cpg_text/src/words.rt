@@ -1,0 +1,97 @@
+//! Words.
+//!
+//! Words stand between spaces and tabs. Proved: the words that are taken, one after the other, are those of
+//! the definition `words_of`.
+
+ghost use Rattle.std.specs.Prelude.{◌≡◌, ◌<◌, ◌∷◌, [], ℕ, List, length, map, take, IfOk, IsOkUnless, MatchOption};
+ghost use Rattle.std.specs.List.{position};
+ghost use Rattle.std.specs.Iterator.{YieldsFirstRef, item_count};
+ghost use Rattle.cpg_text.specs.Lines.{is_blank, words_of};
+ghost use Rattle.cpg_text.specs.Steps.{StartsWord};
+
+use crate::lines::is_blank;
+use cpg_cred::Refusal;
+use std::alloc::{AllocError, Global};
+
+/// The words of a line, first to last.
+#[derive(Drop)]
+pub struct Words<'a> {
+    /// What follows the words that were taken.
+    pub rest: &'a [u8],
+}
+
+impl<'a> Words<'a> {
+    /// The words of the line.
+    pub fn of(line: &'a [u8]) -> Words<'a>
+        ensures { words_of result.rest.now ≡ words_of line.now }
+    {
+        Words { rest: line }
+    }
+}
+
+impl<'a> Iterator for Words<'a> {
+    type Item = &'a [u8];
+
+    ghost next_gives = { YieldsFirstRef (λ words. words_of words.rest.now) };
+
+    ghost remaining = { item_count (λ words. words_of words.rest.now) };
+
+    fn next(&mut self) -> Option<&'a [u8]> {
+        let (word, rest) = first_word(self.rest)?;
+        self.rest = rest;
+        Some(word)
+    }
+}
+
+/// The first word, and what follows it.
+fn first_word(line: &[u8]) -> Option<(&[u8], &[u8])>
+    ensures { MatchOption result (words_of line.now ≡ []) (λ parts. words_of line.now ≡ parts.0.now ∷ words_of parts.1.now) }
+{
+    let line = skip_blanks(line);
+    if line.is_empty() {
+        return None;
+    }
+    match word_end(line) {
+        None => Some((line, &[])),
+        Some(end) => Some((&line[..end], &line[end + 1..])),
+    }
+}
+
+/// The line from its first byte that is not blank.
+fn skip_blanks(line: &[u8]) -> &[u8]
+    ensures same { words_of result.now ≡ words_of line.now }
+    ensures start { StartsWord result.now }
+{
+    let mut rest = line;
+    while let [byte, after @ ..] = rest {
+        if !is_blank(*byte) {
+            break;
+        }
+        rest = after;
+    }
+    rest
+}
+
+fn word_end(line: &[u8]) -> Option<usize>
+    ensures { result ≡ position is_blank line.now }
+{
+    line.iter().position(|byte| is_blank(*byte))
+}
+
+/// The first words of a line, at most `most`. One word more than a shape has room for tells that a line is
+/// too long, and bounds what a line can take of memory.
+pub fn first_words(alloc: Global, most: usize, line: &[u8]) -> Result<Vec<&[u8]>, Refusal>
+    ensures ok { IfOk result (λ words. map (λ word. word.now) words.items ≡ take most (words_of line.now)) }
+    ensures memory { IsOkUnless result Refusal.Memory }
+{
+    Ok(split_words(alloc, most, line)?)
+}
+
+fn split_words(alloc: Global, most: usize, line: &[u8]) -> Result<Vec<&[u8]>, AllocError>
+    ensures { IfOk result (λ words. map (λ word. word.now) words.items ≡ take most (words_of line.now)) }
+{
+    line.split(|byte| is_blank(*byte))
+        .filter(|word| !word.is_empty())
+        .take(most)
+        .collect(alloc)
+}
