@@ -1,5 +1,5 @@
 -- a text that is cut at the first line that begins a part
-use Rattle.std.proofs.Common.{◌≡◌, ℕ, ◌+◌, ◌<◌, ◌==◌, List, [], ◌∷◌, ◌++◌, length, length-append, take, Bool, true, false, not, cond, Option, Some, None, is_some, refl, sym, ap, subst, ◌∙◌, append_assoc, append-nil, arith}
+use Rattle.std.proofs.Common.{◌≡◌, ℕ, ◌+◌, ◌<◌, ◌==◌, List, [], ◌∷◌, ◌++◌, length, length-append, take, not, cond, Option, Some, None, is_some, refl, sym, ap, ◌∙◌, append_assoc, append-nil, arith}
 use Rattle.std.proofs.lemmas.List.{take-append-le, take_all}
 use Rattle.std.proofs.lemmas.List.Sums.{take_while-cons}
 use Rattle.std.proofs.lemmas.List.Splits.{join_with_byte-slice_split, length-slice_split}
@@ -8,7 +8,7 @@ use Rattle.std.specs.Prelude.{option_map, IfSome}
 use Rattle.std.specs.List.{join_with_byte, take_while}
 use Rattle.cpg_text.specs.Lines.{lines_of, lines_left, trimmed}
 use Rattle.cpg_conf.specs.Names.{next_number}
-use Rattle.cpg_accept.specs.Parts.{Piece, head_of, is_head, text_before, part_then, parts_from}
+use Rattle.cpg_accept.specs.Parts.{head_of, is_head, text_before, part_then, parts_from}
 use Rattle.cpg_accept.specs.Steps.{len_after}
 use Rattle.cpg_accept.specs.declared.parts.Kind.{Kind}
 

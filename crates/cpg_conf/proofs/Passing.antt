@@ -1,6 +1,6 @@
 -- a conf text that is gone through once: what its lines say by the lines before them is what they say where
 -- they stand
-use Rattle.std.proofs.Common.{◌≡◌, ℕ, ◌+◌, ◌-◌, ◌==◌, min, List, [], ◌∷◌, length, Bool, true, false, ◌&&◌, Result, Ok, Err, refl, sym, ap, subst, ◌∙◌, arith}
+use Rattle.std.proofs.Common.{◌≡◌, ℕ, ◌+◌, ◌==◌, List, [], ◌∷◌, Bool, true, false, ◌&&◌, Result, Ok, Err, refl, sym, ap, ◌∙◌, arith}
 use Rattle.std.proofs.lemmas.Bool.Decides.{nat_tests}
 use Rattle.std.specs.Prelude.{if◌then◌else◌, codes}
 use Rattle.std.specs.Str.{bytes_eq}
@@ -11,7 +11,7 @@ use Rattle.cpg_text.specs.Lines.{lines_of}
 use Rattle.cpg_conf.specs.Lines.{Line, Ignored, Close, Open, Key, Bad}
 use Rattle.cpg_conf.specs.Listed.{nothing, and_then, key_said, line_said, lines_said, listed}
 use Rattle.cpg_conf.specs.Names.{Known, next_number}
-use Rattle.cpg_conf.specs.Sections.{opens, closes, depth, section, is_read, number_after}
+use Rattle.cpg_conf.specs.Sections.{opens, closes, depth, section, number_after}
 use Rattle.cpg_conf.specs.Steps.{nesting_after, said_at, said_from, shapes}
 use Rattle.cpg_conf.specs.declared.nesting.Nesting.{Nesting}
 

@@ -7,7 +7,7 @@ use Rattle.cpg_cred.specs.declared.refusals.Refusal.{Refusal}
 use Rattle.cpg_cred.specs.declared.refusals.Refusal.TheVariants.{Memory, BadLine, Unopened, Unclosed, BadItem, BadValue, UnknownName}
 use Rattle.cpg_text.specs.Lines.{lines_of, trimmed}
 use Rattle.cpg_text.specs.Numbers.{is_number}
-use Rattle.cpg_conf.specs.Lines.{Line, Ignored, Close, Open, Key, Bad, line_of}
+use Rattle.cpg_conf.specs.Lines.{Line, Close, Key, Bad, line_of}
 use Rattle.cpg_conf.specs.Names.{Known, number_of, made, value_on}
 use Rattle.cpg_conf.specs.Sections.{opens, closes, depth, is_read, number_after}
 

@@ -2,7 +2,7 @@
 use Rattle.std.specs.Prelude.{ℕ, ◌+◌, ◌-◌, ◌==◌, min, List, [], ◌∷◌, length, codes, Bool, true, false, ◌&&◌, if◌then◌else◌}
 use Rattle.std.specs.List.{filter}
 use Rattle.std.specs.Str.{bytes_eq}
-use Rattle.cpg_conf.specs.Lines.{Line, Ignored, Close, Open, Key, Bad}
+use Rattle.cpg_conf.specs.Lines.{Line, Close, Open}
 
 abbrev pub is_open : Line → Bool
 is_open (Open name) = true

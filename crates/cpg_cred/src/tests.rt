@@ -10,12 +10,15 @@ fn root_and_the_listed_are_accepted(rt: HostRuntime) -> Result<(), Fail> {
     list.add_uid(1000)?;
     list.add_uid(1000)?;
     list.add_gid(20)?;
+    list.add_all([1000, 7].as_slice(), [20, 21].as_slice())?;
     let list = list.copy(alloc)?;
     let ask = |uid, gid| list.accepts(Cred { uid, gid });
     assert_eq!(rt; ask(0, 700), Ok(Via::RootUser));
     assert_eq!(rt; ask(700, 0), Ok(Via::RootGroup));
     assert_eq!(rt; ask(1000, 9), Ok(Via::User));
+    assert_eq!(rt; ask(7, 9), Ok(Via::User));
     assert_eq!(rt; ask(9, 20), Ok(Via::Group));
+    assert_eq!(rt; ask(9, 21), Ok(Via::Group));
     assert_eq!(rt; ask(20, 1000), Err(Refusal::Access));
     Ok(())
 }

@@ -1,7 +1,7 @@
 //! Streams that come in pieces or fail, and the worked forms of words.
 
 use crate::{
-    Lines, first_words, is_ignored, push_message, push_number, read_message, read_number,
+    Lines, Words, first_words, is_ignored, push_message, push_number, read_message, read_number,
     read_whole, trim, write_whole,
 };
 use cpg_cred::Refusal;
@@ -150,6 +150,12 @@ fn takes_lines_and_words_apart(rt: HostRuntime) -> Result<(), Fail> {
     assert_eq!(rt; words.len(), 2);
     assert_eq!(rt; words[0], b"one".as_slice());
     assert_eq!(rt; words[1], b"two".as_slice());
+    assert_eq!(rt; Words::of(line).count(), 3);
+    assert_eq!(rt; Words::of(b" \t").count(), 0);
+    let mut words = Words::of(b"\t one  two");
+    assert_eq!(rt; words.next(), Some(b"one".as_slice()));
+    assert_eq!(rt; words.next(), Some(b"two".as_slice()));
+    assert!(rt; words.next().is_none());
     assert!(rt; is_ignored(lines.next().ok_or("a line")?));
     assert!(rt; is_ignored(trim(lines.next().ok_or("a line")?)));
     assert!(rt; lines.next().is_none());

@@ -1,5 +1,4 @@
-use Rattle.std.proofs.Common.{nat_eq, ap, subst, ◌∙◌}
-use Rattle.std.specs.List.{IsDistinct}
+use Rattle.std.proofs.Common.{ap, ◌∙◌}
 use Rattle.cpg_cred.specs.Listed.{with_numbers}
 use Rattle.cpg_cred.proofs.Growing.{made_anew}
 use Rattle.cpg_cred.proofs.admission.copy_of.Goals as goal

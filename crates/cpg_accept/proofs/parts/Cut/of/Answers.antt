@@ -1,4 +1,4 @@
-use Rattle.std.proofs.Common.{◌∷◌, [], ap, sym, subst, ◌∙◌, option_map}
+use Rattle.std.proofs.Common.{ap, sym, subst, ◌∙◌, option_map}
 use Rattle.cpg_text.specs.Lines.{lines_left}
 use Rattle.cpg_accept.specs.Parts.{head_of}
 use Rattle.cpg_accept.proofs.Cutting.{Passed, passed_line, cut_before, uncut_before, end_fits, shorter}

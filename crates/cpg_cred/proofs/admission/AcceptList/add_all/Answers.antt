@@ -1,5 +1,5 @@
-use Rattle.std.proofs.Common.{◌≡◌, take, ap, sym, ◌∙◌}
-use Rattle.cpg_cred.specs.Listed.{Listed, with_numbers}
+use Rattle.std.proofs.Common.{◌≡◌, take, ap, ◌∙◌}
+use Rattle.cpg_cred.specs.Listed.{with_numbers}
 use Rattle.cpg_cred.proofs.Growing.{front_kept}
 use Rattle.cpg_cred.proofs.admission.AcceptList.add_all.Goals as goal
 
