@@ -3,7 +3,6 @@
 use crate::{Names, read_conf};
 use cpg_cred::{AcceptList, Cred, Refusal, Via};
 use std::alloc::Global;
-use std::test::Fail;
 
 /// Names of a user and of a group.
 const NAMES: &str = "user alice 1000\ngroup ops 20\n";
@@ -19,17 +18,41 @@ fn names_fault(alloc: Global, text: &str) -> Option<Refusal> {
     }
 }
 
-/// The list that a conf text makes of the empty one, by those names.
-fn listed(alloc: Global, names: &Names, text: &[u8]) -> Result<AcceptList, Refusal> {
+/// The number of a user's name in a names text.
+fn user_in(alloc: Global, text: &str, name: &[u8]) -> Option<u32> {
+    match Names::read(alloc, text.as_bytes()) {
+        Ok(names) => names.user(name),
+        Err(_) => None,
+    }
+}
+
+/// The number of a group's name in a names text.
+fn group_in(alloc: Global, text: &str, name: &[u8]) -> Option<u32> {
+    match Names::read(alloc, text.as_bytes()) {
+        Ok(names) => names.group(name),
+        Err(_) => None,
+    }
+}
+
+/// What lets the credentials in by a conf text, or its fault, or `Access`.
+fn answer_by(alloc: Global, names: &Names, text: &[u8], cred: Cred) -> Result<Via, Refusal> {
     match read_conf(alloc, text, names, AcceptList::new(alloc)) {
-        Ok(list) => Ok(list),
+        Ok(list) => list.accepts(cred),
         Err(refused) => Err(refused.refusal),
     }
 }
 
-/// The conf text's fault, where it has one, by those names.
-fn fault_by(alloc: Global, names: &Names, text: &[u8]) -> Option<Refusal> {
-    match listed(alloc, names, text) {
+/// The same, by a names text.
+fn answer(alloc: Global, names: &str, text: &[u8], cred: Cred) -> Result<Via, Refusal> {
+    match Names::read(alloc, names.as_bytes()) {
+        Ok(names) => answer_by(alloc, &names, text, cred),
+        Err(refusal) => Err(refusal),
+    }
+}
+
+/// The conf text's fault, where it has one, by a names text.
+fn fault_by(alloc: Global, names: &str, text: &[u8]) -> Option<Refusal> {
+    match answer(alloc, names, text, Cred { uid: 0, gid: 0 }) {
         Ok(_) => None,
         Err(refusal) => Some(refusal),
     }
@@ -37,28 +60,24 @@ fn fault_by(alloc: Global, names: &Names, text: &[u8]) -> Option<Refusal> {
 
 /// The conf text's fault, where it has one, without names.
 fn fault(alloc: Global, text: &str) -> Option<Refusal> {
-    fault_by(alloc, &Names::new(alloc), text.as_bytes())
+    fault_by(alloc, "", text.as_bytes())
 }
 
 /// Whether the conf text lists the user, without names.
 fn lists_user(alloc: Global, text: &str, uid: u32) -> bool {
-    match listed(alloc, &Names::new(alloc), text.as_bytes()) {
-        Ok(list) => list.accepts(Cred { uid, gid: 9 }) == Ok(Via::User),
-        Err(_) => false,
-    }
+    answer(alloc, "", text.as_bytes(), Cred { uid, gid: 9 }) == Ok(Via::User)
 }
 
 #[test]
-fn names_stand_for_numbers(rt: HostRuntime) -> Result<(), Fail> {
+fn names_stand_for_numbers(rt: HostRuntime) {
     let alloc = rt.alloc();
     let text = "# people\n\n user\talice  01000\r\nuser alice 7\ngroup alice 20\nuser 5 6";
-    let names = Names::read(alloc, text.as_bytes())?;
-    assert_eq!(rt; names.user(b"alice"), Some(1000));
-    assert_eq!(rt; names.group(b"alice"), Some(20));
-    assert_eq!(rt; names.user(b"5"), Some(6));
-    assert_eq!(rt; names.user(b"bob"), None);
-    assert_eq!(rt; Names::new(alloc).user(b"alice"), None);
-    Ok(())
+    assert_eq!(rt; user_in(alloc, text, b"alice"), Some(1000));
+    assert_eq!(rt; group_in(alloc, text, b"alice"), Some(20));
+    assert_eq!(rt; user_in(alloc, text, b"5"), Some(6));
+    assert_eq!(rt; user_in(alloc, text, b"bob"), None);
+    assert_eq!(rt; user_in(alloc, "", b"alice"), None);
+    assert!(rt; Names::new(alloc).user(b"alice").is_none());
 }
 
 #[test]
@@ -93,39 +112,40 @@ fn names_texts_have_faults(rt: HostRuntime) {
 }
 
 #[test]
-fn a_conf_text_lists_numbers_and_names(rt: HostRuntime) -> Result<(), Fail> {
+fn a_conf_text_lists_numbers_and_names(rt: HostRuntime) {
     let alloc = rt.alloc();
-    let names = Names::read(alloc, NAMES.as_bytes())?;
-    let list = listed(alloc, &names, CONF.as_bytes())?;
-    assert_eq!(rt; list.accepts(Cred { uid: 1000, gid: 9 }), Ok(Via::User));
-    assert_eq!(rt; list.accepts(Cred { uid: 9, gid: 20 }), Ok(Via::Group));
-    assert_eq!(rt;
-        list.accepts(Cred { uid: 20, gid: 1000 }),
-        Err(Refusal::Access)
-    );
-    Ok(())
+    let ask = |uid, gid| answer(alloc, NAMES, CONF.as_bytes(), Cred { uid, gid });
+    assert_eq!(rt; ask(1000, 9), Ok(Via::User));
+    assert_eq!(rt; ask(9, 20), Ok(Via::Group));
+    assert_eq!(rt; ask(20, 1000), Err(Refusal::Access));
+}
+
+/// A list of the user 7, if memory suffices.
+fn list_of_seven(alloc: Global) -> Result<AcceptList, Refusal> {
+    let mut list = AcceptList::new(alloc);
+    list.add_uid(7)?;
+    Ok(list)
+}
+
+/// Whether an unclosed text leaves a list of the user 7 as it was.
+fn leaves_the_list(alloc: Global, list: AcceptList) -> bool {
+    match read_conf(alloc, b"uidgid {\nuid: 8\n", &Names::new(alloc), list) {
+        Ok(_) => false,
+        Err(refused) => {
+            let ask = |uid| refused.back.accepts(Cred { uid, gid: 9 });
+            refused.refusal == Refusal::Unclosed
+                && ask(7) == Ok(Via::User)
+                && ask(8) == Err(Refusal::Access)
+        }
+    }
 }
 
 #[test]
-fn a_refused_conf_text_leaves_the_list(rt: HostRuntime) -> Result<(), Fail> {
-    let alloc = rt.alloc();
-    let mut list = AcceptList::new(alloc);
-    list.add_uid(7)?;
-    match read_conf(alloc, b"uidgid {\nuid: 8\n", &Names::new(alloc), list) {
-        Ok(_) => assert!(rt; false),
-        Err(refused) => {
-            assert_eq!(rt; refused.refusal, Refusal::Unclosed);
-            assert_eq!(rt;
-                refused.back.accepts(Cred { uid: 7, gid: 9 }),
-                Ok(Via::User)
-            );
-            assert_eq!(rt;
-                refused.back.accepts(Cred { uid: 8, gid: 9 }),
-                Err(Refusal::Access)
-            );
-        }
+fn a_refused_conf_text_leaves_the_list(rt: HostRuntime) {
+    match list_of_seven(rt.alloc()) {
+        Ok(list) => assert!(rt; leaves_the_list(rt.alloc(), list)),
+        Err(_) => assert!(rt; false),
     }
-    Ok(())
 }
 
 #[test]
@@ -191,12 +211,10 @@ fn cut_fault(len: usize) -> Option<Refusal> {
 }
 
 #[test]
-fn a_conf_text_cut_short(rt: HostRuntime) -> Result<(), Fail> {
-    let names = Names::read(rt.alloc(), NAMES.as_bytes())?;
+fn a_conf_text_cut_short(rt: HostRuntime) {
     let text = CONF.as_bytes();
     assert_eq!(rt; text.len(), 31);
     for len in 0..32 {
-        assert_eq!(rt; fault_by(rt.alloc(), &names, &text[..len]), cut_fault(len));
+        assert_eq!(rt; fault_by(rt.alloc(), NAMES, &text[..len]), cut_fault(len));
     }
-    Ok(())
 }
