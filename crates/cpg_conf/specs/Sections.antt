@@ -1,8 +1,9 @@
 -- where a line of a conf text stands, by the lines before it, the nearest of them first
-use Rattle.std.specs.Prelude.{ℕ, ◌+◌, ◌-◌, ◌==◌, min, List, [], ◌∷◌, length, codes, Bool, true, false, ◌&&◌, if◌then◌else◌}
+use Rattle.std.specs.Prelude.{ℕ, ◌-◌, ◌==◌, List, [], ◌∷◌, length, codes, Bool, true, false, ◌&&◌, if◌then◌else◌}
 use Rattle.std.specs.List.{filter}
 use Rattle.std.specs.Str.{bytes_eq}
 use Rattle.cpg_conf.specs.Lines.{Line, Close, Open}
+use Rattle.cpg_conf.specs.Names.{next_number}
 
 abbrev pub is_open : Line → Bool
 is_open (Open name) = true
@@ -32,6 +33,6 @@ section (line ∷ before) = section before
 abbrev pub is_read : List Line → Bool
 is_read before = (depth before == 1) && bytes_eq (section before) (codes "uidgid")
 
--- the number by which the line after those is told, from 1; past the 4,294,967,295th line it stays
+-- the number by which the line after those is told, from 1
 abbrev pub number_after : List Line → ℕ
-number_after before = min (length before + 1) 4294967295
+number_after before = next_number (length before)

@@ -1,5 +1,8 @@
 //! A subcommand's run over the standard streams.
 
+ghost use Rattle.std.specs.Prelude.{◌≡◌, OnOk, OnErr};
+ghost use Rattle.std.specs.Process.{exit_status};
+
 use clap::ArgMatches;
 use cpg_console::{Fault, accept_script, judge_script};
 use cpg_cred::Refusal;
@@ -37,8 +40,11 @@ fn run_script<W: Write>(
     }
 }
 
-/// The exit status of a run; a fault is told on standard error.
-pub fn report(rt: &impl Eprint, done: Result<(), Fault>) -> ExitCode {
+/// The exit status of a run, 0 or, after a fault, 1; the fault is told on standard error.
+pub fn report(rt: &impl Eprint, done: Result<(), Fault>) -> ExitCode
+    ensures done { OnOk done (exit_status result ≡ 0) }
+    ensures fault { OnErr done (exit_status result ≡ 1) }
+{
     match done {
         Ok(()) => ExitCode::SUCCESS,
         Err(fault) => {
