@@ -1,7 +1,6 @@
 -- Admission, by this project's own rule: user 0, group 0, a listed user, a listed group, in this order.
 use Rattle.std.specs.Prelude.{◌==◌, Option, Some, None, if◌then◌else◌}
-use Rattle.std.specs.List.{list_any}
-use Rattle.cpg_cred.specs.Listed.{Listed}
+use Rattle.cpg_cred.specs.Listed.{Listed, is_among}
 use Rattle.cpg_cred.specs.declared.credentials.Cred.{Cred}
 use Rattle.cpg_cred.specs.declared.admission.Via.{Via}
 use Rattle.cpg_cred.specs.declared.admission.Via.TheVariants.{RootUser, RootGroup, User, Group}
@@ -11,6 +10,6 @@ abbrev pub via_of : Listed → Cred → Option Via
 via_of list cred =
     if cred.uid == 0 then Some RootUser
     else if cred.gid == 0 then Some RootGroup
-    else if list_any (λ listed. cred.uid == listed) list.users then Some User
-    else if list_any (λ listed. cred.gid == listed) list.groups then Some Group
+    else if is_among list.users cred.uid then Some User
+    else if is_among list.groups cred.gid then Some Group
     else None

@@ -1,5 +1,5 @@
 -- the numbers that an accept list has, and how it grows
-use Rattle.std.specs.Prelude.{ℕ, ◌==◌, List, [], ◌∷◌, ◌++◌, if◌then◌else◌}
+use Rattle.std.specs.Prelude.{ℕ, Bool, ◌==◌, List, [], ◌∷◌, ◌++◌, if◌then◌else◌}
 use Rattle.std.specs.List.{fold, list_any}
 
 -- an accept list, as contracts see it: its users and its groups, each in the order of their addition
@@ -7,9 +7,13 @@ pub record Listed : Type 0 where
   pub users : List ℕ
   pub groups : List ℕ
 
+-- the number is among them
+abbrev pub is_among : List ℕ → ℕ → Bool
+is_among numbers number = list_any (λ listed. number == listed) numbers
+
 -- the numbers with one more at the end, if it was absent
 abbrev pub with_number : List ℕ → ℕ → List ℕ
-with_number numbers number = if list_any (λ listed. number == listed) numbers then numbers else numbers ++ number ∷ []
+with_number numbers number = if is_among numbers number then numbers else numbers ++ number ∷ []
 
 -- the numbers with more at the end, one after the other, each if it was absent
 abbrev pub with_numbers : List ℕ → List ℕ → List ℕ

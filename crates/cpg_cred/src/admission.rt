@@ -1,8 +1,8 @@
 //! Which credentials are let in: user 0, group 0, and the users and groups of a list.
 
-ghost use Rattle.std.specs.Prelude.{◌≡◌, [], Some, None, IfOk, OnOk, OnErr, IsOkUnless};
+ghost use Rattle.std.specs.Prelude.{◌≡◌, [], false, Some, None, IfOk, OnOk, OnErr, IsOkUnless};
 ghost use Rattle.std.specs.Option.{ok_or};
-ghost use Rattle.cpg_cred.specs.Listed.{with_number, with_numbers};
+ghost use Rattle.cpg_cred.specs.Listed.{is_among, with_number, with_numbers};
 
 use crate::credentials::Cred;
 use crate::refusals::Refusal;
@@ -58,6 +58,9 @@ impl AcceptList {
         ensures ok { OnOk result (self.new ≡ with_user self.old uid) }
         ensures err { OnErr result (self.new ≡ self.old) }
         ensures memory { IsOkUnless result Refusal.Memory }
+
+        // A user that is listed already takes no memory.
+        ensures absent { OnErr result (is_among self.old.users uid ≡ false) }
     {
         add(&mut self.users, uid)
     }
@@ -67,6 +70,9 @@ impl AcceptList {
         ensures ok { OnOk result (self.new ≡ with_group self.old gid) }
         ensures err { OnErr result (self.new ≡ self.old) }
         ensures memory { IsOkUnless result Refusal.Memory }
+
+        // A group that is listed already takes no memory.
+        ensures absent { OnErr result (is_among self.old.groups gid ≡ false) }
     {
         add(&mut self.groups, gid)
     }
@@ -122,6 +128,7 @@ fn add(numbers: &mut IndexSet<u32>, number: u32) -> Result<(), Refusal>
     ensures ok { OnOk result (numbers.new.keys ≡ with_number numbers.old.keys number) }
     ensures err { OnErr result (numbers.new.keys ≡ numbers.old.keys) }
     ensures memory { IsOkUnless result Refusal.Memory }
+    ensures absent { OnErr result (is_among numbers.old.keys number ≡ false) }
 {
     numbers.insert(number)?;
     Ok(())

@@ -16,5 +16,5 @@ mod tests;
 pub use admission::{AcceptList, Via};
 pub use bases::By;
 pub use credentials::Cred;
-pub use nodes::NodeId;
+pub use nodes::{MOST_NODES, NodeId, limits};
 pub use refusals::{Refusal, Refused};

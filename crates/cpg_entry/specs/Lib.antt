@@ -1,2 +1,4 @@
 pub mod Entries
 pub mod Names
+pub mod Ranges
+pub mod Widths

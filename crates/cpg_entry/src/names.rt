@@ -1,8 +1,8 @@
 //! The names of groups.
 
-ghost use Rattle.std.specs.Prelude.{◌≡◌, ◌↔◌, IsTrue, IfOk, IsOkUnless};
+ghost use Rattle.std.specs.Prelude.{◌≡◌, ◌↔◌, ℕ, List, IsTrue, IfOk, IsOkUnless};
 ghost use Rattle.std.specs.Str.{bytes_eq};
-ghost use Rattle.cpg_entry.specs.Names.{IsName};
+ghost use Rattle.cpg_entry.specs.Names.{IsName, is_name};
 
 use cpg_rules::Refusal;
 use std::alloc::Global;
@@ -15,12 +15,24 @@ pub const MOST_NAME_BYTES: usize = 128;
 
 /// Whether the bytes may name a group: 1 to 128 of them, each a printing ASCII character (0x21 to 0x7E).
 pub fn accepts_name(bytes: &[u8]) -> bool
+    ensures rule { IsTrue result ↔ IsName bytes.now }
+    ensures test { result ≡ is_name bytes.now }
+{
+    is_printing_name(bytes)
+}
+
+fn is_printing_name(bytes: &[u8]) -> bool
     ensures { IsTrue result ↔ IsName bytes.now }
 {
     !bytes.is_empty()
         && bytes.len() <= MOST_NAME_BYTES
         && bytes.iter().all(|byte| *byte >= 0x21 && *byte <= 0x7e)
 }
+
+/// The rule of names and its test are the same.
+pub fn names_pass()
+    ensures { (bytes : List ℕ) → IsTrue (is_name bytes) ↔ IsName bytes }
+{}
 
 /// The name of a group, any bytes until `accepts_name` has tested them. Contracts see it as the list of
 /// its bytes.

@@ -15,12 +15,12 @@ use Rattle.cpg_rules.specs.declared.decisions.Decision.TheVariants.{Allowed, Den
 use Rattle.cpg_rules.specs.Tables.{Rules}
 
 -- the two rights are one
-abbrev pub is_right : Right → Right → Bool
-is_right Join Join = true
-is_right Send Send = true
-is_right Listing Listing = true
-is_right Edit Edit = true
-is_right _ _ = false
+abbrev pub same_right : Right → Right → Bool
+same_right Join Join = true
+same_right Send Send = true
+same_right Listing Listing = true
+same_right Edit Edit = true
+same_right _ _ = false
 
 -- a condition holds of a value, and one that is not there holds of all
 abbrev pub agrees : Option ℕ → ℕ → Bool
@@ -28,12 +28,12 @@ agrees None value = true
 agrees (Some wanted) value = value == wanted
 
 -- a who matches an asker where each of its conditions holds
-abbrev pub is_matched_by : Who → Asker → Bool
-is_matched_by who asker = agrees who.uid asker.cred.uid && agrees who.gid asker.cred.gid && agrees who.node asker.node
+abbrev pub matches : Who → Asker → Bool
+matches who asker = agrees who.uid asker.cred.uid && agrees who.gid asker.cred.gid && agrees who.node asker.node
 
 -- a rule of the table speaks of that right and of that asker
 abbrev pub speaks : Right → Asker → ℕ × Rule → Bool
-speaks right asker entry = is_right entry.1.right right && is_matched_by entry.1.who asker
+speaks right asker entry = same_right entry.1.right right && matches entry.1.who asker
 
 -- what one rule says, by its effect and id
 abbrev pub ruling : Effect → ℕ → Decision

@@ -13,4 +13,4 @@ mod tests;
 pub use cpg_cred::{By, Cred, NodeId, Refusal};
 pub use decisions::Decision;
 pub use rules::{Asker, Effect, Right, Rule, Who};
-pub use tables::{MOST_RULES, Table};
+pub use tables::{MOST_RULES, Table, limits};

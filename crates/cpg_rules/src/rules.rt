@@ -1,7 +1,7 @@
 //! Rules: an effect, a right and whom the rule speaks of.
 
 ghost use Rattle.std.specs.Prelude.{◌≡◌, ◌↔◌, ◌&&◌, IsTrue, None, Some};
-ghost use Rattle.cpg_rules.specs.Decision.{agrees, is_matched_by, is_right};
+ghost use Rattle.cpg_rules.specs.Decision.{agrees, matches, same_right};
 
 use cpg_cred::{Cred, NodeId};
 
@@ -103,7 +103,7 @@ impl Who {
 
     /// Whether each condition that is there holds of the asker.
     fn matches(&self, asker: Asker) -> bool
-        ensures { result ≡ is_matched_by self.now asker }
+        ensures { result ≡ matches self.now asker }
     {
         holds(self.uid, asker.cred.uid)
             && holds(self.gid, asker.cred.gid)
@@ -141,7 +141,7 @@ impl Rule {
 
     /// Whether the rule speaks of that right and that asker.
     pub(crate) fn speaks_of(&self, right: Right, asker: Asker) -> bool
-        ensures { result ≡ is_right self.now.right right && is_matched_by self.now.who asker }
+        ensures { result ≡ same_right self.now.right right && matches self.now.who asker }
     {
         self.right == right && self.who.matches(asker)
     }

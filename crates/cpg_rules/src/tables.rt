@@ -14,6 +14,11 @@ use std::marker::Model;
 /// How many rules a group's table holds at most.
 pub const MOST_RULES: usize = 64;
 
+/// The limits of this crate, as numbers.
+pub fn limits()
+    ensures { MOST_RULES ≡ 64 }
+{}
+
 /// A group's rules, each with its id, the one that is asked first at the front. Contracts see it as the
 /// list of pairs of id and rule.
 #[derive(Debug, Drop)]

@@ -5,7 +5,8 @@ use Rattle.cpg_cred.specs.declared.refusals.Refusal.{Refusal}
 use Rattle.cpg_cred.specs.declared.refusals.Refusal.TheVariants.{Memory, Malformed}
 use Rattle.cpg_entry.specs.declared.frames.Frame.{Frame}
 use Rattle.cpg_wire.specs.Answering.{Answers}
-use Rattle.cpg_wire.specs.Ranges.{IsFrame}
+use Rattle.cpg_entry.specs.Ranges.{IsFrame}
+use Rattle.cpg_entry.specs.Widths.{FrameFits}
 use Rattle.cpg_wire.specs.Reading.{frame_of}
 use Rattle.cpg_wire.specs.Spelling.{Spells}
 use Rattle.cpg_wire.proofs.Readers.{IsBytes}
@@ -32,6 +33,6 @@ refused bytes (Err Memory) h = inr refl
 refused bytes (Err Malformed) h = inl refl
 refused bytes (Err _) h = absurd h
 
-pub in_range : (bytes : List ℕ) (answer : Result Frame Refusal) → IfOk answer (λ frame. Spells bytes frame) → IfOk answer IsFrame
-in_range bytes (Ok frame) h = h.1.0
+pub in_range : (bytes : List ℕ) (answer : Result Frame Refusal) → IfOk answer (λ frame. Spells bytes frame) → IfOk answer (λ frame. IsFrame frame × FrameFits frame)
+in_range bytes (Ok frame) h = (h.1.0, h.1.1)
 in_range bytes (Err refusal) h = tt

@@ -1,6 +1,6 @@
 -- Ops.
 use Rattle.std.proofs.Common.{◌≡◌, ℕ, ◌≤◌, List, [], ◌∷◌, ◌++◌, length, Option, Some, refl, sym, ap, subst}
-use Rattle.std.specs.Int.{w32, to_be_bytes}
+use Rattle.byteorder.specs.Endian.{big_bytes}
 use Rattle.cpg_rules.specs.declared.rules.Rule.{Rule}
 use Rattle.cpg_entry.specs.Names.{IsName}
 use Rattle.cpg_entry.specs.declared.calls.Call.TheVariants as calls
@@ -11,7 +11,9 @@ use Rattle.cpg_wire.specs.declared.codes.Version.{Version}
 use Rattle.cpg_wire.specs.declared.codes.OpCode.{OpCode}
 use Rattle.cpg_wire.specs.declared.codes.OpCode.TheVariants as codes
 use Rattle.cpg_wire.specs.Codes.{op_code, op_code_of, all_ops}
-use Rattle.cpg_wire.specs.Ranges.{Within, IsU32, IsOp, FitsOp}
+use Rattle.cpg_entry.specs.Ranges.{Within, IsOp}
+use Rattle.cpg_entry.specs.Widths.{IsU32, OpFits}
+use Rattle.cpg_wire.specs.Versions.{FitsOp}
 use Rattle.cpg_wire.specs.Spelling.{name_bytes, message_bytes, rule_bytes, op_bytes}
 use Rattle.cpg_wire.specs.Reading.{u8_at, u32_at, form_at, name_at, message_at, rule_at, insert_at, remove_at, body_at, op_at}
 use Rattle.cpg_wire.proofs.Readers.{IsBytes, Takes, ReadsBack, reads1, reads2, reads3, reads_then}
@@ -34,7 +36,7 @@ code_back codes.Gone = refl
 
 -- what may be spelled in that version
 abbrev pub IsOpIn : Version → Op → Type 0
-IsOpIn version op = IsOp op × FitsOp version op
+IsOpIn version op = (IsOp op × OpFits op) × FitsOp version op
 
 -- an op's bytes after its code
 abbrev body_bytes : Version → Op → List ℕ
@@ -42,7 +44,7 @@ body_bytes v (ops.Act (calls.Join name)) = name_bytes name
 body_bytes v (ops.Act calls.Leave) = []
 body_bytes v (ops.Act (calls.Send message)) = message_bytes message
 body_bytes v (ops.Act (calls.Insert name position rule)) = name_bytes name ++ (position ∷ rule_bytes v rule)
-body_bytes v (ops.Act (calls.Remove name id)) = name_bytes name ++ to_be_bytes w32 id
+body_bytes v (ops.Act (calls.Remove name id)) = name_bytes name ++ big_bytes 4 id
 body_bytes v ops.Gone = []
 
 -- the op is of that code, and within its ranges
@@ -93,7 +95,7 @@ insert_reads v = reads3 (List ℕ) ℕ Rule Op name_at name_bytes IsName name_re
 
 remove_reads : (v : Version) → ReadsBack Op remove_at (body_bytes v) (IsBody v codes.Remove)
 unfolding remove_at
-remove_reads v = reads2 (List ℕ) ℕ Op name_at name_bytes IsName name_reads (λ g. u32_at) (λ g. to_be_bytes w32) (λ g. IsU32) (λ g h. u32_reads)
+remove_reads v = reads2 (List ℕ) ℕ Op name_at name_bytes IsName name_reads (λ g. u32_at) (λ g. big_bytes 4) (λ g. IsU32) (λ g h. u32_reads)
     (λ g i. ops.Act (calls.Remove g i)) (body_bytes v) (IsBody v codes.Remove) (λ g i h j. (refl, (h, j))) (remove_parts v)
 
 body_reads : (v : Version) (k : OpCode) → ReadsBack Op (body_at v k) (body_bytes v) (IsBody v k)
@@ -106,20 +108,20 @@ body_reads v codes.Remove = remove_reads v
 body_reads v codes.Gone = record { takes = λ bytes x fits e. bare_takes bytes v codes.Gone ops.Gone x refl tt fits e; again = λ o rest h. gone_again v o rest h }
 
 op_joined : (v : Version) (k : OpCode) (o : Op) → IsBody v k o → (op_bytes v o ≡ op_code k ∷ body_bytes v o) × IsOpIn v o
-op_joined v codes.Join (ops.Act (calls.Join name)) h = (refl, (h, tt))
-op_joined v codes.Leave (ops.Act calls.Leave) h = (refl, (tt, tt))
-op_joined v codes.Send (ops.Act (calls.Send message)) h = (refl, (h, tt))
-op_joined v codes.Insert (ops.Act (calls.Insert name position rule)) h = (refl, ((h.0, h.1, h.2.0), h.2.1))
-op_joined v codes.Remove (ops.Act (calls.Remove name id)) h = (refl, (h, tt))
-op_joined v codes.Gone ops.Gone h = (refl, (tt, tt))
+op_joined v codes.Join (ops.Act (calls.Join name)) h = (refl, ((h, tt), tt))
+op_joined v codes.Leave (ops.Act calls.Leave) h = (refl, ((tt, tt), tt))
+op_joined v codes.Send (ops.Act (calls.Send message)) h = (refl, ((h, tt), tt))
+op_joined v codes.Insert (ops.Act (calls.Insert name position rule)) h = (refl, ((h.0, (h.1, h.2.0)), h.2.1))
+op_joined v codes.Remove (ops.Act (calls.Remove name id)) h = (refl, ((h.0, h.1), tt))
+op_joined v codes.Gone ops.Gone h = (refl, ((tt, tt), tt))
 op_joined v _ _ h = absurd h
 
 op_parts : (v : Version) (o : Op) → IsOpIn v o → (k : OpCode) × Unit {0} × IsBody v k o
-op_parts v (ops.Act (calls.Join name)) h = (codes.Join, tt, h.0)
+op_parts v (ops.Act (calls.Join name)) h = (codes.Join, tt, h.0.0)
 op_parts v (ops.Act calls.Leave) h = (codes.Leave, tt, tt)
-op_parts v (ops.Act (calls.Send message)) h = (codes.Send, tt, h.0)
-op_parts v (ops.Act (calls.Insert name position rule)) h = (codes.Insert, tt, (h.0.0, h.0.1, (h.0.2, h.1)))
-op_parts v (ops.Act (calls.Remove name id)) h = (codes.Remove, tt, h.0)
+op_parts v (ops.Act (calls.Send message)) h = (codes.Send, tt, h.0.0)
+op_parts v (ops.Act (calls.Insert name position rule)) h = (codes.Insert, tt, (h.0.0, h.0.1.0, (h.0.1.1, h.1)))
+op_parts v (ops.Act (calls.Remove name id)) h = (codes.Remove, tt, (h.0.0, h.0.1))
 op_parts v ops.Gone h = (codes.Gone, tt, tt)
 
 pub op_reads : (v : Version) → ReadsBack Op (op_at v) (op_bytes v) (IsOpIn v)

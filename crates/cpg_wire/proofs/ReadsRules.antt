@@ -1,7 +1,7 @@
 -- Rules, in both versions.
 use Rattle.std.proofs.Common.{◌≡◌, ℕ, zero, suc, ◌+◌, ◌^◌, ◌<◌, Bool, true, false, cond, eqb, List, [], ◌∷◌, ◌++◌, Option, Some, None, refl, ap, subst, ◌∙◌, arith}
 use Rattle.std.specs.Prelude.{IfSome}
-use Rattle.std.specs.Int.{w32, to_be_bytes}
+use Rattle.byteorder.specs.Endian.{big_bytes}
 use Rattle.std.proofs.lemmas.Bool.{eqb-true}
 use Rattle.std.proofs.lemmas.Option.{cond_some}
 use Rattle.cpg_rules.specs.declared.rules.Effect.{Effect}
@@ -15,11 +15,13 @@ use Rattle.cpg_wire.specs.declared.codes.Version.TheVariants.{One, Two}
 use Rattle.cpg_wire.specs.declared.codes.Subject.{Subject}
 use Rattle.cpg_wire.specs.declared.codes.Subject.TheVariants as subjects
 use Rattle.cpg_wire.specs.Codes.{effect_code, effect_of, right_code, right_of, subject_code, subject_of, effects, all_rights, all_subjects}
-use Rattle.cpg_wire.specs.Ranges.{most_u32, Within, IsU32, IsNode, IsWho, HasRoom, given}
+use Rattle.cpg_entry.specs.Ranges.{Within}
+use Rattle.cpg_entry.specs.Widths.{most_u32, IsU32, IsNode, WhoFits}
+use Rattle.cpg_wire.specs.Versions.{HasRoom, given}
 use Rattle.cpg_wire.specs.Spelling.{condition_bytes, single_bytes, who_bytes, rule_bytes}
 use Rattle.cpg_wire.specs.Reading.{◌>>=◌, number_at, u8_at, u32_at, form_at, condition_at, conditions_at, value_at, single_at, who_at, rule_at}
 use Rattle.cpg_wire.proofs.Readers.{IsBytes, IsBytes-rest, bind_some, some_is, Takes, Takes-then, ReadsBack, reads1, reads3, reads_then}
-use Rattle.cpg_wire.proofs.ReadsNumbers.{wide32, number_reads, u8_reads, form_reads, form_of_code}
+use Rattle.cpg_wire.proofs.ReadsNumbers.{number_reads, u8_reads, form_reads, form_of_code}
 use Rattle.cpg_wire.proofs.ReadsFields.{u32_reads}
 
 effect_law : (byte : ℕ) (form : Effect) → effect_of byte ≡ Some form → effect_code form ≡ byte
@@ -58,7 +60,7 @@ who_of uid gid node = record { uid = uid; gid = gid; node = node }
 
 -- what may be spelled in that version
 abbrev pub IsWhoIn : Version → Who → Type 0
-IsWhoIn version who = IsWho who × HasRoom version who
+IsWhoIn version who = WhoFits who × HasRoom version who
 
 -- ---- version 2
 
@@ -68,9 +70,9 @@ Found = (Option ℕ × ℕ) × List ℕ
 
 -- what is done once the byte of the subject was looked at
 abbrev after_passed : ℕ → ℕ → ℕ → Bool × List ℕ → Option Found
-after_passed low high left passed = cond passed.0 (number_at w32 low high passed.1 >>= λ value. Some ((Some value.0, left), value.1)) (Some ((None, suc left), passed.1))
+after_passed low high left passed = cond passed.0 (number_at 4 low high passed.1 >>= λ value. Some ((Some value.0, left), value.1)) (Some ((None, suc left), passed.1))
 
-condition_takes : (subject : Subject) (low high left : ℕ) (bytes : List ℕ) (x : Found) → high < 2 ^ 32 → IsBytes bytes → condition_at subject low high left bytes ≡ Some x → Takes bytes (condition_bytes subject x.0.0) x.1 × IfSome x.0.0 (Within low high) × (left ≡ given x.0.0 + x.0.1)
+condition_takes : (subject : Subject) (low high left : ℕ) (bytes : List ℕ) (x : Found) → high < 256 ^ 4 → IsBytes bytes → condition_at subject low high left bytes ≡ Some x → Takes bytes (condition_bytes subject x.0.0) x.1 × IfSome x.0.0 (Within low high) × (left ≡ given x.0.0 + x.0.1)
 unfolding condition_at
 condition_takes subject low high zero bytes x lt fits e =
     let made : Found = ((None, 0), bytes) in
@@ -81,11 +83,11 @@ condition_takes subject low high (suc left) (b ∷ rest) x lt fits e =
     let P : Bool → Type 0 = λ t. eqb b (subject_code subject) ≡ t → (cond t (Some (true, rest)) (Some (false, b ∷ rest)) >>= after_passed low high left) ≡ Some x → Goal x in
     let cases : (t : Bool) → P t = λ t. elim t as P [
       | true ↦ λ same found.
-          let p = bind_some (number_at w32 low high rest) (λ value. Some ((Some value.0, left), value.1)) x found in
-          let s = (number_reads w32 (2 ^ 32) low high wide32 lt).takes rest p.0 (IsBytes-rest b rest fits) p.1 in
+          let p = bind_some (number_at 4 low high rest) (λ value. Some ((Some value.0, left), value.1)) x found in
+          let s = (number_reads 4 low high lt).takes rest p.0 (IsBytes-rest b rest fits) p.1 in
           let made : Found = ((Some p.0.0, left), p.0.1) in
           let eq : b ≡ subject_code subject = eqb-true b (subject_code subject) same in
-          let taken : Takes (b ∷ rest) (subject_code subject ∷ to_be_bytes w32 p.0.0) p.0.1 = record { parts = ap (λ (w : List ℕ). b ∷ w) s.0.parts ∙ ap (λ (k : ℕ). k ∷ (to_be_bytes w32 p.0.0 ++ p.0.1)) eq; rest_fits = s.0.rest_fits } in
+          let taken : Takes (b ∷ rest) (subject_code subject ∷ big_bytes 4 p.0.0) p.0.1 = record { parts = ap (λ (w : List ℕ). b ∷ w) s.0.parts ∙ ap (λ (k : ℕ). k ∷ (big_bytes 4 p.0.0 ++ p.0.1)) eq; rest_fits = s.0.rest_fits } in
           let counted : suc left ≡ 1 + left = omega arith in
           subst Goal (some_is made x p.2) (taken, s.1, counted)
       | false ↦ λ same found.
@@ -95,12 +97,12 @@ condition_takes subject low high (suc left) (b ∷ rest) x lt fits e =
     ] in
     cases (eqb b (subject_code subject)) refl e
 
-condition_again : (subject : Subject) (low high left n : ℕ) (rest : List ℕ) → high < 2 ^ 32 → Within low high n → condition_at subject low high (suc left) (subject_code subject ∷ (to_be_bytes w32 n ++ rest)) ≡ Some ((Some n, left), rest)
+condition_again : (subject : Subject) (low high left n : ℕ) (rest : List ℕ) → high < 256 ^ 4 → Within low high n → condition_at subject low high (suc left) (subject_code subject ∷ (big_bytes 4 n ++ rest)) ≡ Some ((Some n, left), rest)
 unfolding condition_at
 condition_again subject low high left n rest lt h =
-    let s = (number_reads w32 (2 ^ 32) low high wide32 lt).again n rest h in
+    let s = (number_reads 4 low high lt).again n rest h in
     let same : eqb (subject_code subject) (subject_code subject) ≡ true = grind arith in
-    let bytes : List ℕ = to_be_bytes w32 n ++ rest in
+    let bytes : List ℕ = big_bytes 4 n ++ rest in
     ap (λ (t : Bool). cond t (Some (true, bytes)) (Some (false, subject_code subject ∷ bytes)) >>= after_passed low high left) same
     ∙ ap (λ (o : Option (ℕ × List ℕ)). o >>= λ value. Some ((Some value.0, left), value.1)) s
 
@@ -146,22 +148,22 @@ steps left bytes u g m e f h =
     ∙ (ap (λ (o : Option Found). o >>= after_gid u.0.0) f
     ∙ ap (λ (o : Option Found). o >>= last u.0.0 g.0.0) h)
 
-max32 : most_u32 < 2 ^ 32
+max32 : most_u32 < 256 ^ 4
 max32 = omega arith
 
-max8 : 8 < 2 ^ 32
+max8 : 8 < 256 ^ 4
 max8 = omega arith
 
 conditions_again : (u g m : Option ℕ) (rest : List ℕ) → IfSome u IsU32 → IfSome g IsU32 → IfSome m IsNode → conditions_at (who_bytes Two (who_of u g m) ++ rest) ≡ Some (who_of u g m, rest)
 unfolding conditions_at condition_at
 conditions_again None None None rest hu hg hm = refl
-conditions_again (Some u) None None rest hu hg hm = steps 1 (1 ∷ (to_be_bytes w32 u ++ rest)) ((Some u, 0), rest) ((None, 0), rest) (None, rest) (condition_again subjects.Uid 0 most_u32 0 u rest max32 hu) refl refl
-conditions_again None (Some g) None rest hu hg hm = steps 1 (2 ∷ (to_be_bytes w32 g ++ rest)) ((None, 1), 2 ∷ (to_be_bytes w32 g ++ rest)) ((Some g, 0), rest) (None, rest) refl (condition_again subjects.Gid 0 most_u32 0 g rest max32 hg) refl
-conditions_again None None (Some m) rest hu hg hm = steps 1 (3 ∷ (to_be_bytes w32 m ++ rest)) ((None, 1), 3 ∷ (to_be_bytes w32 m ++ rest)) ((None, 1), 3 ∷ (to_be_bytes w32 m ++ rest)) (Some m, rest) refl refl (condition_again subjects.Node 1 8 0 m rest max8 hm)
-conditions_again (Some u) (Some g) None rest hu hg hm = steps 2 (1 ∷ (to_be_bytes w32 u ++ (2 ∷ (to_be_bytes w32 g ++ rest)))) ((Some u, 1), 2 ∷ (to_be_bytes w32 g ++ rest)) ((Some g, 0), rest) (None, rest) (condition_again subjects.Uid 0 most_u32 1 u (2 ∷ (to_be_bytes w32 g ++ rest)) max32 hu) (condition_again subjects.Gid 0 most_u32 0 g rest max32 hg) refl
-conditions_again (Some u) None (Some m) rest hu hg hm = steps 2 (1 ∷ (to_be_bytes w32 u ++ (3 ∷ (to_be_bytes w32 m ++ rest)))) ((Some u, 1), 3 ∷ (to_be_bytes w32 m ++ rest)) ((None, 1), 3 ∷ (to_be_bytes w32 m ++ rest)) (Some m, rest) (condition_again subjects.Uid 0 most_u32 1 u (3 ∷ (to_be_bytes w32 m ++ rest)) max32 hu) refl (condition_again subjects.Node 1 8 0 m rest max8 hm)
-conditions_again None (Some g) (Some m) rest hu hg hm = steps 2 (2 ∷ (to_be_bytes w32 g ++ (3 ∷ (to_be_bytes w32 m ++ rest)))) ((None, 2), 2 ∷ (to_be_bytes w32 g ++ (3 ∷ (to_be_bytes w32 m ++ rest)))) ((Some g, 1), 3 ∷ (to_be_bytes w32 m ++ rest)) (Some m, rest) refl (condition_again subjects.Gid 0 most_u32 1 g (3 ∷ (to_be_bytes w32 m ++ rest)) max32 hg) (condition_again subjects.Node 1 8 0 m rest max8 hm)
-conditions_again (Some u) (Some g) (Some m) rest hu hg hm = steps 3 (1 ∷ (to_be_bytes w32 u ++ (2 ∷ (to_be_bytes w32 g ++ (3 ∷ (to_be_bytes w32 m ++ rest)))))) ((Some u, 2), 2 ∷ (to_be_bytes w32 g ++ (3 ∷ (to_be_bytes w32 m ++ rest)))) ((Some g, 1), 3 ∷ (to_be_bytes w32 m ++ rest)) (Some m, rest) (condition_again subjects.Uid 0 most_u32 2 u (2 ∷ (to_be_bytes w32 g ++ (3 ∷ (to_be_bytes w32 m ++ rest)))) max32 hu) (condition_again subjects.Gid 0 most_u32 1 g (3 ∷ (to_be_bytes w32 m ++ rest)) max32 hg) (condition_again subjects.Node 1 8 0 m rest max8 hm)
+conditions_again (Some u) None None rest hu hg hm = steps 1 (1 ∷ (big_bytes 4 u ++ rest)) ((Some u, 0), rest) ((None, 0), rest) (None, rest) (condition_again subjects.Uid 0 most_u32 0 u rest max32 hu) refl refl
+conditions_again None (Some g) None rest hu hg hm = steps 1 (2 ∷ (big_bytes 4 g ++ rest)) ((None, 1), 2 ∷ (big_bytes 4 g ++ rest)) ((Some g, 0), rest) (None, rest) refl (condition_again subjects.Gid 0 most_u32 0 g rest max32 hg) refl
+conditions_again None None (Some m) rest hu hg hm = steps 1 (3 ∷ (big_bytes 4 m ++ rest)) ((None, 1), 3 ∷ (big_bytes 4 m ++ rest)) ((None, 1), 3 ∷ (big_bytes 4 m ++ rest)) (Some m, rest) refl refl (condition_again subjects.Node 1 8 0 m rest max8 hm)
+conditions_again (Some u) (Some g) None rest hu hg hm = steps 2 (1 ∷ (big_bytes 4 u ++ (2 ∷ (big_bytes 4 g ++ rest)))) ((Some u, 1), 2 ∷ (big_bytes 4 g ++ rest)) ((Some g, 0), rest) (None, rest) (condition_again subjects.Uid 0 most_u32 1 u (2 ∷ (big_bytes 4 g ++ rest)) max32 hu) (condition_again subjects.Gid 0 most_u32 0 g rest max32 hg) refl
+conditions_again (Some u) None (Some m) rest hu hg hm = steps 2 (1 ∷ (big_bytes 4 u ++ (3 ∷ (big_bytes 4 m ++ rest)))) ((Some u, 1), 3 ∷ (big_bytes 4 m ++ rest)) ((None, 1), 3 ∷ (big_bytes 4 m ++ rest)) (Some m, rest) (condition_again subjects.Uid 0 most_u32 1 u (3 ∷ (big_bytes 4 m ++ rest)) max32 hu) refl (condition_again subjects.Node 1 8 0 m rest max8 hm)
+conditions_again None (Some g) (Some m) rest hu hg hm = steps 2 (2 ∷ (big_bytes 4 g ++ (3 ∷ (big_bytes 4 m ++ rest)))) ((None, 2), 2 ∷ (big_bytes 4 g ++ (3 ∷ (big_bytes 4 m ++ rest)))) ((Some g, 1), 3 ∷ (big_bytes 4 m ++ rest)) (Some m, rest) refl (condition_again subjects.Gid 0 most_u32 1 g (3 ∷ (big_bytes 4 m ++ rest)) max32 hg) (condition_again subjects.Node 1 8 0 m rest max8 hm)
+conditions_again (Some u) (Some g) (Some m) rest hu hg hm = steps 3 (1 ∷ (big_bytes 4 u ++ (2 ∷ (big_bytes 4 g ++ (3 ∷ (big_bytes 4 m ++ rest)))))) ((Some u, 2), 2 ∷ (big_bytes 4 g ++ (3 ∷ (big_bytes 4 m ++ rest)))) ((Some g, 1), 3 ∷ (big_bytes 4 m ++ rest)) (Some m, rest) (condition_again subjects.Uid 0 most_u32 2 u (2 ∷ (big_bytes 4 g ++ (3 ∷ (big_bytes 4 m ++ rest)))) max32 hu) (condition_again subjects.Gid 0 most_u32 1 g (3 ∷ (big_bytes 4 m ++ rest)) max32 hg) (condition_again subjects.Node 1 8 0 m rest max8 hm)
 
 conditions_read : ReadsBack Who conditions_at (who_bytes Two) (IsWhoIn Two)
 conditions_read = record { takes = conditions_take; again = λ w rest h. conditions_again w.uid w.gid w.node rest h.0.uid h.0.gid h.0.node }
@@ -169,10 +171,10 @@ conditions_read = record { takes = conditions_take; again = λ w rest h. conditi
 -- ---- version 1
 
 abbrev value_text : Option ℕ → Option ℕ → Option ℕ → List ℕ
-value_text None None None = to_be_bytes w32 0
-value_text (Some n) g m = to_be_bytes w32 n
-value_text None (Some n) m = to_be_bytes w32 n
-value_text None None (Some n) = to_be_bytes w32 n
+value_text None None None = big_bytes 4 0
+value_text (Some n) g m = big_bytes 4 n
+value_text None (Some n) m = big_bytes 4 n
+value_text None None (Some n) = big_bytes 4 n
 
 abbrev IsValue : Subject → Option ℕ → Option ℕ → Option ℕ → Type 0
 IsValue subjects.Any None None None = Unit {0}
@@ -199,13 +201,13 @@ node_parts _ _ _ h = absurd h
 
 value_reads : (k : Subject) → ReadsBack Who (value_at k) (λ w. value_text w.uid w.gid w.node) (λ w. IsValue k w.uid w.gid w.node)
 unfolding value_at
-value_reads subjects.Any = reads1 ℕ Who (number_at w32 0 0) (to_be_bytes w32) (Within 0 0) (number_reads w32 (2 ^ 32) 0 0 wide32 (omega arith)) (λ n. who_of None None None) (λ w. value_text w.uid w.gid w.node) (λ w. IsValue subjects.Any w.uid w.gid w.node)
-    (λ n h. let z : 0 ≡ n = omega (arith, h.1) in (ap (to_be_bytes w32) z, tt)) (λ w h. any_parts w.uid w.gid w.node h)
-value_reads subjects.Uid = reads1 ℕ Who u32_at (to_be_bytes w32) IsU32 u32_reads (λ n. who_of (Some n) None None) (λ w. value_text w.uid w.gid w.node) (λ w. IsValue subjects.Uid w.uid w.gid w.node)
+value_reads subjects.Any = reads1 ℕ Who (number_at 4 0 0) (big_bytes 4) (Within 0 0) (number_reads 4 0 0 (omega arith)) (λ n. who_of None None None) (λ w. value_text w.uid w.gid w.node) (λ w. IsValue subjects.Any w.uid w.gid w.node)
+    (λ n h. let z : 0 ≡ n = omega (arith, h.1) in (ap (big_bytes 4) z, tt)) (λ w h. any_parts w.uid w.gid w.node h)
+value_reads subjects.Uid = reads1 ℕ Who u32_at (big_bytes 4) IsU32 u32_reads (λ n. who_of (Some n) None None) (λ w. value_text w.uid w.gid w.node) (λ w. IsValue subjects.Uid w.uid w.gid w.node)
     (λ n h. (refl, h)) (λ w h. uid_parts w.uid w.gid w.node h)
-value_reads subjects.Gid = reads1 ℕ Who u32_at (to_be_bytes w32) IsU32 u32_reads (λ n. who_of None (Some n) None) (λ w. value_text w.uid w.gid w.node) (λ w. IsValue subjects.Gid w.uid w.gid w.node)
+value_reads subjects.Gid = reads1 ℕ Who u32_at (big_bytes 4) IsU32 u32_reads (λ n. who_of None (Some n) None) (λ w. value_text w.uid w.gid w.node) (λ w. IsValue subjects.Gid w.uid w.gid w.node)
     (λ n h. (refl, h)) (λ w h. gid_parts w.uid w.gid w.node h)
-value_reads subjects.Node = reads1 ℕ Who (number_at w32 1 8) (to_be_bytes w32) IsNode (number_reads w32 (2 ^ 32) 1 8 wide32 (omega arith)) (λ n. who_of None None (Some n)) (λ w. value_text w.uid w.gid w.node) (λ w. IsValue subjects.Node w.uid w.gid w.node)
+value_reads subjects.Node = reads1 ℕ Who (number_at 4 1 8) (big_bytes 4) IsNode (number_reads 4 1 8 (omega arith)) (λ n. who_of None None (Some n)) (λ w. value_text w.uid w.gid w.node) (λ w. IsValue subjects.Node w.uid w.gid w.node)
     (λ n h. (refl, h)) (λ w h. node_parts w.uid w.gid w.node h)
 
 joined : (k : Subject) (u g m : Option ℕ) → IsValue k u g m → (single_bytes u g m ≡ subject_code k ∷ value_text u g m) × IsWhoIn One (who_of u g m)

@@ -2,8 +2,10 @@
 -- after it, or none where the bytes are not of its form.
 use Rattle.std.specs.Prelude.{◌≡◌, ℕ, zero, suc, ◌+◌, Bool, true, false, List, [], ◌∷◌, length, take, drop, Option, Some, None, nat_lt, ◌==◌, if◌then◌else◌}
 use Rattle.std.specs.List.{list_all}
-use Rattle.std.specs.Int.{Width, w16, w32, w64, byte_len, from_be_bytes, is_in_range}
+use Rattle.std.specs.Int.{is_in_range}
+use Rattle.byteorder.specs.Endian.{big_number}
 use Rattle.cpg_cred.specs.declared.credentials.Cred.{Cred}
+use Rattle.cpg_cred.specs.declared.nodes.TheConstants.{MOST_NODES}
 use Rattle.cpg_rules.specs.declared.rules.Who.{Who}
 use Rattle.cpg_rules.specs.declared.rules.Rule.{Rule}
 use Rattle.cpg_entry.specs.declared.calls.Call.TheVariants as calls
@@ -15,7 +17,7 @@ use Rattle.cpg_entry.specs.declared.frames.Frame.{Frame}
 use Rattle.cpg_entry.specs.declared.frames.Frame.TheVariants as frames
 use Rattle.cpg_entry.specs.declared.names.TheConstants.{MOST_NAME_BYTES}
 use Rattle.cpg_entry.specs.declared.messages.TheConstants.{MOST_MESSAGE_BYTES}
-use Rattle.cpg_wire.specs.declared.limits.TheConstants.{MOST_HOPS, MOST_PLACES, MOST_REQUESTS}
+use Rattle.cpg_entry.specs.declared.ranges.TheConstants.{MOST_CONNECTIONS, MOST_HOPS, MOST_PLACES, MOST_REQUESTS}
 use Rattle.cpg_wire.specs.declared.codes.TheConstants.{MARK}
 use Rattle.cpg_wire.specs.declared.codes.Version.{Version}
 use Rattle.cpg_wire.specs.declared.codes.Version.TheVariants.{One, Two}
@@ -26,7 +28,7 @@ use Rattle.cpg_wire.specs.declared.codes.OpCode.TheVariants as codes
 use Rattle.cpg_wire.specs.declared.codes.Subject.{Subject}
 use Rattle.cpg_wire.specs.declared.codes.Subject.TheVariants as subjects
 use Rattle.cpg_wire.specs.Codes.{version_of, kind_of, op_code_of, effect_of, right_of, subject_of, subject_code}
-use Rattle.cpg_wire.specs.Ranges.{most_u32}
+use Rattle.cpg_entry.specs.Widths.{most_u32}
 
 -- the next step, where the one before it gave something
 infixl 10 ◌>>=◌
@@ -43,13 +45,13 @@ Reads None left defined = defined ≡ None
 abbrev pub within : ℕ → ℕ → ℕ → List ℕ → Option (ℕ × List ℕ)
 within low high number rest = if is_in_range low high number then Some (number, rest) else None
 
--- a number of several bytes, from low to high
-abbrev pub number_at : Width → ℕ → ℕ → List ℕ → Option (ℕ × List ℕ)
-number_at width low high bytes = if nat_lt (length bytes) (byte_len width) then None else within low high (from_be_bytes width (take (byte_len width) bytes)) (drop (byte_len width) bytes)
+-- a number of that many bytes, the highest first, from low to high
+abbrev pub number_at : ℕ → ℕ → ℕ → List ℕ → Option (ℕ × List ℕ)
+number_at count low high bytes = if nat_lt (length bytes) count then None else within low high (big_number count bytes) (drop count bytes)
 
 -- a number of four bytes
 abbrev pub u32_at : List ℕ → Option (ℕ × List ℕ)
-u32_at bytes = number_at w32 0 most_u32 bytes
+u32_at bytes = number_at 4 0 most_u32 bytes
 
 -- a number of one byte, from low to high
 abbrev pub u8_at : ℕ → ℕ → List ℕ → Option (ℕ × List ℕ)
@@ -96,7 +98,7 @@ name_at bytes = do
 -- a message
 unfoldable pub message_at : List ℕ → Option (List ℕ × List ℕ)
 message_at bytes = do
-  count ← number_at w16 0 MOST_MESSAGE_BYTES bytes
+  count ← number_at 2 0 MOST_MESSAGE_BYTES bytes
   text_at count.0 count.1
 
 -- a condition on that subject where it comes next and one is left, and how many are left then
@@ -104,7 +106,7 @@ unfoldable pub condition_at : Subject → ℕ → ℕ → ℕ → List ℕ → O
 condition_at subject low high zero bytes = Some ((None, 0), bytes)
 condition_at subject low high (suc left) bytes = do
   passed ← passed_at (subject_code subject) bytes
-  if passed.0 then (number_at w32 low high passed.1 >>= λ value. Some ((Some value.0, left), value.1)) else Some ((None, suc left), passed.1)
+  if passed.0 then (number_at 4 low high passed.1 >>= λ value. Some ((Some value.0, left), value.1)) else Some ((None, suc left), passed.1)
 
 -- whom a rule of version 2 speaks of
 unfoldable pub conditions_at : List ℕ → Option (Who × List ℕ)
@@ -112,13 +114,13 @@ conditions_at bytes = do
   count ← u8_at 0 3 bytes
   uid ← condition_at subjects.Uid 0 most_u32 count.0 count.1
   gid ← condition_at subjects.Gid 0 most_u32 uid.0.1 uid.1
-  node ← condition_at subjects.Node 1 8 gid.0.1 gid.1
+  node ← condition_at subjects.Node 1 MOST_NODES gid.0.1 gid.1
   if node.0.1 == 0 then Some (record { uid = uid.0.0; gid = gid.0.0; node = node.0.0 }, node.1) else None
 
 -- the value of the one condition of version 1
 unfoldable pub value_at : Subject → List ℕ → Option (Who × List ℕ)
 value_at subjects.Any bytes = do
-  nothing ← number_at w32 0 0 bytes
+  nothing ← number_at 4 0 0 bytes
   Some (record { uid = None; gid = None; node = None }, nothing.1)
 value_at subjects.Uid bytes = do
   uid ← u32_at bytes
@@ -127,7 +129,7 @@ value_at subjects.Gid bytes = do
   gid ← u32_at bytes
   Some (record { uid = None; gid = Some gid.0; node = None }, gid.1)
 value_at subjects.Node bytes = do
-  node ← number_at w32 1 8 bytes
+  node ← number_at 4 1 MOST_NODES bytes
   Some (record { uid = None; gid = None; node = Some node.0 }, node.1)
 
 -- whom a rule of version 1 speaks of
@@ -182,8 +184,8 @@ op_at version bytes = do
 -- the node, the connection and the process of a sender
 unfoldable pub sender_at : List ℕ → Option ((ℕ × ℕ × ℕ) × List ℕ)
 sender_at bytes = do
-  node ← u8_at 1 8 bytes
-  conn ← number_at w16 1 65535 node.1
+  node ← u8_at 1 MOST_NODES bytes
+  conn ← number_at 2 1 MOST_CONNECTIONS node.1
   pid ← u32_at conn.1
   Some ((node.0, conn.0, pid.0), pid.1)
 
@@ -197,7 +199,7 @@ cred_at bytes = do
 -- a packet of the ring of that number
 unfoldable pub packet_at : Version → ℕ → List ℕ → Option (Packet × List ℕ)
 packet_at version ring bytes = do
-  place ← number_at w32 1 MOST_PLACES bytes
+  place ← number_at 4 1 MOST_PLACES bytes
   sender ← sender_at place.1
   cred ← cred_at sender.1
   op ← op_at version cred.1
@@ -206,8 +208,8 @@ packet_at version ring bytes = do
 -- a token's seq and aru
 unfoldable pub reach_at : List ℕ → Option ((ℕ × ℕ) × List ℕ)
 reach_at bytes = do
-  seq ← number_at w32 0 MOST_PLACES bytes
-  aru ← number_at w32 0 seq.0 seq.1
+  seq ← number_at 4 0 MOST_PLACES bytes
+  aru ← number_at 4 0 seq.0 seq.1
   Some ((seq.0, aru.0), aru.1)
 
 -- the node of that number, none for 0
@@ -218,14 +220,14 @@ owner_of (suc number) = Some (suc number)
 -- a token's aru_id
 unfoldable pub owner_at : List ℕ → Option (Option ℕ × List ℕ)
 owner_at bytes = do
-  number ← u8_at 0 8 bytes
+  number ← u8_at 0 MOST_NODES bytes
   Some (owner_of number.0, number.1)
 
 -- that many places, each above the one before it and at most high
 unfoldable pub places_at : ℕ → ℕ → ℕ → List ℕ → Option (List ℕ × List ℕ)
 places_at zero low high bytes = Some ([], bytes)
 places_at (suc count) low high bytes = do
-  place ← number_at w32 (low + 1) high bytes
+  place ← number_at 4 (low + 1) high bytes
   others ← places_at count place.0 high place.1
   Some (place.0 ∷ others.0, others.1)
 
@@ -238,7 +240,7 @@ rtr_at seq bytes = do
 -- a token of the ring of that number
 unfoldable pub token_at : ℕ → List ℕ → Option (Token × List ℕ)
 token_at ring bytes = do
-  hop ← number_at w64 0 MOST_HOPS bytes
+  hop ← number_at 8 0 MOST_HOPS bytes
   reach ← reach_at hop.1
   owner ← owner_at reach.1
   rtr ← rtr_at reach.0.0 owner.1

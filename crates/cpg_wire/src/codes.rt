@@ -10,6 +10,11 @@ use cpg_entry::{Effect, Right};
 /// The first byte of every frame.
 pub const MARK: u8 = 0x43;
 
+/// The limits of this crate, as numbers: the first byte of every frame is 0x43.
+pub fn limits()
+    ensures { MARK ≡ 0x43 }
+{}
+
 /// The two ways to spell a frame, which differ in how a rule is spelled: version 1 has room for one
 /// condition, version 2 for one of each kind. Both are read, and the second alone is written.
 #[derive(Debug, Clone, Copy, PartialEq, Eq)]

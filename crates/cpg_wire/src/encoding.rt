@@ -6,17 +6,18 @@
 ghost use Rattle.std.specs.Prelude.{◌≡◌, ◌≤◌, ◌++◌, ◌∷◌, length, OnOk, IfOk, IsOkUnless};
 ghost use Rattle.cpg_entry.specs.declared.frames.Frame.TheVariants as frames;
 ghost use Rattle.cpg_wire.specs.declared.codes.Version.TheVariants.{Two};
-ghost use Rattle.std.specs.Int.{w32, to_be_bytes};
+ghost use Rattle.byteorder.specs.Endian.{big_bytes};
 ghost use Rattle.cpg_wire.specs.Codes.{version_code, kind_code};
-ghost use Rattle.cpg_wire.specs.Ranges.{IsCall, IsOp, IsPacket, IsToken, given, conditions};
-ghost use Rattle.cpg_wire.specs.Spelling.{name_bytes, message_bytes, condition_bytes, who_bytes, rule_bytes, call_bytes, op_bytes, sender_bytes, cred_bytes, packet_bytes, owner_code, reach_bytes, places_bytes, wants_bytes, token_bytes, spelling};
+ghost use Rattle.cpg_entry.specs.Ranges.{IsCall, IsOp, IsPacket, IsToken};
+ghost use Rattle.cpg_wire.specs.Versions.{given, conditions};
+ghost use Rattle.cpg_wire.specs.Spelling.{name_bytes, message_bytes, condition_bytes, who_bytes, rule_bytes, call_bytes, op_bytes, sender_bytes, cred_bytes, packet_bytes, owner_code, reach_bytes, places_bytes, wants_bytes, token_bytes, spelling, SpellsIn};
 
 use crate::codes::{Kind, MARK, OpCode, Subject, Version, effect_byte, right_byte};
-use crate::limits::MOST_REQUESTS;
+use byteorder::{BigEndian, WriteBytesExt};
 use bytes::{BufMut, Bytes};
 use cpg_entry::{
-    Call, Cred, Entry, MOST_MESSAGE_BYTES, MOST_NAME_BYTES, NodeId, Op, Packet, Refusal, Rule,
-    Token, Who,
+    Call, Cred, Entry, MOST_MESSAGE_BYTES, MOST_NAME_BYTES, MOST_REQUESTS, NodeId, Op, Packet,
+    Refusal, Rule, Token, Who, packet_fits, token_fits,
 };
 use std::alloc::{AllocError, Global};
 
@@ -26,24 +27,26 @@ const DATA_ROOM: usize = 47;
 /// How many bytes a token's frame takes beside its places.
 const TOKEN_ROOM: usize = 25;
 
-/// The spelling of version 2 of a packet.
+/// The spelling of version 2 of a packet that keeps the rules of a frame.
 pub fn encode_data(alloc: Global, packet: &Packet) -> Result<Bytes, Refusal>
     requires { IsPacket packet.now }
-    ensures ok { IfOk result (λ bytes. bytes ≡ spelling Two (frames.Packet packet.now)) }
+    ensures ok { IfOk result (λ bytes. SpellsIn Two bytes (frames.Packet packet.now)) }
     ensures memory { IsOkUnless result Refusal.Memory }
 {
+    packet_fits(packet);
     let mut out = Vec::with_capacity(alloc, DATA_ROOM + text_len(&packet.entry.op))?;
     put_head(&mut out, Kind::Data, packet.ring)?;
     put_packet(&mut out, packet)?;
     Ok(Bytes::from_vec(out)?)
 }
 
-/// The spelling of version 2 of a token.
+/// The spelling of version 2 of a token that keeps the rules of a frame.
 pub fn encode_token(alloc: Global, token: &Token) -> Result<Bytes, Refusal>
     requires { IsToken token.now }
-    ensures ok { IfOk result (λ bytes. bytes ≡ spelling Two (frames.Token token.now)) }
+    ensures ok { IfOk result (λ bytes. SpellsIn Two bytes (frames.Token token.now)) }
     ensures memory { IsOkUnless result Refusal.Memory }
 {
+    token_fits(token);
     let mut out = Vec::with_capacity(alloc, TOKEN_ROOM + 4 * token.rtr.as_slice().len())?;
     put_head(&mut out, Kind::Token, token.ring)?;
     put_token(&mut out, token)?;
@@ -64,20 +67,41 @@ fn text_len(op: &Op) -> usize
     }
 }
 
+/// Two bytes, the highest first.
+fn put_u16(out: &mut Vec<u8>, number: u16) -> Result<(), AllocError>
+    ensures { OnOk result (out.new.items ≡ out.old.items ++ big_bytes 2 number) }
+{
+    out.write_u16::<BigEndian>(number).map_err(|_| AllocError)
+}
+
+/// Four bytes, the highest first.
+fn put_u32(out: &mut Vec<u8>, number: u32) -> Result<(), AllocError>
+    ensures { OnOk result (out.new.items ≡ out.old.items ++ big_bytes 4 number) }
+{
+    out.write_u32::<BigEndian>(number).map_err(|_| AllocError)
+}
+
+/// Eight bytes, the highest first.
+fn put_u64(out: &mut Vec<u8>, number: u64) -> Result<(), AllocError>
+    ensures { OnOk result (out.new.items ≡ out.old.items ++ big_bytes 8 number) }
+{
+    out.write_u64::<BigEndian>(number).map_err(|_| AllocError)
+}
+
 fn put_head(out: &mut Vec<u8>, kind: Kind, ring: u32) -> Result<(), AllocError>
-    ensures { OnOk result (out.new.items ≡ out.old.items ++ (MARK ∷ version_code Two ∷ kind_code kind ∷ to_be_bytes w32 ring)) }
+    ensures { OnOk result (out.new.items ≡ out.old.items ++ (MARK ∷ version_code Two ∷ kind_code kind ∷ big_bytes 4 ring)) }
 {
     out.put_u8(MARK)?;
     out.put_u8(Version::Two.byte())?;
     out.put_u8(kind.byte())?;
-    out.put_u32(ring)
+    put_u32(out, ring)
 }
 
 fn put_packet(out: &mut Vec<u8>, packet: &Packet) -> Result<(), AllocError>
     requires { IsOp packet.now.entry.op }
     ensures { OnOk result (out.new.items ≡ out.old.items ++ packet_bytes Two packet.now) }
 {
-    out.put_u32(packet.place)?;
+    put_u32(out, packet.place)?;
     put_sender(out, &packet.entry)?;
     put_cred(out, &packet.entry.cred)?;
     put_op(out, &packet.entry.op)
@@ -87,15 +111,15 @@ fn put_sender(out: &mut Vec<u8>, entry: &Entry) -> Result<(), AllocError>
     ensures { OnOk result (out.new.items ≡ out.old.items ++ sender_bytes entry.now) }
 {
     out.put_u8(entry.node.get())?;
-    out.put_u16(entry.conn)?;
-    out.put_u32(entry.pid)
+    put_u16(out, entry.conn)?;
+    put_u32(out, entry.pid)
 }
 
 fn put_cred(out: &mut Vec<u8>, cred: &Cred) -> Result<(), AllocError>
     ensures { OnOk result (out.new.items ≡ out.old.items ++ cred_bytes cred.now) }
 {
-    out.put_u32(cred.uid)?;
-    out.put_u32(cred.gid)
+    put_u32(out, cred.uid)?;
+    put_u32(out, cred.gid)
 }
 
 fn put_op(out: &mut Vec<u8>, op: &Op) -> Result<(), AllocError>
@@ -131,7 +155,7 @@ fn put_call(out: &mut Vec<u8>, call: &Call) -> Result<(), AllocError>
         Call::Remove(name, id) => {
             out.put_u8(OpCode::Remove.byte())?;
             put_name(out, name.as_slice())?;
-            out.put_u32(*id)
+            put_u32(out, *id)
         }
     }
 }
@@ -148,7 +172,7 @@ fn put_message(out: &mut Vec<u8>, message: &[u8]) -> Result<(), AllocError>
     requires { length message.now ≤ MOST_MESSAGE_BYTES }
     ensures { OnOk result (out.new.items ≡ out.old.items ++ message_bytes message.now) }
 {
-    out.put_u16(message.len() as u16)?;
+    put_u16(out, message.len() as u16)?;
     out.put_slice(message)
 }
 
@@ -193,7 +217,7 @@ fn put_condition(out: &mut Vec<u8>, subject: Subject, value: Option<u32>) -> Res
         None => Ok(()),
         Some(value) => {
             out.put_u8(subject.byte())?;
-            out.put_u32(value)
+            put_u32(out, value)
         }
     }
 }
@@ -202,7 +226,7 @@ fn put_token(out: &mut Vec<u8>, token: &Token) -> Result<(), AllocError>
     requires { length token.now.rtr ≤ MOST_REQUESTS }
     ensures { OnOk result (out.new.items ≡ out.old.items ++ token_bytes token.now) }
 {
-    out.put_u64(token.hop)?;
+    put_u64(out, token.hop)?;
     put_reach(out, token)?;
     put_wants(out, token)
 }
@@ -210,8 +234,8 @@ fn put_token(out: &mut Vec<u8>, token: &Token) -> Result<(), AllocError>
 fn put_reach(out: &mut Vec<u8>, token: &Token) -> Result<(), AllocError>
     ensures { OnOk result (out.new.items ≡ out.old.items ++ reach_bytes token.now) }
 {
-    out.put_u32(token.seq)?;
-    out.put_u32(token.aru)
+    put_u32(out, token.seq)?;
+    put_u32(out, token.aru)
 }
 
 fn put_wants(out: &mut Vec<u8>, token: &Token) -> Result<(), AllocError>
@@ -237,7 +261,7 @@ fn put_places(out: &mut Vec<u8>, places: &[u32]) -> Result<(), AllocError>
 {
     out.put_u8(places.len() as u8)?;
     for place in places {
-        out.put_u32(*place)?;
+        put_u32(out, *place)?;
     }
     Ok(())
 }

@@ -6,7 +6,8 @@
 ghost use Rattle.std.specs.Prelude.{◌≡◌, ◌↔◌, ◌⊎◌, IfOk, IfErr, IsOkUnless, option_map};
 ghost use Rattle.cpg_entry.specs.declared.frames.Frame.{Frame};
 ghost use Rattle.cpg_wire.specs.Answering.{Answers};
-ghost use Rattle.cpg_wire.specs.Ranges.{IsFrame};
+ghost use Rattle.cpg_entry.specs.Ranges.{IsFrame};
+ghost use Rattle.cpg_entry.specs.Widths.{FrameFits};
 ghost use Rattle.cpg_wire.specs.Reading.{Reads, head_at, carried_at, frame_at, frame_of};
 ghost use Rattle.cpg_wire.specs.Spelling.{Spells};
 ghost use Rattle.cpg_wire.specs.Views.{frame_seen};
@@ -85,15 +86,15 @@ fn read_head(input: &mut Input<'_>) -> Option<(Version, Kind, u32)>
     Some((version, kind, ring))
 }
 
-/// The frame that the bytes spell, in either version; `Malformed` where they spell none. Memory is asked
-/// for only once the bytes are known to spell a frame.
+/// The frame that the bytes spell, in either version; `Malformed` where they spell none. Bytes that
+/// spell none are never answered with `Memory`.
 pub fn decode(alloc: Global, bytes: &[u8]) -> Result<Frame, Refusal>
     // What is given is spelled so, and no bytes spell two frames.
     ensures ok { IfOk result (λ frame. Spells bytes.now frame) }
     ensures malformed { (result ≡ Err Refusal.Malformed) ↔ ((frame : Frame) → Spells bytes.now frame → ⊥) }
     ensures err { IfErr result (λ refusal. (refusal ≡ Refusal.Malformed) ⊎ (refusal ≡ Refusal.Memory)) }
-    // Whichever version it came in, it may be encoded.
-    ensures range { IfOk result IsFrame }
+    // Whichever version it came in, it keeps the rules, and so may be encoded.
+    ensures range { IfOk result (λ frame. IsFrame frame × FrameFits frame) }
     // The same by the function that reads.
     ensures exact { Answers result (frame_of bytes.now) }
 {

@@ -4,10 +4,9 @@
 //! definition that it names, and it gives none exactly where that does; then nothing is said of the rest.
 
 ghost use Rattle.std.specs.Prelude.{◌≡◌, ◌≤◌, ◌==◌, length, IfSome, option_map};
-ghost use Rattle.std.specs.Int.{w16, w32, w64};
 ghost use Rattle.cpg_wire.specs.Reading.{Reads, number_at, u32_at, u8_at, byte_at, passed_at, text_at};
 
-use bytes::Buf;
+use byteorder::{BigEndian, ByteOrder};
 use std::marker::Model;
 
 /// The bytes that are still to be read. Contracts see it as their list.
@@ -80,27 +79,33 @@ impl<'a> Input<'a> {
 
     /// The next two bytes as a number, where it is from `low` to `high`.
     pub fn u16_within(&mut self, low: u16, high: u16) -> Option<u16>
-        ensures { Reads result self.new (number_at w16 low high self.old) }
+        ensures { Reads result self.new (number_at 2 low high self.old) }
     {
-        let number = self.rest.try_get_u16().ok()?;
-        if number >= low && number <= high {
-            Some(number)
-        } else {
-            None
+        if self.rest.len() < 2 {
+            return None;
         }
+        let number = BigEndian::read_u16(self.rest);
+        if number < low || number > high {
+            return None;
+        }
+        self.rest = &self.rest[2..];
+        Some(number)
     }
 
     /// The next four bytes as a number, where it is from `low` to `high`.
     pub fn u32_within(&mut self, low: u32, high: u32) -> Option<u32>
-        ensures reads { Reads result self.new (number_at w32 low high self.old) }
+        ensures reads { Reads result self.new (number_at 4 low high self.old) }
         ensures range { IfSome result (λ number. (low ≤ number) × (number ≤ high)) }
     {
-        let number = self.rest.try_get_u32().ok()?;
-        if number >= low && number <= high {
-            Some(number)
-        } else {
-            None
+        if self.rest.len() < 4 {
+            return None;
         }
+        let number = BigEndian::read_u32(self.rest);
+        if number < low || number > high {
+            return None;
+        }
+        self.rest = &self.rest[4..];
+        Some(number)
     }
 
     /// The next four bytes as a number.
@@ -112,14 +117,17 @@ impl<'a> Input<'a> {
 
     /// The next eight bytes as a number, where it is from `low` to `high`.
     pub fn u64_within(&mut self, low: u64, high: u64) -> Option<u64>
-        ensures { Reads result self.new (number_at w64 low high self.old) }
+        ensures { Reads result self.new (number_at 8 low high self.old) }
     {
-        let number = self.rest.try_get_u64().ok()?;
-        if number >= low && number <= high {
-            Some(number)
-        } else {
-            None
+        if self.rest.len() < 8 {
+            return None;
         }
+        let number = BigEndian::read_u64(self.rest);
+        if number < low || number > high {
+            return None;
+        }
+        self.rest = &self.rest[8..];
+        Some(number)
     }
 
     /// The next `count` bytes.

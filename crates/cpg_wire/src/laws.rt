@@ -4,7 +4,9 @@ ghost use Rattle.std.specs.Prelude.{◌≡◌, ◌<◌, ◌↔◌, ℕ, List, So
 ghost use Rattle.cpg_entry.specs.declared.frames.Frame.{Frame};
 ghost use Rattle.cpg_wire.specs.declared.codes.Version.{Version};
 ghost use Rattle.cpg_wire.specs.declared.codes.Version.TheVariants.{One, Two};
-ghost use Rattle.cpg_wire.specs.Ranges.{IsFrame, Fits};
+ghost use Rattle.cpg_entry.specs.Ranges.{IsFrame};
+ghost use Rattle.cpg_entry.specs.Widths.{FrameFits};
+ghost use Rattle.cpg_wire.specs.Versions.{Fits};
 ghost use Rattle.cpg_wire.specs.Reading.{frame_of};
 ghost use Rattle.cpg_wire.specs.Spelling.{Spells, spelling, HasOneSpelling};
 
@@ -16,12 +18,12 @@ pub fn spells_one_frame()
 /// A frame within its ranges has exactly one spelling of version 2, and exactly one of version 1 where the
 /// rule in it, if any, has at most one condition.
 pub fn has_one_spelling()
-    ensures two { (frame : Frame) → IsFrame frame → HasOneSpelling Two frame }
-    ensures one { (frame : Frame) → IsFrame frame → Fits One frame → HasOneSpelling One frame }
+    ensures two { (frame : Frame) → IsFrame frame → FrameFits frame → HasOneSpelling Two frame }
+    ensures one { (frame : Frame) → IsFrame frame → FrameFits frame → Fits One frame → HasOneSpelling One frame }
 {}
 
 /// Reading bytes gives a frame exactly where they spell it.
 pub fn reads_what_is_spelled()
     ensures exact { (bytes : List ℕ) (frame : Frame) → ((i : ℕ) → slice_index bytes i < 256) → (frame_of bytes ≡ Some frame) ↔ Spells bytes frame }
-    ensures again { (version : Version) (frame : Frame) → IsFrame frame → Fits version frame → frame_of (spelling version frame) ≡ Some frame }
+    ensures again { (version : Version) (frame : Frame) → IsFrame frame → FrameFits frame → Fits version frame → frame_of (spelling version frame) ≡ Some frame }
 {}

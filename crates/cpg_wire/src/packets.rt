@@ -9,9 +9,8 @@ ghost use Rattle.cpg_wire.specs.Views.{packet_seen};
 use crate::codes::Version;
 use crate::fields::read_node;
 use crate::input::Input;
-use crate::limits::MOST_PLACES;
 use crate::ops::OpView;
-use cpg_entry::{Cred, Entry, NodeId, Packet, Refusal};
+use cpg_entry::{Cred, Entry, MOST_CONNECTIONS, MOST_PLACES, NodeId, Packet, Refusal};
 use std::alloc::Global;
 
 /// A packet whose name or message stands in the frame.
@@ -73,7 +72,7 @@ fn read_sender(input: &mut Input<'_>) -> Option<(NodeId, u16, u32)>
     ensures { Reads result input.new (sender_at input.old) }
 {
     let node = read_node(input)?;
-    let conn = input.u16_within(1, u16::MAX)?;
+    let conn = input.u16_within(1, MOST_CONNECTIONS)?;
     let pid = input.u32()?;
     Some((node, conn, pid))
 }

@@ -4,13 +4,14 @@
 //! order uid, gid, node. Proved: each function reads what its definition in `specs/Reading.antt` does.
 
 ghost use Rattle.std.specs.Prelude.{◌≤◌, IfSome};
-ghost use Rattle.cpg_wire.specs.Ranges.{most_u32};
+ghost use Rattle.cpg_entry.specs.Widths.{most_u32};
 ghost use Rattle.cpg_wire.specs.Reading.{Reads, condition_at, conditions_at, value_at, single_at, who_at, rule_at};
 ghost use Rattle.cpg_wire.specs.declared.codes.Subject.TheVariants.{Node};
 
 use crate::codes::{Subject, Version, read_effect, read_right};
 use crate::fields::read_wide_node;
 use crate::input::Input;
+use cpg_cred::MOST_NODES;
 use cpg_entry::{NodeId, Rule, Who};
 
 #[tactic(auto, unfolding(crate::specs::Reading::rule_at))]
@@ -94,9 +95,9 @@ fn read_condition(
 }
 
 fn read_node_condition(input: &mut Input<'_>, left: u8) -> Option<(Option<NodeId>, u8)>
-    ensures { Reads result input.new (condition_at Node 1 8 left input.old) }
+    ensures { Reads result input.new (condition_at Node 1 MOST_NODES left input.old) }
 {
-    let (value, left) = read_condition(input, Subject::Node, 1, 8, left)?;
+    let (value, left) = read_condition(input, Subject::Node, 1, u32::from(MOST_NODES), left)?;
     match value {
         None => Some((None, left)),
         Some(number) => Some((NodeId::new(number as u8), left)),

@@ -8,9 +8,8 @@ ghost use Rattle.cpg_wire.specs.Views.{token_seen};
 
 use crate::fields::read_owner;
 use crate::input::Input;
-use crate::limits::{MOST_HOPS, MOST_PLACES, MOST_REQUESTS};
 use arrayvec::ArrayVec;
-use cpg_entry::{NodeId, Places, Refusal, Token};
+use cpg_entry::{MOST_HOPS, MOST_PLACES, MOST_REQUESTS, NodeId, Places, Refusal, Token};
 use std::alloc::Global;
 
 /// A token whose places take no memory.

@@ -6,7 +6,7 @@
 #![tactic(auto)]
 
 ghost use Rattle.std.specs.Prelude.{◌≤◌, IfOk};
-ghost use Rattle.cpg_wire.specs.Ranges.{IsPacket};
+ghost use Rattle.cpg_entry.specs.Ranges.{IsPacket};
 
 use cpg_wire::{
     Call, Cred, Entry, MOST_MESSAGE_BYTES, Message, NodeId, Op, Packet, Refusal, decode,

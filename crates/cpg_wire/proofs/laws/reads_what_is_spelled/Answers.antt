@@ -7,4 +7,4 @@ pub returns-clause-exact : goal.returns-clause-exact
 returns-clause-exact c = λ bytes frame fits. (read_is_spelled bytes frame fits, spelled_is_read bytes frame)
 
 pub returns-clause-again : goal.returns-clause-again
-returns-clause-again c = λ version frame is fits. spelled_is_read (spelling version frame) frame (version, (is, fits, refl))
+returns-clause-again c = λ version frame is typed fits. spelled_is_read (spelling version frame) frame (version, (is, typed, fits, refl))
