@@ -70,7 +70,7 @@ pub record Accepted (s : Settings) (r : NodeState) (t : Token) : Type 0 where
   pub hop : t.hop < s.hops
 
 pub accepted : (s : Settings) (n : ℕ) (r : NodeState) (t : Token) → token_refusal s n r t ≡ None → Accepted s r t
-accepted s n r t none = by_tests (t.ring == s.ring) (node_of s t.hop == n) (is_past t.hop r.last) (list_any (nat_lt t.seq) (keys r.held)) (nat_lt s.places t.seq) (nat_le s.hops t.hop) refl refl refl none
+accepted s n r t none = by_tests (t.ring == s.ring) (node_of s t.hop == n) (is_past t.hop r.last_hop) (list_any (nat_lt t.seq) (keys r.held)) (nat_lt s.places t.seq) (nat_le s.hops t.hop) refl refl refl none
   where
     some-none : (x : Rattle.cpg_cred.specs.declared.refusals.Refusal.Refusal) → Some x ≡ None → ⊥
     some-none x e = none-some x (sym e)

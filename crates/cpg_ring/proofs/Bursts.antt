@@ -9,7 +9,8 @@ use Rattle.cpg_ring.specs.States.{Entry, Settings, HeldPlaces, Holds, is_held}
 use Rattle.cpg_ring.specs.Visits.{placed, hold_all, held_through, reach, up_to, is_wanted}
 use Rattle.cpg_ring.specs.Laws.{AllHeld}
 use Rattle.cpg_ring.specs.Kept.{places_of, pairs_from}
-use Rattle.cpg_ring.specs.Rings.{RingNode, held_after}
+use Rattle.cpg_ring.specs.Rings.{RingNode}
+use Rattle.cpg_ring.specs.Steps.{held_after}
 use Rattle.cpg_ring.proofs.Holding.{put_same, put_other}
 use Rattle.cpg_ring.proofs.Kept.{reach_on}
 use Rattle.cpg_ring.proofs.Amounts.{placed_held, holds_of, is_some_of}

@@ -17,8 +17,8 @@ FrameFits s A C (frame.Token t) = (t.ring ≡ s.ring) × (slice_get C t.hop ≡ 
 pub record NodeFits (A : List Entry) (hop : ℕ) (sent : List Frame) (n : ℕ) (r : NodeState) : Type 0 where
   pub held : Agrees r.held A
   pub delivered : (place : ℕ) → 1 ≤ place → place ≤ r.delivered → (e : Entry) × (get r.held place ≡ Some e)
-  pub before : (h : ℕ) → r.last ≡ Some h → h < hop
-  pub resent : (t : Token) → r.sent ≡ Some t → Contains sent (frame.Token t)
+  pub before : (h : ℕ) → r.last_hop ≡ Some h → h < hop
+  pub resent : (t : Token) → r.last_token ≡ Some t → Contains sent (frame.Token t)
   pub own : All (λ e. e.node ≡ n) r.waiting
 
 pub record Inv (s : Settings) (w : World) (A : List Entry) (C : List Token) (L : Token) : Type 0 where
@@ -30,7 +30,7 @@ pub record Inv (s : Settings) (w : World) (A : List Entry) (C : List Token) (L :
   pub count : length A ≡ L.seq
   pub enough : L.seq ≤ length w.sent
   pub room : L.seq ≤ s.places
-  pub past : (h : ℕ) (r : NodeState) → h < L.hop → item w.nodes (node_of s h) ≡ Some r → is_past h r.last ≡ true
+  pub past : (h : ℕ) (r : NodeState) → h < L.hop → item w.nodes (node_of s h) ≡ Some r → is_past h r.last_hop ≡ true
   pub nodes : (n : ℕ) (r : NodeState) → item w.nodes n ≡ Some r → NodeFits A L.hop w.sent n r
 
 -- node n is as given, and has sent these
@@ -51,7 +51,7 @@ frame_later s A B C D (frame.Packet p) h = (h.0, item_front A B p.place p.entry 
 frame_later s A B C D (frame.Token t) h = (h.0, get_front C D t.hop t h.1)
 
 -- an event of node n that takes no place and makes no token
-pub quiet : (s : Settings) (w : World) (A : List Entry) (C : List Token) (L : Token) (n : ℕ) (r new : NodeState) (frames : List Frame) → Inv s w A C L → item w.nodes n ≡ Some r → ((f : Frame) → Contains frames f → Contains w.sent f) → r.last ≡ new.last → NodeFits A L.hop (w.sent ++ frames) n new → Inv s (after w n new frames) A C L
+pub quiet : (s : Settings) (w : World) (A : List Entry) (C : List Token) (L : Token) (n : ℕ) (r new : NodeState) (frames : List Frame) → Inv s w A C L → item w.nodes n ≡ Some r → ((f : Frame) → Contains frames f → Contains w.sent f) → r.last_hop ≡ new.last_hop → NodeFits A L.hop (w.sent ++ frames) n new → Inv s (after w n new frames) A C L
 quiet s w A C L n r new frames i is again same fits = record {
   frames = λ f c. i.frames f (⊎_elim (λ x. x) (again f) (Contains-append_cases w.sent frames f c));
   entries = λ place e g. Contains-append_left w.sent frames _ (i.entries place e g);
@@ -62,7 +62,7 @@ quiet s w A C L n r new frames i is again same fits = record {
   enough = let e = i.enough in let l = length-append w.sent frames in omega arith;
   room = i.room;
   past = λ h q before at. ⊎_elim
-      (λ (x : (node_of s h ≡ n) × (new ≡ q)). subst (λ (y : NodeState). is_past h y.last ≡ true) x.1 (subst (λ l. is_past h l ≡ true) same (i.past h r before (subst (λ m. item w.nodes m ≡ Some r) (sym x.0) is))))
+      (λ (x : (node_of s h ≡ n) × (new ≡ q)). subst (λ (y : NodeState). is_past h y.last_hop ≡ true) x.1 (subst (λ l. is_past h l ≡ true) same (i.past h r before (subst (λ m. item w.nodes m ≡ Some r) (sym x.0) is))))
       (λ (x : (node_of s h ≢ n) × (item w.nodes (node_of s h) ≡ Some q)). i.past h q before x.1)
       (with_item_cases w.nodes n (node_of s h) new q at);
   nodes = λ m q at. ⊎_elim

@@ -46,13 +46,13 @@ newest_or_lower s w A C L t i sent =
 -- an accepted one is the newest, at its node
 pub accepted_is_newest : (s : Settings) (w : World) (A : List Entry) (C : List Token) (L t : Token) (n : ℕ) (r : NodeState) → Inv s w A C L → Contains w.sent (frame.Token t) → item w.nodes n ≡ Some r → token_refusal s n r t ≡ None → (t ≡ L) × (node_of s t.hop ≡ n)
 accepted_is_newest s w A C L t n r i sent is none =
-    let parts = none_of (t.ring == s.ring) (node_of s t.hop == n) (is_past t.hop r.last) (list_any (nat_lt t.seq) (keys r.held) || nat_lt s.places t.seq) (nat_le s.hops t.hop) none in
+    let parts = none_of (t.ring == s.ring) (node_of s t.hop == n) (is_past t.hop r.last_hop) (list_any (nat_lt t.seq) (keys r.held) || nat_lt s.places t.seq) (nat_le s.hops t.hop) none in
     let mine : node_of s t.hop ≡ n = eqb-true (node_of s t.hop) n parts.1 in
     (⊎_elim (λ x. x) (λ (lower : t.hop < L.hop). absurd (true≢false (sym (i.past t.hop r lower (ap (item w.nodes) mine ∙ is)) ∙ parts.2))) (newest_or_lower s w A C L t i sent), mine)
 
 pub lower_is_refused : (s : Settings) (w : World) (A : List Entry) (C : List Token) (L t : Token) (n : ℕ) (r : NodeState) → Inv s w A C L → Contains w.sent (frame.Token t) → item w.nodes n ≡ Some r → t.hop < L.hop → (token_refusal s n r t ≡ Some NotMine) ⊎ (token_refusal s n r t ≡ Some Stale)
 lower_is_refused s w A C L t n r i sent is lower =
-    past_of (t.ring == s.ring) (node_of s t.hop == n) (is_past t.hop r.last) (list_any (nat_lt t.seq) (keys r.held) || nat_lt s.places t.seq) (nat_le s.hops t.hop)
+    past_of (t.ring == s.ring) (node_of s t.hop == n) (is_past t.hop r.last_hop) (list_any (nat_lt t.seq) (keys r.held) || nat_lt s.places t.seq) (nat_le s.hops t.hop)
     (eq-eqb t.ring s.ring (i.frames (frame.Token t) sent).0)
     (λ m. i.past t.hop r lower (ap (item w.nodes) (eqb-true (node_of s t.hop) n m) ∙ is))
 
@@ -93,8 +93,8 @@ not_past hop (Some last) h = lt-leb hop last (h last refl)
 pub newest_goes : (s : Settings) (w : World) (A : List Entry) (C : List Token) (L : Token) (r : NodeState) → Inv s w A C L → item w.nodes (node_of s L.hop) ≡ Some r → token_refusal s (node_of s L.hop) r L ≡ (if nat_le s.hops L.hop then Some RingEnd else None)
 newest_goes s w A C L r i is =
     let node = i.nodes (node_of s L.hop) r is in
-    goes_of (L.ring == s.ring) (node_of s L.hop == node_of s L.hop) (is_past L.hop r.last) (list_any (nat_lt L.seq) (keys r.held) || nat_lt s.places L.seq) (nat_le s.hops L.hop)
+    goes_of (L.ring == s.ring) (node_of s L.hop == node_of s L.hop) (is_past L.hop r.last_hop) (list_any (nat_lt L.seq) (keys r.held) || nat_lt s.places L.seq) (nat_le s.hops L.hop)
     (eq-eqb L.ring s.ring (i.frames (frame.Token L) (i.tokens L.hop L i.newest).1).0)
     (eq-eqb (node_of s L.hop) (node_of s L.hop) refl)
-    (not_past L.hop r.last node.before)
+    (not_past L.hop r.last_hop node.before)
     (ap (λ b. b || nat_lt s.places L.seq) (none_above r.held A L.seq node.held i.count (list_any (nat_lt L.seq) (keys r.held)) refl) ∙ le-ltb s.places L.seq i.room)

@@ -1,5 +1,5 @@
 -- What a ring's fields tell of the places that it holds.
-use Rattle.std.proofs.Common.{◌≡◌, ◌≢◌, ℕ, suc, ◌+◌, ◌≤◌, Bool, true, false, not, cond, if◌then◌else◌, ◌==◌, nat_lt, ltb-false, is_some, List, [], ◌∷◌, ◌++◌, Option, Some, None, IsSome, refl, sym, ap, ◌∙◌, subst, ⊎_elim, arith, eqb, eqb-true, true≢false}
+use Rattle.std.proofs.Common.{◌≡◌, ◌≢◌, ℕ, suc, ◌+◌, ◌<◌, ◌≤◌, IfSome, Bool, true, false, not, cond, if◌then◌else◌, ◌==◌, nat_lt, ltb-false, is_some, List, [], ◌∷◌, ◌++◌, Option, Some, None, IsSome, refl, sym, ap, ◌∙◌, subst, ⊎_elim, arith, eqb, eqb-true, true≢false}
 use Rattle.std.specs.List.{AllByRecursion}
 use Rattle.std.specs.Ordering.{nat_cmp}
 use Rattle.std.specs.Cmp.{nat_cmp_total, unsigned_tied}
@@ -32,6 +32,14 @@ holds_some held place h = by_value (get held place) refl h
     by_value : (o : Option Entry) → get held place ≡ o → IsSome o → Holds held place
     by_value None is h = absurd (true≢false (sym h))
     by_value (Some e) is h = (e, is)
+
+-- a place that is delivered next is one of those up to m
+pub next_within : (held : HeldPlaces) (d m : ℕ) → ((place : ℕ) → Holds held place → place ≤ m) → IfSome (get held (suc d)) (λ _. d < m)
+next_within held d m within = by_value (get held (suc d)) refl
+  where
+    by_value : (o : Option Entry) → get held (suc d) ≡ o → IfSome o (λ _. d < m)
+    by_value None is = tt
+    by_value (Some e) is = let l = within (suc d) (e, is) in omega arith
 
 -- one place more is delivered
 pub one_further : (s : Settings) (n : ℕ) (kept : List (ℕ × Entry)) (d : ℕ) → IsKept s n kept d → IsSome (get (places_of kept) (suc d)) → IsKept s n kept (d + 1)
@@ -76,4 +84,4 @@ kept_one_more s n d kept new place e h is within none = subst (λ l. IsKept s n 
 
 -- the node holding something else
 abbrev pub with_held : RingNode → HeldPlaces → RingNode
-with_held x held = record { settings = x.settings; node = x.node; state = record { last = x.state.last; sent = x.state.sent; held = held; delivered = x.state.delivered; waiting = x.state.waiting; arus = x.state.arus } }
+with_held x held = record { settings = x.settings; node = x.node; state = record { last_hop = x.state.last_hop; last_token = x.state.last_token; held = held; delivered = x.state.delivered; waiting = x.state.waiting; arus = x.state.arus } }

@@ -11,7 +11,7 @@ use Rattle.cpg_ring.specs.States.{Entry, Packet, Token, Frame, Refusal, Settings
 use Rattle.cpg_cred.specs.declared.refusals.Refusal.TheVariants.{Foreign, Held, FarAhead, Implausible}
 use Rattle.cpg_ring.specs.Visits.{node_of, token_refusal, burst_size, visit_step, up_to}
 use Rattle.cpg_ring.specs.Moves.{data_refusal, is_full, after_entry, new_node, first_token}
-use Rattle.cpg_ring.specs.Worlds.{World, Event, Enqueue, EnqueueEnd, Arrive, Timer, Deliver, Move, item, with_item, enqueue, enqueue_end, accept, receive, receive_token, receive_data, send_again, deliver, moved, happens, run, start}
+use Rattle.cpg_ring.specs.Worlds.{World, Event, Enqueue, EnqueueEnd, Arrive, Timer, Deliver, Move, item, with_item, enqueue, enqueue_end, accept, receive, receive_token, receive_data, send_again, deliver, moved, happens, run, start, Reached}
 use Rattle.cpg_ring.specs.Claims.{Chain, Agreement, Safe, OnceInOrder, by_node, waiting_at, entries_of, if_room, if_there, admits, admitted}
 use Rattle.cpg_ring.proofs.Lists.{contains_none, contains_one, item_within, contains_item, item_there, item_with_same, item_with_other}
 use Rattle.cpg_ring.proofs.Holding.{put_agrees, put_grows}
@@ -82,11 +82,11 @@ tours_begin s = record {
   safe = λ n m r q place at at' low high. absurd (let l = subst (λ a. place ≤ safe_mark a) (fresh n r at).1 high in omega arith);
 }
   where
-    made : (o : Option ℕ) (r : NodeState) → option_map (new_node s) o ≡ Some r → (r.last ≡ None) × (r.arus ≡ [])
+    made : (o : Option ℕ) (r : NodeState) → option_map (new_node s) o ≡ Some r → (r.last_hop ≡ None) × (r.arus ≡ [])
     made None r e = absurd (none-some r e)
-    made (Some m) r e = subst (λ (x : NodeState). (x.last ≡ None) × (x.arus ≡ [])) (same_Some (new_node s m) r e) (refl, refl)
+    made (Some m) r e = subst (λ (x : NodeState). (x.last_hop ≡ None) × (x.arus ≡ [])) (same_Some (new_node s m) r e) (refl, refl)
 
-    fresh : (n : ℕ) (r : NodeState) → item (map (new_node s) (up_to s.nodes)) n ≡ Some r → (r.last ≡ None) × (r.arus ≡ [])
+    fresh : (n : ℕ) (r : NodeState) → item (map (new_node s) (up_to s.nodes)) n ≡ Some r → (r.last_hop ≡ None) × (r.arus ≡ [])
     fresh zero r e = absurd (none-some r e)
     fresh (suc k) r e = made (slice_get (up_to s.nodes) k) r (sym (slice_get-map (new_node s) (up_to s.nodes) k) ∙ e)
 
@@ -130,13 +130,13 @@ at_node s w n move g put apart none there (Some r) is = record { good = d.good; 
 
 stays : (s : Settings) (w : World) (n : ℕ) (r new : NodeState) (frames : List Frame) (g : Good s w) (put : List Entry) → new.waiting ≡ r.waiting ++ put → item w.nodes n ≡ Some r → ((f : Frame) → Contains frames f → Contains w.sent f) → Alike r new → NodeFits g.list g.newest.hop (w.sent ++ frames) n new → Moved s w n r new frames g put
 stays s w n r new frames g put more is again alike fits = record {
-  good = record { list = g.list; tokens = g.tokens; newest = g.newest; inv = quiet s w g.list g.tokens g.newest n r new frames g.inv is again (sym alike.last) fits; tours = tours_quiet s w g.newest n r new frames is alike g.tours };
+  good = record { list = g.list; tokens = g.tokens; newest = g.newest; inv = quiet s w g.list g.tokens g.newest n r new frames g.inv is again (sym alike.last_hop) fits; tours = tours_quiet s w g.newest n r new frames is alike g.tours };
   turns = ap (λ x. by_node n g.list ++ x) more ∙ sym (append_assoc (by_node n g.list) r.waiting put);
   others = λ m apart. refl;
 }
 
-same_holding : (r new : NodeState) → new.last ≡ r.last → new.arus ≡ r.arus → new.held ≡ r.held → Alike r new
-same_holding r new a b c = record { last = a; arus = b; grows = record { at = λ q x e. ap (λ h. get h q) c ∙ e } }
+same_holding : (r new : NodeState) → new.last_hop ≡ r.last_hop → new.arus ≡ r.arus → new.held ≡ r.held → Alike r new
+same_holding r new a b c = record { last_hop = a; arus = b; grows = record { at = λ q x e. ap (λ h. get h q) c ∙ e } }
 
 unchanged : (r : NodeState) → Alike r r
 unchanged r = same_holding r r refl refl refl
@@ -192,10 +192,10 @@ delivers s w n r g is = by_held (get r.held (suc r.delivered)) refl
     }
     by_held None there = stays s w n r r [] g [] (sym (append-nil r.waiting)) is (none_sent w) (unchanged r) f
 
-times_out : (s : Settings) (w : World) (n : ℕ) (r : NodeState) (g : Good s w) → item w.nodes n ≡ Some r → Moved s w n r (send_again r r.sent).0 (send_again r r.sent).1 g []
-times_out s w n r g is = by_sent r.sent refl
+times_out : (s : Settings) (w : World) (n : ℕ) (r : NodeState) (g : Good s w) → item w.nodes n ≡ Some r → Moved s w n r (send_again r r.last_token).0 (send_again r r.last_token).1 g []
+times_out s w n r g is = by_sent r.last_token refl
   where
-    by_sent : (o : Option Token) → r.sent ≡ o → Moved s w n r (send_again r o).0 (send_again r o).1 g []
+    by_sent : (o : Option Token) → r.last_token ≡ o → Moved s w n r (send_again r o).0 (send_again r o).1 g []
     by_sent None e = stays s w n r r [] g [] (sym (append-nil r.waiting)) is (none_sent w) (unchanged r) (as_before s w n r g [] is)
     by_sent (Some t) e = stays s w n r r (frame.Token t ∷ []) g [] (sym (append-nil r.waiting)) is (λ f c. subst (Contains w.sent) (contains_one (frame.Token t) f c) ((g.inv.nodes n r is).resent t e)) (unchanged r) (as_before s w n r g (frame.Token t ∷ []) is)
 
@@ -215,7 +215,7 @@ gets_data s w n r p g is sent None ok =
     let f = as_before s w n r g [] is in
     let free = not_held (get r.held p.place) (data_refused (p.ring == s.ring) (nat_lt s.places p.place) (is_held r.held p.place) (nat_lt (r.delivered + 64) p.place) ok) in
     let grows = put_grows r.held p.place p.entry free in
-    stays s w n r _ [] g [] (sym (append-nil r.waiting)) is (none_sent w) record { last = refl; arus = refl; grows = grows } record {
+    stays s w n r _ [] g [] (sym (append-nil r.waiting)) is (none_sent w) record { last_hop = refl; arus = refl; grows = grows } record {
       held = put_agrees r.held g.list p.place p.entry f.held (g.inv.frames (frame.Packet p) sent).1;
       delivered = λ place h l. let d = f.delivered place h l in (d.0, grows.at place d.0 d.1);
       before = f.before;
@@ -275,15 +275,18 @@ kept s w (EnqueueEnd e) g = at_node s w e.node (enqueue_end e) g (λ m. admits w
     put_is : admits w e.node (EnqueueEnd e) ≡ if_there (item w.nodes e.node) e
     put_is = ap (λ b. if b then if_there (item w.nodes e.node) e else []) (eq-eqb e.node e.node refl)
 kept s w (Arrive n k) g = at_node s w n (receive s n (item w.sent k)) g (λ m. []) (λ m apart. refl) (λ none. refl) (λ r is. gets s w n r g is (item w.sent k) (λ f e. contains_item w.sent k f e)) (item w.nodes n) refl
-kept s w (Timer n) g = at_node s w n (λ r. send_again r r.sent) g (λ m. []) (λ m apart. refl) (λ none. refl) (λ r is. times_out s w n r g is) (item w.nodes n) refl
+kept s w (Timer n) g = at_node s w n (λ r. send_again r r.last_token) g (λ m. []) (λ m apart. refl) (λ none. refl) (λ r is. times_out s w n r g is) (item w.nodes n) refl
 kept s w (Deliver n) g = at_node s w n deliver g (λ m. []) (λ m apart. refl) (λ none. refl) (λ r is. delivers s w n r g is) (item w.nodes n) refl
 
 pub all_kept : (s : Settings) (w : World) (events : List Event) → Good s w → Good s (run s w events)
 all_kept s w [] g = g
 all_kept s w (e ∷ events) g = all_kept s (happens s w e) events (kept s w e g).good
 
-pub reached : (s : Settings) (events : List Event) → Good s (run s (start s) events)
-reached s events = all_kept s (start s) events record { list = []; tokens = first_token s ∷ []; newest = first_token s; inv = begins s; tours = tours_begin s }
+from_start : (s : Settings) (events : List Event) → Good s (run s (start s) events)
+from_start s events = all_kept s (start s) events record { list = []; tokens = first_token s ∷ []; newest = first_token s; inv = begins s; tours = tours_begin s }
+
+pub reached : (s : Settings) (w : World) → Reached s w → Good s w
+reached s w led = subst (Good s) led.1 (from_start s led.0)
 
 same_packet : (p q : Packet) → p.ring ≡ q.ring → p.place ≡ q.place → p.entry ≡ q.entry → p ≡ q
 same_packet p q a b c = λ i. record { ring = a i; place = b i; entry = c i }
@@ -293,17 +296,18 @@ chain s w g = (
   g.tokens,
   g.newest,
   record {
-    each = g.inv.tokens;
-    one = λ t c. (g.inv.frames (frame.Token t) c).1;
-    end = (g.inv.hops, g.inv.newest);
-    accepted = λ n r t is sent ok. let k = accepted_is_newest s w g.list g.tokens g.newest t n r g.inv sent is ok in (k.0, sym k.1);
-    goes = λ r is. newest_goes s w g.list g.tokens g.newest r g.inv is;
-    refused = λ n r t is sent lower. lower_is_refused s w g.list g.tokens g.newest t n r g.inv sent is lower;
-    same_place = λ p q a b same.
+    nodes = g.tours.nodes;
+    sent_at_hop = g.inv.tokens;
+    one_each_hop = λ t c. (g.inv.frames (frame.Token t) c).1;
+    newest_is_last = (g.inv.hops, g.inv.newest);
+    only_newest_accepted = λ n r t is sent ok. let k = accepted_is_newest s w g.list g.tokens g.newest t n r g.inv sent is ok in (k.0, sym k.1);
+    newest_accepted = λ r is. newest_goes s w g.list g.tokens g.newest r g.inv is;
+    older_refused = λ n r t is sent lower. lower_is_refused s w g.list g.tokens g.newest t n r g.inv sent is lower;
+    one_packet_each_place = λ p q a b same.
         let f = g.inv.frames (frame.Packet p) a in
         let h = g.inv.frames (frame.Packet q) b in
         same_packet p q (f.0 ∙ sym h.0) same (same_Some p.entry q.entry (sym f.1 ∙ (ap (item g.list) same ∙ h.1)));
-    places = λ place. (λ l. there place l.0 l.1, λ x. within place x.0 x.1 x.2);
+    places_without_gap = λ place. (λ l. there place l.0 l.1, λ x. within place x.0 x.1 x.2);
   },
 )
   where
@@ -316,14 +320,14 @@ chain s w g = (
     within : (place : ℕ) (p : Packet) → Contains w.sent (frame.Packet p) → p.place ≡ place → (1 ≤ place) × (place ≤ g.newest.seq)
     within place p c at = let l = item_within g.list p.place p.entry (g.inv.frames (frame.Packet p) c).1 in (omega arith, omega arith)
 
-pub agreement : (s : Settings) (w : World) → Good s w → Agreement w
+pub agreement : (s : Settings) (w : World) → Good s w → Agreement s w
 agreement s w g = record {
-  same = λ n r place e is held. ap (λ A. item A place) (agreed_is s w g.list g.tokens g.newest g.inv) ∙ (g.inv.nodes n r is).held.at place e held;
-  delivered = λ n r place is. (g.inv.nodes n r is).delivered place;
+  held_as_agreed = λ n r place e is held. ap (λ A. item A place) (agreed_is s w g.list g.tokens g.newest g.inv) ∙ (g.inv.nodes n r is).held.at place e held;
+  delivered_held = λ n r place is. (g.inv.nodes n r is).delivered place;
 }
 
-pub every_safe : (s : Settings) (w : World) → Good s w → Safe w
-every_safe s w g = record { held = λ n m r q place. g.tours.safe n m r q place }
+pub every_safe : (s : Settings) (w : World) → Good s w → Safe s w
+every_safe s w g = record { held_up_to_mark = λ n m r q place. g.tours.safe n m r q place }
 
 turn_is : (s : Settings) (w : World) (g : Good s w) (n : ℕ) → entries_of w n ≡ by_node n g.list ++ waiting_at (item w.nodes n)
 turn_is s w g n = ap (λ A. by_node n A ++ waiting_at (item w.nodes n)) (agreed_is s w g.list g.tokens g.newest g.inv)
@@ -339,15 +343,8 @@ all_turns s w (e ∷ events) g n =
     all_turns s (happens s w e) events (kept s w e g).good n
     ∙ (ap (λ l. l ++ admitted s (happens s w e) n events) (one_turn s w e g n) ∙ append_assoc (entries_of w n) (admits w n e) (admitted s (happens s w e) n events))
 
-pub run_append : (s : Settings) (w : World) (early late : List Event) → run s w (early ++ late) ≡ run s (run s w early) late
-run_append s w [] late = refl
-run_append s w (e ∷ early) late = run_append s (happens s w e) early late
-
-between : (s : Settings) (n : ℕ) (early late : List Event) → entries_of (run s (start s) (early ++ late)) n ≡ entries_of (run s (start s) early) n ++ admitted s (run s (start s) early) n late
-between s n early late = ap (λ w. entries_of w n) (run_append s (start s) early late) ∙ all_turns s (run s (start s) early) late (reached s early) n
-
 from_new : (s : Settings) (n : ℕ) (events : List Event) → entries_of (run s (start s) events) n ≡ admitted s (start s) n events
-from_new s n events = all_turns s (start s) events (reached s []) n ∙ ap (λ l. l ++ admitted s (start s) n events) (nothing (item (start s).nodes n) refl)
+from_new s n events = all_turns s (start s) events (from_start s []) n ∙ ap (λ l. l ++ admitted s (start s) n events) (nothing (item (start s).nodes n) refl)
   where
     made : (o : Option ℕ) (r : NodeState) → option_map (new_node s) o ≡ Some r → r.waiting ≡ []
     made None r e = absurd (none-some r e)
@@ -361,5 +358,8 @@ from_new s n events = all_turns s (start s) events (reached s []) n ∙ ap (λ l
     nothing None is = refl
     nothing (Some r) is = fresh n r is
 
-pub in_order : (s : Settings) → OnceInOrder s
-in_order s = record { between = between s; whole = from_new s }
+pub in_order : (s : Settings) (w : World) → Reached s w → OnceInOrder s w
+in_order s w led = record {
+  placed_as_admitted = λ n events is. ap (λ v. entries_of v n) (sym is) ∙ from_new s n events;
+  later_after = λ n events. all_turns s w events (reached s w led) n;
+}

@@ -63,14 +63,14 @@ rule n a seq t = by_tests (nat_lt a t.aru) (is_own_or_none n t.aru_id) refl refl
 
 -- each node visited after hop h holds the place
 pub record HoldSince (w : World) (h place : ℕ) : Type 0 where
-  pub at : (m : ℕ) (q : NodeState) (k : ℕ) → item w.nodes m ≡ Some q → q.last ≡ Some k → h < k → Holds q.held place
+  pub at : (m : ℕ) (q : NodeState) (k : ℕ) → item w.nodes m ≡ Some q → q.last_hop ≡ Some k → h < k → Holds q.held place
 
 -- node j was visited after hop h
 pub record VisitedSince (w : World) (h j : ℕ) : Type 0 where
   pub ring : NodeState
   pub hop : ℕ
   pub is : item w.nodes j ≡ Some ring
-  pub last : ring.last ≡ Some hop
+  pub last_hop : ring.last_hop ≡ Some hop
   pub later : h < hop
 
 -- Since node n forwarded an aru that reached the place: either the token's aru still reaches it, and each node visited since holds it,
@@ -81,14 +81,14 @@ Tour w L h place = ((place ≤ L.aru) × HoldSince w h place) ⊎ ((L.aru < plac
 pub record Tours (s : Settings) (w : World) (L : Token) : Type 0 where
   pub nodes : length w.nodes ≡ s.nodes
   pub aru : L.aru ≤ L.seq
-  pub window : (n : ℕ) (r : NodeState) (h : ℕ) → item w.nodes n ≡ Some r → r.last ≡ Some h → (L.hop ≤ h + s.nodes) × (node_of s h ≡ n)
-  pub unvisited : (n : ℕ) (r : NodeState) → item w.nodes n ≡ Some r → r.last ≡ None → (L.hop < n) × (r.arus ≡ [])
-  pub tour : (n : ℕ) (r : NodeState) (h a : ℕ) (rest : List ℕ) → item w.nodes n ≡ Some r → r.last ≡ Some h → r.arus ≡ a ∷ rest → (place : ℕ) → 1 ≤ place → place ≤ a → Tour w L h place
+  pub window : (n : ℕ) (r : NodeState) (h : ℕ) → item w.nodes n ≡ Some r → r.last_hop ≡ Some h → (L.hop ≤ h + s.nodes) × (node_of s h ≡ n)
+  pub unvisited : (n : ℕ) (r : NodeState) → item w.nodes n ≡ Some r → r.last_hop ≡ None → (L.hop < n) × (r.arus ≡ [])
+  pub tour : (n : ℕ) (r : NodeState) (h a : ℕ) (rest : List ℕ) → item w.nodes n ≡ Some r → r.last_hop ≡ Some h → r.arus ≡ a ∷ rest → (place : ℕ) → 1 ≤ place → place ≤ a → Tour w L h place
   pub safe : (n m : ℕ) (r q : NodeState) (place : ℕ) → item w.nodes n ≡ Some r → item w.nodes m ≡ Some q → 1 ≤ place → place ≤ safe_mark r.arus → Holds q.held place
 
 -- a node's state after an event that is no visit
 pub record Alike (r new : NodeState) : Type 0 where
-  pub last : new.last ≡ r.last
+  pub last_hop : new.last_hop ≡ r.last_hop
   pub arus : new.arus ≡ r.arus
   pub grows : Grows r.held new.held
 
@@ -101,8 +101,8 @@ by_ring w n r new frames P is h change m q at = ⊎_elim
 
 since_kept : (w : World) (n : ℕ) (r new : NodeState) (frames : List Frame) (h place : ℕ) → item w.nodes n ≡ Some r → Alike r new → HoldSince w h place → HoldSince (after w n new frames) h place
 since_kept w n r new frames h place is alike since = record {
-  at = λ m q k at. by_ring w n r new frames (λ m q. (k : ℕ) → q.last ≡ Some k → h < k → Holds q.held place) is (λ m q at k. since.at m q k at)
-      (λ was k e l. let d = was k (sym alike.last ∙ e) l in (d.0, alike.grows.at place d.0 d.1)) m q at k;
+  at = λ m q k at. by_ring w n r new frames (λ m q. (k : ℕ) → q.last_hop ≡ Some k → h < k → Holds q.held place) is (λ m q at k. since.at m q k at)
+      (λ was k e l. let d = was k (sym alike.last_hop ∙ e) l in (d.0, alike.grows.at place d.0 d.1)) m q at k;
 }
 
 visited_kept : (w : World) (n : ℕ) (r new : NodeState) (frames : List Frame) (h j : ℕ) → item w.nodes n ≡ Some r → Alike r new → VisitedSince w h j → VisitedSince (after w n new frames) h j
@@ -112,18 +112,18 @@ visited_kept w n r new frames h j is alike v = ⊎_elim
       hop = v.hop;
       later = v.later;
       is = subst (λ m. item (with_item w.nodes n new) m ≡ Some new) (sym same) (item_with_same w.nodes n new r is);
-      last = alike.last ∙ (ap (λ (x : NodeState). x.last) (same_Some r v.ring (sym is ∙ (ap (item w.nodes) (sym same) ∙ v.is))) ∙ v.last);
+      last_hop = alike.last_hop ∙ (ap (λ (x : NodeState). x.last_hop) (same_Some r v.ring (sym is ∙ (ap (item w.nodes) (sym same) ∙ v.is))) ∙ v.last_hop);
     })
-    (λ (apart : j ≢ n). record { ring = v.ring; hop = v.hop; later = v.later; last = v.last; is = item_with_other w.nodes n j new apart ∙ v.is })
+    (λ (apart : j ≢ n). record { ring = v.ring; hop = v.hop; later = v.later; last_hop = v.last_hop; is = item_with_other w.nodes n j new apart ∙ v.is })
     (cases_eq j n)
 
 pub tours_quiet : (s : Settings) (w : World) (L : Token) (n : ℕ) (r new : NodeState) (frames : List Frame) → item w.nodes n ≡ Some r → Alike r new → Tours s w L → Tours s (after w n new frames) L
 tours_quiet s w L n r new frames is alike t = record {
   nodes = length-with_item w.nodes n new ∙ t.nodes;
   aru = t.aru;
-  window = λ m q h at last. by_ring w n r new frames (λ m q. (h : ℕ) → q.last ≡ Some h → (L.hop ≤ h + s.nodes) × (node_of s h ≡ m)) is (λ m q at h. t.window m q h at) (λ was h e. was h (sym alike.last ∙ e)) m q at h last;
-  unvisited = by_ring w n r new frames (λ m q. q.last ≡ None → (L.hop < m) × (q.arus ≡ [])) is t.unvisited (λ was e. let d = was (sym alike.last ∙ e) in (d.0, alike.arus ∙ d.1));
-  tour = λ m q h a rest at last arus place low high. tour_kept h place (by_ring w n r new frames (λ m q. (h a : ℕ) (rest : List ℕ) → q.last ≡ Some h → q.arus ≡ a ∷ rest → (place : ℕ) → 1 ≤ place → place ≤ a → Tour w L h place) is (λ m q at h a rest. t.tour m q h a rest at) (λ was h a rest e f. was h a rest (sym alike.last ∙ e) (sym alike.arus ∙ f)) m q at h a rest last arus place low high);
+  window = λ m q h at last. by_ring w n r new frames (λ m q. (h : ℕ) → q.last_hop ≡ Some h → (L.hop ≤ h + s.nodes) × (node_of s h ≡ m)) is (λ m q at h. t.window m q h at) (λ was h e. was h (sym alike.last_hop ∙ e)) m q at h last;
+  unvisited = by_ring w n r new frames (λ m q. q.last_hop ≡ None → (L.hop < m) × (q.arus ≡ [])) is t.unvisited (λ was e. let d = was (sym alike.last_hop ∙ e) in (d.0, alike.arus ∙ d.1));
+  tour = λ m q h a rest at last arus place low high. tour_kept h place (by_ring w n r new frames (λ m q. (h a : ℕ) (rest : List ℕ) → q.last_hop ≡ Some h → q.arus ≡ a ∷ rest → (place : ℕ) → 1 ≤ place → place ≤ a → Tour w L h place) is (λ m q at h a rest. t.tour m q h a rest at) (λ was h a rest e f. was h a rest (sym alike.last_hop ∙ e) (sym alike.arus ∙ f)) m q at h a rest last arus place low high);
   safe = λ m k q p place at at' low high.
       by_ring w n r new frames (λ k p. Holds p.held place) is
       (λ k p at'. by_ring w n r new frames (λ m q. place ≤ safe_mark q.arus → Holds p.held place) is (λ m q at l. t.safe m k q p place at at' low l) (λ was l. was (subst (λ a. place ≤ safe_mark a) alike.arus l)) m q at high)
@@ -147,10 +147,10 @@ first_round : (s : Settings) (h : ℕ) → h < s.nodes → node_of s h ≡ suc h
 first_round s h l = let e = mod-eq_of_lt l in omega arith
 
 -- the node that is visited now was not visited since another one, or itself, was
-not_since : (s : Settings) (w : World) (L : Token) (n : ℕ) (h : ℕ) → Tours s w L → node_of s L.hop ≡ n → ((q : NodeState) (k : ℕ) → item w.nodes n ≡ Some q → q.last ≡ Some k → k < L.hop) → L.hop ≤ h + s.nodes → VisitedSince w h n → ⊥
+not_since : (s : Settings) (w : World) (L : Token) (n : ℕ) (h : ℕ) → Tours s w L → node_of s L.hop ≡ n → ((q : NodeState) (k : ℕ) → item w.nodes n ≡ Some q → q.last_hop ≡ Some k → k < L.hop) → L.hop ≤ h + s.nodes → VisitedSince w h n → ⊥
 not_since s w L n h t mine before window v =
-    let b = before v.ring v.hop v.is v.last in
-    let apart : v.hop + s.nodes ≤ L.hop = node_apart s v.hop L.hop b ((t.window n v.ring v.hop v.is v.last).1 ∙ sym mine) in
+    let b = before v.ring v.hop v.is v.last_hop in
+    let apart : v.hop + s.nodes ≤ L.hop = node_apart s v.hop L.hop b ((t.window n v.ring v.hop v.is v.last_hop).1 ∙ sym mine) in
     let l = v.later in
     omega arith
 
@@ -161,11 +161,11 @@ owner_is n a seq o e l = e ∙ ap (λ b. if b then None else Some n) (ne_eqb a s
 -- What is known at a visit of node n: a is the number up to which it holds all places, t' the token that goes on.
 pub record AtVisit (s : Settings) (w : World) (L t' : Token) (n a : ℕ) (r new : NodeState) : Type 0 where
   pub tours : Tours s w L
-  pub before : (m : ℕ) (q : NodeState) (k : ℕ) → item w.nodes m ≡ Some q → q.last ≡ Some k → k < L.hop
+  pub before : (m : ℕ) (q : NodeState) (k : ℕ) → item w.nodes m ≡ Some q → q.last_hop ≡ Some k → k < L.hop
   pub is : item w.nodes n ≡ Some r
   pub mine : node_of s L.hop ≡ n
   pub grows : Grows r.held new.held
-  pub last : new.last ≡ Some L.hop
+  pub last_hop : new.last_hop ≡ Some L.hop
   pub arus : new.arus ≡ take 2 (t'.aru ∷ r.arus)
   pub hop : t'.hop ≡ suc L.hop
   pub seq : L.seq ≤ t'.seq
@@ -177,8 +177,8 @@ module _ (s : Settings) (w : World) (L t' : Token) (n a : ℕ) (r new : NodeStat
   some_node : (1 ≤ n) × (n ≤ s.nodes)
   some_node = let l = item_within w.nodes n r v.is in let e = v.tours.nodes in (l.0, omega arith)
 
-  last_of_new : (q : NodeState) (h : ℕ) → new ≡ q → q.last ≡ Some h → h ≡ L.hop
-  last_of_new q h same e = same_Some h L.hop (sym e ∙ (ap (λ (x : NodeState). x.last) (sym same) ∙ v.last))
+  last_of_new : (q : NodeState) (h : ℕ) → new ≡ q → q.last_hop ≡ Some h → h ≡ L.hop
+  last_of_new q h same e = same_Some h L.hop (sym e ∙ (ap (λ (x : NodeState). x.last_hop) (sym same) ∙ v.last_hop))
 
   since_visit : (h place : ℕ) → HoldSince w h place → Holds new.held place → HoldSince (after w n new frames) h place
   since_visit h place since here = record {
@@ -189,16 +189,16 @@ module _ (s : Settings) (w : World) (L t' : Token) (n a : ℕ) (r new : NodeStat
   }
 
   now_visited : (h : ℕ) → h < L.hop → VisitedSince (after w n new frames) h n
-  now_visited h l = record { ring = new; hop = L.hop; is = item_with_same w.nodes n new r v.is; last = v.last; later = l }
+  now_visited h l = record { ring = new; hop = L.hop; is = item_with_same w.nodes n new r v.is; last_hop = v.last_hop; later = l }
 
   still_visited : (h j : ℕ) → j ≢ n → VisitedSince w h j → VisitedSince (after w n new frames) h j
-  still_visited h j apart x = record { ring = x.ring; hop = x.hop; is = item_with_other w.nodes n j new apart ∙ x.is; last = x.last; later = x.later }
+  still_visited h j apart x = record { ring = x.ring; hop = x.hop; is = item_with_other w.nodes n j new apart ∙ x.is; last_hop = x.last_hop; later = x.later }
 
   -- it was not visited since hop h, if that was at most a round ago
   new_here : (h : ℕ) → L.hop ≤ h + s.nodes → VisitedSince w h n → ⊥
   new_here h window x = not_since s w L n h v.tours v.mine (λ q k. v.before n q k) window x
 
-  window' : (m : ℕ) (q : NodeState) (h : ℕ) → item (after w n new frames).nodes m ≡ Some q → q.last ≡ Some h → (t'.hop ≤ h + s.nodes) × (node_of s h ≡ m)
+  window' : (m : ℕ) (q : NodeState) (h : ℕ) → item (after w n new frames).nodes m ≡ Some q → q.last_hop ≡ Some h → (t'.hop ≤ h + s.nodes) × (node_of s h ≡ m)
   window' m q h at e = ⊎_elim
       (λ (x : (m ≡ n) × (new ≡ q)).
       let now : h ≡ L.hop = last_of_new q h x.1 e in
@@ -212,9 +212,9 @@ module _ (s : Settings) (w : World) (L t' : Token) (n a : ℕ) (r new : NodeStat
       (omega arith, old.1))
       (with_item_cases w.nodes n m new q at)
 
-  unvisited' : (m : ℕ) (q : NodeState) → item (after w n new frames).nodes m ≡ Some q → q.last ≡ None → (t'.hop < m) × (q.arus ≡ [])
+  unvisited' : (m : ℕ) (q : NodeState) → item (after w n new frames).nodes m ≡ Some q → q.last_hop ≡ None → (t'.hop < m) × (q.arus ≡ [])
   unvisited' m q at e = ⊎_elim
-      (λ (x : (m ≡ n) × (new ≡ q)). absurd (none-some L.hop (sym e ∙ (ap (λ (y : NodeState). y.last) (sym x.1) ∙ v.last))))
+      (λ (x : (m ≡ n) × (new ≡ q)). absurd (none-some L.hop (sym e ∙ (ap (λ (y : NodeState). y.last_hop) (sym x.1) ∙ v.last_hop))))
       (λ (x : (m ≢ n) × (item w.nodes m ≡ Some q)).
       let old = v.tours.unvisited m q x.1 e in
       let l = item_within w.nodes m q x.1 in
@@ -260,7 +260,7 @@ module _ (s : Settings) (w : World) (L t' : Token) (n a : ℕ) (r new : NodeStat
         (with_item_cases w.nodes n m new q at);
   }
 
-  tour' : (m : ℕ) (q : NodeState) (h b : ℕ) (rest : List ℕ) → item (after w n new frames).nodes m ≡ Some q → q.last ≡ Some h → q.arus ≡ b ∷ rest → (place : ℕ) → 1 ≤ place → place ≤ b → Tour (after w n new frames) t' h place
+  tour' : (m : ℕ) (q : NodeState) (h b : ℕ) (rest : List ℕ) → item (after w n new frames).nodes m ≡ Some q → q.last_hop ≡ Some h → q.arus ≡ b ∷ rest → (place : ℕ) → 1 ≤ place → place ≤ b → Tour (after w n new frames) t' h place
   tour' m q h b rest at e arus place low high = ⊎_elim
       (λ (x : (m ≡ n) × (new ≡ q)).
       let now : h ≡ L.hop = last_of_new q h x.1 e in
@@ -278,10 +278,10 @@ module _ (s : Settings) (w : World) (L t' : Token) (n a : ℕ) (r new : NodeStat
       head_is x y xs ys e = ap head_of e
 
   -- every node holds what reached both this visit's aru and the one's before
-  safe_now : (h b place : ℕ) (m : ℕ) (q : NodeState) → r.last ≡ Some h → 1 ≤ place → place ≤ t'.aru → Tour w L h place → item (after w n new frames).nodes m ≡ Some q → Holds q.held place
+  safe_now : (h b place : ℕ) (m : ℕ) (q : NodeState) → r.last_hop ≡ Some h → 1 ≤ place → place ≤ t'.aru → Tour w L h place → item (after w n new frames).nodes m ≡ Some q → Holds q.held place
   safe_now h b place m q e low high (inl x) at = ⊎_elim
       (λ (y : (m ≡ n) × (new ≡ q)). subst (λ (z : NodeState). Holds z.held place) y.1 (v.here place low (reach v.rule)))
-      (λ (y : (m ≢ n) × (item w.nodes m ≡ Some q)). by_last q.last refl y.0 y.1)
+      (λ (y : (m ≢ n) × (item w.nodes m ≡ Some q)). by_last q.last_hop refl y.0 y.1)
       (with_item_cases w.nodes n m new q at)
     where
       reach : Lowered n a t'.seq L t'.aru t'.aru_id ⊎ Left a L t'.aru t'.aru_id → place ≤ a
@@ -291,7 +291,7 @@ module _ (s : Settings) (w : World) (L t' : Token) (n a : ℕ) (r new : NodeStat
       round : h + s.nodes ≤ L.hop
       round = node_apart s h L.hop (v.before n r h v.is e) ((v.tours.window n r h v.is e).1 ∙ sym v.mine)
 
-      by_last : (o : Option ℕ) → q.last ≡ o → m ≢ n → item w.nodes m ≡ Some q → Holds q.held place
+      by_last : (o : Option ℕ) → q.last_hop ≡ o → m ≢ n → item w.nodes m ≡ Some q → Holds q.held place
       by_last None f apart was =
           let u = v.tours.unvisited m q was f in
           let l = item_within w.nodes m q was in
@@ -312,7 +312,7 @@ module _ (s : Settings) (w : World) (L t' : Token) (n a : ℕ) (r new : NodeStat
       (λ d. let f = d.aru in absurd (omega arith))
       v.rule
 
-  safe_new : (last' : Option ℕ) (arus' : List ℕ) → r.last ≡ last' → r.arus ≡ arus' → (place : ℕ) → 1 ≤ place → place ≤ safe_mark (take 2 (t'.aru ∷ arus')) → (m : ℕ) (q : NodeState) → item (after w n new frames).nodes m ≡ Some q → Holds q.held place
+  safe_new : (last' : Option ℕ) (arus' : List ℕ) → r.last_hop ≡ last' → r.arus ≡ arus' → (place : ℕ) → 1 ≤ place → place ≤ safe_mark (take 2 (t'.aru ∷ arus')) → (m : ℕ) (q : NodeState) → item (after w n new frames).nodes m ≡ Some q → Holds q.held place
   safe_new last' [] e f place low high m q at = absurd (omega arith)
   safe_new None (b ∷ rest) e f place low high m q at = absurd (let u = (v.tours.unvisited n r v.is e).1 in no_cons b rest (sym u ∙ f))
     where
@@ -322,7 +322,7 @@ module _ (s : Settings) (w : World) (L t' : Token) (n a : ℕ) (r new : NodeStat
 
   safe' : (m k : ℕ) (p q : NodeState) (place : ℕ) → item (after w n new frames).nodes m ≡ Some p → item (after w n new frames).nodes k ≡ Some q → 1 ≤ place → place ≤ safe_mark p.arus → Holds q.held place
   safe' m k p q place at at' low high = ⊎_elim
-      (λ (x : (m ≡ n) × (new ≡ p)). safe_new r.last r.arus refl refl place low (subst (λ l. place ≤ safe_mark l) (ap (λ (y : NodeState). y.arus) (sym x.1) ∙ v.arus) high) k q at')
+      (λ (x : (m ≡ n) × (new ≡ p)). safe_new r.last_hop r.arus refl refl place low (subst (λ l. place ≤ safe_mark l) (ap (λ (y : NodeState). y.arus) (sym x.1) ∙ v.arus) high) k q at')
       (λ (x : (m ≢ n) × (item w.nodes m ≡ Some p)). ⊎_elim
       (λ (y : (k ≡ n) × (new ≡ q)). let d = v.tours.safe m n p r place x.1 v.is low high in subst (λ (z : NodeState). Holds z.held place) y.1 (d.0, v.grows.at place d.0 d.1))
       (λ (y : (k ≢ n) × (item w.nodes k ≡ Some q)). v.tours.safe m k p q place x.1 y.1 low high)
@@ -359,7 +359,7 @@ tours_visit s w A C L n r now rest frames i t is mine =
       is = is;
       mine = mine;
       grows = burst.grows;
-      last = refl;
+      last_hop = refl;
       arus = refl;
       hop = refl;
       seq = omega arith;

@@ -7,7 +7,9 @@ use Rattle.cpg_ring.specs.Visits.{burst_size, served, placed, next_token}
 use Rattle.cpg_ring.specs.declared.visit.Visit.{Visit}
 use Rattle.cpg_ring.specs.Laws.{AllHeld, IsToken}
 use Rattle.cpg_ring.specs.Kept.{places_of, pairs_from, newest_two, IsKept}
-use Rattle.cpg_ring.specs.Rings.{RingNode, IsInRange, refusal_of, step_of, visit_of, visited, held_after}
+use Rattle.cpg_ring.specs.Rings.{RingNode, refusal_of, step_of, visit_of, visited}
+use Rattle.cpg_ring.specs.Answers.{IsInRange}
+use Rattle.cpg_ring.specs.Steps.{held_after}
 use Rattle.cpg_ring.proofs.Amounts.{Accepted, accepted, visit_is}
 use Rattle.cpg_ring.proofs.Bursts.{burst_keeps, burst_kept}
 
@@ -67,5 +69,5 @@ newest_first a (Some b) None = refl
 newest_first a (Some b) (Some c) = refl
 
 -- the ring after the visit, from its parts
-pub visited_made : (x : RingNode) (t sent : Token) (held : HeldPlaces) (waiting : List Entry) (arus : List ℕ) → sent ≡ (step_of x t).token → held ≡ (step_of x t).held → waiting ≡ (step_of x t).rest → arus ≡ take 2 ((step_of x t).token.aru ∷ x.state.arus) → let y : RingNode = record { settings = x.settings; node = x.node; state = record { last = Some t.hop; sent = Some sent; held = held; delivered = x.state.delivered; waiting = waiting; arus = arus } } in y ≡ visited x t
-visited_made x t sent held waiting arus a b c d = λ i. record { settings = x.settings; node = x.node; state = record { last = Some t.hop; sent = Some (a i); held = b i; delivered = x.state.delivered; waiting = c i; arus = d i } }
+pub visited_made : (x : RingNode) (t sent : Token) (held : HeldPlaces) (waiting : List Entry) (arus : List ℕ) → sent ≡ (step_of x t).token → held ≡ (step_of x t).held → waiting ≡ (step_of x t).rest → arus ≡ take 2 ((step_of x t).token.aru ∷ x.state.arus) → let y : RingNode = record { settings = x.settings; node = x.node; state = record { last_hop = Some t.hop; last_token = Some sent; held = held; delivered = x.state.delivered; waiting = waiting; arus = arus } } in y ≡ visited x t
+visited_made x t sent held waiting arus a b c d = λ i. record { settings = x.settings; node = x.node; state = record { last_hop = Some t.hop; last_token = Some (a i); held = b i; delivered = x.state.delivered; waiting = c i; arus = d i } }

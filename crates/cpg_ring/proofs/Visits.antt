@@ -115,7 +115,7 @@ visited s w A C L n r now rest i is mine room own =
           omega arith;
       room = room;
       past = λ h q before at. ⊎_elim
-          (λ (x : (node_of s h ≡ n) × (after_visit r L v ≡ q)). subst (λ (y : NodeState). is_past h y.last ≡ true) x.1 (le-leb h L.hop (omega arith)))
+          (λ (x : (node_of s h ≡ n) × (after_visit r L v ≡ q)). subst (λ (y : NodeState). is_past h y.last_hop ≡ true) x.1 (le-leb h L.hop (omega arith)))
           (λ (x : (node_of s h ≢ n) × (item w.nodes (node_of s h) ≡ Some q)). ⊎_elim
           (λ (same : h ≡ L.hop). absurd (x.0 (ap (node_of s) same ∙ mine)))
           (λ (apart : h ≢ L.hop). i.past h q (omega arith) x.1)

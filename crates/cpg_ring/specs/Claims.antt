@@ -11,37 +11,39 @@ use Rattle.cpg_ring.specs.Worlds.{World, Event, Enqueue, EnqueueEnd, Arrive, Tim
 
 -- Of the tokens sent, copies apart: there is one for each hop from 0 to the newest's; only the newest can still be accepted, and by one node alone.
 pub record IsChain (s : Settings) (w : World) (tokens : List Token) (newest : Token) : Type 0 where
+  -- the world has as many nodes as its settings say
+  pub nodes : length w.nodes ≡ s.nodes
   -- token h of the list has hop h and was sent
-  pub each : (h : ℕ) (t : Token) → slice_get tokens h ≡ Some t → (t.hop ≡ h) × Contains w.sent (frame.Token t)
+  pub sent_at_hop : (h : ℕ) (t : Token) → slice_get tokens h ≡ Some t → (t.hop ≡ h) × Contains w.sent (frame.Token t)
   -- each token that was sent is the list's at its hop
-  pub one : (t : Token) → Contains w.sent (frame.Token t) → slice_get tokens t.hop ≡ Some t
+  pub one_each_hop : (t : Token) → Contains w.sent (frame.Token t) → slice_get tokens t.hop ≡ Some t
   -- the newest is the last of the list
-  pub end : (suc newest.hop ≡ length tokens) × (slice_get tokens newest.hop ≡ Some newest)
+  pub newest_is_last : (suc newest.hop ≡ length tokens) × (slice_get tokens newest.hop ≡ Some newest)
   -- a token that was sent and is accepted anywhere is the newest, at the node of its hop
-  pub accepted : (n : ℕ) (r : NodeState) (t : Token) → item w.nodes n ≡ Some r → Contains w.sent (frame.Token t) → token_refusal s n r t ≡ None → (t ≡ newest) × (n ≡ node_of s t.hop)
+  pub only_newest_accepted : (n : ℕ) (r : NodeState) (t : Token) → item w.nodes n ≡ Some r → Contains w.sent (frame.Token t) → token_refusal s n r t ≡ None → (t ≡ newest) × (n ≡ node_of s t.hop)
   -- at that node the newest is accepted, unless the ring's last hop was used
-  pub goes : (r : NodeState) → item w.nodes (node_of s newest.hop) ≡ Some r → token_refusal s (node_of s newest.hop) r newest ≡ (if nat_le s.hops newest.hop then Some RingEnd else None)
+  pub newest_accepted : (r : NodeState) → item w.nodes (node_of s newest.hop) ≡ Some r → token_refusal s (node_of s newest.hop) r newest ≡ (if nat_le s.hops newest.hop then Some RingEnd else None)
   -- every lower hop is refused everywhere, as another node's or as stale
-  pub refused : (n : ℕ) (r : NodeState) (t : Token) → item w.nodes n ≡ Some r → Contains w.sent (frame.Token t) → t.hop < newest.hop → (token_refusal s n r t ≡ Some NotMine) ⊎ (token_refusal s n r t ≡ Some Stale)
+  pub older_refused : (n : ℕ) (r : NodeState) (t : Token) → item w.nodes n ≡ Some r → Contains w.sent (frame.Token t) → t.hop < newest.hop → (token_refusal s n r t ≡ Some NotMine) ⊎ (token_refusal s n r t ≡ Some Stale)
   -- data frames of one place are the same
-  pub same_place : (p q : Packet) → Contains w.sent (frame.Packet p) → Contains w.sent (frame.Packet q) → p.place ≡ q.place → p ≡ q
+  pub one_packet_each_place : (p q : Packet) → Contains w.sent (frame.Packet p) → Contains w.sent (frame.Packet q) → p.place ≡ q.place → p ≡ q
   -- the places of the data frames are 1 to the newest token's seq
-  pub places : (place : ℕ) → ((1 ≤ place) × (place ≤ newest.seq)) ↔ ((p : Packet) × (Contains w.sent (frame.Packet p)) × (p.place ≡ place))
+  pub places_without_gap : (place : ℕ) → ((1 ≤ place) × (place ≤ newest.seq)) ↔ ((p : Packet) × (Contains w.sent (frame.Packet p)) × (p.place ≡ place))
 
 -- Chain: the tokens sent are such a chain.
 abbrev pub Chain : Settings → World → Type 0
 Chain s w = (tokens : List Token) × (newest : Token) × IsChain s w tokens newest
 
 -- Agreement: nodes that hold a place hold the same there, and each holds all that it delivered.
-pub record Agreement (w : World) : Type 0 where
+pub record Agreement (s : Settings) (w : World) : Type 0 where
   -- what a node holds at a place is the agreed list's entry there
-  pub same : (n : ℕ) (r : NodeState) (place : ℕ) (e : Entry) → item w.nodes n ≡ Some r → get r.held place ≡ Some e → item (agreed w.sent) place ≡ Some e
+  pub held_as_agreed : (n : ℕ) (r : NodeState) (place : ℕ) (e : Entry) → item w.nodes n ≡ Some r → get r.held place ≡ Some e → item (agreed w.sent) place ≡ Some e
   -- a node holds places 1 to the last that it delivered
-  pub delivered : (n : ℕ) (r : NodeState) (place : ℕ) → item w.nodes n ≡ Some r → 1 ≤ place → place ≤ r.delivered → Holds r.held place
+  pub delivered_held : (n : ℕ) (r : NodeState) (place : ℕ) → item w.nodes n ≡ Some r → 1 ≤ place → place ≤ r.delivered → Holds r.held place
 
 -- Safe: each node holds all places from 1 to any node's safe mark.
-pub record Safe (w : World) : Type 0 where
-  pub held : (n m : ℕ) (r q : NodeState) (place : ℕ) → item w.nodes n ≡ Some r → item w.nodes m ≡ Some q → 1 ≤ place → place ≤ safe_mark r.arus → Holds q.held place
+pub record Safe (s : Settings) (w : World) : Type 0 where
+  pub held_up_to_mark : (n m : ℕ) (r q : NodeState) (place : ℕ) → item w.nodes n ≡ Some r → item w.nodes m ≡ Some q → 1 ≤ place → place ≤ safe_mark r.arus → Holds q.held place
 
 -- those of the entries that are node n's
 abbrev pub by_node : ℕ → List Entry → List Entry
@@ -80,8 +82,8 @@ admitted s w n [] = []
 admitted s w n (e ∷ es) = admits w n e ++ admitted s (happens s w e) n es
 
 -- Once, in order: a node's entries take places in the order in which they were admitted, each once.
-pub record OnceInOrder (s : Settings) : Type 0 where
-  -- between two moments of a run: what was placed or waits, and what was admitted since
-  pub between : (n : ℕ) (early late : List Event) → entries_of (run s (start s) (early ++ late)) n ≡ entries_of (run s (start s) early) n ++ admitted s (run s (start s) early) n late
-  -- from a new world: the entries placed are a beginning of those admitted, and the others wait
-  pub whole : (n : ℕ) (events : List Event) → entries_of (run s (start s) events) n ≡ admitted s (start s) n events
+pub record OnceInOrder (s : Settings) (w : World) : Type 0 where
+  -- whatever events led here from a new world: the entries placed are a beginning of those that they admitted, and the others wait
+  pub placed_as_admitted : (n : ℕ) (events : List Event) → run s (start s) events ≡ w → entries_of w n ≡ admitted s (start s) n events
+  -- and what later events admit comes after those
+  pub later_after : (n : ℕ) (events : List Event) → entries_of (run s w events) n ≡ entries_of w n ++ admitted s w n events

@@ -31,7 +31,7 @@ pub record IsKept (s : Settings) (n : ℕ) (kept : List (ℕ × Entry)) (d : ℕ
   pub delivered : AllHeld (places_of kept) d
 
 -- What is true of every ring's fields.
-pub record IsRing (s : Settings) (n : ℕ) (held : List (ℕ × Entry)) (d : ℕ) (last : Option Token) : Type 0 where
+pub record IsRing (s : Settings) (n : ℕ) (held : List (ℕ × Entry)) (d : ℕ) (last_token : Option Token) : Type 0 where
   pub kept : IsKept s n held d
   -- the last token sent can be spelled in a frame
-  pub sent : IfSome last IsToken
+  pub spelled : IfSome last_token IsToken

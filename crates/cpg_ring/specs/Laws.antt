@@ -1,8 +1,9 @@
 -- What the definitions of a visit amount to, in the words of the rules.
-use Rattle.std.specs.Prelude.{◌≡◌, ◌⊎◌, ◌↔◌, ℕ, ◌+◌, ◌<◌, ◌≤◌, min, List, [], ◌∷◌, length, take}
+use Rattle.std.specs.FinMap.{get}
+use Rattle.std.specs.Prelude.{Some, ◌≡◌, ◌⊎◌, ◌↔◌, ℕ, ◌+◌, ◌<◌, ◌≤◌, min, List, [], ◌∷◌, length, take}
 use Rattle.std.specs.List.{Contains, All}
 use Rattle.cpg_ring.specs.declared.settings.TheConstants.{MOST_PLACES, MOST_HOPS, MOST_REQUESTS, WINDOW}
-use Rattle.cpg_ring.specs.States.{Token, Settings, HeldPlaces, Holds, NodeState}
+use Rattle.cpg_ring.specs.States.{Entry, Packet, Token, Settings, HeldPlaces, Holds, NodeState}
 use Rattle.cpg_ring.specs.Visits.{VisitStep, reach}
 
 -- strictly ascending, above low and at most high
@@ -51,3 +52,11 @@ pub record IsVisit (s : Settings) (r : NodeState) (t : Token) (v : VisitStep) : 
   pub hop : v.token.hop ≤ s.hops
   -- and so are the packets
   pub packets : All (λ p. (1 ≤ p.place) × (p.place ≤ s.places)) v.packets
+
+-- what was held at a place is held there still
+abbrev pub StaysHeld : HeldPlaces → HeldPlaces → Type 0
+StaysHeld old new = (place : ℕ) (e : Entry) → get old place ≡ Some e → get new place ≡ Some e
+
+-- the packet carries what is held at its place, or an entry that waits
+abbrev pub IsOwnPacket : Settings → NodeState → Packet → Type 0
+IsOwnPacket s r p = (p.ring ≡ s.ring) × ((get r.held p.place ≡ Some p.entry) ⊎ Contains r.waiting p.entry)

@@ -5,4 +5,6 @@ pub mod Worlds
 pub mod Claims
 pub mod Laws
 pub mod Rings
+pub mod Answers
+pub mod Steps
 pub mod Kept

@@ -40,4 +40,4 @@ first_token s = record { ring = s.ring; hop = 0; seq = 0; aru = 0; aru_id = None
 
 -- a new node
 abbrev pub new_node : Settings → ℕ → NodeState
-new_node s n = record { last = None; sent = if n == s.nodes then Some (first_token s) else None; held = empty; delivered = 0; waiting = []; arus = [] }
+new_node s n = record { last_hop = None; last_token = if n == s.nodes then Some (first_token s) else None; held = empty; delivered = 0; waiting = []; arus = [] }

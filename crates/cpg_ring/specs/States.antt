@@ -24,10 +24,10 @@ HeldPlaces = FinMap nat_cmp Entry
 
 -- What a node keeps.
 pub record NodeState : Type 0 where
-  -- the last hop that it accepted
-  pub last : Option ℕ
-  -- the last token that it sent
-  pub sent : Option Token
+  -- the last hop that it accepted, which is the hop of a token that came
+  pub last_hop : Option ℕ
+  -- the last token that it sent, whose hop is one more; before its first visit the last node has the ring's first token
+  pub last_token : Option Token
   pub held : HeldPlaces
   -- how many places it delivered: places 1 to this one
   pub delivered : ℕ

@@ -25,7 +25,7 @@ abbrev pub token_refusal : Settings → ℕ → NodeState → Token → Option R
 token_refusal s n r t =
     if not (t.ring == s.ring) then Some Foreign
     else if not (node_of s t.hop == n) then Some NotMine
-    else if is_past t.hop r.last then Some Stale
+    else if is_past t.hop r.last_hop then Some Stale
     else if is_implausible s r t.seq then Some Implausible
     else if nat_le s.hops t.hop then Some RingEnd
     else None
@@ -125,8 +125,8 @@ visit_step s n r t = visit_with s n r t (take (burst_size s r t.seq) r.waiting) 
 -- the node after an accepted visit
 abbrev pub after_visit : NodeState → Token → VisitStep → NodeState
 after_visit r t v = record {
-  last = Some t.hop;
-  sent = Some v.token;
+  last_hop = Some t.hop;
+  last_token = Some v.token;
   held = v.held;
   delivered = r.delivered;
   waiting = v.rest;

@@ -86,7 +86,7 @@ abbrev pub happens : Settings → World → Event → World
 happens s w (Enqueue e) = moved w e.node (item w.nodes e.node) (enqueue e)
 happens s w (EnqueueEnd e) = moved w e.node (item w.nodes e.node) (enqueue_end e)
 happens s w (Arrive n k) = moved w n (item w.nodes n) (receive s n (item w.sent k))
-happens s w (Timer n) = moved w n (item w.nodes n) (λ r. send_again r r.sent)
+happens s w (Timer n) = moved w n (item w.nodes n) (λ r. send_again r r.last_token)
 happens s w (Deliver n) = moved w n (item w.nodes n) deliver
 
 -- the world after these events

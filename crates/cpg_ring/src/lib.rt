@@ -17,5 +17,5 @@ pub use ring::Ring;
 pub use settings::{
     BURST, MOST_HOPS, MOST_NODES, MOST_PLACES, MOST_REQUESTS, MOST_WAITING, Settings, WINDOW,
 };
-pub use theorem::{every_schedule, every_visit};
+pub use theorem::{every_packet, every_place, every_schedule, every_visit, limits};
 pub use visit::{Packets, Visit};

@@ -8,8 +8,10 @@ ghost use Rattle.std.specs.Option.{option_copied};
 ghost use Rattle.cpg_ring.specs.States.{IsSettings, is_held, is_call, calls, safe_mark};
 ghost use Rattle.cpg_ring.specs.Visits.{burst_size, is_past, placed, reach, next_requests, is_own_or_none, next_aru, next_aru_id, next_token};
 ghost use Rattle.cpg_ring.specs.Moves.{is_full, after_data, after_entry, after_delivery, next_entry};
-ghost use Rattle.cpg_ring.specs.Laws.{IsToken};
-ghost use Rattle.cpg_ring.specs.Rings.{IsMade, IsAnswer, answer_of, IsPacket, refusal_of, visit_of, visited, with_state, data_refusal_of, full_refusal, held_after};
+ghost use Rattle.cpg_ring.specs.Laws.{AllHeld, IsToken};
+ghost use Rattle.cpg_ring.specs.Rings.{refusal_of, visit_of, visited, with_state, data_refusal_of, full_refusal};
+ghost use Rattle.cpg_ring.specs.Answers.{IsMade, IsAnswer, answer_of, IsPacket};
+ghost use Rattle.cpg_ring.specs.Steps.{held_after};
 
 mod visiting;
 
@@ -27,8 +29,8 @@ pub struct Ring {
     alloc: Global,
     settings: Settings,
     node: NodeId,
-    last: Option<u64>,
-    sent: Option<Token>,
+    last_hop: Option<u64>,
+    last_token: Option<Token>,
     held: Vec<(u32, Entry)>,
     delivered: u32,
     waiting: VecDeque<Entry>,
@@ -45,9 +47,9 @@ impl Model for Ring {
 
     ghost coded = { Prim.hlevel (codes, held_code) };
 
-    ghost view = { λ a. record { settings = a.settings; node = a.node; state = record { last = a.last; sent = a.sent; held = places_of a.held.items; delivered = a.delivered; waiting = a.waiting.items; arus = newest_two a.aru_now a.aru_before } } };
+    ghost view = { λ a. record { settings = a.settings; node = a.node; state = record { last_hop = a.last_hop; last_token = a.last_token; held = places_of a.held.items; delivered = a.delivered; waiting = a.waiting.items; arus = newest_two a.aru_now a.aru_before } } };
 
-    ghost invariant = { λ a. IsRing a.settings a.node a.held.items a.delivered a.sent };
+    ghost invariant = { λ a. IsRing a.settings a.node a.held.items a.delivered a.last_token };
 }
 
 fn allows(settings: &Settings) -> bool
@@ -70,7 +72,7 @@ impl Ring {
         if !allows(&settings) || node.get() > settings.nodes {
             return Err(Refusal::Range);
         }
-        let sent = if node.get() == settings.nodes {
+        let last_token = if node.get() == settings.nodes {
             Some(Token {
                 ring: settings.ring,
                 hop: 0,
@@ -86,8 +88,8 @@ impl Ring {
             alloc,
             settings,
             node,
-            last: None,
-            sent,
+            last_hop: None,
+            last_token,
             held: Vec::new(alloc),
             delivered: 0,
             waiting: VecDeque::new(alloc),
@@ -96,9 +98,10 @@ impl Ring {
         })
     }
 
-    /// The last place that was delivered, 0 before the first.
+    /// The last place that was delivered, 0 before the first. All places up to it are held.
     pub fn delivered(&self) -> u32
-        ensures { result ≡ self.now.state.delivered }
+        ensures value { result ≡ self.now.state.delivered }
+        ensures held { AllHeld self.now.state.held result }
     {
         self.delivered
     }
@@ -113,10 +116,10 @@ impl Ring {
     /// The last token that the node sent; at first the ring's first token at its last node, and none
     /// elsewhere.
     pub fn resend(&self) -> Option<&Token>
-        ensures sent { option_copied result ≡ self.now.state.sent }
-        ensures in_range { IfSome self.now.state.sent IsToken }
+        ensures sent { option_copied result ≡ self.now.state.last_token }
+        ensures in_range { IfSome self.now.state.last_token IsToken }
     {
-        self.sent.as_ref()
+        self.last_token.as_ref()
     }
 
     /// The place up to which every node holds all places, in a ring that hears only what it sent.
@@ -131,7 +134,8 @@ impl Ring {
 
     /// The entry at the place after the last delivered one; none exactly where it isn't held.
     pub fn next_place(&self) -> Option<&Entry>
-        ensures { option_copied result ≡ next_entry self.now.state }
+        ensures entry { option_copied result ≡ next_entry self.now.state }
+        ensures within { IfSome (next_entry self.now.state) (λ _. self.now.state.delivered < self.now.settings.places) }
     {
         held::entry_at(&self.held, self.delivered + 1)
     }

@@ -1,21 +1,45 @@
 //! The theorem of the ring: what holds in every world that any list of events leads to.
 
-ghost use Rattle.std.specs.Prelude.{◌≡◌, ℕ, List};
-ghost use Rattle.cpg_ring.specs.States.{Settings, IsSettings, NodeState, Token};
+ghost use Rattle.std.specs.Prelude.{◌≡◌, ◌^◌, ℕ, None};
+ghost use Rattle.std.specs.List.{All};
+ghost use Rattle.cpg_ring.specs.States.{Settings, IsSettings, NodeState, Token, Packet};
 ghost use Rattle.cpg_ring.specs.Visits.{token_refusal, visit_step};
-ghost use Rattle.cpg_ring.specs.Laws.{IsToken, IsVisit};
-ghost use Rattle.cpg_ring.specs.Worlds.{Event, run, start};
+ghost use Rattle.cpg_ring.specs.Moves.{data_refusal, after_data};
+ghost use Rattle.cpg_ring.specs.Laws.{IsToken, IsVisit, StaysHeld, IsOwnPacket};
+ghost use Rattle.cpg_ring.specs.Worlds.{World, Reached};
 ghost use Rattle.cpg_ring.specs.Claims.{Chain, Agreement, Safe, OnceInOrder};
+ghost use Rattle.cpg_ring.specs.declared.settings.TheConstants.{BURST, MOST_HOPS, MOST_NODES, MOST_PLACES, MOST_REQUESTS, MOST_WAITING, WINDOW};
 
-/// Holds of every ring and every list of events: frames may be lost, come again and come in any order.
+/// Holds of every ring and every world that a list of events leads to: frames may be lost, come again
+/// and come in any order.
 pub fn every_schedule()
-    ensures chain { (s : Settings) (events : List Event) → IsSettings s → Chain s (run s (start s) events) }
-    ensures agreement { (s : Settings) (events : List Event) → IsSettings s → Agreement (run s (start s) events) }
-    ensures once_in_order { (s : Settings) → IsSettings s → OnceInOrder s }
-    ensures safe { (s : Settings) (events : List Event) → IsSettings s → Safe (run s (start s) events) }
+    ensures chain { (s : Settings) (w : World) → IsSettings s → Reached s w → Chain s w }
+    ensures agreement { (s : Settings) (w : World) → IsSettings s → Reached s w → Agreement s w }
+    ensures once_in_order { (s : Settings) (w : World) → IsSettings s → Reached s w → OnceInOrder s w }
+    ensures safe { (s : Settings) (w : World) → IsSettings s → Reached s w → Safe s w }
 {}
 
 /// Holds of every token in range that a node accepts, whatever the node holds.
 pub fn every_visit()
     ensures { (s : Settings) (n : ℕ) (r : NodeState) (t : Token) → IsSettings s → IsToken t → token_refusal s n r t ≡ None → IsVisit s r t (visit_step s n r t) }
+{}
+
+/// A place that is held never changes its entry, neither by data that a node takes nor by a visit that it
+/// makes.
+pub fn every_place()
+    ensures data { (s : Settings) (r : NodeState) (p : Packet) → data_refusal s r p ≡ None → StaysHeld r.held (after_data r p).held }
+    ensures visit { (s : Settings) (n : ℕ) (r : NodeState) (t : Token) → token_refusal s n r t ≡ None → StaysHeld r.held (visit_step s n r t).held }
+{}
+
+/// Each packet of a visit carries the ring's number, and the entry that is held at its place or one that
+/// waited.
+pub fn every_packet()
+    ensures { (s : Settings) (n : ℕ) (r : NodeState) (t : Token) → All (IsOwnPacket s r) (visit_step s n r t).packets }
+{}
+
+/// The numbers of a ring: of a visit, of the queue, and of its settings.
+pub fn limits()
+    ensures visit { (BURST ≡ 8) × (MOST_REQUESTS ≡ 32) × (WINDOW ≡ 64) }
+    ensures queue { MOST_WAITING ≡ 256 }
+    ensures settings { (MOST_NODES ≡ 8) × (MOST_PLACES ≡ 1048576) × (MOST_HOPS ≡ 2 ^ 62) }
 {}

@@ -10,7 +10,9 @@ ghost use Rattle.cpg_ring.specs.Visits.{burst_size, is_past, placed, reach, is_w
 ghost use Rattle.cpg_ring.specs.Laws.{IsToken};
 ghost use Rattle.std.specs.Vec.{vec_len, vec_capacity};
 ghost use Rattle.cpg_ring.specs.Kept.{pairs_from};
-ghost use Rattle.cpg_ring.specs.Rings.{IsAnswer, IsInRange, refusal_of, visit_of, visited, held_after};
+ghost use Rattle.cpg_ring.specs.Rings.{refusal_of, visit_of, visited};
+ghost use Rattle.cpg_ring.specs.Answers.{IsAnswer, IsInRange};
+ghost use Rattle.cpg_ring.specs.Steps.{held_after};
 
 use super::Ring;
 use crate::held;
@@ -97,7 +99,7 @@ impl Ring {
         if token.hop % u64::from(self.settings.nodes) + 1 != u64::from(self.node.get()) {
             return Some(Refusal::NotMine);
         }
-        if is_past(token.hop, self.last) {
+        if is_past(token.hop, self.last_hop) {
             return Some(Refusal::Stale);
         }
         if held::holds_above(&self.held, token.seq) || self.settings.places < token.seq {
@@ -244,12 +246,12 @@ impl Ring {
         ensures err { OnErr result (self.new ≡ self.old) }
     {
         let visit = self.visit(token)?;
-        let sent = visit.token.copy(self.alloc)?;
+        let last_token = visit.token.copy(self.alloc)?;
         let count = self.burst_size(token.seq);
         self.held.reserve(count as usize)?;
         take_places(&mut self.waiting, &mut self.held, token.seq, count);
-        self.last = Some(token.hop);
-        self.sent = Some(sent);
+        self.last_hop = Some(token.hop);
+        self.last_token = Some(last_token);
         self.aru_before = self.aru_now;
         self.aru_now = Some(visit.token.aru);
         Ok(visit)

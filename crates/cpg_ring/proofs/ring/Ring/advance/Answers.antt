@@ -5,4 +5,4 @@ use Rattle.cpg_ring.proofs.Rings.{one_further}
 use Rattle.cpg_ring.proofs.ring.Ring.advance.Goals as goal
 
 pub invariant_of-self : goal.invariant_of-self
-invariant_of-self c = record { kept = one_further _ _ _ _ c.self.invariant.kept (subst (λ (x : RingNode). IsSome (next_entry x.state)) (sym c.self.view_is) c.requires); sent = c.self.invariant.sent }
+invariant_of-self c = record { kept = one_further _ _ _ _ c.self.invariant.kept (subst (λ (x : RingNode). IsSome (next_entry x.state)) (sym c.self.view_is) c.requires); spelled = c.self.invariant.spelled }

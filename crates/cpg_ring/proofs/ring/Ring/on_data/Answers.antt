@@ -12,7 +12,7 @@ invariant_of-self-2 c =
     let V = the_view c.self.inside in
     let ok = data_accepted V.settings V.state c.args.packet (subst (λ (x : RingNode). data_refusal_of x c.args.packet ≡ None) (sym c.self.view_is) none) in
     let is = c.push_reserved.ensures.items ∙ ap (λ l. l ++ (c.args.packet.place, c.args.packet.entry) ∷ []) c.reserve.ensures.items in
-    record { kept = kept_one_more c.self.inside.settings c.self.inside.node c.self.inside.delivered c.self.inside.held.items _ c.args.packet.place c.args.packet.entry c.self.invariant.kept is ok.0 ok.1; sent = c.self.invariant.sent }
+    record { kept = kept_one_more c.self.inside.settings c.self.inside.node c.self.inside.delivered c.self.inside.held.items _ c.args.packet.place c.args.packet.entry c.self.invariant.kept is ok.0 ok.1; spelled = c.self.invariant.spelled }
 
 pub returns-clause-answer : goal.returns-clause-answer
 returns-clause-answer c =

@@ -21,7 +21,7 @@ invariant_of-self-2 c =
     let new = c.take_places.ensures.held ∙ λ i. c.reserve.ensures.items i ++ pairs_from t.seq (take (count i) c.self.inside.waiting.items) in
     let room = ready.room in
     let len = length-take-le (burst_size V.settings V.state t.seq) c.self.inside.waiting.items ready.ready in
-    record { kept = kept_more c.self.inside.settings c.self.inside.node c.self.inside.delivered c.self.inside.held.items _ t.seq (take (burst_size V.settings V.state t.seq) c.self.inside.waiting.items) c.self.invariant.kept new (omega arith) (accepted V.settings V.node V.state t none).above; sent = subst IsToken (sym c.in_ok-sent.ensures.ok) c.in_ok-visit.ensures.in_range.token }
+    record { kept = kept_more c.self.inside.settings c.self.inside.node c.self.inside.delivered c.self.inside.held.items _ t.seq (take (burst_size V.settings V.state t.seq) c.self.inside.waiting.items) c.self.invariant.kept new (omega arith) (accepted V.settings V.node V.state t none).above; spelled = subst IsToken (sym c.in_ok-last_token.ensures.ok) c.in_ok-visit.ensures.in_range.token }
 
 pub returns-clause-ok : goal.returns-clause-ok
 returns-clause-ok c =
@@ -33,4 +33,4 @@ returns-clause-ok c =
     let token = ap (λ v. v.token) c.in_ok-visit.ensures.answer.1 ∙ ap (λ (x : RingNode). (step_of x t).token) (sym c.self.view_is) in
     let held = ap places_of (c.take_places.ensures.held ∙ λ i. c.reserve.ensures.items i ++ pairs_from t.seq (take (count i) c.self.inside.waiting.items)) ∙ burst_kept V.settings c.self.inside.held.items t.seq (take k c.self.inside.waiting.items) (accepted V.settings V.node V.state t none).above in
     let waiting = c.take_places.ensures.waiting ∙ ap (λ n. drop n c.self.inside.waiting.items) count in
-    visited_made V t c.in_ok-sent.sent _ _ _ (c.in_ok-sent.ensures.ok ∙ token) held waiting (newest_first c.in_ok-visit.visit.token.aru c.self.inside.aru_now c.self.inside.aru_before ∙ ap (λ (u : Token). take 2 (u.aru ∷ newest_two c.self.inside.aru_now c.self.inside.aru_before)) token) ∙ ap (λ (x : RingNode). visited x t) c.self.view_is
+    visited_made V t c.in_ok-last_token.last_token _ _ _ (c.in_ok-last_token.ensures.ok ∙ token) held waiting (newest_first c.in_ok-visit.visit.token.aru c.self.inside.aru_now c.self.inside.aru_before ∙ ap (λ (u : Token). take 2 (u.aru ∷ newest_two c.self.inside.aru_now c.self.inside.aru_before)) token) ∙ ap (λ (x : RingNode). visited x t) c.self.view_is

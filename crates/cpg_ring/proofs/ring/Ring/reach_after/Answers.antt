@@ -1,6 +1,7 @@
 use Rattle.std.proofs.Common.{◌+◌, ◌≤◌, sym, subst, ◌∙◌, arith}
 use Rattle.cpg_ring.specs.Laws.{AllHeld}
-use Rattle.cpg_ring.specs.Rings.{RingNode, held_after}
+use Rattle.cpg_ring.specs.Rings.{RingNode}
+use Rattle.cpg_ring.specs.Steps.{held_after}
 use Rattle.cpg_ring.specs.contracts.ring.Ring.{the_view}
 use Rattle.cpg_ring.proofs.Kept.{reach_on}
 use Rattle.cpg_ring.proofs.Bursts.{after_keeps, reach_from}

@@ -1,6 +1,6 @@
 use Rattle.std.proofs.Common.{◌≡◌, ◌+◌, ◌-◌}
 use Rattle.cpg_ring.specs.Visits.{held_through, reach}
-use Rattle.cpg_ring.specs.Rings.{held_after}
+use Rattle.cpg_ring.specs.Steps.{held_after}
 use Rattle.cpg_ring.proofs.ring.Ring.reach_after.Given as goal
 
 abbrev pub invariant-loop-place : goal.invariant-loop-place

@@ -1,7 +1,8 @@
 use Rattle.std.proofs.Common.{ℕ, sym, subst, ap, ◌∙◌, arith, take}
 use Rattle.cpg_ring.specs.Visits.{is_wanted}
 use Rattle.cpg_ring.specs.Laws.{AllHeld}
-use Rattle.cpg_ring.specs.Rings.{RingNode, held_after}
+use Rattle.cpg_ring.specs.Rings.{RingNode}
+use Rattle.cpg_ring.specs.Steps.{held_after}
 use Rattle.cpg_ring.specs.contracts.ring.Ring.{the_view}
 use Rattle.cpg_ring.proofs.Kept.{asks_one, asks_none, asks_full}
 use Rattle.cpg_ring.proofs.Bursts.{after_keeps, none_wanted}

@@ -1,6 +1,6 @@
 use Rattle.std.proofs.Common.{◌≡◌}
 use Rattle.cpg_ring.specs.Visits.{next_requests}
-use Rattle.cpg_ring.specs.Rings.{held_after}
+use Rattle.cpg_ring.specs.Steps.{held_after}
 use Rattle.cpg_ring.proofs.ring.Ring.requests_after.Given as goal
 
 abbrev pub invariant-loop-i : goal.invariant-loop-i
