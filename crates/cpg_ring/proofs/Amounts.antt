@@ -9,10 +9,12 @@ use Rattle.std.proofs.lemmas.Option.{none-some}
 use Rattle.std.proofs.lemmas.Bool.{cases_lt}
 use Rattle.std.proofs.lemmas.List.Elements.{All-from_recursion, All-append}
 use Rattle.cpg_cred.specs.declared.refusals.Refusal.TheVariants.{Foreign, NotMine, Stale, Implausible, RingEnd}
-use Rattle.cpg_ring.specs.declared.settings.TheConstants.{MOST_REQUESTS, WINDOW}
+use Rattle.cpg_entry.specs.declared.ranges.TheConstants.{MOST_REQUESTS}
+use Rattle.cpg_ring.specs.declared.settings.TheConstants.{WINDOW}
 use Rattle.cpg_ring.specs.States.{Entry, Token, Packet, Settings, IsSettings, HeldPlaces, Holds, NodeState, is_held}
 use Rattle.cpg_ring.specs.Visits.{node_of, is_past, token_refusal, served, burst_size, placed, hold_all, held_through, reach, sets_aru, next_aru, up_to, is_wanted, visit_with, visit_step}
-use Rattle.cpg_ring.specs.Laws.{Ascends, IsToken, AllHeld, IsGreatestHeld, IsMissing, IsLeastMissing, IsVisit}
+use Rattle.cpg_entry.specs.Ranges.{Ascends, IsToken}
+use Rattle.cpg_ring.specs.Laws.{AllHeld, IsGreatestHeld, IsMissing, IsLeastMissing, IsVisit}
 use Rattle.cpg_ring.proofs.Holding.{put_other, put_cases}
 use Rattle.cpg_ring.proofs.Tours.{holds_to}
 use Rattle.cpg_ring.proofs.Asking.{ascends_take, ascends_within, ascends_filter, contains_filter, passes, any_from_contains, contains_from_any}

@@ -4,7 +4,7 @@ use Rattle.std.specs.List.{filter, list_any}
 use Rattle.std.proofs.lemmas.Bool.{cases_eq}
 use Rattle.std.proofs.lemmas.List.Elements.{filter-append, Contains-append_left, Contains-append_right, Contains-append_cases}
 use Rattle.cpg_ring.specs.Visits.{up_to}
-use Rattle.cpg_ring.specs.Laws.{Ascends}
+use Rattle.cpg_entry.specs.Ranges.{Ascends}
 use Rattle.cpg_ring.proofs.Lists.{contains_none, contains_one}
 
 pub ascends_weak : (low high top : ℕ) (xs : List ℕ) → high ≤ top → Ascends low high xs → Ascends low top xs

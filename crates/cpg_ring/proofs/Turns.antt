@@ -5,7 +5,8 @@ use Rattle.std.proofs.lemmas.List.{length-take-le}
 use Rattle.cpg_ring.specs.States.{Entry, Packet, Token, Settings, HeldPlaces, Holds}
 use Rattle.cpg_ring.specs.Visits.{burst_size, served, placed, next_token}
 use Rattle.cpg_ring.specs.declared.visit.Visit.{Visit}
-use Rattle.cpg_ring.specs.Laws.{AllHeld, IsToken}
+use Rattle.cpg_entry.specs.Ranges.{IsToken}
+use Rattle.cpg_ring.specs.Laws.{AllHeld}
 use Rattle.cpg_ring.specs.Kept.{places_of, pairs_from, newest_two, IsKept}
 use Rattle.cpg_ring.specs.Rings.{RingNode, refusal_of, step_of, visit_of, visited}
 use Rattle.cpg_ring.specs.Answers.{IsInRange}

@@ -3,10 +3,9 @@ use Rattle.std.specs.Prelude.{◌≡◌, ℕ, ◌≤◌, Option, Some, None, Res
 use Rattle.std.specs.List.{All}
 use Rattle.cpg_cred.specs.declared.refusals.Refusal.TheVariants.{Memory, Range}
 use Rattle.cpg_cred.specs.declared.refusals.Refused.{Refused}
-use Rattle.cpg_ring.specs.declared.settings.TheConstants.{MOST_PLACES}
 use Rattle.cpg_ring.specs.declared.visit.Visit.{Visit}
-use Rattle.cpg_ring.specs.States.{Packet, Refusal, Settings}
-use Rattle.cpg_ring.specs.Laws.{IsToken}
+use Rattle.cpg_ring.specs.States.{Refusal, Settings}
+use Rattle.cpg_entry.specs.Ranges.{IsToken}
 use Rattle.cpg_ring.specs.Rings.{RingNode, IsRingNode, new_ring_node}
 
 -- A new ring, where its settings allow one; Range exactly where they don't.
@@ -26,10 +25,6 @@ IsAnswer refusal P (Err why) = refusal ≡ Some why
 abbrev pub answer_of : {X : Type 0} → Result Unit (Refused X) → Result Unit Refusal
 answer_of (Ok x) = Ok x
 answer_of (Err refused) = Err refused.refusal
-
--- a packet whose place can be spelled in a frame
-abbrev pub IsPacket : Packet → Type 0
-IsPacket p = (1 ≤ p.place) × (p.place ≤ MOST_PLACES)
 
 -- What a visit sends can be spelled in frames, and lies within the ring's places and hops.
 pub record IsInRange (s : Settings) (v : Visit) : Type 0 where

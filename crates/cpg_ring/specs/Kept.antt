@@ -3,7 +3,8 @@ use Rattle.std.specs.Prelude.{ℕ, ◌≤◌, List, [], ◌∷◌, suc, Option, 
 use Rattle.std.specs.List.{AllByRecursion}
 use Rattle.std.specs.FinMap.{from_entries}
 use Rattle.cpg_ring.specs.States.{Entry, Token, Settings, HeldPlaces}
-use Rattle.cpg_ring.specs.Laws.{AllHeld, IsToken}
+use Rattle.cpg_entry.specs.Ranges.{IsToken}
+use Rattle.cpg_ring.specs.Laws.{AllHeld}
 use Rattle.cpg_ring.specs.Rings.{IsRingNode}
 
 -- what the pairs hold

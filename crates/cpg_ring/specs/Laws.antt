@@ -1,23 +1,12 @@
 -- What the definitions of a visit amount to, in the words of the rules.
 use Rattle.std.specs.FinMap.{get}
-use Rattle.std.specs.Prelude.{Some, ◌≡◌, ◌⊎◌, ◌↔◌, ℕ, ◌+◌, ◌<◌, ◌≤◌, min, List, [], ◌∷◌, length, take}
+use Rattle.std.specs.Prelude.{Some, ◌≡◌, ◌⊎◌, ◌↔◌, ℕ, ◌+◌, ◌≤◌, min, List, take}
 use Rattle.std.specs.List.{Contains, All}
-use Rattle.cpg_ring.specs.declared.settings.TheConstants.{MOST_PLACES, MOST_HOPS, MOST_REQUESTS, WINDOW}
+use Rattle.cpg_entry.specs.declared.ranges.TheConstants.{MOST_REQUESTS}
+use Rattle.cpg_ring.specs.declared.settings.TheConstants.{WINDOW}
+use Rattle.cpg_entry.specs.Ranges.{Ascends, IsToken}
 use Rattle.cpg_ring.specs.States.{Entry, Packet, Token, Settings, HeldPlaces, Holds, NodeState}
 use Rattle.cpg_ring.specs.Visits.{VisitStep, reach}
-
--- strictly ascending, above low and at most high
-abbrev pub Ascends : ℕ → ℕ → List ℕ → Type 0
-Ascends low high [] = Unit {0}
-Ascends low high (n ∷ ns) = (low < n) × (n ≤ high) × Ascends n high ns
-
--- A token whose numbers can be spelled in a frame.
-pub record IsToken (t : Token) : Type 0 where
-  pub hop : t.hop ≤ MOST_HOPS
-  pub seq : t.seq ≤ MOST_PLACES
-  pub aru : t.aru ≤ t.seq
-  pub count : length t.rtr ≤ MOST_REQUESTS
-  pub rtr : Ascends 0 t.seq t.rtr
 
 -- places 1 to a are all held
 abbrev pub AllHeld : HeldPlaces → ℕ → Type 0

@@ -10,7 +10,8 @@ pub use Rattle.cpg_entry.specs.declared.frames.Token.{Token}
 pub use Rattle.cpg_entry.specs.declared.frames.Frame.{Frame}
 pub use Rattle.cpg_cred.specs.declared.refusals.Refusal.{Refusal}
 pub use Rattle.cpg_ring.specs.declared.settings.Settings.{Settings}
-use Rattle.cpg_ring.specs.declared.settings.TheConstants.{MOST_NODES, MOST_PLACES, MOST_HOPS}
+use Rattle.cpg_cred.specs.declared.nodes.TheConstants.{MOST_NODES}
+use Rattle.cpg_entry.specs.declared.ranges.TheConstants.{MOST_PLACES, MOST_HOPS}
 
 -- The ranges of a ring's settings (our own rule).
 pub record IsSettings (s : Settings) : Type 0 where

@@ -4,7 +4,8 @@ use Rattle.std.specs.List.{filter, filter_map, list_any}
 use Rattle.std.specs.Option.{option_map}
 use Rattle.std.specs.FinMap.{get, insert, keys}
 use Rattle.cpg_cred.specs.declared.refusals.Refusal.TheVariants.{Foreign, NotMine, Stale, Implausible, RingEnd}
-use Rattle.cpg_ring.specs.declared.settings.TheConstants.{BURST, WINDOW, MOST_REQUESTS}
+use Rattle.cpg_entry.specs.declared.ranges.TheConstants.{MOST_REQUESTS}
+use Rattle.cpg_ring.specs.declared.settings.TheConstants.{BURST, WINDOW}
 use Rattle.cpg_ring.specs.States.{Entry, Packet, Token, Refusal, Settings, HeldPlaces, NodeState, is_held}
 
 -- the node that hop h is for

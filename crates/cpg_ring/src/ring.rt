@@ -8,17 +8,19 @@ ghost use Rattle.std.specs.Option.{option_copied};
 ghost use Rattle.cpg_ring.specs.States.{IsSettings, is_held, is_call, calls, safe_mark};
 ghost use Rattle.cpg_ring.specs.Visits.{burst_size, is_past, placed, reach, next_requests, is_own_or_none, next_aru, next_aru_id, next_token};
 ghost use Rattle.cpg_ring.specs.Moves.{is_full, after_data, after_entry, after_delivery, next_entry};
-ghost use Rattle.cpg_ring.specs.Laws.{AllHeld, IsToken};
+ghost use Rattle.cpg_entry.specs.Ranges.{IsToken};
+ghost use Rattle.cpg_ring.specs.Laws.{AllHeld};
 ghost use Rattle.cpg_ring.specs.Rings.{refusal_of, visit_of, visited, with_state, data_refusal_of, full_refusal};
-ghost use Rattle.cpg_ring.specs.Answers.{IsMade, IsAnswer, answer_of, IsPacket};
+ghost use Rattle.cpg_entry.specs.Ranges.{IsPacket};
+ghost use Rattle.cpg_ring.specs.Answers.{IsMade, IsAnswer, answer_of};
 ghost use Rattle.cpg_ring.specs.Steps.{held_after};
 
 mod visiting;
 
 use crate::held;
-use crate::settings::{MOST_HOPS, MOST_NODES, MOST_PLACES, MOST_WAITING, Settings, WINDOW};
-use cpg_cred::Refused;
-use cpg_entry::{Entry, NodeId, Op, Packet, Places, Refusal, Token};
+use crate::settings::{MOST_WAITING, Settings, WINDOW};
+use cpg_cred::{MOST_NODES, Refused};
+use cpg_entry::{Entry, MOST_HOPS, MOST_PLACES, NodeId, Op, Packet, Places, Refusal, Token};
 use std::alloc::Global;
 use std::collections::VecDeque;
 use std::marker::Model;

@@ -1,22 +1,10 @@
 //! The settings of a ring and its limits, by this project's own rules.
 
-/// How many nodes a ring has at most.
-pub const MOST_NODES: u8 = 8;
-
-/// How many places a ring has at most.
-pub const MOST_PLACES: u32 = 1048576;
-
-/// How many hops a ring has at most.
-pub const MOST_HOPS: u64 = 4611686018427387904;
-
 /// How many entries take places at one visit of the token at most.
 pub const BURST: usize = 8;
 
 /// How far past the delivered places a node holds places and gives them out.
 pub const WINDOW: u32 = 64;
-
-/// How many places a token asks for at most.
-pub const MOST_REQUESTS: usize = 32;
 
 /// How many calls wait at a node at most.
 pub const MOST_WAITING: usize = 256;

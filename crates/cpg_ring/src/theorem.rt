@@ -5,10 +5,11 @@ ghost use Rattle.std.specs.List.{All};
 ghost use Rattle.cpg_ring.specs.States.{Settings, IsSettings, NodeState, Token, Packet};
 ghost use Rattle.cpg_ring.specs.Visits.{token_refusal, visit_step};
 ghost use Rattle.cpg_ring.specs.Moves.{data_refusal, after_data};
-ghost use Rattle.cpg_ring.specs.Laws.{IsToken, IsVisit, StaysHeld, IsOwnPacket};
+ghost use Rattle.cpg_entry.specs.Ranges.{IsToken};
+ghost use Rattle.cpg_ring.specs.Laws.{IsVisit, StaysHeld, IsOwnPacket};
 ghost use Rattle.cpg_ring.specs.Worlds.{World, Reached};
 ghost use Rattle.cpg_ring.specs.Claims.{Chain, Agreement, Safe, OnceInOrder};
-ghost use Rattle.cpg_ring.specs.declared.settings.TheConstants.{BURST, MOST_HOPS, MOST_NODES, MOST_PLACES, MOST_REQUESTS, MOST_WAITING, WINDOW};
+ghost use Rattle.cpg_ring.specs.declared.settings.TheConstants.{BURST, MOST_WAITING, WINDOW};
 
 /// Holds of every ring and every world that a list of events leads to: frames may be lost, come again
 /// and come in any order.
@@ -39,7 +40,6 @@ pub fn every_packet()
 
 /// The numbers of a ring: of a visit, of the queue, and of its settings.
 pub fn limits()
-    ensures visit { (BURST ≡ 8) × (MOST_REQUESTS ≡ 32) × (WINDOW ≡ 64) }
+    ensures visit { (BURST ≡ 8) × (WINDOW ≡ 64) }
     ensures queue { MOST_WAITING ≡ 256 }
-    ensures settings { (MOST_NODES ≡ 8) × (MOST_PLACES ≡ 1048576) × (MOST_HOPS ≡ 2 ^ 62) }
 {}

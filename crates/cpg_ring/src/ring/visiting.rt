@@ -7,7 +7,7 @@ ghost use Rattle.std.specs.Prelude.{◌≡◌, ◌+◌, ◌≤◌, ◌<◌, ◌^
 ghost use Rattle.std.specs.List.{list_any};
 ghost use Rattle.cpg_ring.specs.States.{is_held};
 ghost use Rattle.cpg_ring.specs.Visits.{burst_size, is_past, placed, reach, is_wanted, next_requests, is_own_or_none, sets_aru, next_aru, next_aru_id, next_token};
-ghost use Rattle.cpg_ring.specs.Laws.{IsToken};
+ghost use Rattle.cpg_entry.specs.Ranges.{IsToken};
 ghost use Rattle.std.specs.Vec.{vec_len, vec_capacity};
 ghost use Rattle.cpg_ring.specs.Kept.{pairs_from};
 ghost use Rattle.cpg_ring.specs.Rings.{refusal_of, visit_of, visited};
@@ -16,9 +16,9 @@ ghost use Rattle.cpg_ring.specs.Steps.{held_after};
 
 use super::Ring;
 use crate::held;
-use crate::settings::{BURST, MOST_REQUESTS, WINDOW};
+use crate::settings::{BURST, WINDOW};
 use crate::visit::{Packets, Visit};
-use cpg_entry::{Entry, NodeId, Packet, Places, Refusal, Token};
+use cpg_entry::{Entry, MOST_REQUESTS, NodeId, Packet, Places, Refusal, Token};
 use std::collections::VecDeque;
 
 /// Whether that hop or a later one was accepted.

@@ -3,7 +3,7 @@ use Rattle.std.proofs.lemmas.List.{length-take-le}
 use Rattle.cpg_ring.specs.Visits.{burst_size}
 use Rattle.cpg_ring.specs.Kept.{places_of, pairs_from, newest_two}
 use Rattle.cpg_ring.specs.States.{Token}
-use Rattle.cpg_ring.specs.Laws.{IsToken}
+use Rattle.cpg_entry.specs.Ranges.{IsToken}
 use Rattle.cpg_ring.specs.Rings.{RingNode, refusal_of, step_of, visited}
 use Rattle.cpg_ring.specs.contracts.ring.Ring.{the_view}
 use Rattle.cpg_ring.proofs.Amounts.{accepted}
