@@ -1,0 +1,105 @@
+-- The events of an inbox, place by place.
+use Rattle.std.proofs.Common.{◌≡◌, ℕ, zero, suc, ◌+◌, ◌-◌, ◌<◌, ◌≤◌, Bool, true, false, List, [], ◌∷◌, ◌++◌, length, get_or, Option, Some, None, refl, sym, ap, ◌∙◌, subst, arith, slice_get, length-append, append-nil, option_to_list, take, if◌then◌else◌}
+use Rattle.std.specs.List.{flat_map, range_with_len}
+use Rattle.std.proofs.lemmas.Grind.{flat_map-append}
+use Rattle.std.proofs.lemmas.Option.{slice_get-get_or, slice_get_past}
+use Rattle.cpg_record.specs.declared.connections.ConnId.{ConnId}
+use Rattle.cpg_record.specs.declared.events.Event.{Event}
+use Rattle.cpg_record.specs.declared.events.Event.TheVariants.{Verdict}
+use Rattle.cpg_record.specs.declared.records.Record.{Record}
+use Rattle.cpg_record.specs.Connections.{conn_of, is_conn}
+use Rattle.cpg_record.specs.Events.{events, events_by, answer, news, inbox}
+
+range_split : (a m k : ℕ) → range_with_len a (m + k) ≡ range_with_len a m ++ range_with_len (a + m) k
+range_split a zero k = rw (zero_plus k) (ap (λ b. range_with_len b k) (sym (plus_zero a)))
+  where
+    zero_plus : (n : ℕ) → 0 + n ≡ n
+    zero_plus n = omega arith
+
+    plus_zero : (n : ℕ) → n + 0 ≡ n
+    plus_zero n = omega arith
+range_split a (suc m) k = rw (suc_plus m k) (ap (λ l. a ∷ l) (range_split (a + 1) m k ∙ ap (λ b. range_with_len (a + 1) m ++ range_with_len b k) (shift a m)))
+  where
+    suc_plus : (m k : ℕ) → suc m + k ≡ suc (m + k)
+    suc_plus m k = omega arith
+
+    shift : (a m : ℕ) → a + 1 + m ≡ a + suc m
+    shift a m = omega arith
+
+module _ {X : Type 0} where
+  get_left : (xs ys : List X) (k : ℕ) → k < length xs → slice_get (xs ++ ys) k ≡ slice_get xs k
+  get_left [] ys k h = absurd (omega arith)
+  get_left (x ∷ xs) ys zero h = refl
+  get_left (x ∷ xs) ys (suc k) h = get_left xs ys k (omega arith)
+
+  get_right : (xs ys : List X) (j : ℕ) → slice_get (xs ++ ys) (length xs + j) ≡ slice_get ys j
+  get_right [] ys j = ap (slice_get ys) (zero_plus j)
+    where
+      zero_plus : (n : ℕ) → 0 + n ≡ n
+      zero_plus n = omega arith
+  get_right (x ∷ xs) ys j = ap (slice_get (x ∷ xs ++ ys)) (suc_plus (length xs) j) ∙ get_right xs ys j
+    where
+      suc_plus : (m k : ℕ) → suc m + k ≡ suc (m + k)
+      suc_plus m k = omega arith
+
+-- what the places up to i + 1 tell
+pub told_more : (f : ℕ → List Event) (i : ℕ) → flat_map f (range_with_len 1 (i + 1)) ≡ flat_map f (range_with_len 1 i) ++ f (1 + i)
+told_more f i = ap (flat_map f) (range_split 1 i 1) ∙ (flat_map-append f (range_with_len 1 i) (range_with_len (1 + i) 1) ∙ ap (λ l. flat_map f (range_with_len 1 i) ++ l) (append-nil (f (1 + i))))
+
+-- item k of an inbox, where place i + 1 tells it
+pub told_item : (f : ℕ → List Event) (n i j : ℕ) → i < n → j < length (f (1 + i)) → slice_get (flat_map f (range_with_len 1 n)) (length (flat_map f (range_with_len 1 i)) + j) ≡ slice_get (f (1 + i)) j
+told_item f n i j below within =
+    ap (λ l. slice_get (flat_map f l) (length (flat_map f (range_with_len 1 i)) + j)) (ap (range_with_len 1) whole ∙ range_split 1 i (suc (n - (i + 1))))
+    ∙ (ap (λ l. slice_get l (length (flat_map f (range_with_len 1 i)) + j)) (flat_map-append f (range_with_len 1 i) (range_with_len (1 + i) (suc (n - (i + 1)))))
+    ∙ (get_right (flat_map f (range_with_len 1 i)) _ j
+    ∙ get_left (f (1 + i)) _ j within))
+  where
+    whole : n ≡ i + suc (n - (i + 1))
+    whole = omega arith
+
+-- a place tells a connection at most two events
+pub told_few : (rs : List Record) (p : ℕ) (conn : ConnId) → length (events rs p conn) ≤ 2
+told_few rs p conn = by_record (slice_get rs (p - 1))
+  where
+    news_few : (o : Option Event) → length (option_to_list o) ≤ 1
+    news_few None = omega arith
+    news_few (Some e) = omega arith
+
+    answer_few : (b : Bool) (e : Event) → length (if b then e ∷ [] else []) ≤ 1
+    answer_few true e = omega arith
+    answer_few false e = omega arith
+
+    by_record : (o : Option Record) → length (events_by p (take (p - 1) rs) conn o) ≤ 2
+    by_record None = omega arith
+    by_record (Some r) =
+        let l = length-append (answer p r conn) (option_to_list (news p (take (p - 1) rs) r conn r.group)) in
+        let a : length (answer p r conn) ≤ 1 = answer_few (is_conn conn (conn_of r.entry)) (Verdict p r.verdict) in
+        let n = news_few (news p (take (p - 1) rs) r conn r.group) in
+        omega arith
+
+one_more : (i : ℕ) → 1 + i ≡ i + 1
+one_more i = omega arith
+
+-- how many events the places up to i + 1 tell
+pub told_count : (rs : List Record) (conn : ConnId) (i before : ℕ) (list : List Event) → before ≡ length (flat_map (λ place. events rs place conn) (range_with_len 1 i)) → list ≡ events rs (i + 1) conn → before + length list ≡ length (flat_map (λ place. events rs place conn) (range_with_len 1 (i + 1)))
+told_count rs conn i before list counted is =
+    let told : ℕ → List Event = λ place. events rs place conn in
+    sym (ap length (told_more told i) ∙ (length-append (flat_map told (range_with_len 1 i)) (told (1 + i)) ∙ (ap (λ n. n + length (told (1 + i))) (sym counted) ∙ ap (λ l. before + length l) (ap told (one_more i) ∙ sym is))))
+
+-- the event of an index that place i + 1 tells
+pub told_at : (rs : List Record) (conn : ConnId) (n i before index : ℕ) (list : List Event) (e : Event) → i < n → n ≡ length rs → before ≡ length (flat_map (λ place. events rs place conn) (range_with_len 1 i)) → before ≤ index → list ≡ events rs (i + 1) conn → index - before < length list → get_or list (index - before) e ≡ e → Some e ≡ slice_get (inbox rs conn) index
+told_at rs conn n i before index list e below all counted passed is within at =
+    let told : ℕ → List Event = λ place. events rs place conn in
+    let same : list ≡ told (1 + i) = is ∙ ap told (sym (one_more i)) in
+    let j : ℕ = index - before in
+    let whole : length (flat_map told (range_with_len 1 i)) + j ≡ index = let c = counted in omega arith in
+    let inside : j < length (told (1 + i)) = subst (λ l. j < length l) same within in
+    sym (ap (slice_get (inbox rs conn)) (sym whole) ∙ (told_item told (length rs) i j (let a = all in omega arith) inside ∙ (ap (λ l. slice_get l j) (sym same) ∙ (slice_get-get_or list j e within ∙ ap Some at))))
+
+-- past the last place nothing is told
+pub told_end : (rs : List Record) (conn : ConnId) (n i before index : ℕ) → n ≡ length rs → n ≤ i → i ≤ n → before ≡ length (flat_map (λ place. events rs place conn) (range_with_len 1 i)) → before ≤ index → None ≡ slice_get (inbox rs conn) index
+told_end rs conn n i before index all low high counted passed =
+    let told : ℕ → List Event = λ place. events rs place conn in
+    let same : i ≡ length rs = let a = all in omega arith in
+    let whole : before ≡ length (inbox rs conn) = counted ∙ ap (λ k. length (flat_map told (range_with_len 1 k))) same in
+    sym (slice_get_past (inbox rs conn) index (let w = whole in omega arith))

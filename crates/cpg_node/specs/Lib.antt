@@ -1,0 +1,4 @@
+pub mod Nodes
+pub mod Calls
+pub mod Answers
+pub mod Kept

@@ -1,0 +1,18 @@
+//! One node: its part of the ring, its judged entries, and its connections.
+//!
+//! The ring is Totem's and the groups are CPG's (`cpg_ring`, `cpg_group`); connections and their numbers
+//! are this project's own. Proved: each call of `Node` is the definition in `specs/Calls.antt`, whatever
+//! bytes it hears.
+#![tactic(auto)]
+
+mod clients;
+mod connections;
+mod inboxes;
+mod names;
+mod nodes;
+mod ringing;
+
+pub use connections::{Client, Connection};
+pub use cpg_group::{Event, Names, Processes, Record};
+pub use cpg_ring::Settings;
+pub use nodes::Node;

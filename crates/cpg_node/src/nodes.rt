@@ -1,0 +1,341 @@
+//! One node, with its calls.
+
+ghost use Rattle.std.specs.Prelude.{◌≡◌, ◌≤◌, ◌↔◌, ◌++◌, ◌∷◌, [], suc, length, None, Some, Option, IsSome, All, Ok, OnOk, OnErr, IfOk, IfErr, IfSome, MatchOption, IsOkUnless, option_map};
+ghost use Rattle.cpg_entry.specs.declared.calls.Call.{Call as CallValue};
+ghost use Rattle.cpg_entry.specs.declared.frames.Frame.TheVariants as frames;
+ghost use Rattle.cpg_record.specs.Judging.{judged};
+ghost use Rattle.cpg_record.specs.RuleTables.{rules_of};
+ghost use Rattle.cpg_ring.specs.Answers.{IsAnswer, answer_of};
+ghost use Rattle.cpg_wire.specs.declared.codes.Version.TheVariants.{Two};
+ghost use Rattle.cpg_ring.specs.States.{safe_mark};
+ghost use Rattle.cpg_wire.specs.Reading.{frame_of};
+ghost use Rattle.cpg_wire.specs.Spelling.{spelling};
+ghost use Rattle.cpg_node.specs.Nodes.{records_of, open_client, new_value, conn_id};
+ghost use Rattle.cpg_node.specs.Calls.{connect_refusal, connected, submit_refusal, submitted, closed_refusal, disconnected, answers_to, next_place, next_record, delivered, next_event, took};
+ghost use Rattle.cpg_node.specs.Answers.{CanBeSpelled, IsNodeMade, IsFrameAnswer, IsListAnswer, IsGroupsAnswer, IsTakeAnswer, connection_of};
+
+use crate::clients::{open_client, put_client};
+use crate::connections::{Client, Connection};
+use crate::inboxes::event_of;
+use crate::names::call_refusal;
+use crate::ringing::{hear_packet, hear_token, refusal_in};
+use bytes::Bytes;
+use cpg_cred::{AcceptList, Cred, NodeId, Refusal, Refused};
+use cpg_entry::{Call, Entry, Frame, MOST_CONNECTIONS, Op, token_fits};
+use cpg_group::{ConnId, Event, Names, Policy, Processes, Record};
+use cpg_ring::{Ring, Settings};
+use cpg_rules::{Asker, Table};
+use cpg_wire::{decode, encode_token};
+use std::alloc::Global;
+use std::marker::Model;
+
+/// One node. Contracts see it as its part of the ring, its accept list, and its connections.
+#[derive(Debug, Drop)]
+pub struct Node {
+    alloc: Global,
+    id: NodeId,
+    list: AcceptList,
+    clients: Vec<Client>,
+    ring: Ring,
+    policy: Policy,
+}
+
+impl Model for Node {
+    ghost use Rattle.cpg_node.specs.Nodes.{NodeValue};
+    ghost use Rattle.cpg_ring.specs.Rings.{held_code};
+    ghost use Rattle.std.specs.Coded.{codes};
+    ghost use Rattle.cpg_node.specs.Kept.{IsNodeKept};
+
+    ghost Value = { NodeValue };
+
+    ghost coded = { Prim.hlevel (codes, held_code) };
+
+    ghost view = { λ a. record { ring = a.ring; list = a.list; clients = a.clients.items } };
+
+    ghost invariant = { λ a. IsNodeKept a.id a.ring a.clients.items a.policy };
+}
+
+impl Node {
+    /// A new node of that number, with that list. Refused with Range where a setting is out of its range
+    /// or the ring has no such node; the list comes back.
+    pub fn new(
+        alloc: Global,
+        settings: Settings,
+        id: NodeId,
+        list: AcceptList,
+    ) -> Result<Node, Refused<AcceptList>>
+        ensures { IsNodeMade settings id list result }
+    {
+        match Ring::new(alloc, settings, id) {
+            Err(refusal) => Err(Refused {
+                refusal,
+                back: list,
+            }),
+            Ok(ring) => Ok(Node {
+                alloc,
+                id,
+                list,
+                clients: Vec::new(alloc),
+                ring,
+                policy: Policy::new(alloc),
+            }),
+        }
+    }
+
+    /// Takes a connection in, and gives it the next number. Refused with Access where nothing lets the
+    /// credentials in, then with ConnectionsFull.
+    pub fn connect(&mut self, pid: u32, cred: Cred) -> Result<u16, Refusal>
+        ensures answer { IsAnswer (connect_refusal self.old cred) (λ conn. (conn ≡ suc (length self.old.clients)) × (self.new ≡ connected self.old pid cred)) result }
+        ensures err { OnErr result (self.new ≡ self.old) }
+    {
+        if self.list.accepts(cred).is_err() {
+            return Err(Refusal::Access);
+        }
+        let count = self.clients.len();
+        if count >= usize::from(MOST_CONNECTIONS) {
+            return Err(Refusal::ConnectionsFull);
+        }
+        self.clients.push(Client {
+            pid,
+            cred,
+            ended: false,
+            taken: 0,
+        })?;
+        Ok(count as u16 + 1)
+    }
+
+    /// The open connection of that number.
+    fn client(&self, conn: u16) -> Option<Client>
+        ensures { result ≡ open_client self.now conn }
+    {
+        open_client(self.clients.as_slice(), conn)
+    }
+
+    /// Puts a call of the connection last among what waits. Refused with NoConnection; BadName or TooLong;
+    /// QueueFull.
+    pub fn submit(&mut self, conn: u16, call: Call) -> Result<(), Refused<Call>>
+        ensures answer { IsAnswer (submit_refusal self.old conn call) (λ _. self.new ≡ submitted self.old conn call) (answer_of result) }
+        ensures err { OnErr result (self.new ≡ self.old) }
+        ensures back { IfErr result (λ refused. refused.back ≡ call) }
+    {
+        let Some(client) = self.client(conn) else {
+            return Err(Refused {
+                refusal: Refusal::NoConnection,
+                back: call,
+            });
+        };
+        if let Some(refusal) = call_refusal(&call) {
+            return Err(Refused {
+                refusal,
+                back: call,
+            });
+        }
+        let entry = client.entry(self.id, conn, Op::Act(call));
+        match self.ring.enqueue(entry) {
+            Ok(()) => Ok(()),
+            Err(refused) => Err(Refused {
+                refusal: refused.refusal,
+                back: call_in(refused.back),
+            }),
+        }
+    }
+
+    /// Ends a connection: its end waits behind its calls.
+    pub fn disconnect(&mut self, conn: u16) -> Result<(), Refusal>
+        ensures answer { IsAnswer (closed_refusal (open_client self.old conn)) (λ _. self.new ≡ disconnected self.old conn) result }
+        ensures err { OnErr result (self.new ≡ self.old) }
+    {
+        let Some(client) = self.client(conn) else {
+            return Err(Refusal::NoConnection);
+        };
+        let entry = client.entry(self.id, conn, Op::Gone);
+        match self.ring.enqueue_end(entry) {
+            Ok(()) => {
+                put_client(
+                    &mut self.clients,
+                    conn,
+                    Client {
+                        ended: true,
+                        ..client
+                    },
+                );
+                Ok(())
+            }
+            Err(refused) => Err(refusal_in(refused)),
+        }
+    }
+
+    /// Hears a frame, and gives what is to be sent: the packets of the token's visit, then the token.
+    pub fn frame(&mut self, bytes: &[u8]) -> Result<Vec<Bytes>, Refusal>
+        ensures answer { IsFrameAnswer (λ list. list.items) self.old (frame_of bytes.now) result self.new }
+        ensures few { IfOk result (λ list. length list.items ≤ 41) }
+        ensures range { OnOk result (IfSome (frame_of bytes.now) (λ f. All CanBeSpelled (answers_to self.old f))) }
+    {
+        match decode(self.alloc, bytes)? {
+            Frame::Packet(packet) => {
+                hear_packet(&mut self.ring, packet)?;
+                Ok(Vec::new(self.alloc))
+            }
+            Frame::Token(token) => {
+                let list = hear_token(self.alloc, &mut self.ring, &token)?;
+                Ok(list)
+            }
+        }
+    }
+
+    /// The node's last token sent, to be sent again.
+    pub fn timer(&mut self) -> Result<Option<Bytes>, Refusal>
+        ensures ok { IfOk result (λ bytes. bytes ≡ option_map (λ t. spelling Two (frames.Token t)) self.old.ring.state.last_token) }
+        ensures same { self.new ≡ self.old }
+        ensures memory { IsOkUnless result Refusal.Memory }
+        ensures none { self.old.ring.state.last_token ≡ None → result ≡ Ok None }
+        ensures range { IfSome self.old.ring.state.last_token (λ t. CanBeSpelled (frames.Token t)) }
+    {
+        match self.ring.resend() {
+            None => Ok(None),
+            Some(token) => {
+                token_fits(token);
+                Ok(Some(encode_token(self.alloc, token)?))
+            }
+        }
+    }
+
+    /// The judgement of the next place, if it is held.
+    pub fn judge_next(&self) -> Result<Option<Record>, Refusal>
+        ensures ok { IfOk result (λ next. next ≡ next_record self.now) }
+        ensures memory { IsOkUnless result Refusal.Memory }
+        ensures none { next_record self.now ≡ None → result ≡ Ok None }
+    {
+        match self.ring.next_place() {
+            None => Ok(None),
+            Some(entry) => Ok(Some(self.policy.judge(entry)?)),
+        }
+    }
+
+    /// Takes the next place as delivered, where the record is its judgement.
+    pub fn commit(&mut self, next: Record) -> Result<(), Refused<Record>>
+        requires { next_record self.old ≡ Some next }
+        ensures ok { OnOk result (self.new ≡ delivered self.old) }
+        ensures unchanged { OnErr result (self.new ≡ self.old) }
+        ensures err { IfErr result (λ refused. refused ≡ record { refusal = Refusal.Memory; back = next }) }
+    {
+        match self.policy.apply(next) {
+            Ok(()) => {
+                self.ring.advance();
+                Ok(())
+            }
+            Err(refused) => Err(refused),
+        }
+    }
+
+    /// Judges the next place and takes it as delivered, if it is held.
+    pub fn deliver(&mut self) -> Result<Option<u32>, Refusal>
+        ensures ok { IfOk result (λ place. (place ≡ next_place self.old) × (self.new ≡ delivered self.old)) }
+        ensures err { OnErr result (self.new ≡ self.old) }
+        ensures memory { IsOkUnless result Refusal.Memory }
+        ensures none { next_place self.old ≡ None → result ≡ Ok None }
+    {
+        match self.judge_next()? {
+            None => Ok(None),
+            Some(next) => match self.commit(next) {
+                Ok(()) => Ok(Some(self.ring.delivered())),
+                Err(refused) => Err(refusal_in(refused)),
+            },
+        }
+    }
+
+    /// The next item of the connection's inbox, if there is one.
+    pub fn take(&mut self, conn: u16) -> Result<Option<Event>, Refusal>
+        ensures answer { IsTakeAnswer self.old conn (open_client self.old conn) result }
+        ensures ok { OnOk result (self.new ≡ took self.old conn) }
+        ensures err { OnErr result (self.new ≡ self.old) }
+    {
+        let Some(client) = self.client(conn) else {
+            return Err(Refusal::NoConnection);
+        };
+        let event = event_of(
+            self.alloc,
+            &self.policy,
+            self.conn_id(conn),
+            client.taken as usize,
+        )?;
+        if event.is_some() {
+            let taken = client.taken + 1;
+            put_client(&mut self.clients, conn, Client { taken, ..client });
+        }
+        Ok(event)
+    }
+
+    fn conn_id(&self, conn: u16) -> ConnId
+        ensures { result ≡ conn_id self.now conn }
+    {
+        ConnId {
+            node: self.id,
+            conn,
+        }
+    }
+
+    /// The members of a group, where the connection may list it.
+    pub fn list(&self, conn: u16, group: &[u8]) -> Result<Processes, Refusal>
+        ensures { IsListAnswer self.now group.now (open_client self.now conn) result }
+    {
+        match self.client(conn) {
+            None => Err(Refusal::NoConnection),
+            Some(client) => self.policy.members(group, client.asker(self.id)),
+        }
+    }
+
+    /// The names of the groups with members that the connection may list.
+    pub fn groups(&self, conn: u16) -> Result<Names, Refusal>
+        ensures { IsGroupsAnswer self.now (open_client self.now conn) result }
+    {
+        match self.client(conn) {
+            None => Err(Refusal::NoConnection),
+            Some(client) => self.policy.groups(client.asker(self.id)),
+        }
+    }
+
+    /// The records of what was delivered, the first of which stands at place 1.
+    pub fn audit(&self) -> &[Record]
+        ensures { result.now ≡ records_of self.now }
+    {
+        self.policy.records()
+    }
+
+    /// A group's current table, where it is not empty.
+    pub fn table(&self, group: &[u8]) -> Option<&Table>
+        ensures { MatchOption result (rules_of (records_of self.now) group.now ≡ []) (λ table. table.now ≡ rules_of (records_of self.now) group.now) }
+    {
+        self.policy.table(group)
+    }
+
+    /// The open connection of that number.
+    pub fn connection(&self, conn: u16) -> Option<Connection>
+        ensures { result ≡ connection_of self.now conn }
+    {
+        let client = self.client(conn)?;
+        Some(Connection {
+            id: self.conn_id(conn),
+            pid: client.pid,
+            cred: client.cred,
+            taken: client.taken,
+        })
+    }
+
+    /// The place up to which every node holds all places, in a ring that hears only what it sent.
+    pub fn safe(&self) -> u32
+        ensures { result ≡ safe_mark self.now.ring.state.arus }
+    {
+        self.ring.safe()
+    }
+}
+
+/// The call of an entry that is one.
+fn call_in(entry: Entry) -> Call
+    ensures { (call : CallValue) → entry.op ≡ Op.Act call → result ≡ call }
+{
+    match entry.op {
+        Op::Act(call) => call,
+        Op::Gone => Call::Leave,
+    }
+}

@@ -1,0 +1,83 @@
+//! What the node's part of the ring does: entries wait, frames are heard, and what goes out is spelled.
+
+ghost use Rattle.std.specs.Prelude.{◌≡◌, ◌≤◌, length, ◌++◌, ◌∷◌, [], All, map, Option, None, Some, IfOk, OnErr, OnOk, IsOkUnless, option_map};
+ghost use Rattle.cpg_entry.specs.declared.frames.Frame.TheVariants as frames;
+ghost use Rattle.cpg_entry.specs.Ranges.{IsPacket, IsToken};
+ghost use Rattle.cpg_ring.specs.Moves.{after_entry, after_data};
+ghost use Rattle.cpg_ring.specs.Answers.{IsAnswer};
+ghost use Rattle.cpg_ring.specs.Rings.{refusal_of, data_refusal_of, full_refusal, with_state, visit_of, visited};
+ghost use Rattle.cpg_node.specs.Answers.{spelled, CanBeSpelled};
+ghost use Rattle.cpg_node.specs.Kept.{IsSound, IsKeptBy};
+
+use bytes::Bytes;
+use cpg_cred::{Refusal, Refused};
+use cpg_entry::{Packet, Token};
+use cpg_ring::{Ring, Visit};
+use cpg_wire::{encode_data, encode_token};
+use std::alloc::Global;
+
+/// The refusal alone.
+pub(crate) fn refusal_in<T: Drop>(refused: Refused<T>) -> Refusal
+    ensures { result ≡ refused.refusal }
+{
+    refused.refusal
+}
+
+fn spell_packets(alloc: Global, packets: &[Packet]) -> Result<Vec<Bytes>, Refusal>
+    requires { All IsPacket packets.now }
+    ensures ok { IfOk result (λ list. list.items ≡ spelled (map frames.Packet packets.now)) }
+    ensures range { OnOk result (All CanBeSpelled (map frames.Packet packets.now)) }
+    ensures memory { IsOkUnless result Refusal.Memory }
+{
+    let mut list = Vec::new(alloc);
+    for packet in packets {
+        list.push(encode_data(alloc, packet)?)?;
+    }
+    Ok(list)
+}
+
+/// The spellings of a visit's packets, then of its token.
+fn spell_visit(alloc: Global, visit: &Visit) -> Result<Vec<Bytes>, Refusal>
+    requires packets { All IsPacket visit.now.packets }
+    requires token { IsToken visit.now.token }
+    ensures ok { IfOk result (λ list. list.items ≡ spelled (map frames.Packet visit.now.packets ++ frames.Token visit.now.token ∷ [])) }
+    ensures range { OnOk result (All CanBeSpelled (map frames.Packet visit.now.packets ++ frames.Token visit.now.token ∷ [])) }
+    ensures memory { IsOkUnless result Refusal.Memory }
+{
+    let mut list = spell_packets(alloc, visit.packets.as_slice())?;
+    list.push(encode_token(alloc, &visit.token)?)?;
+    Ok(list)
+}
+
+/// Holds the packet, or gives the first refusal that fits.
+pub(crate) fn hear_packet(ring: &mut Ring, packet: Packet) -> Result<(), Refusal>
+    requires sound { IsSound ring.old }
+    requires packet { IsPacket packet }
+    ensures answer { IsAnswer (data_refusal_of ring.old packet) (λ _. ring.new ≡ with_state ring.old (after_data ring.old.state packet)) result }
+    ensures err { OnErr result (ring.new ≡ ring.old) }
+    ensures kept { IsKeptBy ring.old ring.new }
+{
+    ring.on_data(packet).map_err(|refused| refusal_in(refused))
+}
+
+/// Accepts the token and gives what is to be sent, or the first refusal that fits; after a refusal the ring
+/// is as it was.
+pub(crate) fn hear_token(
+    alloc: Global,
+    ring: &mut Ring,
+    token: &Token,
+) -> Result<Vec<Bytes>, Refusal>
+    requires sound { IsSound ring.old }
+    requires token { IsToken token.now }
+    ensures answer { IsAnswer (refusal_of ring.old token.now) (λ list. list.items ≡ spelled (map frames.Packet (visit_of ring.old token.now).packets ++ frames.Token (visit_of ring.old token.now).token ∷ [])) result }
+    ensures ok { OnOk result (ring.new ≡ visited ring.old token.now) }
+    ensures err { OnErr result (ring.new ≡ ring.old) }
+    ensures few { IfOk result (λ list. length list.items ≤ 41) }
+    ensures kept { IsKeptBy ring.old ring.new }
+    ensures range { OnOk result (All CanBeSpelled (map frames.Packet (visit_of ring.old token.now).packets ++ frames.Token (visit_of ring.old token.now).token ∷ [])) }
+{
+    let visit = ring.visit(token)?;
+    let list = spell_visit(alloc, &visit)?;
+    let _again = ring.on_token(token)?;
+    Ok(list)
+}
