@@ -28,34 +28,12 @@ use Rattle.cpg_entry.specs.declared.entries.Entry.{Entry}
 use Rattle.cpg_record.specs.declared.memberships.Member.{Member}
 use Rattle.cpg_record.specs.declared.records.Record.{Record}
 use Rattle.cpg_record.specs.Connections.{conn_in}
-use Rattle.cpg_record.specs.Listings.{AreGroups, IsListed, list_decision}
+use Rattle.cpg_record.specs.Listings.{AreGroups, IsShownTo, list_decision}
 use Rattle.cpg_record.specs.Membership.{Seat, ends, is_allowed, members, seats, taken_by}
+use Rattle.cpg_record.proofs.Kept.{Contains-behind, Contains-filter, Contains-from_filter}
 use Rattle.cpg_group.specs.Groups.{allows, group_by_join, has_members, is_shown, joined_group, joined_groups}
 
 -- ---- lists
-
--- one element more in front
-Contains-behind : {X : Type 0} (y : X) (xs : List X) (x : X) → Contains xs x → Contains (y ∷ xs) x
-Contains-behind y xs x h = Contains-append_right (y ∷ []) xs x h
-
--- what passes is kept
-pub Contains-filter : {X : Type 0} (p : X → Bool) (xs : List X) (x : X) → p x ≡ true → Contains xs x → Contains (filter p xs) x
-Contains-filter p [] x passes (k, below, at) = absurd (omega arith)
-Contains-filter {X} p (y ∷ ys) x passes (zero, below, at) =
-    let here : p y ≡ true = ap p at ∙ passes in
-    subst (λ (b : Bool). Contains (cond b (y ∷ filter p ys) (filter p ys)) x) (sym here) (0, omega arith, at)
-Contains-filter {X} p (y ∷ ys) x passes (suc k, below, at) = either (p y) (Contains-filter p ys x passes (k, omega arith, at))
-  where
-    either : (b : Bool) → Contains (filter p ys) x → Contains (cond b (y ∷ filter p ys) (filter p ys)) x
-    either true h = Contains-behind y (filter p ys) x h
-    either false h = h
-
--- what is kept passes, and was there
-pub Contains-from_filter : {X : Type 0} (p : X → Bool) (xs : List X) (x : X) → Contains (filter p xs) x → (p x ≡ true) × Contains xs x
-Contains-from_filter p xs x h = (
-  All-contains (λ y. p y ≡ true) (filter p xs) x (filter_passes p xs) h,
-  All-contains (Contains xs) (filter p xs) x (All-filter p (Contains xs) xs (All-contains_itself xs)) h,
-)
 
 -- an order that each element keeps with all later ones
 AllPairs-from_sorted : {X : Type 0} (c : X → X → Ordering) (xs : List X) → IsStrictlySortedBy c xs → AllPairs (λ x y. c x y ≡ Less) xs

@@ -1,5 +1,12 @@
+pub mod Bounded
+pub mod Changed
 pub mod Denials
+pub mod Elsewhere
 pub mod Growing
+pub mod Inboxes
+pub mod Kept
 pub mod Judging
 pub mod Seats
+pub mod Told
 pub mod Once
+pub mod Placing

@@ -24,7 +24,7 @@ lasting r later = filter (λ s. not (list_any (ends (conn_in s.member)) later)) 
 seats_any : (c : ConnId) (g : List ℕ) (r : Record) (later : List Record) → list_any (is_seat c g) (seats (r ∷ later)) ≡ (list_any (is_seat c g) (lasting r later) || list_any (is_seat c g) (seats later))
 seats_any c g r later = list_any-append (is_seat c g) (lasting r later) (seats later)
 
-is_conn-itself : (a : ConnId) → is_conn a a ≡ true
+pub is_conn-itself : (a : ConnId) → is_conn a a ≡ true
 is_conn-itself a = grind (arith, eq-eqb a.node a.node refl, eq-eqb a.conn a.conn refl)
 
 -- the join's own seat, by its op and verdict

@@ -1,4 +1,4 @@
--- the connection, the asker and the member that an entry speaks of
+-- the connection and the member that an entry speaks of
 use Rattle.std.specs.Prelude.{ℕ, Bool, ◌&&◌, ◌==◌}
 use Rattle.cpg_entry.specs.declared.entries.Entry.{Entry}
 use Rattle.cpg_record.specs.declared.connections.ConnId.{ConnId}

@@ -1,6 +1,8 @@
 //! What follows from the definitions. Each function has nothing to do: its contract is the law.
 
-ghost use Rattle.cpg_record.specs.Laws.{SeatsAreMemberships, GroupIsMembership, MembersAfterOneMore, RulesAfterOneMore, DenialChangesNothing, PrefixesAreJudgedAlike, EachEntryIsJudged, OneSeatEach, OnceInAGroup};
+ghost use Rattle.cpg_record.specs.Bounds.{JudgedWithinBounds};
+ghost use Rattle.cpg_record.specs.Laws.{SeatsAreMemberships, GroupIsMembership, MembersAfterOneMore, RulesAfterOneMore, DenialChangesNothing, PrefixesAreJudgedAlike, EachEntryIsJudged, EachIsJudgedByThoseBefore, OthersKeepMembers, MembersAreIn, OneSeatEach, OnceInAGroup};
+ghost use Rattle.cpg_record.specs.Receiving.{InboxesOnlyGrow, PlacesTellLittle, ReceivesExactly, HearsChangesExactly, HearsEditsExactly, HearsVerdictsExactly};
 
 /// A connection has a seat in a group exactly where it is in it: an allowed join of it to the group
 /// stands somewhere, and no later record ends it.
@@ -39,6 +41,21 @@ pub fn each_entry_is_judged()
     ensures { EachEntryIsJudged }
 {}
 
+/// Each record is the judgement of its entry over the records before it.
+pub fn each_is_judged_by_those_before()
+    ensures { EachIsJudgedByThoseBefore }
+{}
+
+/// A record changes the members of its own group alone.
+pub fn others_keep_members()
+    ensures { OthersKeepMembers }
+{}
+
+/// A connection is in a group exactly where it is one of its members.
+pub fn members_are_in()
+    ensures { MembersAreIn }
+{}
+
 /// A connection has at most one seat.
 pub fn one_seat_each()
     ensures { OneSeatEach }
@@ -47,4 +64,42 @@ pub fn one_seat_each()
 /// A process stands at most once in a group.
 pub fn once_in_a_group()
     ensures { OnceInAGroup }
+{}
+
+/// An inbox over more records begins as it is over the first ones: what was told stays told, in its order.
+pub fn inboxes_only_grow()
+    ensures { InboxesOnlyGrow }
+{}
+
+/// A place tells a connection at most two events, and place 0 none.
+pub fn places_tell_little()
+    ensures { PlacesTellLittle }
+{}
+
+/// A connection receives exactly the messages that members of its group were allowed to send while it was
+/// in the group.
+pub fn receives_exactly()
+    ensures { ReceivesExactly }
+{}
+
+/// A connection is told exactly the allowed edits of the table of the group that it is in.
+pub fn hears_edits_exactly()
+    ensures { HearsEditsExactly }
+{}
+
+/// A connection is told exactly the verdicts on its own entries.
+pub fn hears_verdicts_exactly()
+    ensures { HearsVerdictsExactly }
+{}
+
+/// A connection is told exactly the changes of the group that it is in, before them or with them: with the
+/// members after it, those who left and those who joined.
+pub fn hears_changes_exactly()
+    ensures { HearsChangesExactly }
+{}
+
+/// Over judged entries no group has more than 128 members, no record lists more, and no table has more
+/// than 64 rules.
+pub fn judged_within_bounds()
+    ensures { JudgedWithinBounds }
 {}

@@ -8,6 +8,7 @@
 mod connections;
 mod events;
 pub mod laws;
+pub mod limits;
 mod memberships;
 mod moves;
 mod records;
@@ -15,7 +16,8 @@ mod verdicts;
 
 pub use connections::ConnId;
 pub use events::{Event, Events};
-pub use memberships::{MOST_MEMBERS, Member, Members};
+pub use limits::{MOST_MEMBERS, MOST_PLACES};
+pub use memberships::{Member, Members};
 pub use moves::{Cause, Move, Moves};
 pub use records::{Record, Records};
 pub use verdicts::{Reason, Verdict};
