@@ -1,6 +1,6 @@
 -- A record changes no members but those of its own group, and a connection is in a group exactly where
 -- one of its members is that connection.
-use Rattle.std.proofs.Common.{◌≡◌, ◌≢◌, ℕ, zero, suc, ◌+◌, ◌≤◌, Bool, true, false, not, ◌&&◌, ◌||◌, cond, List, [], ◌∷◌, ◌++◌, map, refl, sym, ap, subst, ◌∙◌, arith, Option, Some, None}
+use Rattle.std.proofs.Common.{◌≡◌, ◌≢◌, ℕ, ◌+◌, ◌≤◌, Bool, true, false, not, ◌&&◌, ◌||◌, cond, List, [], ◌∷◌, ◌++◌, map, refl, sym, ap, subst, ◌∙◌, arith, Option, Some, None}
 use Rattle.std.specs.Prelude.{option_map, Contains}
 use Rattle.std.proofs.lemmas.List.Sums.{fold_push}
 use Rattle.std.proofs.lemmas.Slice.Eq.{bytes_eq-Decides}
@@ -20,7 +20,7 @@ use Rattle.cpg_record.specs.Membership.{is_allowed, Seat, seats, members, member
 use Rattle.cpg_record.specs.Steps.{members_by, without}
 use Rattle.cpg_record.specs.Verdicts.{op_verdict}
 use Rattle.cpg_record.proofs.Growing.{is_conn-true, members_push}
-use Rattle.cpg_record.proofs.Kept.{Contains-behind}
+use Rattle.cpg_record.proofs.Kept.{any_passes, passes_any}
 use Rattle.cpg_record.proofs.Once.{count, at_conn, group_is_membership, OneEach, one_from}
 use Rattle.cpg_record.proofs.Seats.{is_conn-itself}
 
@@ -145,25 +145,6 @@ first_there conn g (s ∷ ss) one = by_case (is_conn conn (conn_in s.member)) (b
 
 listed_in : (es : List Entry) (conn : ConnId) (g : List ℕ) → is_member (judged es) conn g ≡ list_any (λ member. is_conn conn (conn_in member)) (members (judged es) g)
 listed_in es conn g = first_there conn g (seats (judged es)) (one_from [] es (λ c. omega arith) conn)
-
--- a test that one of a list passes, and one that passes
-any_passes : (p : Member → Bool) (list : List Member) → list_any p list ≡ true → (m : Member) × Contains list m × (p m ≡ true)
-any_passes p [] h = absurd (cc)
-any_passes p (m ∷ list) h = by_case (p m) refl (any_passes p list) h
-  where
-    by_case : (b : Bool) → p m ≡ b → (list_any p list ≡ true → (n : Member) × Contains list n × (p n ≡ true)) → (b || list_any p list) ≡ true → (n : Member) × Contains (m ∷ list) n × (p n ≡ true)
-    by_case true is others k = (m, (0, omega arith, refl), is)
-    by_case false is others k = let o = others k in (o.0, Contains-behind m list o.0 o.1, o.2)
-
-passes_any : (p : Member → Bool) (list : List Member) (m : Member) → Contains list m → p m ≡ true → list_any p list ≡ true
-passes_any p [] m (k, below, is) passes = absurd (omega arith)
-passes_any p (n ∷ list) m (zero, below, is) passes = ap (λ (b : Bool). b || list_any p list) (ap p is ∙ passes)
-passes_any p (n ∷ list) m (suc k, below, is) passes =
-    ap (λ (b : Bool). p n || b) (passes_any p list m (k, omega arith, is) passes) ∙ or_true (p n)
-  where
-    or_true : (b : Bool) → (b || true) ≡ true
-    or_true true = refl
-    or_true false = refl
 
 pub members_are_in : MembersAreIn
 members_are_in es conn g =

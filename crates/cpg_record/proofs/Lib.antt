@@ -6,7 +6,9 @@ pub mod Growing
 pub mod Inboxes
 pub mod Kept
 pub mod Judging
+pub mod Reasoned
 pub mod Seats
 pub mod Told
+pub mod Why
 pub mod Once
 pub mod Placing

@@ -6,6 +6,7 @@ pub mod Laws
 pub mod Listings
 pub mod Membership
 pub mod Places
+pub mod Reasons
 pub mod Receiving
 pub mod RuleTables
 pub mod Steps

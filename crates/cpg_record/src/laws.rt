@@ -3,6 +3,7 @@
 ghost use Rattle.cpg_record.specs.Bounds.{JudgedWithinBounds};
 ghost use Rattle.cpg_record.specs.Laws.{SeatsAreMemberships, GroupIsMembership, MembersAfterOneMore, RulesAfterOneMore, DenialChangesNothing, PrefixesAreJudgedAlike, EachEntryIsJudged, EachIsJudgedByThoseBefore, OthersKeepMembers, MembersAreIn, OneSeatEach, OnceInAGroup};
 ghost use Rattle.cpg_record.specs.Receiving.{InboxesOnlyGrow, PlacesTellLittle, ReceivesExactly, HearsChangesExactly, HearsEditsExactly, HearsVerdictsExactly};
+ghost use Rattle.cpg_record.specs.Reasons.{DeniedListingsNameTheirRule, VerdictsNameWhatDecided};
 
 /// A connection has a seat in a group exactly where it is in it: an allowed join of it to the group
 /// stands somewhere, and no later record ends it.
@@ -102,4 +103,15 @@ pub fn hears_changes_exactly()
 /// than 64 rules.
 pub fn judged_within_bounds()
     ensures { JudgedWithinBounds }
+{}
+
+/// A listing is denied exactly by the rule of the group's table that says so, and never by default.
+pub fn denied_listings_name_their_rule()
+    ensures { DeniedListingsNameTheirRule }
+{}
+
+/// Each entry has exactly the verdict that names what decided it: the first rule that speaks, the right's
+/// default, or the state that it met.
+pub fn verdicts_name_what_decided()
+    ensures { VerdictsNameWhatDecided }
 {}
