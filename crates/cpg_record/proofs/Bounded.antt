@@ -1,5 +1,5 @@
 -- Judged records list no more members, and keep no more rules, than there may be.
-use Rattle.std.proofs.Common.{◌≡◌, ℕ, suc, ◌+◌, ◌<◌, ◌≤◌, Bool, true, false, not, ◌&&◌, ◌==◌, cond, List, [], ◌∷◌, ◌++◌, length, take, get_or, Option, Some, None, All, refl, sym, ap, ◌∙◌, subst, arith}
+use Rattle.std.proofs.Common.{◌≡◌, ℕ, suc, ◌+◌, ◌<◌, ◌≤◌, Bool, true, false, not, ◌&&◌, ◌==◌, cond, List, [], ◌∷◌, ◌++◌, length, take, get_or, Option, Some, None, refl, sym, ap, ◌∙◌, subst, arith}
 use Rattle.std.specs.Str.{bytes_eq}
 use Rattle.std.specs.List.{filter, fold}
 use Rattle.std.proofs.lemmas.Bool.{leb-false}
@@ -17,7 +17,7 @@ use Rattle.cpg_entry.specs.declared.entries.Entry.{Entry}
 use Rattle.cpg_record.specs.declared.limits.TheConstants.{MOST_MEMBERS}
 use Rattle.cpg_record.specs.declared.memberships.Member.{Member}
 use Rattle.cpg_record.specs.declared.records.Record.{Record}
-use Rattle.cpg_record.specs.Bounds.{WithinBounds, JudgedWithinBounds}
+use Rattle.cpg_record.specs.Bounds.{JudgedWithinBounds}
 use Rattle.cpg_record.specs.Connections.{conn_in, conn_of, is_conn, member_of}
 use Rattle.cpg_record.specs.Judging.{judged, with_judgement, draft, entry_group, record_of}
 use Rattle.cpg_record.specs.Membership.{is_allowed, is_named, members, members_in}

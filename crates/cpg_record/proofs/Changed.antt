@@ -1,15 +1,14 @@
 -- What a change in an inbox says, in the words of membership.
-use Rattle.std.proofs.Common.{◌≡◌, ℕ, ◌+◌, ◌-◌, ◌≤◌, ◌⊎◌, inl, inr, Bool, true, false, ◌&&◌, ◌||◌, cond, List, [], ◌∷◌, ◌++◌, take, map, Option, Some, None, refl, sym, ap, ◌∙◌, subst, arith}
+use Rattle.std.proofs.Common.{◌≡◌, ℕ, ◌+◌, ◌-◌, ◌≤◌, ◌⊎◌, inl, inr, Bool, true, false, ◌&&◌, ◌||◌, cond, List, [], ◌∷◌, ◌++◌, take, map, Some, None, refl, sym, ap, ◌∙◌, subst, arith}
 use Rattle.std.specs.Prelude.{◌↔◌, Contains}
 use Rattle.std.specs.List.{filter, list_any}
 use Rattle.std.specs.Str.{bytes_eq}
-use Rattle.std.proofs.lemmas.Option.{none-some, cond_some}
+use Rattle.std.proofs.lemmas.Option.{cond_some}
 use Rattle.cpg_entry.specs.declared.calls.Call.TheVariants.{Join, Leave, Send, Insert, Remove}
 use Rattle.cpg_entry.specs.declared.calls.Op.{Op}
 use Rattle.cpg_entry.specs.declared.calls.Op.TheVariants.{Act, Gone}
 use Rattle.cpg_entry.specs.declared.entries.Entry.{Entry}
 use Rattle.cpg_record.specs.declared.connections.ConnId.{ConnId}
-use Rattle.cpg_record.specs.declared.events.Event.{Event}
 use Rattle.cpg_record.specs.declared.events.Event.TheVariants as event
 use Rattle.cpg_record.specs.declared.memberships.Member.{Member}
 use Rattle.cpg_record.specs.declared.moves.Cause.{Cause}
@@ -20,7 +19,7 @@ use Rattle.cpg_record.specs.Connections.{conn_of, conn_in, is_conn, member_of}
 use Rattle.cpg_record.specs.Events.{hears_change, inbox, moves_of, news_by}
 use Rattle.cpg_record.specs.Judging.{judged, record_of, entry_group}
 use Rattle.cpg_record.specs.Laws.{InGroup, is_seat}
-use Rattle.cpg_record.specs.Membership.{group_of, is_allowed, is_member, members, Seat, seats}
+use Rattle.cpg_record.specs.Membership.{group_of, is_member, members, Seat, seats}
 use Rattle.cpg_record.specs.Places.{record_at, records_before}
 use Rattle.cpg_record.specs.Receiving.{AreMoves, HasLeft, IsChange, HearsChangesExactly}
 use Rattle.cpg_record.proofs.Denials.{prefixes_are_judged_alike}
@@ -28,9 +27,9 @@ use Rattle.cpg_record.proofs.Elsewhere.{among, flip, lists_members}
 use Rattle.cpg_record.proofs.Growing.{is_conn-true}
 use Rattle.cpg_record.proofs.Inboxes.{in_single}
 use Rattle.cpg_record.proofs.Kept.{Contains-filter, Contains-from_filter}
-use Rattle.cpg_record.proofs.Once.{at_conn, count, no_seat, one_from, OneEach}
+use Rattle.cpg_record.proofs.Once.{at_conn, count, no_seat, one_from}
 use Rattle.cpg_record.proofs.Seats.{is_conn-itself, seats_are_memberships}
-use Rattle.cpg_record.proofs.Told.{Heard, heard, hears, first_records, group_in_first, member_in_first, record_is}
+use Rattle.cpg_record.proofs.Told.{heard, hears, first_records, group_in_first, member_in_first, record_is}
 
 -- ---- the member that a connection is
 

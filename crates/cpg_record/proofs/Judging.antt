@@ -1,12 +1,10 @@
 -- What holds of the records of agreed entries.
-use Rattle.std.proofs.Common.{◌≡◌, ◌≢◌, ℕ, ◌+◌, ◌<◌, ◌≤◌, Bool, true, false, not, ◌&&◌, cond, leb, ltb, ◌⊎◌, inl, inr, List, [], ◌∷◌, ◌++◌, length, take, drop, get_or, map, refl, sym, ap, subst, ◌∙◌, arith, rules, Option, Some, None, All}
-use Rattle.std.specs.Str.{bytes_eq}
-use Rattle.std.specs.List.{filter, fold, insert}
+use Rattle.std.proofs.Common.{◌≡◌, ◌≢◌, ℕ, ◌+◌, ◌<◌, ◌≤◌, Bool, true, false, ◌&&◌, cond, leb, ltb, ◌⊎◌, inl, inr, List, [], ◌∷◌, ◌++◌, length, take, drop, get_or, refl, sym, ap, subst, ◌∙◌, arith, rules, All}
+use Rattle.std.specs.List.{fold}
 use Rattle.std.proofs.lemmas.Bool.{leb-false, ltb-false, cases_lt}
 use Rattle.std.proofs.lemmas.Slice.Eq.{bytes_eq-Decides}
 use Rattle.std.proofs.lemmas.List.{take_at, take-append-le, get_or_append_left, get_or_push, length_push}
-use Rattle.std.proofs.lemmas.Grind.{common_steps}
-use Rattle.std.proofs.lemmas.List.Elements.{All-append, All-cons, All-take, All-drop, All-weaker, All-filter}
+use Rattle.std.proofs.lemmas.List.Elements.{All-append, All-cons, All-take, All-drop, All-filter}
 use Rattle.cpg_cred.specs.declared.bases.By.{By}
 use Rattle.cpg_rules.specs.declared.decisions.Decision.{Decision}
 use Rattle.cpg_rules.specs.declared.decisions.Decision.TheVariants as decision
@@ -20,8 +18,8 @@ use Rattle.cpg_record.specs.declared.verdicts.Verdict.TheVariants.{Allowed, Deni
 use Rattle.cpg_record.specs.declared.verdicts.Reason.TheVariants as reason
 use Rattle.cpg_record.specs.Membership.{is_allowed, is_named}
 use Rattle.cpg_record.specs.RuleTables.{edited_by, named, edited, rules_of}
-use Rattle.cpg_record.specs.Verdicts.{edit_decision, decided, insert_verdict, op_verdict}
-use Rattle.cpg_record.specs.Judging.{judged, with_judgement, record_of, entries_of, AreJudged}
+use Rattle.cpg_record.specs.Verdicts.{edit_decision, decided, op_verdict}
+use Rattle.cpg_record.specs.Judging.{with_judgement, record_of, entries_of, AreJudged}
 use Rattle.cpg_record.specs.Steps.{CanEdit, CanEditBy}
 
 -- ---- each record is the judgement of its entry

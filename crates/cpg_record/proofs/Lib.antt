@@ -11,4 +11,5 @@ pub mod Seats
 pub mod Told
 pub mod Why
 pub mod Once
+pub mod Ordered
 pub mod Placing

@@ -1,12 +1,11 @@
 -- A connection has at most one seat, and a process stands at most once in a group.
-use Rattle.std.proofs.Common.{◌≡◌, ℕ, ◌+◌, ◌≤◌, Bool, true, false, not, ◌&&◌, ◌||◌, ◌==◌, cond, List, [], ◌∷◌, ◌++◌, length, map, refl, sym, ap, subst, ◌∙◌, arith, Option, Some, None}
-use Rattle.std.specs.Prelude.{count_by, sum_by, is_some, option_map, nat_le, ◌↔◌}
+use Rattle.std.proofs.Common.{◌≡◌, ℕ, ◌+◌, ◌≤◌, Bool, true, false, not, ◌&&◌, ◌||◌, ◌==◌, cond, List, [], ◌∷◌, ◌++◌, length, refl, sym, ap, subst, ◌∙◌, arith, Some}
+use Rattle.std.specs.Prelude.{count_by, is_some, option_map, nat_le, ◌↔◌}
 use Rattle.std.specs.Str.{bytes_eq}
 use Rattle.std.specs.List.{filter, find, fold, list_any}
 use Rattle.std.proofs.lemmas.Bool.{eqb-true}
 use Rattle.std.proofs.lemmas.List.Sums.{sum_by-cons}
 use Rattle.std.proofs.lemmas.Slice.Eq.{bytes_eq-Decides}
-use Rattle.cpg_cred.specs.declared.bases.By.{By}
 use Rattle.cpg_rules.specs.declared.decisions.Decision.{Decision}
 use Rattle.cpg_rules.specs.declared.decisions.Decision.TheVariants as decision
 use Rattle.cpg_rules.specs.declared.rules.Right.TheVariants as right
@@ -24,10 +23,10 @@ use Rattle.cpg_record.specs.declared.verdicts.Reason.TheVariants as reason
 use Rattle.cpg_record.specs.declared.verdicts.Verdict.TheVariants.{Allowed, Denied}
 use Rattle.cpg_record.specs.Connections.{conn_of, conn_in, is_conn, member_of}
 use Rattle.cpg_record.specs.Judging.{judged, with_judgement, record_of}
-use Rattle.cpg_record.specs.Laws.{InGroup, is_seat, OneSeatEach, OnceInAGroup, GroupIsMembership}
+use Rattle.cpg_record.specs.Laws.{is_seat, OneSeatEach, OnceInAGroup, GroupIsMembership}
 use Rattle.cpg_record.specs.Membership.{is_allowed, Seat, seats, taken_by, members, group_of}
 use Rattle.cpg_record.specs.RuleTables.{rules_of}
-use Rattle.cpg_record.specs.Steps.{members_by, without}
+use Rattle.cpg_record.specs.Steps.{members_by}
 use Rattle.cpg_record.specs.Verdicts.{decided, has_process, join_verdict, op_verdict}
 use Rattle.cpg_record.proofs.Growing.{is_conn-true, members_push, seats_push, stays}
 use Rattle.cpg_record.proofs.Seats.{seats_are_memberships}

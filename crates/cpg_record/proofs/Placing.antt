@@ -1,9 +1,8 @@
 -- Records by their places.
-use Rattle.std.proofs.Common.{◌≡◌, ℕ, zero, suc, ◌+◌, ◌-◌, ◌<◌, ◌≤◌, List, [], ◌∷◌, ◌++◌, length, take, Option, Some, None, refl, sym, ap, ◌∙◌, arith}
+use Rattle.std.proofs.Common.{◌≡◌, ℕ, zero, suc, ◌-◌, ◌≤◌, List, sym, ap, arith}
 use Rattle.std.specs.List.{slice_get}
-use Rattle.std.proofs.lemmas.List.{take-append-le}
 use Rattle.cpg_record.specs.declared.records.Record.{Record}
-use Rattle.cpg_record.specs.Places.{record_at, records_before}
+use Rattle.cpg_record.specs.Places.{record_at}
 
 -- from place 1 on, the record at a place has the index one lower
 pub record_at-index : (rs : List Record) (place : ℕ) → 1 ≤ place → record_at rs place ≡ slice_get rs (place - 1)

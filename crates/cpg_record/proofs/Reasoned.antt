@@ -1,12 +1,11 @@
 -- Each verdict is what the table and the state make of its op.
-use Rattle.std.proofs.Common.{◌≡◌, ◌≢◌, ℕ, ◌-◌, ◌<◌, ◌≤◌, Bool, true, false, ◌&&◌, ◌==◌, cond, leb, ltb, eqb, List, length, take, Option, Some, None, Contains, refl, sym, ap, ◌∙◌, subst, arith}
+use Rattle.std.proofs.Common.{◌≡◌, ◌≢◌, ℕ, ◌-◌, Bool, true, false, ◌&&◌, ◌==◌, cond, leb, ltb, List, length, Option, Some, None, Contains, refl, sym, ap, ◌∙◌, subst}
 use Rattle.std.specs.Prelude.{◌↔◌, is_some}
 use Rattle.std.proofs.lemmas.Bool.{eqb-true, eqb-false, eq-eqb, ne_eqb, leb-false, leb-true, le-leb, lt-leb, ltb-false, ltb-true, lt-ltb, le-ltb}
 use Rattle.cpg_cred.specs.declared.bases.By.{By}
 use Rattle.cpg_cred.specs.declared.bases.By.TheVariants as by
 use Rattle.cpg_rules.specs.declared.decisions.Decision.{Decision}
 use Rattle.cpg_rules.specs.declared.decisions.Decision.TheVariants as decision
-use Rattle.cpg_rules.specs.declared.rules.Asker.{Asker}
 use Rattle.cpg_rules.specs.declared.rules.Effect.{Effect}
 use Rattle.cpg_rules.specs.declared.rules.Effect.TheVariants.{Allow, Deny}
 use Rattle.cpg_rules.specs.declared.rules.Right.TheVariants as right
@@ -33,7 +32,7 @@ use Rattle.cpg_record.specs.Membership.{group_of, members}
 use Rattle.cpg_record.specs.Places.{records_before}
 use Rattle.cpg_record.specs.RuleTables.{rules_of}
 use Rattle.cpg_record.specs.Verdicts.{decided, edit_decision, has_process, insert_verdict, join_verdict, leave_verdict, op_verdict, remove_verdict, send_verdict}
-use Rattle.cpg_record.specs.Reasons.{by_default, EditSays, HasRule, IsEndVerdict, IsInSome, IsInsertVerdict, IsJoinVerdict, IsLeaveVerdict, IsMemberAlready, IsRemoveVerdict, IsSendVerdict, IsVerdict, Says, VerdictsNameWhatDecided}
+use Rattle.cpg_record.specs.Reasons.{EditSays, HasRule, IsEndVerdict, IsInSome, IsInsertVerdict, IsJoinVerdict, IsLeaveVerdict, IsMemberAlready, IsRemoveVerdict, IsSendVerdict, IsVerdict, Says, VerdictsNameWhatDecided}
 use Rattle.cpg_record.proofs.Kept.{any_passes, passes_any}
 use Rattle.cpg_record.proofs.Told.{group_in_first, record_is}
 use Rattle.cpg_record.proofs.Why.{decided_so, decides_so, decision_of, DecidedSo}

@@ -1,8 +1,7 @@
 -- What an inbox holds, in the words of membership.
-use Rattle.std.proofs.Common.{◌≡◌, ℕ, zero, suc, ◌+◌, ◌-◌, ◌<◌, ◌≤◌, ◌⊎◌, inl, inr, Bool, true, false, ◌||◌, cond, List, [], ◌∷◌, ◌++◌, length, take, get_or, map, Option, Some, None, refl, sym, ap, ◌∙◌, subst, arith}
+use Rattle.std.proofs.Common.{◌≡◌, ℕ, zero, suc, ◌+◌, ◌-◌, ◌⊎◌, inl, inr, Bool, true, false, cond, List, [], ◌∷◌, ◌++◌, take, get_or, Option, Some, None, refl, sym, ap, ◌∙◌, subst, arith}
 use Rattle.std.specs.Prelude.{◌↔◌, Contains, option_map, option_to_list}
-use Rattle.std.specs.List.{filter, slice_get}
-use Rattle.std.specs.Str.{bytes_eq}
+use Rattle.std.specs.List.{slice_get}
 use Rattle.std.proofs.lemmas.List.{take_more}
 use Rattle.std.proofs.lemmas.List.Elements.{Contains-append_left, Contains-append_right, Contains-append_cases}
 use Rattle.std.proofs.lemmas.Option.{slice_get-map, slice_get_within, get_or_from_slice_get, none-some, cond_some}
@@ -18,14 +17,14 @@ use Rattle.cpg_record.specs.declared.records.Record.{Record}
 use Rattle.cpg_record.specs.declared.verdicts.Verdict.{Verdict}
 use Rattle.cpg_record.specs.Connections.{conn_of, is_conn}
 use Rattle.cpg_record.specs.Events.{answer, hears_change, inbox, news, news_by}
-use Rattle.cpg_record.specs.Judging.{judged, record_of, entry_group, entries_of}
+use Rattle.cpg_record.specs.Judging.{judged, record_of, entry_group}
 use Rattle.cpg_record.specs.Laws.{InGroup, EachIsJudgedByThoseBefore}
 use Rattle.cpg_record.specs.Membership.{group_of, is_allowed, is_member, is_named}
 use Rattle.cpg_record.specs.Places.{record_at, records_before}
-use Rattle.cpg_record.specs.Receiving.{IsSent, ReceivesExactly, EditsTable, IsEdit, HearsEditsExactly, IsAnswered, HearsVerdictsExactly}
+use Rattle.cpg_record.specs.Receiving.{IsSent, ReceivesExactly, EditsTable, IsEdit, HearsEditsExactly, IsAnswered, is_verdict, place_of, HearsVerdictsExactly}
 use Rattle.cpg_record.proofs.Denials.{prefixes_are_judged_alike, each_entry_is_judged}
 use Rattle.cpg_record.proofs.Growing.{is_conn-true}
-use Rattle.cpg_record.proofs.Inboxes.{ToldAt, told_from_inbox, inbox_from_told, place_within, in_single, single_in, nothing}
+use Rattle.cpg_record.proofs.Inboxes.{told_from_inbox, inbox_from_told, in_single, single_in, nothing}
 use Rattle.cpg_record.proofs.Judging.{Each-judged}
 use Rattle.cpg_record.proofs.Once.{group_is_membership}
 use Rattle.cpg_record.proofs.Seats.{is_conn-itself}
@@ -91,17 +90,12 @@ member_in_first es n c g =
 
 -- ---- news
 
--- an event that isn't a verdict
-abbrev pub is_news : Event → Bool
-is_news (event.Verdict place verdict) = false
-is_news _ = true
-
-no_answer : (place : ℕ) (r : Record) (c : ConnId) (told : Event) → is_news told ≡ true → Contains (answer place r c) told → ⊥
+no_answer : (place : ℕ) (r : Record) (c : ConnId) (told : Event) → is_verdict told ≡ false → Contains (answer place r c) told → ⊥
 no_answer place r c told is has = by_case (is_conn c (conn_of r.entry)) has
   where
     by_case : (b : Bool) → Contains (cond b (event.Verdict place r.verdict ∷ []) []) told → ⊥
     by_case true h =
-        let same : false ≡ is_news told = ap is_news (in_single (event.Verdict place r.verdict) told h) in
+        let same : true ≡ is_verdict told = ap is_verdict (in_single (event.Verdict place r.verdict) told h) in
         absurd (cc)
     by_case false h = nothing told h
 
@@ -133,7 +127,7 @@ heard_at rs c told place r stands says = by_group r.group refl says
     by_group None group h = absurd (none-some told h)
     by_group (Some g) group h = by_verdict g (is_allowed r.verdict) group refl h
 
-pub heard : (rs : List Record) (c : ConnId) (told : Event) → is_news told ≡ true → Contains (inbox rs c) told → Heard rs c told
+pub heard : (rs : List Record) (c : ConnId) (told : Event) → is_verdict told ≡ false → Contains (inbox rs c) told → Heard rs c told
 heard rs c told is has =
     let at = told_from_inbox rs c told has in
     by_part at.place at.r at.stands (Contains-append_cases (answer at.place at.r c) (option_to_list (news at.place (records_before rs at.place) at.r c at.r.group)) told at.tells)
@@ -288,14 +282,14 @@ hears_edits_exactly es c place g = (from_inbox, to_inbox)
 
 -- ---- verdicts
 
--- no news is a verdict
-no_verdict : (p : ℕ) (before : List Record) (r : Record) (c : ConnId) (h : List ℕ) (op : Op) (told : Event) → is_news told ≡ false → news_by p before r c h op ≡ Some told → ⊥
-no_verdict p before r c h (Act (Send m)) told is says = let k = cond_some (is_member before c h) _ told says in let e : true ≡ is_news told = ap is_news k.1 in absurd (cc)
-no_verdict p before r c h (Act (Join n)) told is says = let k = cond_some (hears_change before r c h) _ told says in let e : true ≡ is_news told = ap is_news k.1 in absurd (cc)
-no_verdict p before r c h (Act Leave) told is says = let k = cond_some (hears_change before r c h) _ told says in let e : true ≡ is_news told = ap is_news k.1 in absurd (cc)
-no_verdict p before r c h Gone told is says = let k = cond_some (hears_change before r c h) _ told says in let e : true ≡ is_news told = ap is_news k.1 in absurd (cc)
-no_verdict p before r c h (Act (Insert n index rule)) told is says = let k = cond_some (is_member before c h) _ told says in let e : true ≡ is_news told = ap is_news k.1 in absurd (cc)
-no_verdict p before r c h (Act (Remove n id)) told is says = let k = cond_some (is_member before c h) _ told says in let e : true ≡ is_news told = ap is_news k.1 in absurd (cc)
+-- news are of their place, and no verdict
+pub news_place : (p : ℕ) (before : List Record) (r : Record) (c : ConnId) (h : List ℕ) (op : Op) (told : Event) → news_by p before r c h op ≡ Some told → (p ≡ place_of told) × (false ≡ is_verdict told)
+news_place p before r c h (Act (Send m)) told says = let k = cond_some (is_member before c h) _ told says in (ap place_of k.1, ap is_verdict k.1)
+news_place p before r c h (Act (Join n)) told says = let k = cond_some (hears_change before r c h) _ told says in (ap place_of k.1, ap is_verdict k.1)
+news_place p before r c h (Act Leave) told says = let k = cond_some (hears_change before r c h) _ told says in (ap place_of k.1, ap is_verdict k.1)
+news_place p before r c h Gone told says = let k = cond_some (hears_change before r c h) _ told says in (ap place_of k.1, ap is_verdict k.1)
+news_place p before r c h (Act (Insert n index rule)) told says = let k = cond_some (is_member before c h) _ told says in (ap place_of k.1, ap is_verdict k.1)
+news_place p before r c h (Act (Remove n id)) told says = let k = cond_some (is_member before c h) _ told says in (ap place_of k.1, ap is_verdict k.1)
 
 pub hears_verdicts_exactly : HearsVerdictsExactly
 hears_verdicts_exactly es c place verdict = (from_inbox, to_inbox)
@@ -314,7 +308,8 @@ hears_verdicts_exactly es c place verdict = (from_inbox, to_inbox)
     by_part p r stands (inl answered) = by_own p r (is_conn c (conn_of r.entry)) stands refl answered
     by_part p r stands (inr other) =
         let h = heard_at (judged es) c (event.Verdict place verdict) p r stands (in_option (news p (records_before (judged es) p) r c r.group) (event.Verdict place verdict) other) in
-        absurd (no_verdict h.place (records_before (judged es) h.place) h.r c h.g h.r.entry.op (event.Verdict place verdict) refl h.says)
+        let never = (news_place h.place (records_before (judged es) h.place) h.r c h.g h.r.entry.op (event.Verdict place verdict) h.says).1 in
+        absurd (cc)
 
     from_inbox : Contains (inbox (judged es) c) (event.Verdict place verdict) → IsAnswered (judged es) place c verdict
     from_inbox has =

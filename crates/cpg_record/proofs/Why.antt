@@ -1,8 +1,6 @@
 -- Each verdict names what decided it.
-use Rattle.std.proofs.Common.{◌≡◌, ◌≢◌, ℕ, zero, suc, ◌-◌, ◌<◌, ◌≤◌, Bool, true, false, ◌&&◌, ◌||◌, ◌==◌, cond, leb, ltb, List, [], ◌∷◌, ◌++◌, length, take, Option, Some, None, Result, Ok, Err, All, Contains, refl, sym, ap, ◌∙◌, subst, arith}
-use Rattle.std.specs.Prelude.{◌↔◌, is_some, nat_le, nat_lt}
-use Rattle.std.specs.List.{find, list_any}
-use Rattle.std.proofs.lemmas.Bool.{eqb-true, eq-eqb, leb-false, leb-true, ltb-false, ltb-true}
+use Rattle.std.proofs.Common.{◌≡◌, ℕ, Bool, true, false, cond, List, [], ◌∷◌, ◌++◌, Option, Some, None, Err, All, refl, sym, ap, ◌∙◌}
+use Rattle.std.specs.List.{find}
 use Rattle.std.proofs.lemmas.List.Elements.{All-cons, All-head, All-nil, All-tail}
 use Rattle.std.proofs.lemmas.Option.{none-some, same_Some}
 use Rattle.cpg_cred.specs.declared.bases.By.{By}
@@ -16,10 +14,9 @@ use Rattle.cpg_rules.specs.declared.rules.Right.{Right}
 use Rattle.cpg_rules.specs.declared.rules.Right.TheVariants as right
 use Rattle.cpg_rules.specs.declared.rules.Rule.{Rule}
 use Rattle.cpg_rules.specs.Decision.{decide, default, ruling, said_by, speaks}
-use Rattle.cpg_rules.specs.Tables.{Rules, has_id}
+use Rattle.cpg_rules.specs.Tables.{Rules}
 use Rattle.cpg_record.specs.declared.memberships.Member.{Member}
-use Rattle.cpg_record.specs.declared.records.Record.{Record}
-use Rattle.cpg_record.specs.Listings.{list_decision, listing, processes, shown}
+use Rattle.cpg_record.specs.Listings.{list_decision, shown}
 use Rattle.cpg_record.specs.Membership.{members}
 use Rattle.cpg_record.specs.RuleTables.{rules_of}
 use Rattle.cpg_record.specs.Reasons.{AreSilent, by_default, DeniedListingsNameTheirRule, IsFirst, Says}

@@ -1,6 +1,6 @@
 -- Why an entry is answered as it is: the rule that decided, or the state that it met. Each law is the
 -- contract of a function of `src/laws.rt`, which has nothing to do.
-use Rattle.std.specs.Prelude.{ℕ, ◌≡◌, ◌≢◌, ◌<◌, ◌≤◌, ◌↔◌, true, false, List, ◌∷◌, ◌++◌, length, Some, Result, Ok, Err, All, Contains}
+use Rattle.std.specs.Prelude.{ℕ, ◌≡◌, ◌≢◌, ◌<◌, ◌≤◌, ◌↔◌, true, false, List, ◌∷◌, ◌++◌, length, Some, Err, All, Contains}
 use Rattle.cpg_cred.specs.declared.bases.By.{By}
 use Rattle.cpg_cred.specs.declared.bases.By.TheVariants as by
 use Rattle.cpg_rules.specs.declared.rules.Asker.{Asker}

@@ -1,6 +1,6 @@
 -- What connections are told, in the words of membership. Each is the contract of a function of
 -- `src/laws.rt`, which has nothing to do.
-use Rattle.std.specs.Prelude.{ℕ, ◌≡◌, ◌≤◌, ◌↔◌, ◌⊎◌, true, List, [], ◌∷◌, length, take, Option, Some, Contains}
+use Rattle.std.specs.Prelude.{ℕ, ◌≡◌, ◌<◌, ◌≤◌, ◌↔◌, ◌⊎◌, Bool, true, false, List, [], ◌∷◌, length, take, Some, AllPairs, Contains}
 use Rattle.std.specs.List.{slice_get}
 use Rattle.cpg_entry.specs.declared.calls.Call.TheVariants.{Join, Leave, Send, Insert, Remove}
 use Rattle.cpg_entry.specs.declared.calls.Op.{Op}
@@ -36,6 +36,29 @@ InboxesOnlyGrow = (records : List Record) (n : ℕ) (conn : ConnId) → BeginsAs
 -- a place tells a connection at most two events, and place 0 none
 abbrev pub PlacesTellLittle : Type 0
 PlacesTellLittle = (records : List Record) (conn : ConnId) → ((place : ℕ) → length (events records place conn) ≤ 2) × (events records 0 conn ≡ [])
+
+-- ---- order
+
+-- the place that an event is of
+abbrev pub place_of : Event → ℕ
+place_of (event.Verdict place verdict) = place
+place_of (event.Message place g node pid message) = place
+place_of (event.Change place g list left joined) = place
+place_of (event.RulesChanged place g) = place
+
+-- the event is a verdict
+abbrev pub is_verdict : Event → Bool
+is_verdict (event.Verdict place verdict) = true
+is_verdict _ = false
+
+-- the one is told before the other: it is of an earlier place, or it is the verdict of their place
+abbrev pub Precedes : Event → Event → Type 0
+Precedes one other =
+    (place_of one < place_of other) ⊎ ((place_of one ≡ place_of other) × (is_verdict one ≡ true) × (is_verdict other ≡ false))
+
+-- each event is told once: they come by place, and a place's verdict comes before its news
+abbrev pub ToldInOrder : Type 0
+ToldInOrder = (records : List Record) (conn : ConnId) → AllPairs Precedes (inbox records conn)
 
 -- ---- messages
 

@@ -2,7 +2,7 @@
 
 ghost use Rattle.cpg_record.specs.Bounds.{JudgedWithinBounds};
 ghost use Rattle.cpg_record.specs.Laws.{SeatsAreMemberships, GroupIsMembership, MembersAfterOneMore, RulesAfterOneMore, DenialChangesNothing, PrefixesAreJudgedAlike, EachEntryIsJudged, EachIsJudgedByThoseBefore, OthersKeepMembers, MembersAreIn, OneSeatEach, OnceInAGroup};
-ghost use Rattle.cpg_record.specs.Receiving.{InboxesOnlyGrow, PlacesTellLittle, ReceivesExactly, HearsChangesExactly, HearsEditsExactly, HearsVerdictsExactly};
+ghost use Rattle.cpg_record.specs.Receiving.{InboxesOnlyGrow, PlacesTellLittle, ToldInOrder, ReceivesExactly, HearsChangesExactly, HearsEditsExactly, HearsVerdictsExactly};
 ghost use Rattle.cpg_record.specs.Reasons.{DeniedListingsNameTheirRule, VerdictsNameWhatDecided};
 
 /// A connection has a seat in a group exactly where it is in it: an allowed join of it to the group
@@ -114,4 +114,9 @@ pub fn denied_listings_name_their_rule()
 /// default, or the state that it met.
 pub fn verdicts_name_what_decided()
     ensures { VerdictsNameWhatDecided }
+{}
+
+/// Each event is told once: they come by place, and a place's verdict comes before its news.
+pub fn told_in_order()
+    ensures { ToldInOrder }
 {}

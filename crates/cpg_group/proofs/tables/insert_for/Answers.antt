@@ -1,4 +1,4 @@
-use Rattle.std.proofs.Common.{◌≡◌, ◌++◌, ◌∷◌, [], Some, None, ap, ◌∙◌, sym, subst}
+use Rattle.std.proofs.Common.{◌≡◌, ◌++◌, ◌∷◌, [], Some, None, sym, subst}
 use Rattle.std.specs.Prelude.{position}
 use Rattle.std.specs.List.{insert}
 use Rattle.cpg_group.specs.Tables.{is_table_of, Kept, ChangesTable}
