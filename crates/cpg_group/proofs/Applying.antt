@@ -1,12 +1,11 @@
 -- The record of one entry more keeps records judged and tables current.
-use Rattle.std.proofs.Common.{◌≡◌, ◌≢◌, ℕ, ◌+◌, ◌<◌, ◌≤◌, List, [], ◌∷◌, ◌++◌, length, map, take, get_or, All, refl, sym, ap, subst, ◌∙◌, arith}
+use Rattle.std.proofs.Common.{◌≡◌, ℕ, ◌+◌, ◌<◌, ◌≤◌, List, [], ◌∷◌, ◌++◌, length, take, get_or, All, sym, ap, subst, ◌∙◌, arith}
 use Rattle.std.specs.List.{fold, enumerate_from}
 use Rattle.std.proofs.lemmas.List.{map-append, take_more}
 use Rattle.std.proofs.lemmas.List.Sums.{fold_push}
 use Rattle.cpg_rules.specs.Tables.{Rules}
-use Rattle.cpg_entry.specs.declared.entries.Entry.{Entry}
 use Rattle.cpg_record.specs.declared.records.Record.{Record}
-use Rattle.cpg_record.specs.Judging.{judged, judge_next, record_of, entries_of, AreJudged}
+use Rattle.cpg_record.specs.Judging.{judged, with_judgement, record_of, entries_of, AreJudged}
 use Rattle.cpg_record.specs.RuleTables.{edited, rules_of}
 use Rattle.cpg_record.specs.Steps.{CanEdit}
 use Rattle.cpg_record.proofs.Growing.{rules_of_push}
@@ -19,7 +18,7 @@ pub AreJudged-push : (rs : List Record) (r : Record) → AreJudged rs → r ≡ 
 AreJudged-push rs r are is =
     let P : Record → Type 0 = λ (q : Record). rs ++ q ∷ [] ≡ judged (entries_of rs) ++ record_of (judged (entries_of rs)) r.entry ∷ [] in
     subst P (sym is) (ap (λ xs. xs ++ record_of (judged (entries_of rs)) r.entry ∷ []) are)
-    ∙ sym (fold_push judge_next [] (entries_of rs) r.entry)
+    ∙ sym (fold_push with_judgement [] (entries_of rs) r.entry)
     ∙ ap judged (sym (map-append (λ (q : Record). q.entry) rs (r ∷ [])))
 
 pub entries_of-push : (rs : List Record) (r : Record) → entries_of (rs ++ r ∷ []) ≡ entries_of rs ++ r.entry ∷ []

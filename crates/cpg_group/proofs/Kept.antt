@@ -4,7 +4,7 @@ use Rattle.std.specs.Prelude.{position}
 use Rattle.std.proofs.Math.Seq.{take-nil, drop-nil}
 use Rattle.std.specs.Str.{bytes_eq}
 use Rattle.std.specs.List.{insert, list_any, prefix_len, slice_get}
-use Rattle.std.proofs.lemmas.Bool.{ltb-false, lt-ltb}
+use Rattle.std.proofs.lemmas.Bool.{ltb-false}
 use Rattle.std.proofs.lemmas.List.Quantifiers.{position-Some}
 use Rattle.std.proofs.lemmas.Slice.Eq.{bytes_eq-Decides}
 use Rattle.cpg_rules.specs.Tables.{Rules}
@@ -12,10 +12,10 @@ use Rattle.cpg_rules.specs.declared.rules.Rule.{Rule}
 use Rattle.cpg_entry.specs.declared.calls.Call.{Call}
 use Rattle.cpg_entry.specs.declared.calls.Call.TheVariants.{Insert}
 use Rattle.cpg_entry.specs.declared.calls.Op.TheVariants.{Act}
-use Rattle.cpg_record.specs.Membership.{is_group}
+use Rattle.cpg_record.specs.Membership.{is_named}
 use Rattle.cpg_record.specs.RuleTables.{named}
-use Rattle.cpg_record.specs.Steps.{CanEditBy}
-use Rattle.cpg_group.specs.Tables.{Kept, kept_table, has_name, CanInsert, ChangesTable, EditsSlot}
+use Rattle.cpg_record.specs.Steps.{CanEditBy, CanInsert}
+use Rattle.cpg_group.specs.Tables.{Kept, kept_table, is_table_of, ChangesTable, EditsSlot}
 
 -- two names that are one are equal to the same
 same_test : (g n h : List ℕ) → bytes_eq n g ≡ true → bytes_eq n h ≡ bytes_eq g h
@@ -37,7 +37,7 @@ pass_over g n h true t x later other is = apart (bytes_eq g h) refl
 
 -- the table in the first slot of a name changes, and no other
 pub kept_table-set : (kept : Kept) (g : List ℕ) (i : ℕ) (name : List ℕ) (rules t : Rules) → slice_get kept i ≡ Some (name, rules) →
-    bytes_eq name g ≡ true → ((k : ℕ) → k < i → has_name g (get_or kept k (name, rules)) ≡ false) →
+    bytes_eq name g ≡ true → ((k : ℕ) → k < i → is_table_of g (get_or kept k (name, rules)) ≡ false) →
     (h : List ℕ) → kept_table (set kept i (name, t)) h ≡ cond (bytes_eq g h) t (kept_table kept h)
 kept_table-set [] g i name rules t at is earlier h = absurd (cc)
 kept_table-set (p ∷ ps) g zero name rules t at is earlier h = first (bytes_eq g h) refl
@@ -55,7 +55,7 @@ kept_table-set (p ∷ ps) g (suc i) name rules t at is earlier h =
 
 -- the table in the first slot of a name is the name's
 pub kept_table-at : (kept : Kept) (g : List ℕ) (i : ℕ) (name : List ℕ) (rules : Rules) → slice_get kept i ≡ Some (name, rules) →
-    bytes_eq name g ≡ true → ((k : ℕ) → k < i → has_name g (get_or kept k (name, rules)) ≡ false) → kept_table kept g ≡ rules
+    bytes_eq name g ≡ true → ((k : ℕ) → k < i → is_table_of g (get_or kept k (name, rules)) ≡ false) → kept_table kept g ≡ rules
 kept_table-at [] g i name rules at is earlier = absurd (cc)
 kept_table-at (p ∷ ps) g zero name rules at is earlier =
     let p_is : p ≡ (name, rules) = cc in
@@ -71,7 +71,7 @@ pub record Slot (kept : Kept) (g : List ℕ) (i : ℕ) : Type 0 where
   pub rules : Rules
   pub stands : slice_get kept i ≡ Some (name, rules)
   pub named : bytes_eq name g ≡ true
-  pub first : (k : ℕ) → k < i → has_name g (get_or kept k (name, rules)) ≡ false
+  pub first : (k : ℕ) → k < i → is_table_of g (get_or kept k (name, rules)) ≡ false
 
 slice_get_or : (kept : Kept) (i : ℕ) (d : List ℕ × Rules) → i < length kept → slice_get kept i ≡ Some (get_or kept i d)
 slice_get_or [] i d h = absurd (omega arith)
@@ -84,10 +84,10 @@ get_or_same (p ∷ ps) zero d e h = refl
 get_or_same (p ∷ ps) (suc k) d e h = get_or_same ps k d e (omega arith)
 
 -- what `position` finds is the first slot of the name
-pub slot_at : (kept : Kept) (g : List ℕ) (i : ℕ) → position (has_name g) kept ≡ Some i → Slot kept g i
+pub slot_at : (kept : Kept) (g : List ℕ) (i : ℕ) → position (is_table_of g) kept ≡ Some i → Slot kept g i
 slot_at kept g i is =
     let d : List ℕ × Rules = ([], []) in
-    let found = position-Some (has_name g) kept i ([], []) is in
+    let found = position-Some (is_table_of g) kept i ([], []) is in
     let there : List ℕ × Rules = get_or kept i ([], []) in
     record {
       within = found.0;
@@ -95,44 +95,44 @@ slot_at kept g i is =
       rules = (get_or kept i ([], [])).1;
       stands = slice_get_or kept i ([], []) found.0;
       named = found.1;
-      first = λ k below. ap (has_name g) (get_or_same kept k (get_or kept i ([], [])) ([], []) (omega arith)) ∙ found.2 k below;
+      first = λ k below. ap (is_table_of g) (get_or_same kept k (get_or kept i ([], [])) ([], []) (omega arith)) ∙ found.2 k below;
     }
 
 -- where `position` finds nothing, no pair has the name
-none_at : (kept : Kept) (g : List ℕ) → length kept ≤ prefix_len (λ pair. not (has_name g pair)) kept → list_any (has_name g) kept ≡ false
+none_at : (kept : Kept) (g : List ℕ) → length kept ≤ prefix_len (λ pair. not (is_table_of g pair)) kept → list_any (is_table_of g) kept ≡ false
 none_at [] g h = refl
-none_at (p ∷ ps) g h = by_case (has_name g p) (none_at ps g) h
+none_at (p ∷ ps) g h = by_case (is_table_of g p) (none_at ps g) h
   where
-    by_case : (b : Bool) → (length ps ≤ prefix_len (λ pair. not (has_name g pair)) ps → list_any (has_name g) ps ≡ false) →
-        suc (length ps) ≤ cond (not b) (1 + prefix_len (λ pair. not (has_name g pair)) ps) 0 → (b || list_any (has_name g) ps) ≡ false
+    by_case : (b : Bool) → (length ps ≤ prefix_len (λ pair. not (is_table_of g pair)) ps → list_any (is_table_of g) ps ≡ false) →
+        suc (length ps) ≤ cond (not b) (1 + prefix_len (λ pair. not (is_table_of g pair)) ps) 0 → (b || list_any (is_table_of g) ps) ≡ false
     by_case true later k = absurd (omega arith)
     by_case false later k = later (omega arith)
 
-pub no_slot : (kept : Kept) (g : List ℕ) → position (has_name g) kept ≡ None → list_any (has_name g) kept ≡ false
-no_slot kept g is = by_case (ltb (prefix_len (λ pair. not (has_name g pair)) kept) (length kept)) refl is
+pub no_slot : (kept : Kept) (g : List ℕ) → position (is_table_of g) kept ≡ None → list_any (is_table_of g) kept ≡ false
+no_slot kept g is = by_case (ltb (prefix_len (λ pair. not (is_table_of g pair)) kept) (length kept)) refl is
   where
-    by_case : (b : Bool) → ltb (prefix_len (λ pair. not (has_name g pair)) kept) (length kept) ≡ b →
-        cond b (Some (prefix_len (λ pair. not (has_name g pair)) kept)) None ≡ None → list_any (has_name g) kept ≡ false
+    by_case : (b : Bool) → ltb (prefix_len (λ pair. not (is_table_of g pair)) kept) (length kept) ≡ b →
+        cond b (Some (prefix_len (λ pair. not (is_table_of g pair)) kept)) None ≡ None → list_any (is_table_of g) kept ≡ false
     by_case true at k = absurd (cc)
     by_case false at k = none_at kept g (ltb-false _ _ at)
 
 -- a name that is nowhere has the empty table
-pub kept_table-none : (kept : Kept) (g : List ℕ) → list_any (has_name g) kept ≡ false → kept_table kept g ≡ []
+pub kept_table-none : (kept : Kept) (g : List ℕ) → list_any (is_table_of g) kept ≡ false → kept_table kept g ≡ []
 kept_table-none [] g h = refl
 kept_table-none (p ∷ ps) g h = by_case (bytes_eq p.0 g) (kept_table-none ps g) h
   where
-    by_case : (b : Bool) → (list_any (has_name g) ps ≡ false → kept_table ps g ≡ []) → (b || list_any (has_name g) ps) ≡ false → cond b p.1 (kept_table ps g) ≡ []
+    by_case : (b : Bool) → (list_any (is_table_of g) ps ≡ false → kept_table ps g ≡ []) → (b || list_any (is_table_of g) ps) ≡ false → cond b p.1 (kept_table ps g) ≡ []
     by_case true later k = absurd (cc)
     by_case false later k = later k
 
 -- a new name at the end has its table, and the others theirs
-pub kept_table-push : (kept : Kept) (g : List ℕ) (t : Rules) → list_any (has_name g) kept ≡ false → (h : List ℕ) →
+pub kept_table-push : (kept : Kept) (g : List ℕ) (t : Rules) → list_any (is_table_of g) kept ≡ false → (h : List ℕ) →
     kept_table (kept ++ (g, t) ∷ []) h ≡ cond (bytes_eq g h) t (kept_table kept h)
 kept_table-push [] g t none h = refl
 kept_table-push (p ∷ ps) g t none h = by_case (bytes_eq p.0 g) refl (λ k. kept_table-push ps g t k h) none
   where
-    by_case : (b : Bool) → bytes_eq p.0 g ≡ b → (list_any (has_name g) ps ≡ false → kept_table (ps ++ (g, t) ∷ []) h ≡ cond (bytes_eq g h) t (kept_table ps h)) →
-        (b || list_any (has_name g) ps) ≡ false →
+    by_case : (b : Bool) → bytes_eq p.0 g ≡ b → (list_any (is_table_of g) ps ≡ false → kept_table (ps ++ (g, t) ∷ []) h ≡ cond (bytes_eq g h) t (kept_table ps h)) →
+        (b || list_any (is_table_of g) ps) ≡ false →
         cond (bytes_eq p.0 h) p.1 (kept_table (ps ++ (g, t) ∷ []) h) ≡ cond (bytes_eq g h) t (cond (bytes_eq p.0 h) p.1 (kept_table ps h))
     by_case true at later k = absurd (cc)
     by_case false at later k =
@@ -147,7 +147,7 @@ at_name change g h rules x true is same = ap change (sym (same ((bytes_eq-Decide
 at_name change g h rules x false is same = refl
 
 -- an edit in the first slot of a name changes its table
-pub changes-slot : (change : Rules → Rules) (g : List ℕ) (old new : Kept) (i : ℕ) → position (has_name g) old ≡ Some i →
+pub changes-slot : (change : Rules → Rules) (g : List ℕ) (old new : Kept) (i : ℕ) → position (is_table_of g) old ≡ Some i →
     EditsSlot change i old new → ChangesTable change g old new
 changes-slot change g old new i is edit h =
     let s = slot_at old g i is in
@@ -157,7 +157,7 @@ changes-slot change g old new i is edit h =
     (λ same. ap (kept_table old) (sym same) ∙ kept_table-at old g i s.name s.rules s.stands s.named s.first)
 
 -- a name that was nowhere comes with the change of the empty table
-pub changes-push : (change : Rules → Rules) (g : List ℕ) (old : Kept) (t : Rules) → position (has_name g) old ≡ None → change [] ≡ t →
+pub changes-push : (change : Rules → Rules) (g : List ℕ) (old : Kept) (t : Rules) → position (is_table_of g) old ≡ None → change [] ≡ t →
     ChangesTable change g old (old ++ (g, t) ∷ [])
 changes-push change g old t is made h =
     kept_table-push old g t (no_slot old g is) h
@@ -166,7 +166,7 @@ changes-push change g old t is made h =
     (λ same. ap (kept_table old) (sym same) ∙ kept_table-none old g (no_slot old g is))
 
 -- where a name is nowhere, and the empty table stays empty, nothing has to change
-pub changes-none : (change : Rules → Rules) (g : List ℕ) (old : Kept) → position (has_name g) old ≡ None → change [] ≡ [] → ChangesTable change g old old
+pub changes-none : (change : Rules → Rules) (g : List ℕ) (old : Kept) → position (is_table_of g) old ≡ None → change [] ≡ [] → ChangesTable change g old old
 changes-none change g old is made h = stays (bytes_eq g h) refl
   where
     stays : (b : Bool) → bytes_eq g h ≡ b → kept_table old h ≡ cond b (change (kept_table old h)) (kept_table old h)
@@ -176,7 +176,7 @@ changes-none change g old is made h = stays (bytes_eq g h) refl
         empty ∙ sym (ap change empty ∙ made)
 
 -- what the name's table can take, the table in its first slot can
-pub can_insert-slot : (g : List ℕ) (old : Kept) (i index id : ℕ) → position (has_name g) old ≡ Some i → CanInsert (kept_table old g) index id →
+pub can_insert-slot : (g : List ℕ) (old : Kept) (i index id : ℕ) → position (is_table_of g) old ≡ Some i → CanInsert (kept_table old g) index id →
     (name : List ℕ) (rules : Rules) → slice_get old i ≡ Some (name, rules) → CanInsert rules index id
 can_insert-slot g old i index id is can name rules stands =
     let s = slot_at old g i is in
@@ -193,10 +193,10 @@ insert-first index entry = rw (take-nil, drop-nil) refl
 
 -- an insert that can edit its group's table finds that it can
 pub insert_can : (old kept : Kept) (place : ℕ) (call : Call) (g : List ℕ) (index : ℕ) (rule : Rule) → kept ≡ old →
-    ((h : List ℕ) → is_group (named (Act call)) h ≡ true → CanEditBy (kept_table old h) place (Act call)) → call ≡ Insert g index rule →
+    ((h : List ℕ) → is_named (named (Act call)) h ≡ true → CanEditBy (kept_table old h) place (Act call)) → call ≡ Insert g index rule →
     CanInsert (kept_table kept g) index place
 insert_can old kept place call g index rule same can is =
-    let named_is : is_group (named (Act call)) g ≡ true = ap (λ (x : Call). is_group (named (Act x)) g) is ∙ (bytes_eq-Decides g g).1 refl in
+    let named_is : is_named (named (Act call)) g ≡ true = ap (λ (x : Call). is_named (named (Act x)) g) is ∙ (bytes_eq-Decides g g).1 refl in
     let P : Call → Type 0 = λ (x : Call). CanEditBy (kept_table old g) place (Act x) in
     let Q : Kept → Type 0 = λ (k : Kept). CanInsert (kept_table k g) index place in
     subst Q (sym same) (subst P is (can g named_is))

@@ -1,11 +1,10 @@
 -- the groups' tables, as they are kept beside the records
-use Rattle.std.specs.Prelude.{ℕ, ◌≡◌, ◌≢◌, ◌<◌, ◌≤◌, Bool, All, length, slice_set, Some, List, [], ◌∷◌, if◌then◌else◌}
+use Rattle.std.specs.Prelude.{ℕ, ◌≡◌, Bool, slice_set, Some, List, [], ◌∷◌, if◌then◌else◌}
 use Rattle.std.specs.List.{slice_get}
 use Rattle.std.specs.Str.{bytes_eq}
 use Rattle.cpg_rules.specs.Tables.{Rules}
 use Rattle.cpg_record.specs.declared.records.Record.{Record}
 use Rattle.cpg_record.specs.RuleTables.{rules_of}
-use Rattle.cpg_record.specs.Verdicts.{most_rules}
 
 -- names with their tables
 abbrev pub Kept : Type 0
@@ -20,13 +19,9 @@ kept_table (pair ∷ pairs) g = if bytes_eq pair.0 g then pair.1 else kept_table
 abbrev pub AreCurrent : Kept → List Record → Type 0
 AreCurrent kept records = (g : List ℕ) → kept_table kept g ≡ rules_of records g
 
--- the pair has that name
-abbrev pub has_name : List ℕ → List ℕ × Rules → Bool
-has_name g pair = bytes_eq pair.0 g
-
--- the table can take a rule at the index: it reaches so far, has room, and no rule of that id
-abbrev pub CanInsert : Rules → ℕ → ℕ → Type 0
-CanInsert rules index id = (index ≤ length rules) × (length rules < most_rules) × All (λ entry. entry.0 ≢ id) rules
+-- the pair is the table of that name
+abbrev pub is_table_of : List ℕ → List ℕ × Rules → Bool
+is_table_of g pair = bytes_eq pair.0 g
 
 -- the name's table is changed, and every other group has the table that it had
 abbrev pub ChangesTable : (Rules → Rules) → List ℕ → Kept → Kept → Type 0

@@ -14,9 +14,9 @@ mod telling;
 mod verifying;
 
 pub use cpg_record::{
-    Cause, ConnId, Event, Events, MOST_MEMBERS, Member, Members, Move, Moves, Reason, Record,
-    Records, Verdict,
+    Cause, ConnId, Event, Events, MOST_MEMBERS, MOST_PLACES, Member, Members, Move, Moves, Reason,
+    Record, Records, Verdict,
 };
 pub use listing::{Names, Processes};
-pub use policies::{MOST_PLACES, Policy};
+pub use policies::Policy;
 pub use verifying::verify;

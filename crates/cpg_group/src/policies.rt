@@ -16,9 +16,6 @@ use cpg_rules::{Asker, Table};
 use std::alloc::Global;
 use std::marker::Model;
 
-/// How many entries are judged at most.
-pub const MOST_PLACES: usize = 1_048_576;
-
 /// The entries judged so far, in order, each with its record. Contracts see it as the list of entries.
 #[derive(Debug, Drop)]
 pub struct Policy {

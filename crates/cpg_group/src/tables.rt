@@ -3,10 +3,10 @@
 ghost use Rattle.std.specs.Prelude.{◌≡◌, ◌<◌, ◌∷◌, [], ℕ, List, true, length, if◌then◌else◌, position, MatchOption, OnOk, OnErr, IfOk, IsOkUnless};
 ghost use Rattle.std.specs.List.{insert, slice_get};
 ghost use Rattle.cpg_rules.specs.Tables.{Rules, without_id};
-ghost use Rattle.cpg_record.specs.Membership.{is_group};
+ghost use Rattle.cpg_record.specs.Membership.{is_named};
 ghost use Rattle.cpg_record.specs.RuleTables.{edited, edited_by, named};
-ghost use Rattle.cpg_record.specs.Steps.{CanEdit, CanEditBy};
-ghost use Rattle.cpg_group.specs.Tables.{kept_table, CanInsert, ChangesTable, EditsSlot, has_name};
+ghost use Rattle.cpg_record.specs.Steps.{CanEdit, CanEditBy, CanInsert};
+ghost use Rattle.cpg_group.specs.Tables.{kept_table, ChangesTable, EditsSlot, is_table_of};
 
 use cpg_cred::Refusal;
 use cpg_entry::{Call, Name, Op};
@@ -48,7 +48,7 @@ fn find_in<'a>(kept: &'a [(Name, Table)], group: &[u8]) -> Option<&'a Table>
 
 /// Where the list has the name first.
 fn slot_of(kept: &[(Name, Table)], group: &[u8]) -> Option<usize>
-    ensures { result ≡ position (has_name group.now) kept.now }
+    ensures { result ≡ position (is_table_of group.now) kept.now }
 {
     kept.iter().position(|(name, _)| name.is(group))
 }
@@ -166,8 +166,8 @@ impl Tables {
 
     /// Brings the tables past an allowed call at that place.
     fn take_call(&mut self, place: u32, call: &Call) -> Result<(), Refusal>
-        requires { (g : List ℕ) → is_group (named (Op.Act call.now)) g ≡ true → CanEditBy (kept_table self.old g) place (Op.Act call.now) }
-        ensures ok { OnOk result ((g : List ℕ) → kept_table self.new g ≡ (if is_group (named (Op.Act call.now)) g then edited_by place (Op.Act call.now) (kept_table self.old g) else kept_table self.old g)) }
+        requires { (g : List ℕ) → is_named (named (Op.Act call.now)) g ≡ true → CanEditBy (kept_table self.old g) place (Op.Act call.now) }
+        ensures ok { OnOk result ((g : List ℕ) → kept_table self.new g ≡ (if is_named (named (Op.Act call.now)) g then edited_by place (Op.Act call.now) (kept_table self.old g) else kept_table self.old g)) }
         ensures err { OnErr result (self.new ≡ self.old) }
         ensures memory { IsOkUnless result Refusal.Memory }
     {

@@ -3,8 +3,8 @@
 ghost use Rattle.std.specs.Prelude.{◌≡◌, ◌≤◌, [], length, IfOk, IsOkUnless};
 ghost use Rattle.std.specs.Option.{option_copied};
 ghost use Rattle.cpg_record.specs.Connections.{conn_of};
-ghost use Rattle.cpg_record.specs.Events.{change, events, is_touched, moves_of, news, news_by};
-ghost use Rattle.cpg_record.specs.Membership.{is_group, is_member, members};
+ghost use Rattle.cpg_record.specs.Events.{change, events, hears_change, moves_of, news, news_by};
+ghost use Rattle.cpg_record.specs.Membership.{is_named, is_member, members};
 
 use crate::history::{collect_members, find_group, pass_group};
 use cpg_cred::Refusal;
@@ -14,7 +14,7 @@ use std::alloc::Global;
 
 /// Whether the group is there and has that name.
 fn has_name(group: Option<&Name>, name: &[u8]) -> bool
-    ensures { result ≡ is_group (option_copied group.entry) name.now }
+    ensures { result ≡ is_named (option_copied group.entry) name.now }
 {
     match group {
         None => false,
@@ -32,7 +32,7 @@ fn stands_in(records: &[Record], conn: &ConnId, group: &[u8]) -> bool
 /// Whether the connection is in the group before the record or with it.
 #[tactic(auto, using(crate::proofs::Passed::group_of_push))]
 fn is_told_changes(before: &[Record], past: &Record, conn: &ConnId, group: &[u8]) -> bool
-    ensures { result ≡ is_touched before.now past.now conn.now group.now }
+    ensures { result ≡ hears_change before.now past.now conn.now group.now }
 {
     let earlier = find_group(before, conn);
     has_name(earlier, group) || has_name(pass_group(past, conn, earlier), group)
@@ -163,6 +163,7 @@ fn tell_news(
 }
 
 /// The events of a place for a connection.
+#[tactic(auto, using(crate::proofs::Passed::record_at_index))]
 pub(crate) fn collect_events(
     alloc: Global,
     records: &[Record],

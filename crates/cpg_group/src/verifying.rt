@@ -4,9 +4,9 @@ ghost use Rattle.std.specs.Prelude.{◌≡◌, ◌↔◌, ◌<◌, ◌++◌, ◌
 ghost use Rattle.std.specs.Bool.{OnTrue};
 ghost use Rattle.cpg_record.specs.Judging.{judged, most_places, record_of, AreRecords};
 
-use crate::policies::{MOST_PLACES, Policy};
+use crate::policies::Policy;
 use cpg_cred::Refusal;
-use cpg_record::Record;
+use cpg_record::{MOST_PLACES, Record};
 use std::alloc::Global;
 
 /// Whether the record is the judgement of its entry here. If so, the policy has judged it.

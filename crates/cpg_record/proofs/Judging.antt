@@ -1,12 +1,10 @@
 -- What holds of the records of agreed entries.
-use Rattle.std.proofs.Common.{◌≡◌, ◌≢◌, ℕ, ◌+◌, ◌<◌, ◌≤◌, Bool, true, false, not, ◌&&◌, cond, leb, ltb, ◌⊎◌, inl, inr, List, [], ◌∷◌, ◌++◌, length, take, drop, get_or, map, refl, sym, ap, subst, ◌∙◌, arith, rules, Option, Some, None, All}
-use Rattle.std.specs.Str.{bytes_eq}
-use Rattle.std.specs.List.{filter, fold, insert}
+use Rattle.std.proofs.Common.{◌≡◌, ◌≢◌, ℕ, ◌+◌, ◌<◌, ◌≤◌, Bool, true, false, ◌&&◌, cond, leb, ltb, ◌⊎◌, inl, inr, List, [], ◌∷◌, ◌++◌, length, take, drop, get_or, refl, sym, ap, subst, ◌∙◌, arith, rules, All}
+use Rattle.std.specs.List.{fold}
 use Rattle.std.proofs.lemmas.Bool.{leb-false, ltb-false, cases_lt}
 use Rattle.std.proofs.lemmas.Slice.Eq.{bytes_eq-Decides}
 use Rattle.std.proofs.lemmas.List.{take_at, take-append-le, get_or_append_left, get_or_push, length_push}
-use Rattle.std.proofs.lemmas.Grind.{common_steps}
-use Rattle.std.proofs.lemmas.List.Elements.{All-append, All-cons, All-take, All-drop, All-weaker, All-filter}
+use Rattle.std.proofs.lemmas.List.Elements.{All-append, All-cons, All-take, All-drop, All-filter}
 use Rattle.cpg_cred.specs.declared.bases.By.{By}
 use Rattle.cpg_rules.specs.declared.decisions.Decision.{Decision}
 use Rattle.cpg_rules.specs.declared.decisions.Decision.TheVariants as decision
@@ -18,10 +16,10 @@ use Rattle.cpg_entry.specs.declared.calls.Call.TheVariants.{Join, Leave, Send, I
 use Rattle.cpg_record.specs.declared.records.Record.{Record}
 use Rattle.cpg_record.specs.declared.verdicts.Verdict.TheVariants.{Allowed, Denied}
 use Rattle.cpg_record.specs.declared.verdicts.Reason.TheVariants as reason
-use Rattle.cpg_record.specs.Membership.{is_allowed, is_group}
+use Rattle.cpg_record.specs.Membership.{is_allowed, is_named}
 use Rattle.cpg_record.specs.RuleTables.{edited_by, named, edited, rules_of}
-use Rattle.cpg_record.specs.Verdicts.{edit_decision, decided, insert_verdict, op_verdict}
-use Rattle.cpg_record.specs.Judging.{judged, judge_next, record_of, entries_of, AreJudged}
+use Rattle.cpg_record.specs.Verdicts.{edit_decision, decided, op_verdict}
+use Rattle.cpg_record.specs.Judging.{with_judgement, record_of, entries_of, AreJudged}
 use Rattle.cpg_record.specs.Steps.{CanEdit, CanEditBy}
 
 -- ---- each record is the judgement of its entry
@@ -40,7 +38,7 @@ Each-push rs e each i d h = last_or_before (cases_lt i (length rs))
         ∙ ap (λ ps. record_of ps e) (sym (take_at rs (record_of rs e ∷ []) i here))
         ∙ ap (λ r. record_of (take i (rs ++ record_of rs e ∷ [])) r.entry) (sym (get_or_push rs (record_of rs e) d i here))
 
-Each-fold : (rs : List Record) (es : List Entry) → Each rs → Each (fold judge_next rs es)
+Each-fold : (rs : List Record) (es : List Entry) → Each rs → Each (fold with_judgement rs es)
 Each-fold rs [] each = each
 Each-fold rs (e ∷ es) each = Each-fold (rs ++ record_of rs e ∷ []) es (Each-push rs e each)
 
@@ -59,14 +57,14 @@ insert_room rules at b h = room (ltb (length rules) at) (leb 64 (length rules)) 
     room false true p q k = absurd (cc)
     room false false p q k = (ltb-false (length rules) at p, leb-false 64 (length rules) q)
 
-insert_decided : (rules : Rules) (at : ℕ) (d : Decision) →
+pub insert_decided : (rules : Rules) (at : ℕ) (d : Decision) →
     is_allowed (decided d (λ b. cond (ltb (length rules) at) (Denied reason.Position) (cond (leb 64 (length rules)) (Denied reason.TableFull) (Allowed b)))) ≡ true →
     (at ≤ length rules) × (length rules < 64)
 insert_decided rules at (decision.Allowed b) h = insert_room rules at b h
 insert_decided rules at (decision.Denied b) h = absurd (cc)
 
 -- over rules with lower ids, an allowed record can edit
-can_edit_on : (P : List Record) (e : Entry) (op : Op) (g : List ℕ) (place : ℕ) → is_allowed (op_verdict P e op) ≡ true → is_group (named op) g ≡ true →
+can_edit_on : (P : List Record) (e : Entry) (op : Op) (g : List ℕ) (place : ℕ) → is_allowed (op_verdict P e op) ≡ true → is_named (named op) g ≡ true →
     All (λ entry. entry.0 ≢ place) (rules_of P g) → CanEditBy (rules_of P g) place op
 can_edit_on P e (Act (Insert h at rule)) g place allowed is fresh =
     let same : h ≡ g = grind (arith, bytes_eq-Decides h g) in
@@ -98,5 +96,5 @@ ids_by rules place Gone low = low
 pub ids_edited : (g : List ℕ) (rules : Rules) (i : ℕ) (r : Record) → All (λ entry. entry.0 ≤ i) rules → All (λ entry. entry.0 ≤ i + 1) (edited g rules (i + 1, r))
 ids_edited g rules i r low =
     let low' : All (λ entry. entry.0 ≤ i + 1) rules = λ k d h. omega (arith, low k d h) in
-    elim (is_allowed r.verdict && is_group (named r.entry.op) g) as (λ b. All (λ entry. entry.0 ≤ i + 1) (cond b (edited_by (i + 1) r.entry.op rules) rules))
+    elim (is_allowed r.verdict && is_named (named r.entry.op) g) as (λ b. All (λ entry. entry.0 ≤ i + 1) (cond b (edited_by (i + 1) r.entry.op rules) rules))
     [ true ↦ ids_by rules (i + 1) r.entry.op low' | false ↦ low' ]

@@ -1,5 +1,15 @@
+pub mod Bounded
+pub mod Changed
 pub mod Denials
+pub mod Elsewhere
 pub mod Growing
+pub mod Inboxes
+pub mod Kept
 pub mod Judging
+pub mod Reasoned
 pub mod Seats
+pub mod Told
+pub mod Why
 pub mod Once
+pub mod Ordered
+pub mod Placing

@@ -1,12 +1,11 @@
 -- A connection has at most one seat, and a process stands at most once in a group.
-use Rattle.std.proofs.Common.{◌≡◌, ℕ, ◌+◌, ◌≤◌, Bool, true, false, not, ◌&&◌, ◌||◌, ◌==◌, cond, List, [], ◌∷◌, ◌++◌, length, map, refl, sym, ap, subst, ◌∙◌, arith, Option, Some, None}
-use Rattle.std.specs.Prelude.{count_by, sum_by, is_some, option_map, nat_le, ◌↔◌}
+use Rattle.std.proofs.Common.{◌≡◌, ℕ, ◌+◌, ◌≤◌, Bool, true, false, not, ◌&&◌, ◌||◌, ◌==◌, cond, List, [], ◌∷◌, ◌++◌, length, refl, sym, ap, subst, ◌∙◌, arith, Some}
+use Rattle.std.specs.Prelude.{count_by, is_some, option_map, nat_le, ◌↔◌}
 use Rattle.std.specs.Str.{bytes_eq}
 use Rattle.std.specs.List.{filter, find, fold, list_any}
 use Rattle.std.proofs.lemmas.Bool.{eqb-true}
 use Rattle.std.proofs.lemmas.List.Sums.{sum_by-cons}
 use Rattle.std.proofs.lemmas.Slice.Eq.{bytes_eq-Decides}
-use Rattle.cpg_cred.specs.declared.bases.By.{By}
 use Rattle.cpg_rules.specs.declared.decisions.Decision.{Decision}
 use Rattle.cpg_rules.specs.declared.decisions.Decision.TheVariants as decision
 use Rattle.cpg_rules.specs.declared.rules.Right.TheVariants as right
@@ -17,17 +16,18 @@ use Rattle.cpg_entry.specs.declared.calls.Op.TheVariants.{Act, Gone}
 use Rattle.cpg_entry.specs.declared.entries.Entry.{Entry}
 use Rattle.cpg_entry.specs.Entries.{asker_of}
 use Rattle.cpg_record.specs.declared.connections.ConnId.{ConnId}
+use Rattle.cpg_record.specs.declared.limits.TheConstants.{MOST_MEMBERS}
 use Rattle.cpg_record.specs.declared.memberships.Member.{Member}
 use Rattle.cpg_record.specs.declared.records.Record.{Record}
 use Rattle.cpg_record.specs.declared.verdicts.Reason.TheVariants as reason
 use Rattle.cpg_record.specs.declared.verdicts.Verdict.TheVariants.{Allowed, Denied}
 use Rattle.cpg_record.specs.Connections.{conn_of, conn_in, is_conn, member_of}
-use Rattle.cpg_record.specs.Judging.{judged, judge_next, record_of}
-use Rattle.cpg_record.specs.Laws.{InGroup, is_seat, OneSeatEach, OnceInAGroup, GroupIsMembership}
+use Rattle.cpg_record.specs.Judging.{judged, with_judgement, record_of}
+use Rattle.cpg_record.specs.Laws.{is_seat, OneSeatEach, OnceInAGroup, GroupIsMembership}
 use Rattle.cpg_record.specs.Membership.{is_allowed, Seat, seats, taken_by, members, group_of}
 use Rattle.cpg_record.specs.RuleTables.{rules_of}
-use Rattle.cpg_record.specs.Steps.{members_by, without}
-use Rattle.cpg_record.specs.Verdicts.{decided, has_process, join_verdict, op_verdict, most_members}
+use Rattle.cpg_record.specs.Steps.{members_by}
+use Rattle.cpg_record.specs.Verdicts.{decided, has_process, join_verdict, op_verdict}
 use Rattle.cpg_record.proofs.Growing.{is_conn-true, members_push, seats_push, stays}
 use Rattle.cpg_record.proofs.Seats.{seats_are_memberships}
 
@@ -75,16 +75,17 @@ count_not_any {X} p (x ∷ xs) h = by_case (p x) (count_not_any p xs) h
 -- the tests that an allowed join passed
 join_passed : (d : Decision) (joined twice full : Bool) →
     is_allowed (decided d (λ by. cond joined (Denied reason.Joined) (cond twice (Denied reason.Twice) (cond full (Denied reason.Full) (Allowed by))))) ≡ true →
-    (joined ≡ false) × (twice ≡ false)
+    (joined ≡ false) × (twice ≡ false) × (full ≡ false)
 join_passed (decision.Denied by) joined twice full h = absurd (cc)
 join_passed (decision.Allowed by) true twice full h = absurd (cc)
 join_passed (decision.Allowed by) false true full h = absurd (cc)
-join_passed (decision.Allowed by) false false full h = (refl, refl)
+join_passed (decision.Allowed by) false false true h = absurd (cc)
+join_passed (decision.Allowed by) false false false h = (refl, refl, refl)
 
-allowed_join : (rs : List Record) (e : Entry) (g : List ℕ) → is_allowed (join_verdict rs e g) ≡ true →
-    (is_some (group_of rs (conn_of e)) ≡ false) × (has_process e (members rs g) ≡ false)
+pub allowed_join : (rs : List Record) (e : Entry) (g : List ℕ) → is_allowed (join_verdict rs e g) ≡ true →
+    (is_some (group_of rs (conn_of e)) ≡ false) × (has_process e (members rs g) ≡ false) × (nat_le MOST_MEMBERS (length (members rs g)) ≡ false)
 allowed_join rs e g h =
-    join_passed (decide (rules_of rs g) right.Join (asker_of e)) (is_some (group_of rs (conn_of e))) (has_process e (members rs g)) (nat_le most_members (length (members rs g))) h
+    join_passed (decide (rules_of rs g) right.Join (asker_of e)) (is_some (group_of rs (conn_of e))) (has_process e (members rs g)) (nat_le MOST_MEMBERS (length (members rs g))) h
 
 -- ---- one seat each
 
@@ -121,7 +122,7 @@ one_push rs e one conn =
     rw (seats_push rs (record_of rs e), count_append (at_conn conn) (filter (stays (record_of rs e)) (seats rs)) (cond (is_allowed (op_verdict rs e e.op)) (taken_by e e.op) []))
     (one_by rs (record_of rs e) e e.op conn (is_allowed (op_verdict rs e e.op)) refl one)
 
-one_from : (rs : List Record) (es : List Entry) → OneEach rs → OneEach (fold judge_next rs es)
+pub one_from : (rs : List Record) (es : List Entry) → OneEach rs → OneEach (fold with_judgement rs es)
 one_from rs [] one = one
 one_from rs (e ∷ es) one = one_from (rs ++ record_of rs e ∷ []) es (one_push rs e one)
 
@@ -171,7 +172,7 @@ once_push : (rs : List Record) (e : Entry) → OnceEach rs → OnceEach (rs ++ r
 once_push rs e once g node pid =
     rw (members_push rs (record_of rs e) g) (once_by rs e e.op g node pid (is_allowed (op_verdict rs e e.op)) refl once)
 
-once_from : (rs : List Record) (es : List Entry) → OnceEach rs → OnceEach (fold judge_next rs es)
+once_from : (rs : List Record) (es : List Entry) → OnceEach rs → OnceEach (fold with_judgement rs es)
 once_from rs [] once = once
 once_from rs (e ∷ es) once = once_from (rs ++ record_of rs e ∷ []) es (once_push rs e once)
 
@@ -181,7 +182,7 @@ once_in_a_group es g node pid = rw (← count_is (is_process node pid) (members 
 -- ---- the group of a connection
 
 -- a connection without a seat has none in a group
-no_seat : (conn : ConnId) (g : List ℕ) (ss : List Seat) → count (at_conn conn) ss ≡ 0 → list_any (is_seat conn g) ss ≡ false
+pub no_seat : (conn : ConnId) (g : List ℕ) (ss : List Seat) → count (at_conn conn) ss ≡ 0 → list_any (is_seat conn g) ss ≡ false
 no_seat conn g [] none = refl
 no_seat conn g (s ∷ ss) none = by_case (at_conn conn s) (no_seat conn g ss) none
   where

@@ -1,11 +1,9 @@
-use Rattle.std.proofs.Common.{◌≡◌, ℕ, Bool, true, false, cond, not, ◌&&◌, ◌||◌, List, [], ◌∷◌, ◌++◌, refl, sym, ap, ◌∙◌, subst, arith, rules}
-use Rattle.std.specs.Prelude.{◌↔◌}
+use Rattle.std.proofs.Common.{◌≡◌, ℕ, Bool, true, false, cond, not, ◌&&◌, ◌||◌, List, [], ◌∷◌, ◌++◌, refl, sym, ap, ◌∙◌, subst, arith}
 use Rattle.std.specs.Str.{bytes_eq}
 use Rattle.std.specs.List.{filter, list_any}
 use Rattle.std.proofs.lemmas.Slice.Eq.{bytes_eq-Decides}
 use Rattle.std.proofs.lemmas.List.Folds.{list_any-append}
 use Rattle.std.proofs.lemmas.Bool.{eq-eqb}
-use Rattle.std.proofs.lemmas.Grind.{common_steps}
 use Rattle.cpg_entry.specs.declared.entries.Entry.{Entry}
 use Rattle.cpg_entry.specs.declared.calls.Op.{Op}
 use Rattle.cpg_entry.specs.declared.calls.Op.TheVariants.{Act, Gone}
@@ -24,7 +22,7 @@ lasting r later = filter (λ s. not (list_any (ends (conn_in s.member)) later)) 
 seats_any : (c : ConnId) (g : List ℕ) (r : Record) (later : List Record) → list_any (is_seat c g) (seats (r ∷ later)) ≡ (list_any (is_seat c g) (lasting r later) || list_any (is_seat c g) (seats later))
 seats_any c g r later = list_any-append (is_seat c g) (lasting r later) (seats later)
 
-is_conn-itself : (a : ConnId) → is_conn a a ≡ true
+pub is_conn-itself : (a : ConnId) → is_conn a a ≡ true
 is_conn-itself a = grind (arith, eq-eqb a.node a.node refl, eq-eqb a.conn a.conn refl)
 
 -- the join's own seat, by its op and verdict

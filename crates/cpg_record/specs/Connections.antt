@@ -1,5 +1,5 @@
--- the connection, the asker and the member that an entry speaks of
-use Rattle.std.specs.Prelude.{ℕ, Bool, ◌&&◌, ◌==◌}
+-- the connection and the member that an entry speaks of
+use Rattle.std.specs.Prelude.{Bool, ◌&&◌, ◌==◌}
 use Rattle.cpg_entry.specs.declared.entries.Entry.{Entry}
 use Rattle.cpg_record.specs.declared.connections.ConnId.{ConnId}
 use Rattle.cpg_record.specs.declared.memberships.Member.{Member}

@@ -1,7 +1,7 @@
 -- What a place tells a connection. That a change lists the members, those who left and those who joined,
 -- each with a reason, is cpg_initialize(3); the verdict and the notice of changed rules are this project's own.
-use Rattle.std.specs.Prelude.{ℕ, ◌-◌, Bool, ◌||◌, List, [], ◌∷◌, ◌++◌, map, take, length, Option, Some, None, option_to_list, if◌then◌else◌}
-use Rattle.std.specs.List.{filter, flat_map, slice_get, range_with_len}
+use Rattle.std.specs.Prelude.{ℕ, Bool, ◌||◌, List, [], ◌∷◌, ◌++◌, map, length, Option, Some, None, option_to_list, if◌then◌else◌}
+use Rattle.std.specs.List.{filter, flat_map, range_with_len}
 use Rattle.cpg_entry.specs.declared.calls.Call.TheVariants.{Join, Leave, Send, Insert, Remove}
 use Rattle.cpg_entry.specs.declared.calls.Op.{Op}
 use Rattle.cpg_entry.specs.declared.calls.Op.TheVariants.{Act, Gone}
@@ -15,19 +15,20 @@ use Rattle.cpg_record.specs.declared.moves.Move.{Move}
 use Rattle.cpg_record.specs.declared.records.Record.{Record}
 use Rattle.cpg_record.specs.Connections.{conn_of, conn_in, is_conn, member_of}
 use Rattle.cpg_record.specs.Membership.{is_allowed, is_member, members}
+use Rattle.cpg_record.specs.Places.{record_at, records_before}
 
 -- the members that are this connection, each with the cause
 abbrev pub moves_of : ConnId → Cause → List Member → List Move
 moves_of conn cause list = map (λ member. record { member = member; cause = cause }) (filter (λ member. is_conn (conn_in member) conn) list)
 
 -- the connection is in the group before the record or with it
-abbrev pub is_touched : List Record → Record → ConnId → List ℕ → Bool
-is_touched before r conn g = is_member before conn g || is_member (before ++ r ∷ []) conn g
+abbrev pub hears_change : List Record → Record → ConnId → List ℕ → Bool
+hears_change before r conn g = is_member before conn g || is_member (before ++ r ∷ []) conn g
 
 -- a change of the group, told to the connections that are in it before or with the record
 abbrev pub change : ℕ → List Record → Record → ConnId → List ℕ → List Move → List Move → Option Event
 change place before r conn g left joined =
-    if is_touched before r conn g then Some (Change place g r.members left joined) else None
+    if hears_change before r conn g then Some (Change place g r.members left joined) else None
 
 -- what an allowed op tells a connection of its group, beside the verdict
 abbrev pub news_by : ℕ → List Record → Record → ConnId → List ℕ → Op → Option Event
@@ -58,9 +59,9 @@ abbrev pub events_by : ℕ → List Record → ConnId → Option Record → List
 events_by place before conn None = []
 events_by place before conn (Some r) = answer place r conn ++ option_to_list (news place before r conn r.group)
 
--- the events of a place, counted from 1, for a connection
+-- the events of a place for a connection
 abbrev pub events : List Record → ℕ → ConnId → List Event
-events records place conn = events_by place (take (place - 1) records) conn (slice_get records (place - 1))
+events records place conn = events_by place (records_before records place) conn (record_at records place)
 
 -- all events for a connection, by place
 abbrev pub inbox : List Record → ConnId → List Event

@@ -5,6 +5,7 @@ use Rattle.cpg_entry.specs.declared.calls.Call.TheVariants.{Join, Insert, Remove
 use Rattle.cpg_entry.specs.declared.calls.Op.{Op}
 use Rattle.cpg_entry.specs.declared.calls.Op.TheVariants.{Act}
 use Rattle.cpg_entry.specs.declared.entries.Entry.{Entry}
+use Rattle.cpg_record.specs.declared.limits.TheConstants.{MOST_PLACES}
 use Rattle.cpg_record.specs.declared.records.Record.{Record}
 use Rattle.cpg_record.specs.Connections.{conn_of}
 use Rattle.cpg_record.specs.Membership.{group_of, members_in}
@@ -17,7 +18,8 @@ entry_group records entry (Act (Insert g index rule)) = Some g
 entry_group records entry (Act (Remove g id)) = Some g
 entry_group records entry _ = group_of records (conn_of entry)
 
--- the entry with its group and its verdict, the members still to come
+-- the entry with its group and its verdict, the members still to come: who is a member after a record is
+-- counted from entries and verdicts alone, so from this draft of it
 abbrev pub draft : List Record → Entry → Record
 draft records entry =
     record { entry = entry; group = entry_group records entry entry.op; verdict = verdict records entry; members = [] }
@@ -28,12 +30,12 @@ record_of records entry =
     record (draft records entry) { members = members_in (records ++ draft records entry ∷ []) (entry_group records entry entry.op) }
 
 -- the records with one entry more
-abbrev pub judge_next : List Record → Entry → List Record
-judge_next records entry = records ++ record_of records entry ∷ []
+abbrev pub with_judgement : List Record → Entry → List Record
+with_judgement records entry = records ++ record_of records entry ∷ []
 
 -- the records of agreed entries
 abbrev pub judged : List Entry → List Record
-judged entries = fold judge_next [] entries
+judged entries = fold with_judgement [] entries
 
 -- the entries of records
 abbrev pub entries_of : List Record → List Entry
@@ -41,7 +43,7 @@ entries_of records = map (λ r. r.entry) records
 
 -- how many entries are judged at most
 abbrev pub most_places : ℕ
-most_places = 1048576
+most_places = MOST_PLACES
 
 -- the records are those of their entries
 abbrev pub AreJudged : List Record → Type 0

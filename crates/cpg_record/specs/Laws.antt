@@ -1,16 +1,17 @@
 -- What follows from the definitions, in the subject's own words. Each is the contract of a function of
 -- `src/laws.rt`, which has nothing to do.
-use Rattle.std.specs.Prelude.{ℕ, ◌≡◌, ◌+◌, ◌≤◌, ◌↔◌, ◌&&◌, ◌==◌, Bool, true, false, List, [], ◌∷◌, ◌++◌, length, take, count_by, Some}
-use Rattle.std.specs.List.{list_any}
+use Rattle.std.specs.Prelude.{ℕ, ◌≡◌, ◌≢◌, ◌+◌, ◌≤◌, ◌↔◌, ◌&&◌, ◌==◌, Bool, true, false, List, [], ◌∷◌, ◌++◌, length, take, count_by, Some, Contains}
+use Rattle.std.specs.List.{list_any, slice_get}
 use Rattle.std.specs.Str.{bytes_eq}
 use Rattle.cpg_entry.specs.declared.calls.Call.TheVariants.{Join}
 use Rattle.cpg_entry.specs.declared.calls.Op.TheVariants.{Act}
 use Rattle.cpg_entry.specs.declared.entries.Entry.{Entry}
 use Rattle.cpg_record.specs.declared.connections.ConnId.{ConnId}
+use Rattle.cpg_record.specs.declared.memberships.Member.{Member}
 use Rattle.cpg_record.specs.declared.records.Record.{Record}
 use Rattle.cpg_record.specs.Connections.{conn_of, conn_in, is_conn}
 use Rattle.cpg_record.specs.Events.{events, answer}
-use Rattle.cpg_record.specs.Judging.{judged, entries_of}
+use Rattle.cpg_record.specs.Judging.{judged, entries_of, record_of}
 use Rattle.cpg_record.specs.Membership.{is_allowed, ends, Seat, seats, members, group_of}
 use Rattle.cpg_record.specs.RuleTables.{edited, rules_of}
 use Rattle.cpg_record.specs.Steps.{members_after}
@@ -69,6 +70,21 @@ PrefixesAreJudgedAlike = (entries : List Entry) (n : ℕ) → judged (take n ent
 -- there is a record for each entry, in their order
 abbrev pub EachEntryIsJudged : Type 0
 EachEntryIsJudged = (entries : List Entry) → (length (judged entries) ≡ length entries) × (entries_of (judged entries) ≡ entries)
+
+-- record i is the judgement of its entry over the records before it
+abbrev pub EachIsJudgedByThoseBefore : Type 0
+EachIsJudgedByThoseBefore = (entries : List Entry) (i : ℕ) (r : Record) → slice_get (judged entries) i ≡ Some r →
+    (slice_get entries i ≡ Some r.entry) × (r ≡ record_of (take i (judged entries)) r.entry)
+
+-- a record changes the members of its own group alone
+abbrev pub OthersKeepMembers : Type 0
+OthersKeepMembers = (entries : List Entry) (entry : Entry) (g : List ℕ) → (record_of (judged entries) entry).group ≢ Some g →
+    members (judged (entries ++ entry ∷ [])) g ≡ members (judged entries) g
+
+-- a connection is in a group exactly where it is one of its members
+abbrev pub MembersAreIn : Type 0
+MembersAreIn = (entries : List Entry) (conn : ConnId) (g : List ℕ) →
+    InGroup (judged entries) conn g ↔ ((member : Member) × Contains (members (judged entries) g) member × (conn_in member ≡ conn))
 
 -- a connection has at most one seat
 abbrev pub OneSeatEach : Type 0

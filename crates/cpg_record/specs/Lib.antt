@@ -1,9 +1,13 @@
+pub mod Bounds
 pub mod Connections
 pub mod Events
 pub mod Judging
 pub mod Laws
 pub mod Listings
 pub mod Membership
+pub mod Places
+pub mod Reasons
+pub mod Receiving
 pub mod RuleTables
 pub mod Steps
 pub mod Verdicts

@@ -1,5 +1,5 @@
 -- What an asker sees of members and groups (cpg_membership_get(3), under this project's own list right).
-use Rattle.std.specs.Prelude.{ℕ, ◌≡◌, ◌≢◌, ◌↔◌, List, [], map, Result, Ok, Err, Contains, AllPairs}
+use Rattle.std.specs.Prelude.{ℕ, ◌≡◌, ◌≢◌, ◌↔◌, List, [], map, Result, Ok, Err, IsOk, Contains, AllPairs}
 use Rattle.std.specs.Ordering.{nat_cmp}
 use Rattle.std.specs.Cmp.Lexicographic.{slice_cmp}
 use Rattle.std.specs.declared.cmp.Ordering.TheVariants.{Less}
@@ -33,18 +33,18 @@ list_decision records asker g = decide (rules_of records g) right.List asker
 abbrev pub listing : List Record → Asker → List ℕ → Result (List (ℕ × ℕ)) By
 listing records asker g = shown (list_decision records asker g) (members records g)
 
--- a listing call answers the listing or its denial, unless memory was refused
+-- a listing call answers the listing or its denial; memory is refused only where the listing is allowed
 abbrev pub Answers : Result (List (ℕ × ℕ)) By → Result (List (ℕ × ℕ)) Refusal → Type 0
 Answers asked (Ok list) = asked ≡ Ok list
-Answers asked (Err refusal.Memory) = Unit {0}
+Answers asked (Err refusal.Memory) = IsOk asked
 Answers asked (Err (refusal.Denied by)) = asked ≡ Err by
 Answers asked (Err _) = ⊥
 
 -- a group with members that the asker may list
-abbrev pub IsListed : List Record → Asker → List ℕ → Type 0
-IsListed records asker g = (members records g ≢ []) × ((by : By) × (list_decision records asker g ≡ decision.Allowed by))
+abbrev pub IsShownTo : List Record → Asker → List ℕ → Type 0
+IsShownTo records asker g = (members records g ≢ []) × ((by : By) × (list_decision records asker g ≡ decision.Allowed by))
 
 -- the names of the groups with members that the asker may list, in the order of their bytes, each once
 pub record AreGroups (records : List Record) (asker : Asker) (names : List (List ℕ)) : Type 0 where
   pub ascending : AllPairs (λ g h. slice_cmp nat_cmp g h ≡ Less) names
-  pub exactly : (g : List ℕ) → Contains names g ↔ IsListed records asker g
+  pub exactly : (g : List ℕ) → Contains names g ↔ IsShownTo records asker g

@@ -57,15 +57,15 @@ abbrev pub members_in : List Record → Option (List ℕ) → List Member
 members_in records None = []
 members_in records (Some g) = members records g
 
--- the group that a connection is in, if any
+-- the group of the connection's first seat, if it has one; over judged records it has no other
 abbrev pub group_of : List Record → ConnId → Option (List ℕ)
 group_of records conn = option_map (λ seat. seat.group) (find (λ seat. is_conn conn (conn_in seat.member)) (seats records))
 
 -- the group is there and has that name
-abbrev pub is_group : Option (List ℕ) → List ℕ → Bool
-is_group None g = false
-is_group (Some h) g = bytes_eq h g
+abbrev pub is_named : Option (List ℕ) → List ℕ → Bool
+is_named None g = false
+is_named (Some h) g = bytes_eq h g
 
 -- the connection is in that group
 abbrev pub is_member : List Record → ConnId → List ℕ → Bool
-is_member records conn g = is_group (group_of records conn) g
+is_member records conn g = is_named (group_of records conn) g

@@ -6,7 +6,7 @@ use Rattle.cpg_entry.specs.declared.calls.Call.TheVariants.{Join, Insert, Remove
 use Rattle.cpg_entry.specs.declared.calls.Op.{Op}
 use Rattle.cpg_entry.specs.declared.calls.Op.TheVariants.{Act}
 use Rattle.cpg_record.specs.declared.records.Record.{Record}
-use Rattle.cpg_record.specs.Membership.{is_allowed, is_group}
+use Rattle.cpg_record.specs.Membership.{is_allowed, is_named}
 
 -- the group that the op names, if it names one
 abbrev pub named : Op → Option (List ℕ)
@@ -21,10 +21,10 @@ edited_by place (Act (Insert g index rule)) rules = insert rules index (place, r
 edited_by place (Act (Remove g id)) rules = without_id id rules
 edited_by place _ rules = rules
 
--- an allowed op that names the group changes its table, and any other record leaves it
+-- an allowed insert or remove changes the table of the group that it names; a join names a group too, and changes no table
 abbrev pub edited : List ℕ → Rules → ℕ × Record → Rules
 edited g rules p =
-    if is_allowed p.1.verdict && is_group (named p.1.entry.op) g then edited_by p.0 p.1.entry.op rules else rules
+    if is_allowed p.1.verdict && is_named (named p.1.entry.op) g then edited_by p.0 p.1.entry.op rules else rules
 
 -- the table of a group after the records, the first of which stands at place 1
 abbrev pub rules_of : List Record → List ℕ → Rules

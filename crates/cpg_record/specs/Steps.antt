@@ -2,6 +2,7 @@
 use Rattle.std.specs.Prelude.{ℕ, ◌≡◌, ◌≢◌, ◌<◌, ◌≤◌, true, not, ◌&&◌, List, [], ◌∷◌, ◌++◌, length, All, Option, Some, None, if◌then◌else◌}
 use Rattle.std.specs.List.{filter}
 use Rattle.std.specs.Str.{bytes_eq}
+use Rattle.cpg_rules.specs.declared.tables.TheConstants.{MOST_RULES}
 use Rattle.cpg_rules.specs.Tables.{Rules}
 use Rattle.cpg_entry.specs.declared.calls.Call.TheVariants.{Join, Leave, Insert}
 use Rattle.cpg_entry.specs.declared.calls.Op.{Op}
@@ -11,9 +12,8 @@ use Rattle.cpg_record.specs.declared.connections.ConnId.{ConnId}
 use Rattle.cpg_record.specs.declared.memberships.Member.{Member}
 use Rattle.cpg_record.specs.declared.records.Record.{Record}
 use Rattle.cpg_record.specs.Connections.{conn_of, conn_in, is_conn, member_of}
-use Rattle.cpg_record.specs.Membership.{is_allowed, is_group}
+use Rattle.cpg_record.specs.Membership.{is_allowed, is_named}
 use Rattle.cpg_record.specs.RuleTables.{named}
-use Rattle.cpg_record.specs.Verdicts.{most_rules}
 
 -- the members that are not that connection
 abbrev pub without : ConnId → List Member → List Member
@@ -46,11 +46,15 @@ group_by _ before = before
 abbrev pub group_after : Record → ConnId → Option (List ℕ) → Option (List ℕ)
 group_after r conn before = if is_allowed r.verdict && is_conn conn (conn_of r.entry) then group_by r.entry.op before else before
 
--- an insert has its index within the table, which has room and no such id
+-- the table can take a rule at the index: it reaches so far, has room, and no rule of that id
+abbrev pub CanInsert : Rules → ℕ → ℕ → Type 0
+CanInsert rules index id = (index ≤ length rules) × (length rules < MOST_RULES) × All (λ entry. entry.0 ≢ id) rules
+
+-- the table can be edited by the op at that place, whose number an insert's rule has as its id
 abbrev pub CanEditBy : Rules → ℕ → Op → Type 0
-CanEditBy rules place (Act (Insert h index rule)) = (index ≤ length rules) × (length rules < most_rules) × All (λ entry. entry.0 ≢ place) rules
+CanEditBy rules place (Act (Insert h index rule)) = CanInsert rules index place
 CanEditBy rules place _ = Unit {0}
 
 -- where the record edits the group's table, it can
 abbrev pub CanEdit : List ℕ → Rules → ℕ × Record → Type 0
-CanEdit g rules p = is_allowed p.1.verdict ≡ true → is_group (named p.1.entry.op) g ≡ true → CanEditBy rules p.0 p.1.entry.op
+CanEdit g rules p = is_allowed p.1.verdict ≡ true → is_named (named p.1.entry.op) g ≡ true → CanEditBy rules p.0 p.1.entry.op

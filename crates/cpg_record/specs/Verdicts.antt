@@ -7,6 +7,7 @@ use Rattle.cpg_cred.specs.declared.bases.By.TheVariants as by
 use Rattle.cpg_rules.specs.declared.decisions.Decision.{Decision}
 use Rattle.cpg_rules.specs.declared.decisions.Decision.TheVariants as decision
 use Rattle.cpg_rules.specs.declared.rules.Right.TheVariants as right
+use Rattle.cpg_rules.specs.declared.tables.TheConstants.{MOST_RULES}
 use Rattle.cpg_rules.specs.Decision.{decide}
 use Rattle.cpg_rules.specs.Tables.{Rules, has_id}
 use Rattle.cpg_entry.specs.declared.calls.Call.TheVariants.{Join, Leave, Send, Insert, Remove}
@@ -14,6 +15,7 @@ use Rattle.cpg_entry.specs.declared.calls.Op.{Op}
 use Rattle.cpg_entry.specs.declared.calls.Op.TheVariants.{Act, Gone}
 use Rattle.cpg_entry.specs.declared.entries.Entry.{Entry}
 use Rattle.cpg_entry.specs.Entries.{asker_of}
+use Rattle.cpg_record.specs.declared.limits.TheConstants.{MOST_MEMBERS}
 use Rattle.cpg_record.specs.declared.memberships.Member.{Member}
 use Rattle.cpg_record.specs.declared.records.Record.{Record}
 use Rattle.cpg_record.specs.declared.verdicts.Reason.{Reason}
@@ -23,14 +25,6 @@ use Rattle.cpg_record.specs.declared.verdicts.Verdict.TheVariants.{Allowed, Deni
 use Rattle.cpg_record.specs.Connections.{conn_of}
 use Rattle.cpg_record.specs.Membership.{members, group_of}
 use Rattle.cpg_record.specs.RuleTables.{rules_of}
-
--- how many members a group has at most
-abbrev pub most_members : ℕ
-most_members = 128
-
--- how many rules a table has at most
-abbrev pub most_rules : ℕ
-most_rules = 64
 
 -- the reason of a denial by a table: its rule, or the default
 abbrev pub reason_of : By → Reason
@@ -52,7 +46,7 @@ join_verdict records entry g =
     decided (decide (rules_of records g) right.Join (asker_of entry)) (λ by.
     if is_some (group_of records (conn_of entry)) then Denied reason.Joined
     else if has_process entry (members records g) then Denied reason.Twice
-    else if nat_le most_members (length (members records g)) then Denied reason.Full
+    else if nat_le MOST_MEMBERS (length (members records g)) then Denied reason.Full
     else Allowed by)
 
 -- a leave: Closed where the connection is in no group
@@ -75,7 +69,7 @@ abbrev pub insert_verdict : Rules → Entry → ℕ → Verdict
 insert_verdict rules entry index =
     decided (edit_decision rules entry) (λ by.
     if nat_lt (length rules) index then Denied reason.Position
-    else if nat_le most_rules (length rules) then Denied reason.TableFull
+    else if nat_le MOST_RULES (length rules) then Denied reason.TableFull
     else Allowed by)
 
 -- a remove: the right, then Absent where no rule has the id

@@ -1,6 +1,9 @@
 //! What follows from the definitions. Each function has nothing to do: its contract is the law.
 
-ghost use Rattle.cpg_record.specs.Laws.{SeatsAreMemberships, GroupIsMembership, MembersAfterOneMore, RulesAfterOneMore, DenialChangesNothing, PrefixesAreJudgedAlike, EachEntryIsJudged, OneSeatEach, OnceInAGroup};
+ghost use Rattle.cpg_record.specs.Bounds.{JudgedWithinBounds};
+ghost use Rattle.cpg_record.specs.Laws.{SeatsAreMemberships, GroupIsMembership, MembersAfterOneMore, RulesAfterOneMore, DenialChangesNothing, PrefixesAreJudgedAlike, EachEntryIsJudged, EachIsJudgedByThoseBefore, OthersKeepMembers, MembersAreIn, OneSeatEach, OnceInAGroup};
+ghost use Rattle.cpg_record.specs.Receiving.{InboxesOnlyGrow, PlacesTellLittle, ToldInOrder, ReceivesExactly, HearsChangesExactly, HearsEditsExactly, HearsVerdictsExactly};
+ghost use Rattle.cpg_record.specs.Reasons.{DeniedListingsNameTheirRule, VerdictsNameWhatDecided};
 
 /// A connection has a seat in a group exactly where it is in it: an allowed join of it to the group
 /// stands somewhere, and no later record ends it.
@@ -39,6 +42,21 @@ pub fn each_entry_is_judged()
     ensures { EachEntryIsJudged }
 {}
 
+/// Each record is the judgement of its entry over the records before it.
+pub fn each_is_judged_by_those_before()
+    ensures { EachIsJudgedByThoseBefore }
+{}
+
+/// A record changes the members of its own group alone.
+pub fn others_keep_members()
+    ensures { OthersKeepMembers }
+{}
+
+/// A connection is in a group exactly where it is one of its members.
+pub fn members_are_in()
+    ensures { MembersAreIn }
+{}
+
 /// A connection has at most one seat.
 pub fn one_seat_each()
     ensures { OneSeatEach }
@@ -47,4 +65,58 @@ pub fn one_seat_each()
 /// A process stands at most once in a group.
 pub fn once_in_a_group()
     ensures { OnceInAGroup }
+{}
+
+/// An inbox over more records begins as it is over the first ones: what was told stays told, in its order.
+pub fn inboxes_only_grow()
+    ensures { InboxesOnlyGrow }
+{}
+
+/// A place tells a connection at most two events, and place 0 none.
+pub fn places_tell_little()
+    ensures { PlacesTellLittle }
+{}
+
+/// A connection receives exactly the messages that members of its group were allowed to send while it was
+/// in the group.
+pub fn receives_exactly()
+    ensures { ReceivesExactly }
+{}
+
+/// A connection is told exactly the allowed edits of the table of the group that it is in.
+pub fn hears_edits_exactly()
+    ensures { HearsEditsExactly }
+{}
+
+/// A connection is told exactly the verdicts on its own entries.
+pub fn hears_verdicts_exactly()
+    ensures { HearsVerdictsExactly }
+{}
+
+/// A connection is told exactly the changes of the group that it is in, before them or with them: with the
+/// members after it, those who left and those who joined.
+pub fn hears_changes_exactly()
+    ensures { HearsChangesExactly }
+{}
+
+/// Over judged entries no group has more than 128 members, no record lists more, and no table has more
+/// than 64 rules.
+pub fn judged_within_bounds()
+    ensures { JudgedWithinBounds }
+{}
+
+/// A listing is denied exactly by the rule of the group's table that says so, and never by default.
+pub fn denied_listings_name_their_rule()
+    ensures { DeniedListingsNameTheirRule }
+{}
+
+/// Each entry has exactly the verdict that names what decided it: the first rule that speaks, the right's
+/// default, or the state that it met.
+pub fn verdicts_name_what_decided()
+    ensures { VerdictsNameWhatDecided }
+{}
+
+/// Each event is told once: they come by place, and a place's verdict comes before its news.
+pub fn told_in_order()
+    ensures { ToldInOrder }
 {}

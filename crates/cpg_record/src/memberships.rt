@@ -12,9 +12,6 @@ use cpg_entry::{Call, Entry, Op};
 use std::alloc::Global;
 use std::marker::Model;
 
-/// How many members a group has at most.
-pub const MOST_MEMBERS: usize = 128;
-
 /// A member of a group: a connection with its process.
 #[derive(Debug, Clone, Copy, PartialEq, Eq)]
 pub struct Member {

@@ -1,5 +1,6 @@
 use Rattle.std.proofs.Common.{ℕ, sym, subst}
-use Rattle.cpg_group.specs.Tables.{kept_table, CanInsert}
+use Rattle.cpg_record.specs.Steps.{CanInsert}
+use Rattle.cpg_group.specs.Tables.{kept_table}
 use Rattle.cpg_group.proofs.Kept.{insert_can}
 use Rattle.cpg_group.proofs.tables.Tables.take_call.Goals as goal
 
