@@ -23,6 +23,10 @@ pub record IsToken (t : Token) : Type 0 where
 abbrev pub AllHeld : HeldPlaces → ℕ → Type 0
 AllHeld held a = (place : ℕ) → 1 ≤ place → place ≤ a → Holds held place
 
+-- no place above that number is held
+abbrev pub NoneAbove : HeldPlaces → ℕ → Type 0
+NoneAbove held high = (place : ℕ) → Holds held place → place ≤ high
+
 -- a is the greatest number with places 1 to a all held
 pub record IsGreatestHeld (held : HeldPlaces) (a : ℕ) : Type 0 where
   pub all : AllHeld held a

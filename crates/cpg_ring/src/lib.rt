@@ -11,6 +11,7 @@ mod settings;
 mod tests;
 mod theorem;
 mod visit;
+mod waiting;
 
 pub use cpg_entry::{Entry, Frame, NodeId, Packet, Refusal, Token};
 pub use ring::Ring;
