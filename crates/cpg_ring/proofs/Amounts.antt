@@ -14,7 +14,7 @@ use Rattle.cpg_ring.specs.declared.settings.TheConstants.{WINDOW}
 use Rattle.cpg_ring.specs.States.{Entry, Token, Packet, Settings, IsSettings, HeldPlaces, Holds, NodeState, is_held}
 use Rattle.cpg_ring.specs.Visits.{node_of, is_past, token_refusal, served, burst_size, placed, hold_all, held_through, reach, sets_aru, next_aru, up_to, is_wanted, visit_with, visit_step}
 use Rattle.cpg_entry.specs.Ranges.{Ascends, IsToken}
-use Rattle.cpg_ring.specs.Laws.{AllHeld, IsGreatestHeld, IsMissing, IsLeastMissing, IsVisit}
+use Rattle.cpg_ring.specs.Laws.{AllHeld, NoneAbove, IsGreatestHeld, IsMissing, IsLeastMissing, IsVisit}
 use Rattle.cpg_ring.proofs.Holding.{put_other, put_cases}
 use Rattle.cpg_ring.proofs.Tours.{holds_to}
 use Rattle.cpg_ring.proofs.Asking.{ascends_take, ascends_within, ascends_filter, contains_filter, passes, any_from_contains, contains_from_any}
@@ -38,10 +38,6 @@ through_within held a (suc more) = by_next (is_held held (suc a)) (through_withi
     by_next : (b : Bool) → held_through held (suc a) more ≤ suc a + more → (if b then held_through held (suc a) more else a) ≤ a + suc more
     by_next true l = omega arith
     by_next false l = omega arith
-
--- no place above that number is held
-abbrev pub NoneAbove : HeldPlaces → ℕ → Type 0
-NoneAbove held seq = (place : ℕ) → Holds held place → place ≤ seq
 
 greatest_held : (held : HeldPlaces) (seq : ℕ) → NoneAbove held seq → IsGreatestHeld held (reach held seq)
 greatest_held held seq above = record {
@@ -119,17 +115,17 @@ holds_of held place t = by_value (get held place) refl t
     by_value None e t = absurd (true≢false (sym t))
     by_value (Some x) e t = (x, e)
 
-lacks_of : (b : Bool) → (b ≡ true → ⊥) → not b ≡ true
+pub lacks_of : (b : Bool) → (b ≡ true → ⊥) → not b ≡ true
 lacks_of true h = absurd (h refl)
 lacks_of false h = refl
 
-and_parts : (a b c : Bool) → (not a && (b || c)) ≡ true → (a ≡ true → ⊥) × ((b ≡ true) ⊎ (c ≡ true))
+pub and_parts : (a b c : Bool) → (not a && (b || c)) ≡ true → (a ≡ true → ⊥) × ((b ≡ true) ⊎ (c ≡ true))
 and_parts true b c h = absurd (true≢false (sym h))
 and_parts false true c h = ((λ e. true≢false (sym e)), inl refl)
 and_parts false false true h = ((λ e. true≢false (sym e)), inr refl)
 and_parts false false false h = absurd (true≢false (sym h))
 
-and_whole : (a b c : Bool) → (a ≡ true → ⊥) → (b ≡ true) ⊎ (c ≡ true) → (not a && (b || c)) ≡ true
+pub and_whole : (a b c : Bool) → (a ≡ true → ⊥) → (b ≡ true) ⊎ (c ≡ true) → (not a && (b || c)) ≡ true
 and_whole true b c n h = absurd (n refl)
 and_whole false b c n h = ⊎_elim (λ e. rw e refl) (λ e. or_true b e) h
   where

@@ -1,5 +1,5 @@
 -- Lists of places in ascending order.
-use Rattle.std.proofs.Common.{◌≡◌, ◌≢◌, ◌⊎◌, ℕ, zero, suc, ◌<◌, ◌≤◌, Bool, true, false, cond, ◌||◌, List, [], ◌∷◌, ◌++◌, take, Contains, refl, sym, ap, ◌∙◌, subst, inl, inr, ⊎_elim, arith, eqb-true, eq-eqb, true≢false, append-nil, ◌==◌}
+use Rattle.std.proofs.Common.{◌≡◌, ◌≢◌, ◌⊎◌, ℕ, zero, suc, ◌<◌, ◌≤◌, nat_lt, ltb-true, Bool, true, false, cond, ◌||◌, List, [], ◌∷◌, ◌++◌, take, Contains, refl, sym, ap, ◌∙◌, subst, inl, inr, ⊎_elim, arith, eqb-true, eq-eqb, true≢false, append-nil, ◌==◌}
 use Rattle.std.specs.List.{filter, list_any}
 use Rattle.std.proofs.lemmas.Bool.{cases_eq}
 use Rattle.std.proofs.lemmas.List.Elements.{filter-append, Contains-append_left, Contains-append_right, Contains-append_cases}
@@ -56,6 +56,86 @@ contains_from_any (y ∷ xs) x h = by_test (y == x) refl h (contains_from_any xs
     by_test : (b : Bool) → (y == x) ≡ b → (b || list_any (λ p. p == x) xs) ≡ true → (list_any (λ p. p == x) xs ≡ true → Contains xs x) → Contains (y ∷ xs) x
     by_test true is t more = subst (Contains (y ∷ xs)) (eqb-true y x is) (contains_head y xs)
     by_test false is t more = contains_later y x xs (more t)
+
+-- a lower bound may be lower
+ascends_from : (less low high : ℕ) (xs : List ℕ) → less ≤ low → Ascends low high xs → Ascends less high xs
+ascends_from less low high [] l a = tt
+ascends_from less low high (x ∷ xs) l a = let k = a.0 in (omega arith, a.1, a.2)
+
+-- one such list after another
+pub ascends_join : (low mid high : ℕ) (xs ys : List ℕ) → low ≤ mid → mid ≤ high → Ascends low mid xs → Ascends mid high ys → Ascends low high (xs ++ ys)
+ascends_join low mid high [] ys l m a b = ascends_from low mid high ys l b
+ascends_join low mid high (x ∷ xs) ys l m a b = let h = a.1 in (a.0, omega arith, ascends_join x mid high xs ys a.1 m a.2 b)
+
+-- what a test finds in a list, and where
+pub contains_passing : (f : ℕ → Bool) (xs : List ℕ) (p : ℕ) → Contains xs p → f p ≡ true → Contains (filter f xs) p
+contains_passing f [] p c t = absurd (contains_none p c)
+contains_passing f (x ∷ xs) p c t = ⊎_elim
+    (λ (same : x ≡ p). subst (λ b. Contains (cond b (x ∷ filter f xs) (filter f xs)) p) (sym (ap f same ∙ t)) (subst (λ q. Contains (q ∷ filter f xs) p) (sym same) (contains_head p (filter f xs))))
+    (λ later. by_test (f x) (contains_passing f xs p later t))
+    (contains_cons x p xs c)
+  where
+    by_test : (b : Bool) → Contains (filter f xs) p → Contains (cond b (x ∷ filter f xs) (filter f xs)) p
+    by_test true c = contains_later x p (filter f xs) c
+    by_test false c = c
+
+pub passing_contains : (f : ℕ → Bool) (xs : List ℕ) (p : ℕ) → Contains (filter f xs) p → Contains xs p × (f p ≡ true)
+passing_contains f [] p c = absurd (contains_none p c)
+passing_contains f (x ∷ xs) p c = by_test (f x) refl c (passing_contains f xs p)
+  where
+    by_test : (b : Bool) → f x ≡ b → Contains (cond b (x ∷ filter f xs) (filter f xs)) p → (Contains (filter f xs) p → Contains xs p × (f p ≡ true)) → Contains (x ∷ xs) p × (f p ≡ true)
+    by_test true is c more = ⊎_elim
+        (λ (same : x ≡ p). (subst (Contains (x ∷ xs)) same (contains_head x xs), ap f (sym same) ∙ is))
+        (λ later. let w = more later in (contains_later x p xs w.0, w.1))
+        (contains_cons x p (filter f xs) c)
+    by_test false is c more = let w = more c in (contains_later x p xs w.0, w.1)
+
+ascends_passing : (f : ℕ → Bool) (low high : ℕ) (xs : List ℕ) → Ascends low high xs → Ascends low high (filter f xs)
+ascends_passing f low high [] a = tt
+ascends_passing f low high (x ∷ xs) a = by_test (f x) (ascends_passing f x high xs a.2)
+  where
+    by_test : (b : Bool) → Ascends x high (filter f xs) → Ascends low high (cond b (x ∷ filter f xs) (filter f xs))
+    by_test true rest = (a.0, a.1, rest)
+    by_test false rest = let l = a.0 in ascends_from low x high (filter f xs) (omega arith) rest
+
+-- those of a list that are above a number
+pub ascends_above : (end high : ℕ) (xs : List ℕ) → Ascends 0 high xs → Ascends end high (filter (nat_lt end) xs)
+ascends_above end high xs a = raised (filter (nat_lt end) xs) (ascends_passing (nat_lt end) 0 high xs a) (λ p c. ltb-true end p (passing_contains (nat_lt end) xs p c).1)
+  where
+    raised : (ys : List ℕ) → Ascends 0 high ys → ((p : ℕ) → Contains ys p → end < p) → Ascends end high ys
+    raised [] a h = tt
+    raised (y ∷ ys) a h = (h y (contains_head y ys), a.1, a.2)
+
+-- lists in ascending order that have the same numbers are the same
+pub same_ascending : (low high : ℕ) (xs ys : List ℕ) → Ascends low high xs → Ascends low high ys → ((p : ℕ) → Contains xs p → Contains ys p) → ((p : ℕ) → Contains ys p → Contains xs p) → xs ≡ ys
+same_ascending low high [] [] a b f g = refl
+same_ascending low high [] (y ∷ ys) a b f g = absurd (contains_none y (g y (contains_head y ys)))
+same_ascending low high (x ∷ xs) [] a b f g = absurd (contains_none x (f x (contains_head x xs)))
+same_ascending low high (x ∷ xs) (y ∷ ys) a b f g = joined (same_ascending x high xs ys a.2 (subst (λ k. Ascends k high ys) (sym same) b.2) (λ p c. into p c) (λ p c. back p c))
+  where
+    same : x ≡ y
+    same = ⊎_elim
+        (λ (e : y ≡ x). sym e)
+        (λ late. ⊎_elim
+        (λ (e : x ≡ y). e)
+        (λ early. let l = (ascends_within y high ys x b.2 late).0 in let k = (ascends_within x high xs y a.2 early).0 in absurd (omega arith))
+        (contains_cons x y xs (g y (contains_head y ys))))
+        (contains_cons y x ys (f x (contains_head x xs)))
+
+    into : (p : ℕ) → Contains xs p → Contains ys p
+    into p c = ⊎_elim
+        (λ (e : y ≡ p). let l = (ascends_within x high xs p a.2 c).0 in let s = same in absurd (omega arith))
+        (λ later. later)
+        (contains_cons y p ys (f p (contains_later x p xs c)))
+
+    back : (p : ℕ) → Contains ys p → Contains xs p
+    back p c = ⊎_elim
+        (λ (e : x ≡ p). let l = (ascends_within y high ys p b.2 c).0 in let s = same in absurd (omega arith))
+        (λ later. later)
+        (contains_cons x p xs (g p (contains_later y p ys c)))
+
+    joined : xs ≡ ys → (x ∷ xs) ≡ (y ∷ ys)
+    joined rest = λ i. same i ∷ rest i
 
 module _ (f : ℕ → Bool) where
   -- the numbers up to n that pass

@@ -7,17 +7,14 @@ use Rattle.std.proofs.lemmas.List.{take_more, length-take-le}
 use Rattle.std.proofs.lemmas.List.Elements.{filter-append}
 use Rattle.cpg_ring.specs.States.{Entry, Settings, HeldPlaces, Holds, is_held}
 use Rattle.cpg_ring.specs.Visits.{placed, hold_all, held_through, reach, up_to, is_wanted}
-use Rattle.cpg_ring.specs.Laws.{AllHeld}
-use Rattle.cpg_ring.specs.Kept.{places_of, pairs_from}
+use Rattle.cpg_ring.specs.Laws.{AllHeld, NoneAbove}
 use Rattle.cpg_ring.specs.Rings.{RingNode}
-use Rattle.cpg_ring.specs.Steps.{held_after}
-use Rattle.cpg_ring.proofs.Holding.{put_same, put_other}
-use Rattle.cpg_ring.proofs.Kept.{reach_on}
+use Rattle.cpg_ring.specs.Steps.{hold_from, held_after}
+use Rattle.cpg_ring.proofs.Holding.{put_same, put_other, put_cases}
 use Rattle.cpg_ring.proofs.Amounts.{placed_held, holds_of, is_some_of}
-use Rattle.cpg_ring.proofs.Rings.{kept_push}
 
 -- what was held stays held
-put_holds : (held : HeldPlaces) (k : ℕ) (e : Entry) (place : ℕ) → Holds held place → Holds (insert held k e) place
+pub put_holds : (held : HeldPlaces) (k : ℕ) (e : Entry) (place : ℕ) → Holds held place → Holds (insert held k e) place
 put_holds held k e place d = ⊎_elim
     (λ (same : place ≡ k). (e, ap (get (insert held k e)) same ∙ put_same held k e))
     (λ (apart : place ≢ k). (d.0, put_other held k e place apart ∙ d.1))
@@ -70,23 +67,6 @@ after_is x seq count place h = burst_test x.settings x.state.held seq (take coun
 pub after_keeps : (x : RingNode) (seq count d : ℕ) → AllHeld x.state.held d → AllHeld (held_after x seq count) d
 after_keeps x seq count d all place low high = burst_keeps x.settings x.state.held seq (take count x.state.waiting) place (all place low high)
 
--- the search for the reach may begin past places that are held
-pub reach_from : (held : HeldPlaces) (d n : ℕ) → AllHeld held d → d ≤ n → held_through held d (n - d) ≡ reach held n
-reach_from held zero n all l = ap (held_through held 0) (omega arith)
-reach_from held (suc d) n all l =
-    let next : is_held held (d + 1) ≡ true = is_some_of held (d + 1) (all (d + 1) (omega arith) (omega arith)) in
-    let step : held_through held (d + 1) (n - (d + 1)) ≡ held_through held d (n - d) = reach_on held d n l next in
-    subst (λ k. held_through held k (n - k) ≡ held_through held d (n - d)) (omega arith) step ∙ reach_from held d n (λ place low high. all place low (omega arith)) (omega arith)
-
--- nothing is wanted where all is held
-pub none_wanted : (held : HeldPlaces) (d : ℕ) (asked : List ℕ) (n : ℕ) → AllHeld held n → filter (is_wanted held d asked) (up_to n) ≡ []
-none_wanted held d asked zero all = refl
-none_wanted held d asked (suc n) all =
-    let here : is_held held (suc n) ≡ true = is_some_of held (suc n) (all (suc n) (omega arith) (omega arith)) in
-    filter-append (is_wanted held d asked) (up_to n) (suc n ∷ [])
-    ∙ (ap (λ l. l ++ filter (is_wanted held d asked) (suc n ∷ [])) (none_wanted held d asked n (λ place low high. all place low (omega arith)))
-    ∙ ap (λ b. cond (not b && (nat_le (suc n) (d + 64) || list_any (λ p. p == suc n) asked)) (suc n ∷ []) []) here)
-
 -- one packet more is placed
 placed_push : (s : Settings) (seq : ℕ) (es : List Entry) (e : Entry) → placed s seq (es ++ e ∷ []) ≡ placed s seq es ++ record { ring = s.ring; place = suc (seq + length es); entry = e } ∷ []
 placed_push s seq [] e = ap (λ n. record { ring = s.ring; place = suc n; entry = e } ∷ []) (omega arith)
@@ -95,29 +75,34 @@ placed_push s seq (x ∷ es) e = ap (λ l. record { ring = s.ring; place = suc s
 pub placed_more : (s : Settings) (seq : ℕ) (es : List Entry) (i : ℕ) (d : Entry) → i < length es → placed s seq (take (i + 1) es) ≡ placed s seq (take i es) ++ record { ring = s.ring; place = seq + i + 1; entry = get_or es i d } ∷ []
 placed_more s seq es i d h = ap (placed s seq) (take_more es i d h) ∙ (placed_push s seq (take i es) (get_or es i d) ∙ ap (λ n. placed s seq (take i es) ++ record { ring = s.ring; place = n; entry = get_or es i d } ∷ []) (let l = length-take-le i es (omega arith) in omega arith))
 
-pairs_push : (seq : ℕ) (es : List Entry) (e : Entry) → pairs_from seq (es ++ e ∷ []) ≡ pairs_from seq es ++ (suc (seq + length es), e) ∷ []
-pairs_push seq [] e = ap (λ n. (suc n, e) ∷ []) (omega arith)
-pairs_push seq (x ∷ es) e = ap (λ l. (suc seq, x) ∷ l) (pairs_push (suc seq) es e ∙ ap (λ n. pairs_from (suc seq) es ++ (suc n, e) ∷ []) (omega arith))
+-- the places of a burst, one by one
+pub from_is : (s : Settings) (held : HeldPlaces) (seq : ℕ) (es : List Entry) → hold_from held seq es ≡ hold_all held (placed s seq es)
+from_is s held seq [] = refl
+from_is s held seq (e ∷ es) = from_is s (insert held (suc seq) e) (suc seq) es
 
-pub pairs_more : (seq : ℕ) (es : List Entry) (i : ℕ) (d : Entry) → i < length es → pairs_from seq (take (i + 1) es) ≡ pairs_from seq (take i es) ++ (seq + i + 1, get_or es i d) ∷ []
-pairs_more seq es i d h = ap (pairs_from seq) (take_more es i d h) ∙ (pairs_push seq (take i es) (get_or es i d) ∙ ap (λ n. pairs_from seq (take i es) ++ (n, get_or es i d) ∷ []) (let l = length-take-le i es (omega arith) in omega arith))
+from_push : (held : HeldPlaces) (seq : ℕ) (es : List Entry) (e : Entry) → hold_from held seq (es ++ e ∷ []) ≡ insert (hold_from held seq es) (suc (seq + length es)) e
+from_push held seq [] e = ap (λ n. insert held (suc n) e) (omega arith)
+from_push held seq (x ∷ es) e = from_push (insert held (suc seq) x) (suc seq) es e ∙ ap (λ n. insert (hold_from (insert held (suc seq) x) (suc seq) es) (suc n) e) (omega arith)
 
--- to keep a burst's pairs is to hold its packets, where nothing above seq is held
-pub burst_kept : (s : Settings) (kept : List (ℕ × Entry)) (seq : ℕ) (now : List Entry) → ((place : ℕ) → Holds (places_of kept) place → place ≤ seq) → places_of (kept ++ pairs_from seq now) ≡ hold_all (places_of kept) (placed s seq now)
-burst_kept s kept seq [] above = ap places_of (append-nil kept)
-burst_kept s kept seq (e ∷ now) above =
-    let free : get (places_of kept) (suc seq) ≡ None = by_value (get (places_of kept) (suc seq)) refl in
-    let one : places_of (kept ++ (suc seq, e) ∷ []) ≡ insert (places_of kept) (suc seq) e = kept_push kept (suc seq) e free in
-    ap places_of (sym (append_assoc kept ((suc seq, e) ∷ []) (pairs_from (suc seq) now)))
-    ∙ (burst_kept s (kept ++ (suc seq, e) ∷ []) (suc seq) now (λ place d. within place (subst (λ m. Holds m place) one d))
-    ∙ ap (λ m. hold_all m (placed s (suc seq) now)) one)
-  where
-    by_value : (o : Option Entry) → get (places_of kept) (suc seq) ≡ o → get (places_of kept) (suc seq) ≡ None
-    by_value None is = is
-    by_value (Some x) is = absurd (let l = above (suc seq) (x, is) in omega arith)
+pub from_more : (held : HeldPlaces) (seq : ℕ) (es : List Entry) (i : ℕ) (d : Entry) → i < length es → hold_from held seq (take (i + 1) es) ≡ insert (hold_from held seq (take i es)) (seq + i + 1) (get_or es i d)
+from_more held seq es i d h = ap (hold_from held seq) (take_more es i d h) ∙ (from_push held seq (take i es) (get_or es i d) ∙ ap (λ n. insert (hold_from held seq (take i es)) n (get_or es i d)) (let l = length-take-le i es (omega arith) in omega arith))
 
-    within : (place : ℕ) → Holds (insert (places_of kept) (suc seq) e) place → place ≤ suc seq
-    within place d = ⊎_elim
-        (λ (same : place ≡ suc seq). omega arith)
-        (λ (apart : place ≢ suc seq). let l = above place (d.0, sym (put_other (places_of kept) (suc seq) e place apart) ∙ d.1) in omega arith)
-        (cases_eq place (suc seq))
+pub from_keeps : (held : HeldPlaces) (seq : ℕ) (es : List Entry) (place : ℕ) → Holds held place → Holds (hold_from held seq es) place
+from_keeps held seq [] place d = d
+from_keeps held seq (e ∷ es) place d = from_keeps (insert held (suc seq) e) (suc seq) es place (put_holds held (suc seq) e place d)
+
+pub from_held : (held : HeldPlaces) (seq : ℕ) (es : List Entry) (place : ℕ) → Holds (hold_from held seq es) place → Holds held place ⊎ ((seq < place) × (place ≤ seq + length es))
+from_held held seq [] place d = inl d
+from_held held seq (e ∷ es) place d = ⊎_elim
+    (λ was. ⊎_elim
+    (λ (here : (place ≡ suc seq) × (e ≡ was.0)). let same = here.0 in inr (omega arith, omega arith))
+    (λ old. inl (was.0, old))
+    (put_cases held (suc seq) e place was.0 was.1))
+    (λ w. let l = w.0 in let h = w.1 in inr (omega arith, omega arith))
+    (from_held (insert held (suc seq) e) (suc seq) es place d)
+
+-- a burst in the window leaves nothing held above it
+pub after_above : (x : RingNode) (seq count top : ℕ) → NoneAbove x.state.held top → count ≤ top - seq → count ≤ length x.state.waiting → NoneAbove (held_after x seq count) top
+after_above x seq count top above fits ready place d =
+    let len = length-take-le count x.state.waiting ready in
+    ⊎_elim (λ old. above place old) (λ w. let low = w.0 in let high = w.1 in omega arith) (placed_held x.settings x.state.held seq (take count x.state.waiting) place d)

@@ -1,43 +1,48 @@
--- A test on the places_of that are held is one on the list that is kept.
-use Rattle.std.proofs.Common.{◌≡◌, ℕ, ◌+◌, ◌<◌, Bool, true, false, List, [], ◌∷◌, ◌++◌, length, map, take, Some, None, refl, sym, ap, ◌∙◌, ◌||◌, Ordering, Less, Equal, Greater, option_map, get_or, append-nil}
+-- The places that are held are the keys of the map.
+use Rattle.std.proofs.Common.{◌≡◌, ℕ, ◌+◌, ◌<◌, Bool, true, false, true≢false, nat_lt, ltb-true, eqb-true, eq-eqb, List, [], ◌∷◌, ◌++◌, length, take, Some, None, refl, sym, ap, ◌∙◌, subst, arith, ◌||◌, option_map, get_or, append-nil}
 use Rattle.std.specs.List.{list_any, cons_option}
-use Rattle.std.specs.Ordering.{nat_cmp}
-use Rattle.std.specs.Cmp.{nat_cmp_total}
-use Rattle.std.specs.FinMap.{get, entries, keys, put, from_entries, entries-insert, nat_cmp-IsAntisymmetric, len-entries, len-empty}
-use Rattle.std.proofs.lemmas.List.{nil_from_length, take_more}
+use Rattle.std.specs.Ordering.{nat_cmp, eq_by_cmp}
+use Rattle.std.specs.Cmp.{unsigned_tied}
+use Rattle.std.specs.FinMap.{get, keys, contains_key-keys}
+use Rattle.std.proofs.lemmas.Bool.{lt-ltb}
+use Rattle.std.proofs.lemmas.List.{take_more}
 use Rattle.std.proofs.lemmas.List.Elements.{filter_map-append}
 use Rattle.cpg_ring.specs.Visits.{served}
-use Rattle.cpg_ring.specs.States.{Entry, Settings, HeldPlaces}
-use Rattle.cpg_ring.specs.Kept.{places_of}
+use Rattle.cpg_ring.specs.States.{Settings, Entry, HeldPlaces, Holds, is_held}
+use Rattle.cpg_ring.specs.Laws.{NoneAbove}
+use Rattle.cpg_ring.proofs.Amounts.{is_some_of, holds_of}
 
-swap_or : (a b c : Bool) → (a || (b || c)) ≡ (b || (a || c))
-swap_or true true c = refl
-swap_or true false c = refl
-swap_or false true c = refl
-swap_or false false c = refl
+or_right : (b : Bool) {c : Bool} → c ≡ true → (b || c) ≡ true
+or_right true e = refl
+or_right false e = e
 
-same_or : (a c : Bool) → (a || c) ≡ (a || (a || c))
-same_or true c = refl
-same_or false c = refl
-
-any_put : (f : ℕ → Bool) (k : ℕ) (v : Entry) (es : List (ℕ × Entry)) → list_any f (map (λ e. e.0) (put nat_cmp k v es)) ≡ (f k || list_any f (map (λ e. e.0) es))
-any_put f k v [] = refl
-any_put f k v (e ∷ es) = by_cmp (nat_cmp k e.0) refl (any_put f k v es)
+key_above : (seq place : ℕ) (ks : List ℕ) → seq < place → list_any (eq_by_cmp nat_cmp place) ks ≡ true → list_any (nat_lt seq) ks ≡ true
+key_above seq place [] l t = absurd (true≢false (sym t))
+key_above seq place (k ∷ ks) l t = by_test (eq_by_cmp nat_cmp place k) refl t (key_above seq place ks l)
   where
-    by_cmp : (o : Ordering) → nat_cmp k e.0 ≡ o → list_any f (map (λ x. x.0) (put nat_cmp k v es)) ≡ (f k || list_any f (map (λ x. x.0) es)) → list_any f (map (λ x. x.0) (put nat_cmp k v (e ∷ es))) ≡ (f k || (f e.0 || list_any f (map (λ x. x.0) es)))
-    by_cmp Less is rest = rw is refl
-    by_cmp Equal is rest = rw is (same_first (nat_cmp-IsAntisymmetric k e.0 is))
-      where
-        same_first : k ≡ e.0 → (f e.0 || list_any f (map (λ x. x.0) es)) ≡ (f k || (f e.0 || list_any f (map (λ x. x.0) es)))
-        same_first same = same_or (f e.0) (list_any f (map (λ x. x.0) es)) ∙ ap (λ j. f j || (f e.0 || list_any f (map (λ x. x.0) es))) (sym same)
-    by_cmp Greater is rest = rw is (ap (λ b. f e.0 || b) rest ∙ swap_or (f e.0) (f k) (list_any f (map (λ x. x.0) es)))
+    by_test : (b : Bool) → eq_by_cmp nat_cmp place k ≡ b → (b || list_any (eq_by_cmp nat_cmp place) ks) ≡ true → (list_any (eq_by_cmp nat_cmp place) ks ≡ true → list_any (nat_lt seq) ks ≡ true) → list_any (nat_lt seq) (k ∷ ks) ≡ true
+    by_test true is t more = let same : place ≡ k = eqb-true place k (sym (unsigned_tied place k) ∙ is) in ap (λ b. b || list_any (nat_lt seq) ks) (lt-ltb seq k (omega arith))
+    by_test false is t more = or_right (nat_lt seq k) (more t)
 
-pub any_key : (f : ℕ → Bool) (kept : List (ℕ × Entry)) → list_any f (keys (places_of kept)) ≡ list_any (λ p. f p.0) kept
-any_key f [] = none
+some_key : (seq : ℕ) (ks : List ℕ) → list_any (nat_lt seq) ks ≡ true → (k : ℕ) × (seq < k) × (list_any (eq_by_cmp nat_cmp k) ks ≡ true)
+some_key seq [] t = absurd (true≢false (sym t))
+some_key seq (k ∷ ks) t = by_test (nat_lt seq k) refl t (some_key seq ks)
   where
-    none : list_any f (keys (places_of [])) ≡ false
-    none = ap (λ es. list_any f (map (λ e. e.0) es)) (nil_from_length (entries (places_of [])) (sym (len-entries (places_of [])) ∙ len-empty nat_cmp Entry))
-any_key f (p ∷ kept) = ap (λ es. list_any f (map (λ e. e.0) es)) (entries-insert nat_cmp_total (from_entries kept) p.0 p.1) ∙ (any_put f p.0 p.1 (entries (from_entries kept)) ∙ ap (λ b. f p.0 || b) (any_key f kept))
+    by_test : (b : Bool) → nat_lt seq k ≡ b → (b || list_any (nat_lt seq) ks) ≡ true → (list_any (nat_lt seq) ks ≡ true → (j : ℕ) × (seq < j) × (list_any (eq_by_cmp nat_cmp j) ks ≡ true)) → (j : ℕ) × (seq < j) × (list_any (eq_by_cmp nat_cmp j) (k ∷ ks) ≡ true)
+    by_test true is t more = (k, ltb-true seq k is, ap (λ b. b || list_any (eq_by_cmp nat_cmp k) ks) (unsigned_tied k k ∙ eq-eqb k k refl))
+    by_test false is t more = let w = more t in (w.0, w.1, or_right (eq_by_cmp nat_cmp w.0 k) w.2)
+
+-- where one is held above seq, a key is above it
+pub above_found : (held : HeldPlaces) (seq place : ℕ) → seq < place → is_held held place ≡ true → list_any (nat_lt seq) (keys held) ≡ true
+above_found held seq place l is = key_above seq place (keys held) l (sym (contains_key-keys held place) ∙ is)
+
+-- and where none is, none
+pub above_none : (held : HeldPlaces) (seq : ℕ) → NoneAbove held seq → list_any (nat_lt seq) (keys held) ≡ false
+above_none held seq none = by_test (list_any (nat_lt seq) (keys held)) refl
+  where
+    by_test : (b : Bool) → list_any (nat_lt seq) (keys held) ≡ b → list_any (nat_lt seq) (keys held) ≡ false
+    by_test true is = let w = some_key seq (keys held) is in let l = none w.0 (holds_of held w.0 (contains_key-keys held w.0 ∙ w.2)) in let k = w.1 in absurd (omega arith)
+    by_test false is = is
 
 module _ (s : Settings) (held : HeldPlaces) (asked : List ℕ) (i d : ℕ) (within : i < length asked) where
   split : served s held (take (i + 1) asked) ≡ served s held (take i asked) ++ served s held (get_or asked i d ∷ [])

@@ -1,37 +1,19 @@
--- What a ring's fields tell of the places that it holds.
-use Rattle.std.proofs.Common.{◌≡◌, ◌≢◌, ℕ, suc, ◌+◌, ◌<◌, ◌≤◌, IfSome, Bool, true, false, not, cond, if◌then◌else◌, ◌==◌, nat_lt, ltb-false, is_some, List, [], ◌∷◌, ◌++◌, Option, Some, None, IsSome, refl, sym, ap, ◌∙◌, subst, ⊎_elim, arith, eqb, eqb-true, true≢false}
-use Rattle.std.specs.List.{AllByRecursion}
+-- What a ring's fields tell of the places that it holds, and what a call leaves of that.
+use Rattle.std.proofs.Common.{◌≡◌, ◌≢◌, ℕ, suc, ◌+◌, ◌<◌, ◌≤◌, IfSome, Bool, true, false, not, if◌then◌else◌, ◌==◌, nat_lt, ltb-false, is_some, List, ◌++◌, length, Option, Some, None, IsSome, Result, Ok, Err, OnOk, is_err, refl, sym, ap, ◌∙◌, subst, ⊎_elim, arith, true≢false}
 use Rattle.std.specs.Ordering.{nat_cmp}
-use Rattle.std.specs.Cmp.{nat_cmp_total, unsigned_tied}
-use Rattle.std.specs.FinMap.{get, find, insert, from_entries_push, nat_cmp-IsAntisymmetric}
+use Rattle.std.specs.FinMap.{get, insert, empty, get-empty}
 use Rattle.std.proofs.lemmas.Option.{none-some}
-use Rattle.std.proofs.lemmas.Bool.{cases_eq}
-use Rattle.cpg_ring.specs.States.{Entry, Packet, Refusal, Settings, HeldPlaces, NodeState, Holds}
+use Rattle.std.proofs.lemmas.Bool.{cases_eq, cases_lt}
+use Rattle.cpg_ring.specs.States.{Entry, Packet, Token, Refusal, Settings, HeldPlaces, NodeState, Holds}
 use Rattle.cpg_cred.specs.declared.refusals.Refusal.TheVariants.{Foreign, Implausible, Held, FarAhead}
 use Rattle.cpg_ring.specs.Moves.{data_refusal}
-use Rattle.cpg_ring.specs.Rings.{RingNode}
-use Rattle.cpg_ring.specs.Kept.{places_of, IsKept}
-use Rattle.cpg_ring.proofs.Kept.{get_find}
-use Rattle.cpg_ring.proofs.Holding.{put_grows}
-
-find_within : (m : ℕ) (kept : List (ℕ × Entry)) (place : ℕ) (e : Entry) → AllByRecursion (λ p. p.0 ≤ m) kept → find nat_cmp place kept ≡ Some e → place ≤ m
-find_within m [] place e h is = absurd (none-some e is)
-find_within m (p ∷ kept) place e h is = by_test (eqb place p.0) refl (ap (λ b. cond b (Some p.1) (find nat_cmp place kept)) (sym (unsigned_tied place p.0)) ∙ is) (find_within m kept place e h.1)
-  where
-    by_test : (b : Bool) → eqb place p.0 ≡ b → cond (eqb place p.0) (Some p.1) (find nat_cmp place kept) ≡ Some e → (find nat_cmp place kept ≡ Some e → place ≤ m) → place ≤ m
-    by_test true t is next = subst (λ q. q ≤ m) (sym (eqb-true place p.0 t)) h.0
-    by_test false t is next = next (sym (ap (λ b. cond b (Some p.1) (find nat_cmp place kept)) t) ∙ is)
-
--- what is held is within the ring's places
-pub held_within : (m : ℕ) (kept : List (ℕ × Entry)) (place : ℕ) → AllByRecursion (λ p. p.0 ≤ m) kept → Holds (places_of kept) place → place ≤ m
-held_within m kept place h d = find_within m kept place d.0 h (sym (get_find kept place) ∙ d.1)
-
-holds_some : (held : HeldPlaces) (place : ℕ) → IsSome (get held place) → Holds held place
-holds_some held place h = by_value (get held place) refl h
-  where
-    by_value : (o : Option Entry) → get held place ≡ o → IsSome o → Holds held place
-    by_value None is h = absurd (true≢false (sym h))
-    by_value (Some e) is h = (e, is)
+use Rattle.cpg_entry.specs.Ranges.{IsToken}
+use Rattle.cpg_ring.specs.Laws.{AllHeld}
+use Rattle.cpg_ring.specs.Rings.{IsRingNode}
+use Rattle.cpg_ring.specs.Kept.{HeldValue, IsRing}
+use Rattle.cpg_ring.specs.Steps.{hold_from}
+use Rattle.cpg_ring.proofs.Holding.{put_same, put_other, put_cases}
+use Rattle.cpg_ring.proofs.Bursts.{put_holds, from_keeps, from_held}
 
 -- a place that is delivered next is one of those up to m
 pub next_within : (held : HeldPlaces) (d m : ℕ) → ((place : ℕ) → Holds held place → place ≤ m) → IfSome (get held (suc d)) (λ _. d < m)
@@ -41,16 +23,23 @@ next_within held d m within = by_value (get held (suc d)) refl
     by_value None is = tt
     by_value (Some e) is = let l = within (suc d) (e, is) in omega arith
 
+holds_some : (held : HeldPlaces) (place : ℕ) → IsSome (get held place) → Holds held place
+holds_some held place h = by_value (get held place) refl h
+  where
+    by_value : (o : Option Entry) → get held place ≡ o → IsSome o → Holds held place
+    by_value None is h = absurd (true≢false (sym h))
+    by_value (Some e) is h = (e, is)
+
 -- one place more is delivered
-pub one_further : (s : Settings) (n : ℕ) (kept : List (ℕ × Entry)) (d : ℕ) → IsKept s n kept d → IsSome (get (places_of kept) (suc d)) → IsKept s n kept (d + 1)
-one_further s n kept d h next = record {
+pub ring_further : (s : Settings) (n : ℕ) (old new : HeldValue) (token : Option Token) → IsRing s n old token → IsSome (get old.places (suc old.delivered)) → new ≡ record { places = old.places; delivered = suc old.delivered; room = old.room } → IsRing s n new token
+ring_further s n old new token h next is = subst (λ x. IsRing s n x token) (sym is) record {
   ring_node = h.ring_node;
   within = h.within;
-  counted = let l = held_within s.places kept (suc d) h.within (holds_some (places_of kept) (suc d) next) in omega arith;
   delivered = λ place low high. ⊎_elim
-      (λ (same : place ≡ suc d). subst (Holds (places_of kept)) (sym same) (holds_some (places_of kept) (suc d) next))
-      (λ (apart : place ≢ suc d). h.delivered place low (omega arith))
-      (cases_eq place (suc d));
+      (λ (same : place ≡ suc old.delivered). subst (Holds old.places) (sym same) (holds_some old.places (suc old.delivered) next))
+      (λ (apart : place ≢ suc old.delivered). h.delivered place low (omega arith))
+      (cases_eq place (suc old.delivered));
+  spelled = h.spelled;
 }
 
 -- a packet that is not refused is new, and within the ring's places
@@ -66,22 +55,64 @@ data_accepted s r p none = by_tests (p.ring == s.ring) (nat_lt s.places p.place)
     by_tests true false (Some e) d x y h = absurd (some-none Held h)
     by_tests true false None d x y h = (ltb-false s.places p.place x, y)
 
--- one pair more, of a place that was not held
-pub kept_push : (kept : List (ℕ × Entry)) (place : ℕ) (e : Entry) → get (places_of kept) place ≡ None → places_of (kept ++ (place, e) ∷ []) ≡ insert (places_of kept) place e
-kept_push kept place e none = from_entries_push nat_cmp_total nat_cmp-IsAntisymmetric kept place e (sym (get_find kept place) ∙ none)
+-- a packet that is not refused lies in the window
+pub data_near : (s : Settings) (r : NodeState) (p : Packet) → data_refusal s r p ≡ None → p.place ≤ r.delivered + 64
+data_near s r p none = by_tests (p.ring == s.ring) (nat_lt s.places p.place) (get r.held p.place) (nat_lt (r.delivered + 64) p.place) refl none
+  where
+    some-none : (x : Refusal) → Some x ≡ None → ⊥
+    some-none x e = none-some x (sym e)
 
-within_append : (m : ℕ) (xs ys : List (ℕ × Entry)) → AllByRecursion (λ p. p.0 ≤ m) xs → AllByRecursion (λ p. p.0 ≤ m) ys → AllByRecursion (λ p. p.0 ≤ m) (xs ++ ys)
-within_append m [] ys a b = b
-within_append m (x ∷ xs) ys a b = (a.0, within_append m xs ys a.1 b)
+    by_tests : (a b : Bool) (o : Option Entry) (d : Bool) → nat_lt (r.delivered + 64) p.place ≡ d → (if not a then Some Foreign else if b then Some Implausible else if is_some o then Some Held else if d then Some FarAhead else None) ≡ None → p.place ≤ r.delivered + 64
+    by_tests false b o d x h = absurd (some-none Foreign h)
+    by_tests true true o d x h = absurd (some-none Implausible h)
+    by_tests true false (Some e) d x h = absurd (some-none Held h)
+    by_tests true false None true x h = absurd (some-none FarAhead h)
+    by_tests true false None false x h = ltb-false (r.delivered + 64) p.place x
 
-pub kept_one_more : (s : Settings) (n d : ℕ) (kept new : List (ℕ × Entry)) (place : ℕ) (e : Entry) → IsKept s n kept d → new ≡ kept ++ (place, e) ∷ [] → place ≤ s.places → get (places_of kept) place ≡ None → IsKept s n new d
-kept_one_more s n d kept new place e h is within none = subst (λ l. IsKept s n l d) (sym is) record {
+-- and above the delivered places
+pub data_new : (s : Settings) (r : NodeState) (p : Packet) → 1 ≤ p.place → AllHeld r.held r.delivered → data_refusal s r p ≡ None → r.delivered < p.place
+data_new s r p low all none = ⊎_elim
+    (λ (above : r.delivered < p.place). above)
+    (λ (under : p.place ≤ r.delivered). let d = all p.place low under in absurd (none-some d.0 (sym (data_accepted s r p none).1 ∙ d.1)))
+    (cases_lt r.delivered p.place)
+
+-- one place more is held
+pub ring_data : (s : Settings) (n : ℕ) (old new : HeldValue) (token : Option Token) (place : ℕ) (e : Entry) → IsRing s n old token → new.places ≡ insert old.places place e → new.delivered ≡ old.delivered → place ≤ s.places → IsRing s n new token
+ring_data s n old new token place e h is same within = record {
   ring_node = h.ring_node;
-  within = within_append s.places kept ((place, e) ∷ []) h.within (within, tt);
-  counted = h.counted;
-  delivered = λ q low high. let was = h.delivered q low high in subst (λ m. Holds m q) (sym (kept_push kept place e none)) (was.0, (put_grows (places_of kept) place e none).at q was.0 was.1);
+  within = λ q d. ⊎_elim (λ here. let at = here.0 in omega arith) (λ before. h.within q (d.0, before)) (put_cases old.places place e q d.0 (sym (ap (λ m. get m q) is) ∙ d.1));
+  delivered = λ q low high. subst (λ m. Holds m q) (sym is) (put_holds old.places place e q (h.delivered q low (omega arith)));
+  spelled = h.spelled;
 }
 
--- the node holding something else
-abbrev pub with_held : RingNode → HeldPlaces → RingNode
-with_held x held = record { settings = x.settings; node = x.node; state = record { last_hop = x.state.last_hop; last_token = x.state.last_token; held = held; delivered = x.state.delivered; waiting = x.state.waiting; arus = x.state.arus } }
+-- a burst more is held, and another token was sent
+pub ring_burst : (s : Settings) (n : ℕ) (old new : HeldValue) (token sent : Option Token) (seq : ℕ) (now : List Entry) → IsRing s n old token → new.places ≡ hold_from old.places seq now → new.delivered ≡ old.delivered → seq + length now ≤ s.places → IfSome sent IsToken → IsRing s n new sent
+ring_burst s n old new token sent seq now h is same room spelled = record {
+  ring_node = h.ring_node;
+  within = λ q d. ⊎_elim (λ before. h.within q before) (λ w. let l = w.1 in omega arith) (from_held old.places seq now q (subst (λ m. Holds m q) is d));
+  delivered = λ q low high. subst (λ m. Holds m q) (sym is) (from_keeps old.places seq now q (h.delivered q low (omega arith)));
+  spelled = spelled;
+}
+
+-- only room was made
+pub ring_same : (s : Settings) (n : ℕ) (old new : HeldValue) (token : Option Token) → IsRing s n old token → new.places ≡ old.places → new.delivered ≡ old.delivered → IsRing s n new token
+ring_same s n old new token h is same = record {
+  ring_node = h.ring_node;
+  within = λ q d. h.within q (subst (λ m. Holds m q) is d);
+  delivered = λ q low high. subst (λ m. Holds m q) (sym is) (h.delivered q low (omega arith));
+  spelled = h.spelled;
+}
+
+-- a new ring holds nothing
+pub ring_new : (s : Settings) (n : ℕ) (held : HeldValue) (token : Option Token) → IsRingNode s n → held.places ≡ empty → held.delivered ≡ 0 → IfSome token IsToken → IsRing s n held token
+ring_new s n held token node is zero spelled = record {
+  ring_node = node;
+  within = λ q d. absurd (none-some d.0 (sym (get-empty nat_cmp q) ∙ (sym (ap (λ m. get m q) is) ∙ d.1)));
+  delivered = λ q low high. absurd (omega arith);
+  spelled = spelled;
+}
+
+-- where it was no error, there is room
+pub room_made : (P : Type 0) (r : Result Unit Refusal) → is_err r ≡ false → OnOk r P → P
+room_made P (Ok u) e h = h
+room_made P (Err why) e h = absurd (true≢false e)

@@ -1,8 +1,8 @@
 -- What the definitions of a visit amount to, in the words of the rules.
 use Rattle.std.specs.FinMap.{get}
-use Rattle.std.specs.Prelude.{Some, ◌≡◌, ◌⊎◌, ◌↔◌, ℕ, ◌+◌, ◌≤◌, min, List, take}
+use Rattle.std.specs.Prelude.{Some, ◌≡◌, ◌⊎◌, ◌↔◌, ℕ, ◌+◌, ◌<◌, ◌≤◌, min, List, [], ◌∷◌, length, take}
 use Rattle.std.specs.List.{Contains, All}
-use Rattle.cpg_entry.specs.declared.ranges.TheConstants.{MOST_REQUESTS}
+use Rattle.cpg_entry.specs.declared.ranges.TheConstants.{MOST_PLACES, MOST_HOPS, MOST_REQUESTS}
 use Rattle.cpg_ring.specs.declared.settings.TheConstants.{WINDOW}
 use Rattle.cpg_entry.specs.Ranges.{Ascends, IsToken}
 use Rattle.cpg_ring.specs.States.{Entry, Packet, Token, Settings, HeldPlaces, Holds, NodeState}
@@ -11,6 +11,10 @@ use Rattle.cpg_ring.specs.Visits.{VisitStep, reach}
 -- places 1 to a are all held
 abbrev pub AllHeld : HeldPlaces → ℕ → Type 0
 AllHeld held a = (place : ℕ) → 1 ≤ place → place ≤ a → Holds held place
+
+-- no place above that number is held
+abbrev pub NoneAbove : HeldPlaces → ℕ → Type 0
+NoneAbove held high = (place : ℕ) → Holds held place → place ≤ high
 
 -- a is the greatest number with places 1 to a all held
 pub record IsGreatestHeld (held : HeldPlaces) (a : ℕ) : Type 0 where

@@ -1,11 +1,8 @@
 -- A ring as its calls see it: a node of the ring with its settings, what refuses a call, and the node after it.
 use Rattle.std.specs.Prelude.{ℕ, ◌≤◌, if◌then◌else◌, Option, Some, None}
-use Rattle.std.specs.FinMap as map
-use Rattle.std.specs.Coded.{Coded, coded_ℕ}
 use Rattle.cpg_cred.specs.declared.refusals.Refusal.TheVariants.{QueueFull}
-use Rattle.cpg_entry.specs.contracts.entries.Entry as entry
 use Rattle.cpg_ring.specs.declared.visit.Visit.{Visit}
-use Rattle.cpg_ring.specs.States.{Packet, Token, Refusal, Settings, IsSettings, HeldPlaces, NodeState}
+use Rattle.cpg_ring.specs.States.{Packet, Token, Refusal, Settings, IsSettings, NodeState}
 use Rattle.cpg_ring.specs.Visits.{VisitStep, token_refusal, visit_step, after_visit}
 use Rattle.cpg_ring.specs.Moves.{data_refusal, is_full, new_node}
 
@@ -15,10 +12,6 @@ pub record RingNode : Type 0 where
   -- the node's number
   pub node : ℕ
   pub state : NodeState
-
--- how a proof stores what is held
-abbrev pub held_code : Coded HeldPlaces
-held_code = map.code coded_ℕ (entry.the_row).coded
 
 -- the settings are in range, and the ring has such a node
 abbrev pub IsRingNode : Settings → ℕ → Type 0

@@ -1,69 +1,204 @@
-//! What a node holds, as a plain list of places and entries.
+//! The places that a node holds, and how many of them it delivered.
+//!
+//! Window and slots are this project's own. A delivered place stands in a list at its number; one of the
+//! next 64 places has the slot of its number mod 64; nothing else is held. Proved: each call is the
+//! finite map of `specs/`, and no call but `make_room` takes memory.
 
-ghost use Rattle.std.specs.Prelude.{◌≡◌, ◌++◌, OnOk, IfOk, IsOkUnless, nat_lt};
+ghost use Rattle.std.specs.Prelude.{◌≡◌, ◌+◌, ◌≤◌, ◌<◌, ◌^◌, ◌%◌, ℕ, List, None, Some, suc, length, set, get_or, nat_lt, IsSome, OnOk, IfOk, IsOkUnless};
 ghost use Rattle.std.specs.Option.{option_copied};
 ghost use Rattle.std.specs.List.{list_any};
-ghost use Rattle.std.specs.FinMap.{get, keys};
+ghost use Rattle.std.specs.FinMap.{get, insert, keys, empty};
 ghost use Rattle.cpg_ring.specs.States.{is_held};
 ghost use Rattle.cpg_ring.specs.Visits.{served};
-ghost use Rattle.cpg_ring.specs.Kept.{places_of};
+ghost use Rattle.cpg_ring.specs.Laws.{AllHeld, NoneAbove};
+ghost use Rattle.cpg_ring.specs.Kept.{in_slot, kept_at};
 
-use crate::settings::Settings;
+use crate::settings::{MOST_PLACES, Settings, WINDOW};
 use cpg_entry::{Entry, Packet, Refusal};
 use std::alloc::Global;
+use std::marker::Model;
 
-/// The entry that is held at a place.
-pub fn entry_at(held: &[(u32, Entry)], place: u32) -> Option<&Entry>
-    ensures { option_copied result ≡ get (places_of held.now) place }
+/// What a node holds. Contracts see it as its map of places, how many are delivered, and up to which
+/// place there is room to deliver.
+#[derive(Debug, Drop)]
+pub struct Held {
+    done: Vec<Entry>,
+    slots: Vec<Option<Entry>>,
+}
+
+impl Model for Held {
+    ghost use Rattle.std.specs.Prelude.{length};
+    ghost use Rattle.std.specs.Vec.{vec_capacity};
+    ghost use Rattle.std.specs.Coded.{codes};
+    ghost use Rattle.cpg_ring.specs.Kept.{HeldValue, held_code, held_map, IsKept};
+
+    ghost Value = { HeldValue };
+
+    ghost coded = { Prim.hlevel (codes, held_code) };
+
+    ghost view = { λ a. record { places = held_map a.done.items a.slots.items; delivered = length a.done.items; room = vec_capacity a.done } };
+
+    ghost invariant = { λ a. IsKept a.done.items (vec_capacity a.done) a.slots.items };
+}
+
+/// As many empty slots as the window has places.
+fn empty_slots(alloc: Global) -> Result<Vec<Option<Entry>>, Refusal>
+    ensures count { IfOk result (λ slots. length slots.items ≡ WINDOW) }
+    ensures empty { IfOk result (λ slots. (i : ℕ) → get_or slots.items i None ≡ None) }
+    ensures memory { IsOkUnless result Refusal.Memory }
 {
-    for pair in held {
-        if pair.0 == place {
-            return Some(&pair.1);
-        }
+    let mut slots = Vec::new(alloc);
+    for _ in 0..WINDOW {
+        slots.push(None)?;
+    }
+    Ok(slots)
+}
+
+/// What is kept for a place.
+fn entry_at<'a>(done: &'a [Entry], slots: &'a [Option<Entry>], place: u32) -> Option<&'a Entry>
+    requires count { length slots.now ≡ WINDOW }
+    requires counted { length done.now ≤ MOST_PLACES }
+    ensures { option_copied result ≡ kept_at done.now slots.now place }
+{
+    if place == 0 {
+        return None;
+    }
+    let index = place as usize - 1;
+    if index < done.len() {
+        return Some(&done[index]);
+    }
+    if index < done.len() + WINDOW as usize {
+        return slots[(place % WINDOW) as usize].as_ref();
     }
     None
 }
 
-/// Whether a place is held.
-pub fn holds(held: &[(u32, Entry)], place: u32) -> bool
-    ensures { result ≡ is_held (places_of held.now) place }
+/// Puts the entry into the slot of its place.
+fn fill(slots: &mut [Option<Entry>], place: u32, entry: Entry)
+    requires { length slots.old ≡ WINDOW }
+    ensures { slots.new ≡ set slots.old (place % WINDOW) (Some entry) }
 {
-    entry_at(held, place).is_some()
+    slots[(place % WINDOW) as usize] = Some(entry);
 }
 
-fn any_above(held: &[(u32, Entry)], seq: u32) -> bool
-    ensures { result ≡ list_any (λ p. nat_lt seq p.0) held.now }
+/// Takes what is in the slot of a place, which is then empty.
+fn vacate(slots: &mut [Option<Entry>], place: u32) -> Option<Entry>
+    requires { length slots.old ≡ WINDOW }
+    ensures entry { result ≡ in_slot slots.old place }
+    ensures slots { slots.new ≡ set slots.old (place % WINDOW) None }
 {
-    held.iter().any(|pair| seq < pair.0)
+    slots[(place % WINDOW) as usize].take()
 }
 
-/// Whether a place above `seq` is held.
-pub fn holds_above(held: &[(u32, Entry)], seq: u32) -> bool
-    ensures { result ≡ list_any (nat_lt seq) (keys (places_of held.now)) }
-{
-    any_above(held, seq)
-}
+impl Held {
+    /// Nothing is held or delivered.
+    pub fn new(alloc: Global) -> Result<Held, Refusal>
+        ensures places { IfOk result (λ held. held.places ≡ empty) }
+        ensures delivered { IfOk result (λ held. held.delivered ≡ 0) }
+        ensures memory { IsOkUnless result Refusal.Memory }
+    {
+        let slots = empty_slots(alloc)?;
+        Ok(Held {
+            done: Vec::new(alloc),
+            slots,
+        })
+    }
 
-/// The packets of the places asked for that are held.
-pub fn serve(
-    alloc: Global,
-    settings: &Settings,
-    held: &[(u32, Entry)],
-    asked: &[u32],
-) -> Result<Vec<Packet>, Refusal>
-    ensures ok { IfOk result (λ packets. packets.items ≡ served settings.now (places_of held.now) asked.now) }
-    ensures memory { IsOkUnless result Refusal.Memory }
-{
-    let mut packets = Vec::new(alloc);
-    for place in asked {
-        if let Some(entry) = entry_at(held, *place) {
-            let entry = entry.copy(alloc)?;
-            packets.push(Packet {
-                ring: settings.ring,
-                place: *place,
-                entry,
-            })?;
+    /// The last place that was delivered, 0 before the first. All places up to it are held, and none is
+    /// held above the window.
+    pub fn delivered(&self) -> u32
+        ensures value { result ≡ self.now.delivered }
+        ensures counted { result ≤ MOST_PLACES }
+        ensures held { AllHeld self.now.places result }
+        ensures window { NoneAbove self.now.places (result + WINDOW) }
+    {
+        self.done.len() as u32
+    }
+
+    /// The entry that is held at a place.
+    pub fn get(&self, place: u32) -> Option<&Entry>
+        ensures { option_copied result ≡ get self.now.places place }
+    {
+        entry_at(&self.done, &self.slots, place)
+    }
+
+    /// Whether a place is held.
+    pub fn holds(&self, place: u32) -> bool
+        ensures { result ≡ is_held self.now.places place }
+    {
+        self.get(place).is_some()
+    }
+
+    /// Whether a place above `seq` is held.
+    pub fn holds_above(&self, seq: u32) -> bool
+        ensures { result ≡ list_any (nat_lt seq) (keys self.now.places) }
+    {
+        let delivered = self.delivered();
+        if seq < delivered {
+            return true;
+        }
+        for i in seq..delivered + WINDOW {
+            if self.holds(i + 1) {
+                return true;
+            }
+        }
+        false
+    }
+
+    /// Makes room to deliver every place of the window.
+    pub fn make_room(&mut self) -> Result<(), Refusal>
+        ensures places { self.new.places ≡ self.old.places }
+        ensures delivered { self.new.delivered ≡ self.old.delivered }
+        ensures room { OnOk result (self.new.delivered + WINDOW ≤ self.new.room) }
+        ensures memory { IsOkUnless result Refusal.Memory }
+    {
+        self.done.reserve(WINDOW as usize)?;
+        Ok(())
+    }
+
+    /// Holds the entry at a place of the window.
+    pub fn hold(&mut self, place: u32, entry: Entry)
+        requires low { self.old.delivered < place }
+        requires window { place ≤ self.old.delivered + WINDOW }
+        requires most { place ≤ MOST_PLACES }
+        requires room { place ≤ self.old.room }
+        ensures { self.new ≡ record self.old { places = insert self.old.places place entry } }
+    {
+        fill(&mut self.slots, place, entry);
+    }
+
+    /// Takes the next place as delivered.
+    pub fn advance(&mut self)
+        requires { IsSome (get self.old.places (suc self.old.delivered)) }
+        ensures { self.new ≡ record self.old { delivered = suc self.old.delivered } }
+    {
+        let place = self.done.len() as u32 + 1;
+        if let Some(entry) = vacate(&mut self.slots, place) {
+            self.done.push_reserved(entry);
         }
     }
-    Ok(packets)
+
+    /// The packets of the places asked for that are held.
+    pub fn serve(
+        &self,
+        alloc: Global,
+        settings: &Settings,
+        asked: &[u32],
+    ) -> Result<Vec<Packet>, Refusal>
+        ensures ok { IfOk result (λ packets. packets.items ≡ served settings.now self.now.places asked.now) }
+        ensures memory { IsOkUnless result Refusal.Memory }
+    {
+        let mut packets = Vec::new(alloc);
+        for place in asked {
+            if let Some(entry) = self.get(*place) {
+                let entry = entry.copy(alloc)?;
+                packets.push(Packet {
+                    ring: settings.ring,
+                    place: *place,
+                    entry,
+                })?;
+            }
+        }
+        Ok(packets)
+    }
 }

@@ -11,6 +11,7 @@ mod settings;
 mod tests;
 mod theorem;
 mod visit;
+mod waiting;
 
 pub use cpg_cred::MOST_NODES;
 pub use cpg_entry::{

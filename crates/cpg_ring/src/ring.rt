@@ -17,12 +17,12 @@ ghost use Rattle.cpg_ring.specs.Steps.{held_after};
 
 mod visiting;
 
-use crate::held;
+use crate::held::Held;
 use crate::settings::{MOST_WAITING, Settings, WINDOW};
+use crate::waiting::Waiting;
 use cpg_cred::{MOST_NODES, Refused};
-use cpg_entry::{Entry, MOST_HOPS, MOST_PLACES, NodeId, Op, Packet, Places, Refusal, Token};
+use cpg_entry::{Entry, MOST_HOPS, MOST_PLACES, NodeId, Packet, Places, Refusal, Token};
 use std::alloc::Global;
-use std::collections::VecDeque;
 use std::marker::Model;
 
 /// One node of the ring. Contracts see it as its settings, its number and its state.
@@ -33,25 +33,24 @@ pub struct Ring {
     node: NodeId,
     last_hop: Option<u64>,
     last_token: Option<Token>,
-    held: Vec<(u32, Entry)>,
-    delivered: u32,
-    waiting: VecDeque<Entry>,
+    held: Held,
+    waiting: Waiting,
     aru_now: Option<u32>,
     aru_before: Option<u32>,
 }
 
 impl Model for Ring {
-    ghost use Rattle.cpg_ring.specs.Rings.{RingNode, held_code};
-    ghost use Rattle.cpg_ring.specs.Kept.{places_of, newest_two, IsRing};
+    ghost use Rattle.cpg_ring.specs.Rings.{RingNode};
+    ghost use Rattle.cpg_ring.specs.Kept.{held_code, newest_two, IsRing};
     ghost use Rattle.std.specs.Coded.{codes};
 
     ghost Value = { RingNode };
 
     ghost coded = { Prim.hlevel (codes, held_code) };
 
-    ghost view = { λ a. record { settings = a.settings; node = a.node; state = record { last_hop = a.last_hop; last_token = a.last_token; held = places_of a.held.items; delivered = a.delivered; waiting = a.waiting.items; arus = newest_two a.aru_now a.aru_before } } };
+    ghost view = { λ a. record { settings = a.settings; node = a.node; state = record { last_hop = a.last_hop; last_token = a.last_token; held = a.held.places; delivered = a.held.delivered; waiting = a.waiting; arus = newest_two a.aru_now a.aru_before } } };
 
-    ghost invariant = { λ a. IsRing a.settings a.node a.held.items a.delivered a.last_token };
+    ghost invariant = { λ a. IsRing a.settings a.node a.held a.last_token };
 }
 
 fn allows(settings: &Settings) -> bool
@@ -74,6 +73,7 @@ impl Ring {
         if !allows(&settings) || node.get() > settings.nodes {
             return Err(Refusal::Range);
         }
+        let held = Held::new(alloc)?;
         let last_token = if node.get() == settings.nodes {
             Some(Token {
                 ring: settings.ring,
@@ -92,9 +92,8 @@ impl Ring {
             node,
             last_hop: None,
             last_token,
-            held: Vec::new(alloc),
-            delivered: 0,
-            waiting: VecDeque::new(alloc),
+            held,
+            waiting: Waiting::new(alloc),
             aru_now: None,
             aru_before: None,
         })
@@ -105,7 +104,7 @@ impl Ring {
         ensures value { result ≡ self.now.state.delivered }
         ensures held { AllHeld self.now.state.held result }
     {
-        self.delivered
+        self.held.delivered()
     }
 
     /// How many entries wait for a place, ends of connections too.
@@ -139,7 +138,7 @@ impl Ring {
         ensures entry { option_copied result ≡ next_entry self.now.state }
         ensures within { IfSome (next_entry self.now.state) (λ _. self.now.state.delivered < self.now.settings.places) }
     {
-        held::entry_at(&self.held, self.delivered + 1)
+        self.held.get(self.held.delivered() + 1)
     }
 
     /// Takes the next place as delivered.
@@ -147,7 +146,7 @@ impl Ring {
         requires { IsSome (next_entry self.old.state) }
         ensures { self.new ≡ with_state self.old (after_delivery self.old.state) }
     {
-        self.delivered += 1;
+        self.held.advance();
     }
 
     /// Puts a call last among the waiting entries. Refused with QueueFull exactly where 256 calls or more
@@ -157,7 +156,7 @@ impl Ring {
         ensures err { OnErr result (self.new ≡ self.old) }
         ensures back { IfErr result (λ refused. refused.back ≡ entry) }
     {
-        if calls_among(&self.waiting) >= MOST_WAITING {
+        if self.waiting.calls() >= MOST_WAITING {
             return Err(Refused {
                 refusal: Refusal::QueueFull,
                 back: entry,
@@ -172,11 +171,11 @@ impl Ring {
         ensures err { OnErr result (self.new ≡ self.old) }
         ensures back { IfErr result (λ refused. refused.back ≡ entry) }
     {
-        match self.waiting.push_back(entry) {
+        match self.waiting.push(entry) {
             Ok(()) => Ok(()),
-            Err(failed) => Err(Refused {
+            Err(back) => Err(Refused {
                 refusal: Refusal::Memory,
-                back: failed.value,
+                back,
             }),
         }
     }
@@ -190,10 +189,10 @@ impl Ring {
         if self.settings.places < packet.place {
             return Some(Refusal::Implausible);
         }
-        if held::holds(&self.held, packet.place) {
+        if self.held.holds(packet.place) {
             return Some(Refusal::Held);
         }
-        if self.delivered + WINDOW < packet.place {
+        if self.held.delivered() + WINDOW < packet.place {
             return Some(Refusal::FarAhead);
         }
         None
@@ -213,25 +212,13 @@ impl Ring {
                 back: packet,
             });
         }
-        if self.held.reserve(1).is_err() {
+        if self.held.make_room().is_err() {
             return Err(Refused {
                 refusal: Refusal::Memory,
                 back: packet,
             });
         }
-        self.held.push_reserved((packet.place, packet.entry));
+        self.held.hold(packet.place, packet.entry);
         Ok(())
     }
-}
-
-fn is_call(entry: &Entry) -> bool
-    ensures { result ≡ is_call entry.now.op }
-{
-    matches!(entry.op, Op::Act(_))
-}
-
-fn calls_among(entries: &VecDeque<Entry>) -> usize
-    ensures { result ≡ calls entries.now.items }
-{
-    entries.iter().filter(|entry| is_call(entry)).count()
 }

@@ -3,23 +3,22 @@
 //! Totem's single ring: what was asked for is sent again, waiting entries take places, the aru and the
 //! requests are written anew, and the token goes on. Proved: a visit is exactly `visit_step`.
 
-ghost use Rattle.std.specs.Prelude.{◌≡◌, ◌+◌, ◌≤◌, ◌<◌, ◌^◌, ◌&&◌, ◌||◌, ◌++◌, not, length, take, drop, OnOk, OnErr, IfOk, IsOkUnless, nat_le, nat_lt, ◌==◌};
-ghost use Rattle.std.specs.List.{list_any};
+ghost use Rattle.std.specs.Prelude.{◌≡◌, ◌+◌, ◌≤◌, ◌<◌, ◌^◌, ◌&&◌, ◌||◌, ◌++◌, ◌-◌, min, not, length, take, drop, OnOk, OnErr, IfOk, IsOkUnless, nat_le, nat_lt, ◌==◌};
+ghost use Rattle.std.specs.List.{filter};
 ghost use Rattle.cpg_ring.specs.States.{is_held};
-ghost use Rattle.cpg_ring.specs.Visits.{burst_size, is_past, placed, reach, is_wanted, next_requests, is_own_or_none, sets_aru, next_aru, next_aru_id, next_token};
-ghost use Rattle.cpg_entry.specs.Ranges.{IsToken};
-ghost use Rattle.std.specs.Vec.{vec_len, vec_capacity};
-ghost use Rattle.cpg_ring.specs.Kept.{pairs_from};
+ghost use Rattle.cpg_ring.specs.Visits.{burst_size, is_past, placed, reach, up_to, next_requests, is_own_or_none, sets_aru, next_aru, next_aru_id, next_token};
+ghost use Rattle.cpg_entry.specs.Ranges.{Ascends, IsToken};
+ghost use Rattle.cpg_ring.specs.Laws.{NoneAbove};
 ghost use Rattle.cpg_ring.specs.Rings.{refusal_of, visit_of, visited};
 ghost use Rattle.cpg_ring.specs.Answers.{IsAnswer, IsInRange};
-ghost use Rattle.cpg_ring.specs.Steps.{held_after};
+ghost use Rattle.cpg_ring.specs.Steps.{hold_from, held_after, lacks};
 
 use super::Ring;
-use crate::held;
-use crate::settings::{BURST, WINDOW};
+use crate::held::Held;
+use crate::settings::{BURST, MOST_PLACES, MOST_REQUESTS, WINDOW};
 use crate::visit::{Packets, Visit};
-use cpg_entry::{Entry, MOST_REQUESTS, NodeId, Packet, Places, Refusal, Token};
-use std::collections::VecDeque;
+use crate::waiting::Waiting;
+use cpg_entry::{NodeId, Packet, Places, Refusal, Token};
 
 /// Whether that hop or a later one was accepted.
 fn is_past(hop: u64, last: Option<u64>) -> bool
@@ -67,25 +66,34 @@ fn next_aru_id(node: NodeId, reach: u32, seq: u32, token: &Token) -> Option<Node
     if reach == seq { None } else { Some(node) }
 }
 
-fn is_asked(asked: &[u32], place: u32) -> bool
-    ensures { result ≡ list_any (λ p. p == place) asked.now }
-{
-    asked.iter().any(|p| *p == place)
-}
-
 /// The first waiting entries move over to what is held, with the places after `seq`. There is room.
-fn take_places(waiting: &mut VecDeque<Entry>, held: &mut Vec<(u32, Entry)>, seq: u32, count: u32)
-    requires ready { count ≤ length waiting.old.items }
-    requires room { vec_len held.old + count ≤ vec_capacity held.old }
-    requires fits { seq + count < 2 ^ 32 }
-    ensures held { held.new.items ≡ held.old.items ++ pairs_from seq (take count waiting.old.items) }
-    ensures waiting { waiting.new.items ≡ drop count waiting.old.items }
+fn take_places(waiting: &mut Waiting, held: &mut Held, seq: u32, count: u32)
+    requires ready { count ≤ length waiting.old }
+    requires low { held.old.delivered ≤ seq }
+    requires window { count ≤ held.old.delivered + WINDOW - seq }
+    requires most { seq + count ≤ MOST_PLACES }
+    requires room { held.old.delivered + WINDOW ≤ held.old.room }
+    ensures held { held.new ≡ record held.old { places = hold_from held.old.places seq (take count waiting.old) } }
+    ensures waiting { waiting.new ≡ drop count waiting.old }
 {
     for i in 0..count {
-        if let Some(entry) = waiting.pop_front() {
-            held.push_reserved((seq + i + 1, entry));
+        if let Some(entry) = waiting.pop_first() {
+            held.hold(seq + i + 1, entry);
         }
     }
+}
+
+/// The places asked for that are above `end` are added to the requests.
+fn add_above(requests: &mut Vec<u32>, asked: &[u32], end: u32) -> Result<(), Refusal>
+    ensures ok { OnOk result (requests.new.items ≡ requests.old.items ++ filter (nat_lt end) asked.now) }
+    ensures memory { IsOkUnless result Refusal.Memory }
+{
+    for place in asked {
+        if end < *place {
+            requests.push(*place)?;
+        }
+    }
+    Ok(())
 }
 
 impl Ring {
@@ -102,7 +110,7 @@ impl Ring {
         if is_past(token.hop, self.last_hop) {
             return Some(Refusal::Stale);
         }
-        if held::holds_above(&self.held, token.seq) || self.settings.places < token.seq {
+        if self.held.holds_above(token.seq) || self.settings.places < token.seq {
             return Some(Refusal::Implausible);
         }
         if self.settings.hops <= token.hop {
@@ -117,7 +125,7 @@ impl Ring {
     {
         let ready = self.waiting.len().min(BURST) as u32;
         let places = self.settings.places.saturating_sub(seq);
-        let window = (self.delivered + WINDOW).saturating_sub(seq);
+        let window = (self.held.delivered() + WINDOW).saturating_sub(seq);
         ready.min(places.min(window))
     }
 
@@ -127,7 +135,15 @@ impl Ring {
         requires fits { seq + count < 2 ^ 32 }
         ensures { result ≡ is_held (held_after self.now seq count) place }
     {
-        held::holds(&self.held, place) || seq < place && place <= seq + count
+        self.held.holds(place) || seq < place && place <= seq + count
+    }
+
+    /// The last place up to `seq` that the node may hold: none above the window is held.
+    fn last_place(&self, seq: u32) -> u32
+        ensures value { result ≡ min seq (self.now.state.delivered + WINDOW) }
+        ensures above { NoneAbove self.now.state.held (self.now.state.delivered + WINDOW) }
+    {
+        seq.min(self.held.delivered() + WINDOW)
     }
 
     /// The greatest number up to which all places are then held.
@@ -135,24 +151,16 @@ impl Ring {
         requires ready { count ≤ length self.now.state.waiting }
         requires fits { seq + count < 2 ^ 32 }
         requires delivered { self.now.state.delivered ≤ seq }
+        requires window { count ≤ self.now.state.delivered + WINDOW - seq }
         ensures { result ≡ reach (held_after self.now seq count) (seq + count) }
     {
-        for place in self.delivered..seq + count {
+        let end = self.last_place(seq + count);
+        for place in self.held.delivered()..end {
             if !self.holds_after(seq, count, place + 1) {
                 return place;
             }
         }
-        seq + count
-    }
-
-    /// Whether a place is then to be asked for.
-    fn wants_after(&self, seq: u32, count: u32, asked: &[u32], place: u32) -> bool
-        requires ready { count ≤ length self.now.state.waiting }
-        requires fits { seq + count < 2 ^ 32 }
-        ensures { result ≡ is_wanted (held_after self.now seq count) self.now.state.delivered asked.now place }
-    {
-        (place <= self.delivered + WINDOW || is_asked(asked, place))
-            && !self.holds_after(seq, count, place)
+        end
     }
 
     /// The places that are then to be asked for, the least ones.
@@ -160,14 +168,30 @@ impl Ring {
         requires ready { count ≤ length self.now.state.waiting }
         requires fits { seq + count < 2 ^ 32 }
         requires delivered { self.now.state.delivered ≤ seq }
+        requires window { count ≤ self.now.state.delivered + WINDOW - seq }
+        requires asked { Ascends 0 seq asked.now }
         ensures ok { IfOk result (λ requests. requests.items ≡ next_requests (held_after self.now seq count) self.now.state.delivered (seq + count) asked.now) }
         ensures memory { IsOkUnless result Refusal.Memory }
     {
+        let end = self.last_place(seq + count);
+        let mut requests = self.missing_after(seq, count, end)?;
+        add_above(&mut requests, asked, end)?;
+        requests.truncate(MOST_REQUESTS);
+        Ok(requests)
+    }
+
+    /// The places up to `end` that are not held then.
+    fn missing_after(&self, seq: u32, count: u32, end: u32) -> Result<Vec<u32>, Refusal>
+        requires delivered { self.now.state.delivered ≤ end }
+        requires ready { count ≤ length self.now.state.waiting }
+        requires fits { seq + count < 2 ^ 32 }
+        ensures ok { IfOk result (λ requests. requests.items ≡ filter (lacks (held_after self.now seq count)) (up_to end)) }
+        ensures memory { IsOkUnless result Refusal.Memory }
+    {
         let mut requests = Vec::new(self.alloc);
-        for i in self.delivered..seq + count {
-            let place = i + 1;
-            if requests.len() < MOST_REQUESTS && self.wants_after(seq, count, asked, place) {
-                requests.push(place)?;
+        for i in self.held.delivered()..end {
+            if !self.holds_after(seq, count, i + 1) {
+                requests.push(i + 1)?;
             }
         }
         Ok(requests)
@@ -179,6 +203,8 @@ impl Ring {
         requires fits { token.now.seq + count < 2 ^ 32 }
         requires hop { token.now.hop < 2 ^ 63 }
         requires delivered { self.now.state.delivered ≤ token.now.seq }
+        requires window { count ≤ self.now.state.delivered + WINDOW - token.now.seq }
+        requires asked { Ascends 0 token.now.seq token.now.rtr }
         ensures ok { IfOk result (λ next. next ≡ next_token self.now.node token.now (token.now.seq + count) (held_after self.now token.now.seq count) self.now.state.delivered) }
         ensures memory { IsOkUnless result Refusal.Memory }
     {
@@ -227,7 +253,7 @@ impl Ring {
         }
         let count = self.burst_size(token.seq);
         let asked = token.rtr.as_slice();
-        let mut packets = held::serve(self.alloc, &self.settings, &self.held, asked)?;
+        let mut packets = self.held.serve(self.alloc, &self.settings, asked)?;
         self.place(token.seq, count, &mut packets)?;
         let token = self.next_token(token, count)?;
         Ok(Visit {
@@ -248,7 +274,7 @@ impl Ring {
         let visit = self.visit(token)?;
         let last_token = visit.token.copy(self.alloc)?;
         let count = self.burst_size(token.seq);
-        self.held.reserve(count as usize)?;
+        self.held.make_room()?;
         take_places(&mut self.waiting, &mut self.held, token.seq, count);
         self.last_hop = Some(token.hop);
         self.last_token = Some(last_token);

@@ -14,7 +14,7 @@ loop-i-preserved c =
     let S = c.args.self.now.settings in
     let old = c.args.packets.now.items in
     let within : c.loop-i.i < length W = omega arith in
-    let wait : c.self.inside.waiting.items ≡ W = ap (λ (x : RingNode). x.state.waiting) c.self.view_is in
+    let wait : c.self.inside.waiting ≡ W = ap (λ (x : RingNode). x.state.waiting) c.self.view_is in
     let ring : c.self.inside.settings ≡ S = ap (λ (x : RingNode). x.settings) c.self.view_is in
     elim c.match-get.branch [
       | in-Some+in_ok-entry+in_ok-push w ↦
@@ -26,7 +26,6 @@ loop-i-preserved c =
           ∙ (append_assoc old (placed S c.args.seq (take c.loop-i.i W)) (packet ∷ [])
           ∙ ap (λ l. old ++ l) (sym (placed_more S c.args.seq W c.loop-i.i w.in-Some.entry.now within))))))
       | in_default w ↦
-          let ok = c.self.inside.waiting.ok in
           let len = ap length wait in
           absurd (true≢false (sym (w.in_default.ensures.variant.1 (omega arith))))
     ]

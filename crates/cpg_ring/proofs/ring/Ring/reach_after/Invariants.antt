@@ -4,4 +4,4 @@ use Rattle.cpg_ring.specs.Steps.{held_after}
 use Rattle.cpg_ring.proofs.ring.Ring.reach_after.Given as goal
 
 abbrev pub invariant-loop-place : goal.invariant-loop-place
-invariant-loop-place l = held_through (held_after l.self l.seq l.count) l.place (l.seq + l.count - l.place) ≡ reach (held_after l.self l.seq l.count) (l.seq + l.count)
+invariant-loop-place l = held_through (held_after l.self l.seq l.count) l.place (l.end - l.place) ≡ reach (held_after l.self l.seq l.count) (l.seq + l.count)

@@ -1,34 +1,21 @@
-use Rattle.std.proofs.Common.{ℕ, sym, subst, ap, ◌∙◌, arith, take}
-use Rattle.cpg_ring.specs.Visits.{is_wanted}
-use Rattle.cpg_ring.specs.Laws.{AllHeld}
-use Rattle.cpg_ring.specs.Rings.{RingNode}
-use Rattle.cpg_ring.specs.Steps.{held_after}
-use Rattle.cpg_ring.specs.contracts.ring.Ring.{the_view}
-use Rattle.cpg_ring.proofs.Kept.{asks_one, asks_none, asks_full}
-use Rattle.cpg_ring.proofs.Bursts.{after_keeps, none_wanted}
+use Rattle.std.proofs.Common.{◌≡◌, ◌+◌, ◌++◌, ◌≤◌, nat_lt, take, ap, ◌∙◌, arith}
+use Rattle.std.specs.List.{filter}
+use Rattle.cpg_ring.specs.Visits.{up_to}
+use Rattle.cpg_ring.specs.Steps.{held_after, lacks}
+use Rattle.cpg_ring.proofs.Bursts.{after_above}
+use Rattle.cpg_ring.proofs.Loops.{asks_parts}
 use Rattle.cpg_ring.proofs.ring.Ring.requests_after.Goals as goal
-use Rattle.cpg_ring.proofs.ring.Ring.requests_after.Goals.{then-len-lt-MOST_REQUESTS+then-wants_after+in_ok-push, else-len-lt-MOST_REQUESTS, else-len-lt-MOST_REQUESTS-via-then-len-lt-MOST_REQUESTS+else-wants_after, else-len-lt-MOST_REQUESTS-via-else-len-lt-MOST_REQUESTS}
 
-pub loop-i-init : goal.loop-i-init
-loop-i-init c =
-    let all = subst (λ (x : RingNode). AllHeld (held_after x c.args.seq c.args.count) c.self.inside.delivered) c.self.view_is (after_keeps (the_view c.self.inside) c.args.seq c.args.count c.self.inside.delivered c.self.invariant.kept.delivered) in
-    c.new-requests.ensures.items ∙ sym (ap (take 32) (none_wanted (held_after c.args.self.now c.args.seq c.args.count) c.args.self.now.state.delivered c.args.asked.now c.self.inside.delivered all))
-
-pub loop-i-preserved : goal.loop-i-preserved
-loop-i-preserved c =
-    let P = λ (place : ℕ). is_wanted (held_after c.args.self.now c.args.seq c.args.count) c.args.self.now.state.delivered c.args.asked.now place in
-    elim c.if-len-lt-MOST_REQUESTS.branch [
-      | then-len-lt-MOST_REQUESTS+then-wants_after+in_ok-push w ↦
-          let len = w.if-len-lt-MOST_REQUESTS.true in
-          let is = c.len.ensures in
-          let ok = c.loop-i.requests.ok in
-          ap (λ v. v.items) w.requests-is ∙ (w.in_ok-push.ensures.items ∙ asks_one P 32 c.loop-i.i c.loop-i.requests.items c.loop-i.invariant (omega arith) (sym w.if-wants_after.ensures))
-      | else-len-lt-MOST_REQUESTS w ↦ elim w.else-len-lt-MOST_REQUESTS.branch [
-        | else-len-lt-MOST_REQUESTS-via-then-len-lt-MOST_REQUESTS+else-wants_after w' ↦ ap (λ v. v.items) w.requests-is ∙ asks_none P 32 c.loop-i.i c.loop-i.requests.items c.loop-i.invariant (sym w'.if-wants_after.ensures)
-        | else-len-lt-MOST_REQUESTS-via-else-len-lt-MOST_REQUESTS w' ↦
-            let len = w'.if-len-lt-MOST_REQUESTS.false in
-            let is = c.len.ensures in
-            let ok = c.loop-i.requests.ok in
-            ap (λ v. v.items) w.requests-is ∙ asks_full P 32 c.loop-i.i c.loop-i.requests.items c.loop-i.invariant (omega arith)
-      ]
-    ]
+pub returns-clause-ok : goal.returns-clause-ok
+returns-clause-ok c =
+    let now = c.args.self.now in
+    let seq = c.args.seq in
+    let count = c.args.count in
+    let asked = c.args.asked.now in
+    let d = now.state.delivered in
+    let H = held_after now seq count in
+    let above = after_above now seq count (d + 64) c.last_place-end.ensures.above c.requires.window c.requires.ready in
+    c.truncate.ensures.items
+    ∙ (ap (take 32) (c.in_ok-add_above.ensures.ok ∙ ap (λ l. l ++ filter (nat_lt c.last_place-end.result) asked) c.in_ok-requests.ensures.ok)
+    ∙ (ap (λ e. take 32 (filter (lacks H) (up_to e) ++ filter (nat_lt e) asked)) c.last_place-end.ensures.value
+    ∙ asks_parts H d seq (seq + count) asked above c.requires.asked (omega arith)))

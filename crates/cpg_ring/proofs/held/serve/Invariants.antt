@@ -1,7 +1,0 @@
-use Rattle.std.proofs.Common.{◌≡◌, take}
-use Rattle.cpg_ring.specs.Visits.{served}
-use Rattle.cpg_ring.specs.Kept.{places_of}
-use Rattle.cpg_ring.proofs.held.serve.Given as goal
-
-abbrev pub invariant-loop-place : goal.invariant-loop-place
-invariant-loop-place l = l.packets.items ≡ served l.settings (places_of l.held) (take l.place-index l.asked)
