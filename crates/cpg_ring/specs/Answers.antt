@@ -3,9 +3,8 @@ use Rattle.std.specs.Prelude.{◌≡◌, ℕ, ◌≤◌, Option, Some, None, Res
 use Rattle.std.specs.List.{All}
 use Rattle.cpg_cred.specs.declared.refusals.Refusal.TheVariants.{Memory, Range}
 use Rattle.cpg_cred.specs.declared.refusals.Refused.{Refused}
-use Rattle.cpg_entry.specs.declared.ranges.TheConstants.{MOST_PLACES}
 use Rattle.cpg_ring.specs.declared.visit.Visit.{Visit}
-use Rattle.cpg_ring.specs.States.{Packet, Refusal, Settings}
+use Rattle.cpg_ring.specs.States.{Refusal, Settings}
 use Rattle.cpg_entry.specs.Ranges.{IsToken}
 use Rattle.cpg_ring.specs.Rings.{RingNode, IsRingNode, new_ring_node}
 

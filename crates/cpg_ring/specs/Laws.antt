@@ -1,8 +1,8 @@
 -- What the definitions of a visit amount to, in the words of the rules.
 use Rattle.std.specs.FinMap.{get}
-use Rattle.std.specs.Prelude.{Some, ◌≡◌, ◌⊎◌, ◌↔◌, ℕ, ◌+◌, ◌<◌, ◌≤◌, min, List, [], ◌∷◌, length, take}
+use Rattle.std.specs.Prelude.{Some, ◌≡◌, ◌⊎◌, ◌↔◌, ℕ, ◌+◌, ◌≤◌, min, List, take}
 use Rattle.std.specs.List.{Contains, All}
-use Rattle.cpg_entry.specs.declared.ranges.TheConstants.{MOST_PLACES, MOST_HOPS, MOST_REQUESTS}
+use Rattle.cpg_entry.specs.declared.ranges.TheConstants.{MOST_REQUESTS}
 use Rattle.cpg_ring.specs.declared.settings.TheConstants.{WINDOW}
 use Rattle.cpg_entry.specs.Ranges.{Ascends, IsToken}
 use Rattle.cpg_ring.specs.States.{Entry, Packet, Token, Settings, HeldPlaces, Holds, NodeState}

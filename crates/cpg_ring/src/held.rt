@@ -13,8 +13,8 @@ ghost use Rattle.cpg_ring.specs.Visits.{served};
 ghost use Rattle.cpg_ring.specs.Laws.{AllHeld, NoneAbove};
 ghost use Rattle.cpg_ring.specs.Kept.{in_slot, kept_at};
 
-use crate::settings::{MOST_PLACES, Settings, WINDOW};
-use cpg_entry::{Entry, Packet, Refusal};
+use crate::settings::{Settings, WINDOW};
+use cpg_entry::{Entry, MOST_PLACES, Packet, Refusal};
 use std::alloc::Global;
 use std::marker::Model;
 

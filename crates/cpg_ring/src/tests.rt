@@ -1,6 +1,7 @@
 //! Worked visits, refusals and ranges.
 
-ghost use Rattle.std.specs.Prelude.{None, [], ◌≡◌, ◌≤◌};
+ghost use Rattle.std.specs.Prelude.{None, [], ◌≡◌, ◌≤◌, IsTrue};
+ghost use Rattle.cpg_entry.specs.Ranges.{IsEntry};
 
 use crate::{MOST_HOPS, MOST_PLACES, Ring, Settings, Visit};
 use cpg_entry::{Call, Cred, Entry, NodeId, Op, Packet, Places, Refusal, Token};
@@ -54,9 +55,19 @@ fn token(alloc: Global, hop: u64, seq: u32, aru: u32) -> Token
     }
 }
 
-/// The packet arrives, if its place can be spelled in a frame.
+/// Whether the entry is a leave by a connection that has a number, as all are here.
+fn may_be_asked(entry: &Entry) -> bool
+    ensures { IsTrue result → IsEntry entry.now }
+{
+    match entry.op {
+        Op::Act(Call::Leave) => entry.conn >= 1,
+        _ => false,
+    }
+}
+
+/// The packet arrives, if it can be spelled in a frame.
 fn hear(ring: &mut Ring, packet: Packet) -> Option<Refusal> {
-    if packet.place < 1 || packet.place > MOST_PLACES {
+    if packet.place < 1 || packet.place > MOST_PLACES || !may_be_asked(&packet.entry) {
         return Some(Refusal::Malformed);
     }
     match ring.on_data(packet) {

@@ -15,10 +15,10 @@ ghost use Rattle.cpg_ring.specs.Steps.{hold_from, held_after, lacks};
 
 use super::Ring;
 use crate::held::Held;
-use crate::settings::{BURST, MOST_PLACES, MOST_REQUESTS, WINDOW};
+use crate::settings::{BURST, WINDOW};
 use crate::visit::{Packets, Visit};
 use crate::waiting::Waiting;
-use cpg_entry::{NodeId, Packet, Places, Refusal, Token};
+use cpg_entry::{MOST_PLACES, MOST_REQUESTS, NodeId, Packet, Places, Refusal, Token};
 
 /// Whether that hop or a later one was accepted.
 fn is_past(hop: u64, last: Option<u64>) -> bool

@@ -11,7 +11,7 @@ pub hold-requires-clause-low : goal.hold-requires-clause-low
 hold-requires-clause-low c =
     let V = the_view c.self.inside in
     let none : data_refusal_of V c.args.packet ≡ None = subst (λ (x : RingNode). data_refusal_of x c.args.packet ≡ None) (sym c.self.view_is) (sym c.data_refusal.ensures ∙ c.in_default.is) in
-    let low = data_new V.settings V.state c.args.packet c.requires.0 c.self.invariant.delivered none in
+    let low = data_new V.settings V.state c.args.packet c.requires.place.0 c.self.invariant.delivered none in
     let same = c.make_room.ensures.delivered in
     omega arith
 
