@@ -1,5 +1,5 @@
 -- a flush changes nothing of what is written
-use Rattle.std.proofs.Common.{ℕ, List, Bool, true, false, Option, Some, None, Result, Ok, Err, refl, inl, inr}
+use Rattle.std.proofs.Common.{◌≡◌, ℕ, List, Bool, true, false, Option, Some, None, Result, Ok, Err, inl, inr, sym, subst}
 use Rattle.std.specs.Prelude.{OnOk, IfErr, IfSome}
 use Rattle.std.specs.List.{concat}
 use Rattle.std.specs.Io.KnownBytes.{Keeps}
@@ -15,8 +15,7 @@ use Rattle.cpg_console.specs.Judging as judge
 use Rattle.cpg_console.specs.Scripts.{entries_of_script}
 use Rattle.cpg_program.specs.declared.runs.Run.{Run}
 use Rattle.cpg_program.specs.declared.runs.Run.TheVariants.{Judge, Accept}
-use Rattle.cpg_program.specs.Runs.{Prints, first_fault}
-use Rattle.cpg_program.proofs.Fronts.{all_of}
+use Rattle.cpg_program.specs.Runs.{Prints, Runs, fault_of, fault_told}
 
 front_kept : (a b c : Option (List ℕ)) (text : List ℕ) → AppendsFront a b text → Keeps b c → AppendsFront a c text
 front_kept a b c text f k = record { front = f.front; rest = f.rest; whole = f.whole; written = Appends-kept a b c f.front f.written k }
@@ -71,39 +70,22 @@ prints_kept Judge script (Some fault) a b c h k = (h.0, leaves_kept (entries_of_
 prints_kept Accept script None a b c h k = (h.0, accepted_kept (accept.admitted_by script) a b c h.1 k)
 prints_kept Accept script (Some fault) a b c h k = ends_kept (accept.admitted_by script) fault a b c h k
 
-judged_cut : (entries : Result (List Entry) ℕ) (a b : Option (List ℕ)) → judge.IsWritten entries a b → judge.Leaves entries refusal.Write a b
-judged_cut (Ok entries) a b h = all_of a b (concat (judge.judge_lines entries)) h
-judged_cut (Err line) a b h = absurd h
-
-accepted_cut : (made : Result accept.Admitted Fault) (a b : Option (List ℕ)) → accept.IsWritten made a b → accept.LeavesFront made a b
-accepted_cut (Ok admitted) a b h = all_of a b (concat (accept.answer_lines admitted)) h
-accepted_cut (Err fault) a b h = absurd h
-
--- all of a text is a front of it
-prints_cut : (run : Run) (script : List ℕ) (a b : Option (List ℕ)) → Prints run script None a b → Prints run script (Some (accept.whole_fault refusal.Write)) a b
-prints_cut Judge script a b h = (refl, judged_cut (entries_of_script script) a b h.1)
-prints_cut Accept script a b h = inr (inl (refl, accepted_cut (accept.admitted_by script) a b h.1))
-
-if_kept : (known : Option (List ℕ)) (run : Run) (fault : Option Fault) (a b c : Option (List ℕ))
-    → IfSome known (λ script. Prints run script fault a b) → Keeps b c → IfSome known (λ script. Prints run script fault a c)
-if_kept None run fault a b c h k = tt
-if_kept (Some script) run fault a b c h k = prints_kept run script fault a b c h k
-
-if_cut : (known : Option (List ℕ)) (run : Run) (a b c : Option (List ℕ))
-    → IfSome known (λ script. Prints run script None a b) → Keeps b c → IfSome known (λ script. Prints run script (Some (accept.whole_fault refusal.Write)) a c)
-if_cut None run a b c h k = tt
-if_cut (Some script) run a b c h k = prints_cut run script a c (prints_kept run script None a b c h k)
-
--- what was printed, after the flush
-pub printed : (known : Option (List ℕ)) (run : Run) (done : Result (Unit {0}) Fault) (flushed : Bool) (a b c : Option (List ℕ))
+-- what was printed and is told, after the flush
+pub printed : (known : Option (List ℕ)) (run : Run) (done : Result (Unit {0}) Fault) (flushed : Bool) (fault : Option Fault) (a b c : Option (List ℕ))
+    → fault ≡ fault_told flushed (fault_of done)
     → OnOk done (IfSome known (λ script. Prints run script None a b)) → IfErr done (λ fault. IfSome known (λ script. Prints run script (Some fault) a b)) → Keeps b c
-    → IfSome known (λ script. Prints run script (first_fault done flushed) a c)
-printed known run (Ok done) true a b c h f k = if_kept known run None a b c h k
-printed known run (Ok done) false a b c h f k = if_cut known run a b c h k
-printed known run (Err fault) flushed a b c h f k = if_kept known run (Some fault) a b c f k
+    → IfSome known (λ script. Runs run script flushed fault a c)
+printed None run done flushed fault a b c e h f k = tt
+printed (Some script) run (Ok done) flushed fault a b c e h f k = record { first = None; prints = prints_kept run script None a b c h k; tells = e }
+printed (Some script) run (Err first) flushed fault a b c e h f k = record { first = Some first; prints = prints_kept run script (Some first) a b c f k; tells = e }
 
-pub printed_late : (done : Result (Unit {0}) Fault) (flushed : Bool) (a b c : Option (List ℕ))
-    → IfErr done (λ fault. WritesLate fault.refusal a b) → Keeps b c → IfSome (first_fault done flushed) (λ fault. WritesLate fault.refusal a c)
-printed_late (Ok done) true a b c h k = tt
-printed_late (Ok done) false a b c h k = tt
-printed_late (Err fault) flushed a b c h k = late_kept fault.refusal a b c h k
+told_late : (done : Result (Unit {0}) Fault) (flushed : Bool) (a b c : Option (List ℕ))
+    → IfErr done (λ fault. WritesLate fault.refusal a b) → Keeps b c → IfSome (fault_told flushed (fault_of done)) (λ fault. WritesLate fault.refusal a c)
+told_late done false a b c h k = tt
+told_late (Ok done) true a b c h k = tt
+told_late (Err fault) true a b c h k = late_kept fault.refusal a b c h k
+
+pub printed_late : (done : Result (Unit {0}) Fault) (flushed : Bool) (fault : Option Fault) (a b c : Option (List ℕ)) → fault ≡ fault_told flushed (fault_of done)
+    → IfErr done (λ fault. WritesLate fault.refusal a b) → Keeps b c → IfSome fault (λ fault. WritesLate fault.refusal a c)
+printed_late done flushed fault a b c e h k =
+    subst (λ (told : Option Fault). IfSome told (λ fault. WritesLate fault.refusal a c)) (sym e) (told_late done flushed a b c h k)

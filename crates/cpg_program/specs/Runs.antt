@@ -20,8 +20,18 @@ Prints Judge script (Some fault) old new = (fault.part ≡ None) × judge.Leaves
 Prints Accept script None old new = (length script ≤ 16777216) × accept.IsWritten (accept.admitted_by script) old new
 Prints Accept script (Some fault) old new = accept.Ends (accept.admitted_by script) fault old new
 
--- the first fault of a run: the script's, or that of a flush that failed
-abbrev pub first_fault : Result (Unit {0}) Fault → Bool → Option Fault
-first_fault (Err fault) flushed = Some fault
-first_fault (Ok done) true = None
-first_fault (Ok done) false = Some (accept.whole_fault Write)
+-- the fault of a script, where it has one
+abbrev pub fault_of : Result (Unit {0}) Fault → Option Fault
+fault_of (Err fault) = Some fault
+fault_of (Ok done) = None
+
+-- the fault of a run: its script's, but one of writing where the flush after it failed
+abbrev pub fault_told : Bool → Option Fault → Option Fault
+fault_told true first = first
+fault_told false first = Some (accept.whole_fault Write)
+
+-- a run prints what its script's own end leaves, and tells that end or the flush that failed after it
+pub record Runs (run : Run) (script : List ℕ) (flushed : Bool) (fault : Option Fault) (old new : Option (List ℕ)) : Type 0 where
+  pub first : Option Fault
+  pub prints : Prints run script first old new
+  pub tells : fault ≡ fault_told flushed first

@@ -8,7 +8,8 @@ ghost use Rattle.std.specs.Io.Buffered.{writer_buffer, writer_contents};
 ghost use Rattle.std.specs.Io.KnownBytes.{Appends, Keeps};
 ghost use Rattle.cpg_text.specs.Streams.{AppendsFront};
 ghost use Rattle.cpg_script.specs.Written.{WritesLate};
-ghost use Rattle.cpg_program.specs.Runs.{first_fault, status_after, Prints};
+ghost use Rattle.cpg_program.specs.Runs.{fault_of, fault_told, status_after, Prints, Runs};
+ghost use Rattle.cpg_accept.specs.Accepting.{whole_fault};
 ghost use Rattle.cpg_program.specs.Telling.{error_text};
 
 use crate::telling::tell_fault;
@@ -53,8 +54,8 @@ impl Ended {
 
 /// Runs the subcommand over the streams.
 ///
-/// The first fault counts. A flush that fails is `Write`, where nothing was refused before it. The fault is
-/// told on standard error, as far as memory and the stream allow; where there is none, nothing is.
+/// What was gathered is handed on also after a fault; where that fails, the fault is `Write`. The fault is told
+/// on standard error, as far as memory and the stream allow; where there is none, nothing is.
 pub fn perform<R: Read, W: Write + Drop, E: Write>(
     alloc: Global,
     run: Run,
@@ -63,14 +64,14 @@ pub fn perform<R: Read, W: Write + Drop, E: Write>(
     errors: &mut E,
 ) -> Ended
     ensures output { IfSome (R.remaining reader.old) (λ script.
-        Prints run script result.fault (writer_contents W.contents writer.old) (writer_contents W.contents writer.new)) }
+        Runs run script result.flushed result.fault (writer_contents W.contents writer.old) (writer_contents W.contents writer.new)) }
 
     // Nothing is written before the script was read and checked, even where the reader tells no bytes.
     ensures late { IfSome result.fault (λ fault. WritesLate fault.refusal (writer_contents W.contents writer.old) (writer_contents W.contents writer.new)) }
 
     // What was gathered is handed on; where it is not, that is a fault.
     ensures flushed { IsTrue result.flushed → writer_buffer writer.new ≡ [] }
-    ensures unflushed { result.flushed ≡ false → IsSome result.fault }
+    ensures unflushed { result.flushed ≡ false → result.fault ≡ Some (whole_fault Refusal.Write) }
 
     // The fault's line, or a front of it where it could not be written whole; nothing where there is no fault.
     ensures told { IsTrue result.told → Appends (E.contents errors.old) (E.contents errors.new) (error_text result.fault) }
@@ -108,7 +109,7 @@ fn hand_on<W: Write + Drop>(writer: &mut BufWriter<W>) -> bool
     }
 }
 
-/// Runs the subcommand and flushes. The first fault, and whether all that was written is handed on.
+/// Runs the subcommand and flushes. The fault, and whether all that was written is handed on.
 #[tactic(auto, using(crate::proofs::Flushed::printed, crate::proofs::Flushed::printed_late))]
 fn run_flushed<R: Read, W: Write + Drop>(
     alloc: Global,
@@ -117,29 +118,26 @@ fn run_flushed<R: Read, W: Write + Drop>(
     writer: &mut BufWriter<W>,
 ) -> (Option<Fault>, bool)
     ensures output { IfSome (R.remaining reader.old) (λ script.
-        Prints run script result.0 (writer_contents W.contents writer.old) (writer_contents W.contents writer.new)) }
+        Runs run script result.1 result.0 (writer_contents W.contents writer.old) (writer_contents W.contents writer.new)) }
     ensures late { IfSome result.0 (λ fault. WritesLate fault.refusal (writer_contents W.contents writer.old) (writer_contents W.contents writer.new)) }
     ensures flushed { IsTrue result.1 → writer_buffer writer.new ≡ [] }
-    ensures unflushed { result.1 ≡ false → IsSome result.0 }
+    ensures unflushed { result.1 ≡ false → result.0 ≡ Some (whole_fault Refusal.Write) }
 {
     let done = run_script(alloc, run, reader, writer);
     let flushed = hand_on(writer);
     (fault_after(done, flushed), flushed)
 }
 
-/// The first fault: the script's, or that of a flush that failed.
+/// The script's fault, but one of writing where the flush after it failed.
 fn fault_after(done: Result<(), Fault>, flushed: bool) -> Option<Fault>
-    ensures { result ≡ first_fault done flushed }
+    ensures { result ≡ fault_told flushed (fault_of done) }
 {
+    if !flushed {
+        return Some(Fault::from(Refusal::Write));
+    }
     match done {
+        Ok(()) => None,
         Err(fault) => Some(fault),
-        Ok(()) => {
-            if flushed {
-                None
-            } else {
-                Some(Fault::from(Refusal::Write))
-            }
-        }
     }
 }
 
