@@ -1,5 +1,5 @@
 -- what is printed of a script of names, conf texts and asks, and what its faults leave
-use Rattle.std.specs.Prelude.{◌≡◌, ◌⊎◌, ⊤, ℕ, List, [], ◌∷◌, ◌++◌, map, if◌then◌else◌, Option, Some, None, Result, Ok, Err}
+use Rattle.std.specs.Prelude.{◌≡◌, ◌⊎◌, ℕ, List, [], ◌∷◌, ◌++◌, map, if◌then◌else◌, Option, Some, None, Result, Ok, Err}
 use Rattle.std.specs.List.{concat}
 use Rattle.std.specs.Io.KnownBytes.{Appends, Keeps}
 use Rattle.cpg_cred.specs.Listed.{Listed, with_listed}
@@ -88,8 +88,3 @@ Ends meaning fault old new =
     ⊎ (((fault ≡ whole_fault refusal.Write) × LeavesFront meaning old new)
     ⊎ (((fault.refusal ≡ refusal.Memory) × Keeps old new)
     ⊎ ((meaning ≡ Err fault) × Keeps old new)))
-
--- whatever the reader tells, nothing is written before all was read
-abbrev pub WritesLate : Refusal → Option (List ℕ) → Option (List ℕ) → Type 0
-WritesLate refusal.Write old new = ⊤
-WritesLate refused old new = Keeps old new

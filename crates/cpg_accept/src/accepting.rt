@@ -5,12 +5,13 @@
 
 ghost use Rattle.std.specs.Prelude.{◌≡◌, ◌⊎◌, ◌≤◌, Ok, Err, length, map, OnOk, OnErr, IfOk, IfErr, IfSome};
 ghost use Rattle.std.specs.List.{concat};
-ghost use Rattle.std.specs.Io.KnownBytes.{Appends};
+ghost use Rattle.std.specs.Io.KnownBytes.{Appends, Keeps};
 ghost use Rattle.cpg_text.specs.Lines.{lines_of};
-ghost use Rattle.cpg_accept.specs.Accepting.{admitted_by, all_taken, first_command, nobody, whole_fault, Ends, IsWritten, WritesLate};
+ghost use Rattle.cpg_accept.specs.Accepting.{admitted_by, all_taken, first_command, nobody, whole_fault, Ends, IsWritten};
 ghost use Rattle.cpg_accept.specs.Asks.{answer_line};
 ghost use Rattle.cpg_accept.specs.Steps.{AnswersAre, no_command, parts_of_head};
 ghost use Rattle.cpg_text.specs.Streams.{AppendsFront};
+ghost use Rattle.cpg_script.specs.Written.{WritesLate};
 
 use crate::admitting::Admitting;
 use crate::asks::answer_text;
@@ -39,6 +40,7 @@ pub fn accept_script<R: Read, W: Write>(
 
     // Nothing is written before the script was read, even where the reader tells no bytes.
     ensures late { IfErr result (λ fault. WritesLate fault.refusal (W.contents writer.old) (W.contents writer.new)) }
+    ensures memory { IfErr result (λ fault. fault.refusal ≡ Refusal.Memory → Keeps (W.contents writer.old) (W.contents writer.new)) }
 {
     let script = read_whole(alloc, reader)?;
     match answer_script(alloc, script.as_slice()) {

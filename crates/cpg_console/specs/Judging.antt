@@ -49,11 +49,10 @@ Leaves script refusal.Read old new = Keeps old new
 Leaves (Ok entries) refused old new = LeavesLines (judge_lines entries) refused old new
 Leaves _ _ old new = ⊥
 
--- the refusals of a script that is judged, and that nothing is written before all of it was read and
--- checked, whatever the reader tells
-abbrev pub WritesLate : Refusal → Option (List ℕ) → Option (List ℕ) → Type 0
-WritesLate refusal.Read old new = Keeps old new
-WritesLate (refusal.BadCommand line) old new = Keeps old new
-WritesLate refusal.Write old new = ⊤
-WritesLate refusal.Memory old new = ⊤
-WritesLate _ old new = ⊥
+-- the refusals of a script that is judged
+abbrev pub EndsJudging : Refusal → Type 0
+EndsJudging refusal.Read = ⊤
+EndsJudging (refusal.BadCommand line) = ⊤
+EndsJudging refusal.Write = ⊤
+EndsJudging refusal.Memory = ⊤
+EndsJudging _ = ⊥

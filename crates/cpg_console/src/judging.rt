@@ -8,8 +8,8 @@ ghost use Rattle.std.specs.List.{concat, list_any};
 ghost use Rattle.std.specs.Io.KnownBytes.{Appends};
 ghost use Rattle.cpg_record.specs.Connections.{is_conn};
 ghost use Rattle.cpg_record.specs.Judging.{judged, most_places, record_of, IsNext};
-ghost use Rattle.cpg_script.specs.Written.{LeavesLines};
-ghost use Rattle.cpg_console.specs.Judging.{audit_lines, with_conn, conns_of, judge_lines, IsWritten, Leaves, WritesLate};
+ghost use Rattle.cpg_script.specs.Written.{LeavesLines, WritesLate};
+ghost use Rattle.cpg_console.specs.Judging.{audit_lines, with_conn, conns_of, judge_lines, EndsJudging, IsWritten, Leaves};
 ghost use Rattle.cpg_console.specs.Records.{audit_line};
 ghost use Rattle.cpg_console.specs.Scripts.{entries_of_script};
 
@@ -42,6 +42,7 @@ pub fn judge_script<R: Read, W: Write>(
 
     // Nothing is written before the script was read and checked, even where the reader tells no bytes.
     ensures late { IfErr result (λ fault. WritesLate fault.refusal (W.contents writer.old) (W.contents writer.new)) }
+    ensures faults { IfErr result (λ fault. EndsJudging fault.refusal) }
     ensures whole { IfErr result (λ fault. fault.part ≡ None) }
 {
     match judge_whole(alloc, reader, writer) {
@@ -60,6 +61,7 @@ fn judge_whole<R: Read, W: Write>(
     ensures err { IfErr result (λ refusal. IfSome (R.remaining reader.old) (λ script.
         Leaves (entries_of_script script) refusal (W.contents writer.old) (W.contents writer.new))) }
     ensures late { IfErr result (λ refusal. WritesLate refusal (W.contents writer.old) (W.contents writer.new)) }
+    ensures faults { IfErr result EndsJudging }
 {
     let script = read_whole(alloc, reader)?;
     let entries = read_entries(alloc, script.as_slice())?;

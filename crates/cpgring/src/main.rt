@@ -1,36 +1,36 @@
-//! The program `cpgring`: a command line, standard streams and an exit status round the scripts.
+//! The program `cpgring`: its command line, and its streams and exit status round `perform`.
 //!
-//! Nothing is decided here: what is written is proved of `cpg_console`'s script functions. Exit status: 0
-//! done, 1 a fault of the script (told on standard error), 2 a fault of the command line.
+//! Nothing is decided here: what a run writes, and its status, is proved of `cpg_program`. Exit status: 0
+//! done, 1 a fault (told on standard error), 2 a fault of the command line.
 #![tactic(auto)]
 
+mod asking;
 mod commands;
-mod running;
+mod help;
+#[cfg(test)]
+mod tests;
 
-use commands::build_command;
-use running::{report, run};
+use asking::{explain, read_run, read_words};
+use clap::Error;
+use cpg_program::perform;
 use std::alloc::AllocError;
+use std::io::BufWriter;
 use std::process::ExitCode;
 
 fn main(rt: HostRuntime) -> ExitCode {
+    let status = match start(&rt) {
+        Ok(status) => status,
+        Err(error) => explain(rt.alloc(), &error, &mut rt.stdout(), &mut rt.stderr()),
+    };
+    ExitCode::from(status)
+}
+
+/// The exit status of the run that the command line asks for, over the process's streams.
+fn start(rt: &HostRuntime) -> Result<u8, Error> {
     let alloc = rt.alloc();
-    let Ok(arguments) = std::env::args(&rt) else {
-        let _ = rt.eprintln("cpgring: the arguments cannot be read");
-        return ExitCode::from(2);
-    };
-    let Ok(words): Result<Vec<String>, AllocError> = arguments.collect(alloc) else {
-        let _ = rt.eprintln("cpgring: 1 Memory");
-        return ExitCode::from(1);
-    };
-    let Ok(command) = build_command(alloc) else {
-        let _ = rt.eprintln("cpgring: 1 Memory");
-        return ExitCode::from(1);
-    };
-    match command.try_get_matches_from(words.as_slice()) {
-        Ok(matches) => report(&rt, run(&rt, alloc, &matches)),
-        Err(error) => {
-            let _ = error.print(&rt);
-            ExitCode::from(error.exit_code() as u8)
-        }
-    }
+    let words = read_words(rt)?;
+    let run = read_run(alloc, words.as_slice())?;
+    let mut writer = BufWriter::new(alloc, rt.stdout()).map_err(|_| AllocError)?;
+    let ended = perform(alloc, run, &mut rt.stdin(), &mut writer, &mut rt.stderr());
+    Ok(ended.status())
 }

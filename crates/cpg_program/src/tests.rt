@@ -1,0 +1,103 @@
+//! Runs over streams that tell their bytes, and streams that fail.
+
+use crate::{Run, perform};
+use std::alloc::Global;
+use std::io::{self, BufWriter, Error, ErrorKind, Write};
+use std::process::Abort;
+use std::test::Fail;
+
+/// Takes so many bytes, and then fails.
+#[derive(Drop)]
+struct Short {
+    got: Vec<u8>,
+    room: usize,
+}
+
+impl Write for Short {
+    fn write(&mut self, buf: &[u8]) -> io::Result<usize> {
+        let count = buf.len().min(self.room);
+        if count == 0 && !buf.is_empty() {
+            return Err(Error::from(ErrorKind::Other));
+        }
+        self.room -= count;
+        match self.got.extend_from_slice(&buf[..count]) {
+            Ok(()) => Ok(count),
+            Err(_) => Err(Error::from(ErrorKind::OutOfMemory)),
+        }
+    }
+
+    fn flush(&mut self) -> io::Result<()> {
+        Ok(())
+    }
+}
+
+/// Checks what a run of the script writes to streams of that room, and its exit status.
+fn expect(
+    rt: &impl Abort,
+    alloc: Global,
+    run: Run,
+    script: &str,
+    room: usize,
+    printed: &str,
+    told: &str,
+    status: u8,
+) -> Result<(), Fail> {
+    let output = Short {
+        got: Vec::new(alloc),
+        room,
+    };
+    let mut writer = BufWriter::new(alloc, output)?;
+    let mut errors = Short {
+        got: Vec::new(alloc),
+        room: 31,
+    };
+    let ended = perform(alloc, run, &mut script.as_bytes(), &mut writer, &mut errors);
+    assert!(rt; writer.get_ref().got.as_slice() == printed.as_bytes());
+    assert!(rt; errors.got.as_slice() == told.as_bytes());
+    assert_eq!(rt; ended.status(), status);
+    Ok(())
+}
+
+#[test]
+fn runs_write_to_their_streams(rt: HostRuntime) -> Result<(), Fail> {
+    let rows = [
+        (Run::Judge, "# none\n", 99, "records 0\n", "", 0),
+        (
+            Run::Judge,
+            "\n1.1 1 1 1 jump",
+            99,
+            "",
+            "cpgring: 41 BadCommand 2\n",
+            1,
+        ),
+        (Run::Judge, "# none\n", 4, "reco", "cpgring: 43 Write\n", 1),
+        (
+            Run::Accept,
+            "%ask\n0 7\n",
+            99,
+            "accepted root-user\n",
+            "",
+            0,
+        ),
+        (
+            Run::Accept,
+            "%conf\n}",
+            99,
+            "",
+            "cpgring: part 1: 32 Unopened 1\n",
+            1,
+        ),
+        (
+            Run::Accept,
+            "%names\n\n\n%conf\n\n\n\n\n\n\n\n\n\n}",
+            99,
+            "",
+            "cpgring: part 2: 32 Unopened 10",
+            1,
+        ),
+    ];
+    for (run, script, room, printed, told, status) in rows {
+        expect(&rt, rt.alloc(), run, script, room, printed, told, status)?;
+    }
+    Ok(())
+}

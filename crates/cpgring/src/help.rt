@@ -1,0 +1,135 @@
+//! What the program says of itself: the texts of `--help`.
+
+pub const ABOUT: &str = "Closed process groups with access rules, in one agreed order";
+
+pub const EXITS: &str = "\
+Exit status: 0 done; 1 a fault, told on standard error as `cpgring: 41 BadCommand 2`; 2 a fault of the
+command line.";
+
+pub const JUDGE_ABOUT: &str = "Judges agreed entries from standard input";
+
+pub const JUDGE_HELP: &str = "\
+Judges agreed entries from standard input, and prints the verdict on each and what each connection is
+told. Each line is one entry, in the agreed order:
+
+  NODE.CONN PID UID GID CALL
+
+NODE is 1 to 8, CONN the connection's number at its node (1 to 65535), PID its process, UID and GID its
+credentials (each 0 to 4294967295). CALL is one of:
+
+  join GROUP                                 become a member of the group
+  leave                                      leave its group
+  send TEXT                                  multicast to its group
+  insert GROUP POS EFFECT RIGHT WHO          put a rule into the group's table
+  remove GROUP ID                            take the rule of that id out
+  gone                                       the connection has ended
+
+GROUP is 1 to 128 printing ASCII characters. TEXT stands for itself, %XX for any byte, - alone for the
+empty message; a message has at most 8192 bytes. POS is where the rule is put, 0 to 255, 0 before all
+others; EFFECT is allow or deny; RIGHT is join, send, list or edit; WHO is any, or uid:N, gid:N and node:N
+joined by + in this order. ID is the number of the entry that put the rule in, 0 to 4294967295.
+
+Space, tab and CR at both ends of a line are trimmed. Empty lines and lines that begin with # are ignored,
+but count as lines. The input has at most 16777216 bytes (16 MiB) and 1048576 entries.";
+
+pub const JUDGE_MORE: &str = "\
+Printed is a line for each entry, at its place from 1, with the verdict and, where the connection has or
+names a group, that group and its members after it; then the number of entries; then the inbox of each
+connection, in the order of their first entries:
+
+  PLACE NODE.CONN PID UID GID CALL -> VERDICT group GROUP members MEMBERS
+  records COUNT
+  inbox NODE.CONN
+  event PLACE verdict VERDICT                to the connection that made the entry
+  event PLACE change GROUP members MEMBERS left MOVES joined MOVES
+                                             to the group's members before and after it
+  event PLACE message GROUP NODE PID TEXT    to the group's members: what the process there sent
+  event PLACE rules GROUP                    to the group's members: its rules were edited
+
+MEMBERS are NODE/PID, in the order of their joins; MOVES are NODE/PID:CAUSE, with the cause join, leave or
+down, the end of the connection. Both are joined by commas, and - where there are none.
+
+VERDICT is `allowed` with what allows it, or `denied` with the first reason. The first rule of the group's
+table that gives or denies the right and matches the connection decides: join for join, send for send,
+edit for insert and remove.
+
+  allowed rule ID, denied rule ID            the rule of that id decides
+  allowed default, denied default            no rule does: edit is denied, the other rights are allowed
+  allowed root                               UID 0 may edit every table
+  allowed free                               leave and gone need no right
+  denied closed                              leave or send: the connection is in no group
+  denied joined                              join: the connection is in a group already
+  denied twice                               join: the process is a member of the group already
+  denied full                                join: the group has 128 members
+  denied position                            insert: POS is past the table's end
+  denied tablefull                           insert: the table has 64 rules
+  denied absent                              remove: no rule of the table has that id
+
+Example:
+  $ printf '1.1 40 7 100 join db\\n1.1 40 7 100 send hi\\n' | cpgring judge
+  1 1.1 40 7 100 join db -> allowed default group db members 1/40
+  2 1.1 40 7 100 send hi -> allowed default group db members 1/40
+  records 2
+  inbox 1.1
+  event 1 verdict allowed default
+  event 1 change db members 1/40 left - joined 1/40:join
+  event 2 verdict allowed default
+  event 2 message db 1 40 hi
+
+Exit status: 0 done; 1 a fault, told on standard error; 2 a fault of the command line. The faults are
+`cpgring: 41 BadCommand LINE`, the first line that is no entry or one entry too many, `cpgring: 42 Read`,
+also where the input is too long, `cpgring: 43 Write` and `cpgring: 1 Memory`. Nothing is printed before
+all lines were read.";
+
+pub const ACCEPT_ABOUT: &str =
+    "Answers which credentials the conf texts from standard input let in";
+
+pub const ACCEPT_HELP: &str = "\
+Reads names, conf texts and asks from standard input, and prints whether the credentials of each ask are
+let in. A line %names, %conf or %ask begins a part of the script, and the parts are taken in order; before
+the first only empty lines and lines that begin with # may stand.
+
+A %names part replaces the names. Each line is one of:
+
+  user NAME N                                the number of a user's name
+  group NAME N                               the number of a group's name
+
+N is 0 to 4294967295. The first line for a name counts.
+
+A %conf part adds users and groups to the list. It has the shape of Corosync's configuration files:
+
+  NAME {                                     open a section
+  KEY: VALUE                                 what the key is in its section
+  }                                          close the section
+
+Of all sections only uidgid at the outermost level is read: uid: VALUE lists a user and gid: VALUE a
+group, and another key is a fault; VALUE is a number of at most 4294967295, or a name of the names before,
+of a user or of a group. Every other section is skipped, one inside uidgid too, but its braces have to match
+and its lines to have one of these shapes.
+
+An %ask part has lines UID GID, each 0 to 4294967295. Each is answered by the list so far, with the first
+that holds:
+
+  accepted root-user                         UID is 0
+  accepted root-group                        GID is 0
+  accepted user                              UID is listed
+  accepted group                             GID is listed
+  refused 2 Access                           none of these
+
+Space, tab and CR at both ends of a line are trimmed. Empty lines and lines that begin with # are ignored,
+but count as lines. The input has at most 16777216 bytes (16 MiB). Nothing is printed before all parts were
+read.";
+
+pub const ACCEPT_MORE: &str = "\
+Example:
+  $ printf '%s\\n' %names 'user ann 7' %conf 'uidgid {' 'uid: ann' '}' %ask '7 100' '8 100' | cpgring accept
+  accepted user
+  refused 2 Access
+
+Exit status: 0 done; 1 a fault, told on standard error; 2 a fault of the command line. A fault of a names
+or conf part is told with the part's number and the line in the part, both from 1, as in `cpgring: part 2:
+35 BadValue 2`: 31 BadLine LINE, 32 Unopened LINE, 33 Unclosed, 34 BadItem LINE, 35 BadValue LINE or
+36 UnknownName LINE; where memory was refused to it, `cpgring: part 2: 1 Memory`. A line of an ask part that
+is no ask, and one that may not stand before the first part, is `cpgring: 41 BadCommand LINE`, with the
+script's line. The others are `cpgring: 42 Read`, also where the input is too long, `cpgring: 43 Write` and
+`cpgring: 1 Memory`.";
