@@ -9,7 +9,7 @@ use Rattle.std.proofs.lemmas.List.Sums.{fold-append, fold_more}
 use Rattle.cpg_entry.specs.declared.entries.Entry.{Entry}
 use Rattle.cpg_record.specs.declared.records.Record.{Record}
 use Rattle.cpg_record.specs.Connections.{conn_of}
-use Rattle.cpg_record.specs.Judging.{judged, judge_next, record_of}
+use Rattle.cpg_record.specs.Judging.{judged, with_judgement, record_of}
 use Rattle.cpg_record.proofs.Denials.{each_entry_is_judged, prefixes_are_judged_alike}
 use Rattle.cpg_text.specs.Lines.{words_of}
 use Rattle.cpg_script.proofs.Lined.{enumerate_from-append}
@@ -33,7 +33,7 @@ place_of_next policy = omega (arith, (each_entry_is_judged policy).0)
 
 -- one entry more is one record more
 judged_more : (policy : List Entry) (entry : Entry) → judged (policy ++ entry ∷ []) ≡ judged policy ++ (record_of (judged policy) entry ∷ [])
-judged_more policy entry = fold-append judge_next [] policy (entry ∷ [])
+judged_more policy entry = fold-append with_judgement [] policy (entry ∷ [])
 
 -- one entry more is one line more
 pub audits_more : (policy : List Entry) (entry : Entry) → audit_lines (judged (policy ++ entry ∷ [])) ≡ audit_lines (judged policy) ++ (next_line policy entry ∷ [])

@@ -1,6 +1,5 @@
 pub mod Audits
 pub mod Lengths
 pub mod Lined
-pub mod Names
 pub mod Places
 pub mod Reading

@@ -1,12 +1,13 @@
 -- calls and ops as words, both ways
-use Rattle.std.specs.Prelude.{ℕ, List, [], ◌∷◌, ◌++◌, length, codes, decimal, Bool, true, false, ◌&&◌, nat_le, Option, Some, None, option_map, if◌then◌else◌}
-use Rattle.std.specs.List.{list_all}
+use Rattle.std.specs.Prelude.{ℕ, List, [], ◌∷◌, ◌++◌, length, codes, decimal, Bool, true, false, nat_le, Option, Some, None, option_map, if◌then◌else◌}
 use Rattle.std.specs.Str.{bytes_eq}
 use Rattle.cpg_rules.specs.declared.rules.Rule.{Rule}
 use Rattle.cpg_entry.specs.declared.calls.Call.{Call}
 use Rattle.cpg_entry.specs.declared.calls.Call.TheVariants.{Join, Leave, Send, Insert, Remove}
 use Rattle.cpg_entry.specs.declared.calls.Op.{Op}
 use Rattle.cpg_entry.specs.declared.calls.Op.TheVariants.{Act, Gone}
+use Rattle.cpg_entry.specs.Names.{is_name}
+use Rattle.cpg_entry.specs.declared.messages.TheConstants.{MOST_MESSAGE_BYTES}
 use Rattle.cpg_text.specs.Numbers.{number_in}
 use Rattle.cpg_text.specs.Percent.{message_of, text_of}
 use Rattle.cpg_script.specs.Words.{◌>>=◌, u32_of}
@@ -77,19 +78,11 @@ is_gone _ = false
 abbrev pub op_of : List (List ℕ) → Option Op
 op_of words = if is_gone words then Some Gone else option_map (λ call. Act call) (call_of words)
 
--- a printing ASCII character
-abbrev pub is_name_byte : ℕ → Bool
-is_name_byte byte = nat_le 0x21 byte && nat_le byte 0x7e
-
--- the bytes may name a group: 1 to 128 printing ASCII characters
-abbrev pub is_name : List ℕ → Bool
-is_name bytes = nat_le 1 (length bytes) && nat_le (length bytes) 128 && list_all is_name_byte bytes
-
 -- the names that a call has are accepted, and its message has at most 8,192 bytes
 abbrev pub is_within_limits : Call → Bool
 is_within_limits (Join g) = is_name g
 is_within_limits Leave = true
-is_within_limits (Send message) = nat_le (length message) 8192
+is_within_limits (Send message) = nat_le (length message) MOST_MESSAGE_BYTES
 is_within_limits (Insert g index rule) = is_name g
 is_within_limits (Remove g id) = is_name g
 

@@ -1,5 +1,7 @@
 -- entries as lines, both ways: `NODE.CONN PID UID GID CALL`, with `gone` for CALL where the connection ends
 use Rattle.std.specs.Prelude.{ℕ, List, ◌∷◌, ◌++◌, codes, decimal, Option, Some, None, if◌then◌else◌}
+use Rattle.cpg_cred.specs.declared.nodes.TheConstants.{MOST_NODES}
+use Rattle.cpg_entry.specs.declared.ranges.TheConstants.{MOST_CONNECTIONS}
 use Rattle.cpg_entry.specs.declared.calls.Op.{Op}
 use Rattle.cpg_entry.specs.declared.entries.Entry.{Entry}
 use Rattle.cpg_record.specs.declared.connections.ConnId.{ConnId}
@@ -21,8 +23,8 @@ entry_text entry =
 -- the connection of NODE and CONN
 abbrev pub conn_in_parts : List ℕ × List ℕ → Option ConnId
 conn_in_parts parts = do
-  node ← number_in 1 8 parts.0
-  conn ← number_in 1 65535 parts.1
+  node ← number_in 1 MOST_NODES parts.0
+  conn ← number_in 1 MOST_CONNECTIONS parts.1
   Some (record { node = node; conn = conn })
 
 -- the connection of NODE.CONN

@@ -1,6 +1,7 @@
 -- access rules as words, both ways
 use Rattle.std.specs.Prelude.{ℕ, List, [], ◌∷◌, ◌++◌, codes, decimal, Bool, false, ◌||◌, Option, Some, None, is_some, if◌then◌else◌}
 use Rattle.std.specs.Str.{bytes_eq}
+use Rattle.cpg_cred.specs.declared.nodes.TheConstants.{MOST_NODES}
 use Rattle.cpg_rules.specs.declared.rules.Effect.{Effect}
 use Rattle.cpg_rules.specs.declared.rules.Effect.TheVariants as effect
 use Rattle.cpg_rules.specs.declared.rules.Right.{Right}
@@ -85,7 +86,7 @@ unfoldable pub conditions_of : List ℕ → Option Who
 conditions_of word =
     let uid = take_condition (codes "uid:") 0 4294967295 (Some word) in
     let gid = take_condition (codes "gid:") 0 4294967295 uid.1 in
-    let node = take_condition (codes "node:") 1 8 gid.1 in
+    let node = take_condition (codes "node:") 1 MOST_NODES gid.1 in
     complete (record { uid = uid.0; gid = gid.0; node = node.0 }) node.1
 
 -- the who of a WHO

@@ -1,7 +1,7 @@
 //! Calls and ops as words, both ways.
 
 ghost use Rattle.std.specs.Prelude.{◌≡◌, ◌<◌, ◌++◌, OnOk, IfOk, IfSome, IsOkUnless};
-ghost use Rattle.cpg_console.specs.Calls.{call_text, op_text, join_of, leave_of, send_of, insert_at, insert_of, remove_of, call_of, is_gone, op_of, is_name, is_within_limits, is_enterable};
+ghost use Rattle.cpg_console.specs.Calls.{call_text, op_text, join_of, leave_of, send_of, insert_at, insert_of, remove_of, call_of, is_gone, op_of, is_within_limits, is_enterable};
 ghost use Rattle.cpg_console.specs.Steps.{texts};
 
 use crate::rules::{put_rule, read_rule};
@@ -193,14 +193,8 @@ fn is_within_limits(call: &Call) -> bool
     match call {
         Call::Leave => true,
         Call::Send(message) => message.as_slice().len() <= MOST_MESSAGE_BYTES,
-        Call::Join(group) | Call::Insert(group, _, _) | Call::Remove(group, _) => is_name(
+        Call::Join(group) | Call::Insert(group, _, _) | Call::Remove(group, _) => accepts_name(
             group.as_slice(),
         ),
     }
-}
-
-fn is_name(bytes: &[u8]) -> bool
-    ensures { result ≡ is_name bytes.now }
-{
-    accepts_name(bytes)
 }

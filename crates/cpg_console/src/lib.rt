@@ -19,4 +19,3 @@ mod verdicts;
 pub use cpg_accept::accept_script;
 pub use cpg_script::{Fault, put_fault};
 pub use judging::judge_script;
-pub use scripts::MOST_ENTRIES;

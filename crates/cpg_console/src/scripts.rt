@@ -9,12 +9,9 @@ ghost use Rattle.cpg_console.specs.Steps.{entries_with, FailsAs};
 
 use crate::entries::read_entry;
 use cpg_cred::Refusal;
-use cpg_entry::Entry;
-use cpg_text::{Lines, first_words, is_ignored, trim};
+use cpg_entry::{Entry, MOST_PLACES};
+use cpg_text::{Lines, MOST_BYTES, first_words, is_ignored, trim};
 use std::alloc::Global;
-
-/// How many entries a script has at most.
-pub const MOST_ENTRIES: usize = 1_048_576;
 
 /// The words of the longest line, and one more.
 const WORDS: usize = 11;
@@ -22,7 +19,7 @@ const WORDS: usize = 11;
 /// The entries of a script, or `BadCommand` with its first bad line.
 #[tactic(auto, using(crate::proofs::Lined::lines_few, crate::proofs::Reading::entries_with_none))]
 pub fn read_entries(alloc: Global, script: &[u8]) -> Result<Vec<Entry>, Refusal>
-    requires { length script.now ≤ 16777216 }
+    requires { length script.now ≤ MOST_BYTES }
     ensures ok { IfOk result (λ entries. entries_of_script script.now ≡ Ok entries.items) }
     ensures err { IfErr result (λ refusal. FailsAs (entries_of_script script.now) refusal) }
 {
@@ -63,7 +60,7 @@ fn read_line(alloc: Global, count: usize, line: &[u8]) -> Result<Option<Entry>, 
     ensures ok { IfOk result (λ found. found ≡ entry_in (most_places - count) line.now) }
     ensures memory { IsOkUnless result Refusal.Memory }
 {
-    if count >= MOST_ENTRIES {
+    if count >= MOST_PLACES as usize {
         return Ok(None);
     }
     read_words(alloc, line)

@@ -32,7 +32,7 @@ pub fn verify(alloc: Global, records: &[Record]) -> Result<bool, Refusal>
     ensures ok { IfOk result (λ sound. IsTrue sound ↔ AreRecords records.now) }
     ensures memory { IsOkUnless result Refusal.Memory }
 {
-    if records.len() > MOST_PLACES {
+    if records.len() > MOST_PLACES as usize {
         return Ok(false);
     }
     let mut policy = Policy::new(alloc);

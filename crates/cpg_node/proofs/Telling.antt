@@ -57,26 +57,6 @@ told_item f n i j below within =
     whole : n ≡ i + suc (n - (i + 1))
     whole = omega arith
 
--- a place tells a connection at most two events
-pub told_few : (rs : List Record) (p : ℕ) (conn : ConnId) → length (events rs p conn) ≤ 2
-told_few rs p conn = by_record (slice_get rs (p - 1))
-  where
-    news_few : (o : Option Event) → length (option_to_list o) ≤ 1
-    news_few None = omega arith
-    news_few (Some e) = omega arith
-
-    answer_few : (b : Bool) (e : Event) → length (if b then e ∷ [] else []) ≤ 1
-    answer_few true e = omega arith
-    answer_few false e = omega arith
-
-    by_record : (o : Option Record) → length (events_by p (take (p - 1) rs) conn o) ≤ 2
-    by_record None = omega arith
-    by_record (Some r) =
-        let l = length-append (answer p r conn) (option_to_list (news p (take (p - 1) rs) r conn r.group)) in
-        let a : length (answer p r conn) ≤ 1 = answer_few (is_conn conn (conn_of r.entry)) (Verdict p r.verdict) in
-        let n = news_few (news p (take (p - 1) rs) r conn r.group) in
-        omega arith
-
 one_more : (i : ℕ) → 1 + i ≡ i + 1
 one_more i = omega arith
 

@@ -42,7 +42,7 @@ pub struct Node {
 
 impl Model for Node {
     ghost use Rattle.cpg_node.specs.Nodes.{NodeValue};
-    ghost use Rattle.cpg_ring.specs.Rings.{held_code};
+    ghost use Rattle.cpg_ring.specs.Kept.{held_code};
     ghost use Rattle.std.specs.Coded.{codes};
     ghost use Rattle.cpg_node.specs.Kept.{IsNodeKept};
 

@@ -5,7 +5,7 @@ use Rattle.cpg_entry.specs.declared.calls.Call.TheVariants.{Join, Insert, Remove
 use Rattle.cpg_entry.specs.declared.calls.Op.{Op}
 use Rattle.cpg_entry.specs.declared.calls.Op.TheVariants.{Act}
 use Rattle.cpg_entry.specs.declared.entries.Entry.{Entry}
-use Rattle.cpg_record.specs.declared.limits.TheConstants.{MOST_PLACES}
+use Rattle.cpg_entry.specs.declared.ranges.TheConstants.{MOST_PLACES}
 use Rattle.cpg_record.specs.declared.records.Record.{Record}
 use Rattle.cpg_record.specs.Connections.{conn_of}
 use Rattle.cpg_record.specs.Membership.{group_of, members_in}

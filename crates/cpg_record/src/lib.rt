@@ -18,7 +18,8 @@ mod verdicts;
 
 pub use connections::ConnId;
 pub use events::{Event, Events};
-pub use limits::{MOST_MEMBERS, MOST_PLACES};
+pub use cpg_entry::MOST_PLACES;
+pub use limits::MOST_MEMBERS;
 pub use memberships::{Member, Members};
 pub use moves::{Cause, Move, Moves};
 pub use records::{Record, Records};

@@ -5,10 +5,7 @@ ghost use Rattle.std.specs.Prelude.{◌≡◌};
 /// How many members a group has at most.
 pub const MOST_MEMBERS: usize = 128;
 
-/// How many entries are judged at most.
-pub const MOST_PLACES: usize = 1_048_576;
-
 /// The limits, as numbers.
 pub fn limits()
-    ensures { (MOST_MEMBERS ≡ 128) × (MOST_PLACES ≡ 1048576) }
+    ensures { MOST_MEMBERS ≡ 128 }
 {}

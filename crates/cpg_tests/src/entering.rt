@@ -54,7 +54,7 @@ fn name(alloc: Global, text: &str) -> Result<Name, Refusal> {
 }
 
 /// The call that asks it.
-fn call(alloc: Global, ask: &Ask) -> Result<Call, Refusal> {
+pub fn call(alloc: Global, ask: &Ask) -> Result<Call, Refusal> {
     Ok(match ask {
         Ask::Join(group) => Call::Join(name(alloc, group)?),
         Ask::Leave => Call::Leave,
@@ -87,7 +87,7 @@ pub fn entry(alloc: Global, from: &Source, ask: &Ask) -> Result<Entry, Refusal> 
 
 /// Judges the entry and puts it last; a policy that is full refuses it.
 pub fn enter(policy: &mut Policy, entry: &Entry) -> Result<Verdict, Refusal> {
-    if policy.len() >= MOST_PLACES {
+    if policy.len() >= MOST_PLACES as usize {
         return Err(Refusal::BoardFull);
     }
     let next = policy.judge(entry)?;

@@ -11,9 +11,13 @@ mod fullness;
 #[cfg(test)]
 mod listings;
 #[cfg(test)]
+mod lone_node;
+#[cfg(test)]
 mod plain;
 #[cfg(test)]
 mod rejoining;
+#[cfg(test)]
+mod two_nodes;
 
 /// The crate has tests alone; a library has to have an item.
 pub const TESTS_ALONE: bool = true;
