@@ -104,7 +104,8 @@ impl Policy {
     }
 
     /// The node and the pid of each member of a group, in the order of their joins, where the asker may
-    /// list it: else `Denied` by the rule. A name that no group has gives nobody.
+    /// list it: else `Denied` by the rule, before any memory is asked for. A name that no group has gives
+    /// nobody.
     pub fn members(&self, group: &[u8], asker: Asker) -> Result<Processes, Refusal>
         ensures { Answers (listing (judged self.now) asker group.now) result }
     {

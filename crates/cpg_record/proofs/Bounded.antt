@@ -25,7 +25,7 @@ use Rattle.cpg_record.specs.Places.{record_at, records_before}
 use Rattle.cpg_record.specs.RuleTables.{edited_by, named, rules_of}
 use Rattle.cpg_record.specs.Steps.{members_by}
 use Rattle.cpg_record.specs.Verdicts.{edit_decision, op_verdict}
-use Rattle.cpg_record.proofs.Changed.{members_with}
+use Rattle.cpg_record.proofs.Changed.{records_list_their_members}
 use Rattle.cpg_record.proofs.Denials.{prefixes_are_judged_alike}
 use Rattle.cpg_record.proofs.Growing.{members_push, rules_of_push}
 use Rattle.cpg_record.proofs.Judging.{insert_decided}
@@ -111,7 +111,7 @@ few_listed es p r stands = by_group r.group refl
         ∙ ap (members_in (records_before (judged es) p ++ draft (records_before (judged es) p) r.entry ∷ [])) none in
         omega (arith, ap length nobody)
     by_group (Some g) group =
-        subst (λ (list : List Member). length list ≤ MOST_MEMBERS) (sym (members_with es p r g stands group))
+        subst (λ (list : List Member). length list ≤ MOST_MEMBERS) (sym (records_list_their_members es p r g stands group))
         (subst (λ (rs : List Record). length (members rs g) ≤ MOST_MEMBERS) (prefixes_are_judged_alike es p) (few_members (take p es) g))
 
 pub judged_within_bounds : JudgedWithinBounds

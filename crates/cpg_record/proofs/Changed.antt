@@ -18,7 +18,7 @@ use Rattle.cpg_record.specs.declared.records.Record.{Record}
 use Rattle.cpg_record.specs.Connections.{conn_of, conn_in, is_conn, member_of}
 use Rattle.cpg_record.specs.Events.{hears_change, inbox, moves_of, news_by}
 use Rattle.cpg_record.specs.Judging.{judged, record_of, entry_group}
-use Rattle.cpg_record.specs.Laws.{InGroup, is_seat}
+use Rattle.cpg_record.specs.Laws.{InGroup, is_seat, RecordsListTheirMembers}
 use Rattle.cpg_record.specs.Membership.{group_of, is_member, members, Seat, seats}
 use Rattle.cpg_record.specs.Places.{record_at, records_before}
 use Rattle.cpg_record.specs.Receiving.{AreMoves, HasLeft, IsChange, HearsChangesExactly}
@@ -205,8 +205,8 @@ told_to es p r c g stands =
     (either (is_member (records_before (judged es) p) c g) (is_member (take p (judged es)) c g) (member_in_first es (p - 1) c g) (member_in_first es p c g))
 
 -- a record lists the members of its group with it
-pub members_with : (es : List Entry) (p : ℕ) (r : Record) (g : List ℕ) → record_at (judged es) p ≡ Some r → r.group ≡ Some g → r.members ≡ members (take p (judged es)) g
-members_with es p r g stands group =
+pub records_list_their_members : RecordsListTheirMembers
+records_list_their_members es p r g stands group =
     let is = record_is es p r stands in
     let named : (record_of (records_before (judged es) p) r.entry).group ≡ Some g = sym (ap (λ (q : Record). q.group) is) ∙ group in
     ap (λ (q : Record). q.members) is
@@ -231,7 +231,7 @@ hears_changes_exactly es c place g list left joined = (from_inbox, to_inbox)
           stands = h.stands;
           allowed = h.allowed;
           moves = k.moves;
-          after = k.after ∙ members_with es h.place h.r h.g h.stands h.group;
+          after = k.after ∙ records_list_their_members es h.place h.r h.g h.stands h.group;
         } in
         let told = (told_to es h.place h.r c h.g h.stands).0 k.here in
         subst (λ (q : ℕ). Says q g) k.at (subst (λ (n : List ℕ). Says h.place n) k.name (change, told))
@@ -241,7 +241,7 @@ hears_changes_exactly es c place g list left joined = (from_inbox, to_inbox)
         let here = (told_to es place change.r c g change.stands).1 told in
         let said = change_says es place change.r c change.r.entry.op g left joined change.moves here in
         let group : change.r.group ≡ Some g = ap (λ (q : Record). q.group) (record_is es place change.r change.stands) ∙ said.0 in
-        let after : change.r.members ≡ list = members_with es place change.r g change.stands group ∙ sym change.after in
+        let after : change.r.members ≡ list = records_list_their_members es place change.r g change.stands group ∙ sym change.after in
         hears (judged es) c (event.Change place g list left joined) (record {
           place = place;
           r = change.r;

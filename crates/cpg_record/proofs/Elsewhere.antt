@@ -1,7 +1,7 @@
 -- A record changes no members but those of its own group, and a connection is in a group exactly where
 -- one of its members is that connection.
 use Rattle.std.proofs.Common.{◌≡◌, ◌≢◌, ℕ, ◌+◌, ◌≤◌, Bool, true, false, not, ◌||◌, cond, List, [], ◌∷◌, ◌++◌, map, refl, sym, ap, subst, ◌∙◌, arith, Option, Some, None}
-use Rattle.std.specs.Prelude.{option_map}
+use Rattle.std.specs.Prelude.{◌↔◌, option_map}
 use Rattle.std.proofs.lemmas.List.Sums.{fold_push}
 use Rattle.std.proofs.lemmas.Slice.Eq.{bytes_eq-Decides}
 use Rattle.std.specs.Str.{bytes_eq}
@@ -23,6 +23,16 @@ use Rattle.cpg_record.proofs.Growing.{is_conn-true, members_push}
 use Rattle.cpg_record.proofs.Kept.{any_passes, passes_any}
 use Rattle.cpg_record.proofs.Once.{count, at_conn, group_is_membership, OneEach, one_from}
 use Rattle.cpg_record.proofs.Seats.{is_conn-itself}
+
+-- a group that is there and has the name is that group
+pub named_group : (o : Option (List ℕ)) (g : List ℕ) → (is_named o g ≡ true) ↔ (o ≡ Some g)
+named_group None g = ((λ h. absurd (cc)), (λ h. absurd (cc)))
+named_group (Some h) g = (
+  (λ is. ap Some ((bytes_eq-Decides h g).0 is)),
+  (λ is.
+      let same : h ≡ g = cc in
+      (bytes_eq-Decides h g).1 same),
+)
 
 -- what isn't one connection isn't so the other way round
 pub flip : (a b : ConnId) (x : Bool) → is_conn b a ≡ x → is_conn a b ≡ false → is_conn b a ≡ false
@@ -155,9 +165,5 @@ members_are_in es conn g =
           (there.0, there.1, sym (is_conn-true conn (conn_in there.0) there.2))),
       (λ (m, listed, is).
           let passes : is_conn conn (conn_in m) ≡ true = subst (λ (c : ConnId). is_conn conn c ≡ true) (sym is) (is_conn-itself conn) in
-          inside.1 (is_group_named (group_of (judged es) conn) (listed_in es conn g ∙ passes_any (λ member. is_conn conn (conn_in member)) (members (judged es) g) m listed passes))),
+          inside.1 ((named_group (group_of (judged es) conn) g).0 (listed_in es conn g ∙ passes_any (λ member. is_conn conn (conn_in member)) (members (judged es) g) m listed passes))),
     )
-  where
-    is_group_named : (o : Option (List ℕ)) → is_named o g ≡ true → o ≡ Some g
-    is_group_named None h = absurd (cc)
-    is_group_named (Some h) is = ap Some ((bytes_eq-Decides h g).0 is)

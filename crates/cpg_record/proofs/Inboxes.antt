@@ -14,7 +14,7 @@ use Rattle.cpg_record.specs.declared.records.Record.{Record}
 use Rattle.cpg_record.specs.Connections.{conn_of, is_conn}
 use Rattle.cpg_record.specs.Events.{answer, events, events_by, inbox, news}
 use Rattle.cpg_record.specs.Places.{record_at, records_before}
-use Rattle.cpg_record.specs.Receiving.{BeginsAs, InboxesOnlyGrow, PlacesTellLittle}
+use Rattle.cpg_record.specs.Receiving.{BeginsAs, InboxesOnlyGrow, PlacesTellAtMostTwo}
 
 -- ---- numbers from a on
 
@@ -87,8 +87,8 @@ few_events place before conn None = omega arith
 few_events place before conn (Some r) =
     omega (arith, length-append (answer place r conn) (option_to_list (news place before r conn r.group)), few_answers place r conn, few_news (news place before r conn r.group))
 
-pub places_tell_little : PlacesTellLittle
-places_tell_little rs conn = ((λ place. few_events place (records_before rs place) conn (record_at rs place)), refl)
+pub places_tell_at_most_two : PlacesTellAtMostTwo
+places_tell_at_most_two rs conn = ((λ place. few_events place (records_before rs place) conn (record_at rs place)), refl)
 
 -- ---- what an inbox holds
 

@@ -5,7 +5,6 @@ use Rattle.std.specs.List.{slice_get}
 use Rattle.std.proofs.lemmas.List.{take_more}
 use Rattle.std.proofs.lemmas.List.Elements.{Contains-append_left, Contains-append_right, Contains-append_cases}
 use Rattle.std.proofs.lemmas.Option.{slice_get-map, slice_get_within, get_or_from_slice_get, none-some, cond_some}
-use Rattle.std.proofs.lemmas.Slice.Eq.{bytes_eq-Decides}
 use Rattle.cpg_entry.specs.declared.calls.Call.TheVariants.{Join, Leave, Send, Insert, Remove}
 use Rattle.cpg_entry.specs.declared.calls.Op.{Op}
 use Rattle.cpg_entry.specs.declared.calls.Op.TheVariants.{Act, Gone}
@@ -19,10 +18,11 @@ use Rattle.cpg_record.specs.Connections.{conn_of, is_conn}
 use Rattle.cpg_record.specs.Events.{answer, hears_change, inbox, news, news_by}
 use Rattle.cpg_record.specs.Judging.{judged, record_of, entry_group}
 use Rattle.cpg_record.specs.Laws.{InGroup, EachIsJudgedByThoseBefore}
-use Rattle.cpg_record.specs.Membership.{group_of, is_allowed, is_member, is_named}
+use Rattle.cpg_record.specs.Membership.{group_of, is_allowed, is_member}
 use Rattle.cpg_record.specs.Places.{record_at, records_before}
 use Rattle.cpg_record.specs.Receiving.{IsSent, ReceivesExactly, EditsTable, IsEdit, HearsEditsExactly, IsAnswered, is_verdict, place_of, HearsVerdictsExactly}
 use Rattle.cpg_record.proofs.Denials.{prefixes_are_judged_alike, each_entry_is_judged}
+use Rattle.cpg_record.proofs.Elsewhere.{named_group}
 use Rattle.cpg_record.proofs.Growing.{is_conn-true}
 use Rattle.cpg_record.proofs.Inboxes.{told_from_inbox, inbox_from_told, in_single, single_in, nothing}
 use Rattle.cpg_record.proofs.Judging.{Each-judged}
@@ -68,15 +68,6 @@ first_records rs (suc i) r is =
     ∙ ap (λ n. take n rs ++ r ∷ []) before
 
 -- ---- membership of the first records
-
-pub named_group : (o : Option (List ℕ)) (g : List ℕ) → (is_named o g ≡ true) ↔ (o ≡ Some g)
-named_group None g = ((λ h. absurd (cc)), (λ h. absurd (cc)))
-named_group (Some h) g = (
-  (λ is. ap Some ((bytes_eq-Decides h g).0 is)),
-  (λ is.
-      let same : h ≡ g = cc in
-      (bytes_eq-Decides h g).1 same),
-)
 
 pub group_in_first : (es : List Entry) (n : ℕ) (c : ConnId) (g : List ℕ) → InGroup (take n (judged es)) c g ↔ (group_of (take n (judged es)) c ≡ Some g)
 group_in_first es n c g =

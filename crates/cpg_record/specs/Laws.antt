@@ -13,6 +13,7 @@ use Rattle.cpg_record.specs.Connections.{conn_of, conn_in, is_conn}
 use Rattle.cpg_record.specs.Events.{events, answer}
 use Rattle.cpg_record.specs.Judging.{judged, entries_of, record_of}
 use Rattle.cpg_record.specs.Membership.{is_allowed, ends, Seat, seats, members, group_of}
+use Rattle.cpg_record.specs.Places.{record_at}
 use Rattle.cpg_record.specs.RuleTables.{edited, rules_of}
 use Rattle.cpg_record.specs.Steps.{members_after}
 
@@ -75,6 +76,11 @@ EachEntryIsJudged = (entries : List Entry) → (length (judged entries) ≡ leng
 abbrev pub EachIsJudgedByThoseBefore : Type 0
 EachIsJudgedByThoseBefore = (entries : List Entry) (i : ℕ) (r : Record) → slice_get (judged entries) i ≡ Some r →
     (slice_get entries i ≡ Some r.entry) × (r ≡ record_of (take i (judged entries)) r.entry)
+
+-- a record lists the members of its group with it
+abbrev pub RecordsListTheirMembers : Type 0
+RecordsListTheirMembers = (entries : List Entry) (place : ℕ) (r : Record) (g : List ℕ) → record_at (judged entries) place ≡ Some r → r.group ≡ Some g →
+    r.members ≡ members (take place (judged entries)) g
 
 -- a record changes the members of its own group alone
 abbrev pub OthersKeepMembers : Type 0

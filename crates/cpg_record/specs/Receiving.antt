@@ -34,8 +34,8 @@ abbrev pub InboxesOnlyGrow : Type 0
 InboxesOnlyGrow = (records : List Record) (n : ℕ) (conn : ConnId) → BeginsAs (inbox (take n records) conn) (inbox records conn)
 
 -- a place tells a connection at most two events, and place 0 none
-abbrev pub PlacesTellLittle : Type 0
-PlacesTellLittle = (records : List Record) (conn : ConnId) → ((place : ℕ) → length (events records place conn) ≤ 2) × (events records 0 conn ≡ [])
+abbrev pub PlacesTellAtMostTwo : Type 0
+PlacesTellAtMostTwo = (records : List Record) (conn : ConnId) → ((place : ℕ) → length (events records place conn) ≤ 2) × (events records 0 conn ≡ [])
 
 -- ---- order
 

@@ -1,8 +1,8 @@
 //! What follows from the definitions. Each function has nothing to do: its contract is the law.
 
 ghost use Rattle.cpg_record.specs.Bounds.{JudgedWithinBounds};
-ghost use Rattle.cpg_record.specs.Laws.{SeatsAreMemberships, GroupIsMembership, MembersAfterOneMore, RulesAfterOneMore, DenialChangesNothing, PrefixesAreJudgedAlike, EachEntryIsJudged, EachIsJudgedByThoseBefore, OthersKeepMembers, MembersAreIn, OneSeatEach, OnceInAGroup};
-ghost use Rattle.cpg_record.specs.Receiving.{InboxesOnlyGrow, PlacesTellLittle, ToldInOrder, ReceivesExactly, HearsChangesExactly, HearsEditsExactly, HearsVerdictsExactly};
+ghost use Rattle.cpg_record.specs.Laws.{SeatsAreMemberships, GroupIsMembership, MembersAfterOneMore, RulesAfterOneMore, DenialChangesNothing, PrefixesAreJudgedAlike, EachEntryIsJudged, EachIsJudgedByThoseBefore, RecordsListTheirMembers, OthersKeepMembers, MembersAreIn, OneSeatEach, OnceInAGroup};
+ghost use Rattle.cpg_record.specs.Receiving.{InboxesOnlyGrow, PlacesTellAtMostTwo, ToldInOrder, ReceivesExactly, HearsChangesExactly, HearsEditsExactly, HearsVerdictsExactly};
 ghost use Rattle.cpg_record.specs.Reasons.{DeniedListingsNameTheirRule, VerdictsNameWhatDecided};
 
 /// A connection has a seat in a group exactly where it is in it: an allowed join of it to the group
@@ -47,6 +47,11 @@ pub fn each_is_judged_by_those_before()
     ensures { EachIsJudgedByThoseBefore }
 {}
 
+/// A record lists the members of its group with it.
+pub fn records_list_their_members()
+    ensures { RecordsListTheirMembers }
+{}
+
 /// A record changes the members of its own group alone.
 pub fn others_keep_members()
     ensures { OthersKeepMembers }
@@ -73,8 +78,8 @@ pub fn inboxes_only_grow()
 {}
 
 /// A place tells a connection at most two events, and place 0 none.
-pub fn places_tell_little()
-    ensures { PlacesTellLittle }
+pub fn places_tell_at_most_two()
+    ensures { PlacesTellAtMostTwo }
 {}
 
 /// A connection receives exactly the messages that members of its group were allowed to send while it was
