@@ -80,11 +80,38 @@ abbrev pub LeavesFront : Result Admitted Fault → Option (List ℕ) → Option 
 LeavesFront (Ok admitted) old new = AppendsFront old new (concat (answer_lines admitted))
 LeavesFront (Err fault) old new = ⊥
 
+-- how it is told that memory was refused to a names or conf part: with the part's number
+abbrev pub IsMemoryOf : Kind → ℕ → Fault → Type 0
+IsMemoryOf Ask part fault = ⊥
+IsMemoryOf _ part fault = fault ≡ record { part = Some part; refusal = refusal.Memory }
+
+-- memory was refused to a part that has no fault, or after it
+abbrev pub MemoryAt : Kind → ℕ → Fault → (Admitted → Type 0) → Result Admitted Fault → Type 0
+MemoryAt kind part fault after (Ok made) = IsMemoryOf kind part fault ⊎ after made
+MemoryAt kind part fault after (Err first) = ⊥
+
+-- memory was refused to one of the parts, the first of which has that number, and neither it nor a part
+-- before it has a fault
+abbrev pub MemoryIn : ℕ → List Piece → Admitted → Fault → Type 0
+MemoryIn part [] admitted fault = ⊥
+MemoryIn part (piece ∷ later) admitted fault =
+    MemoryAt piece.kind part fault (λ made. MemoryIn (next_number part) later made fault) (taken piece.kind part piece.line piece.text admitted)
+
+-- and no command stands before the first part
+abbrev pub MemoryAfter : Option ℕ → List Piece → Fault → Type 0
+MemoryAfter (Some line) parts fault = ⊥
+MemoryAfter None parts fault = MemoryIn 1 parts nobody fault
+
+-- memory was refused to a names or conf part of the script
+abbrev pub LacksMemory : List ℕ → Fault → Type 0
+LacksMemory script fault = MemoryAfter (first_command 1 (lines_of (text_before (lines_of script)))) (parts_from 1 (lines_of script)) fault
+
 -- why a script ends with a fault, and what is left written then: it could not be read, a write failed,
--- memory was refused, or the fault is the script's first
-abbrev pub Ends : Result Admitted Fault → Fault → Option (List ℕ) → Option (List ℕ) → Type 0
-Ends meaning fault old new =
+-- memory was refused to the reading or an ask part, or to another part before any fault, or the fault is the
+-- script's first
+abbrev pub Ends : List ℕ → Fault → Option (List ℕ) → Option (List ℕ) → Type 0
+Ends script fault old new =
     ((fault ≡ whole_fault refusal.Read) × Keeps old new)
-    ⊎ (((fault ≡ whole_fault refusal.Write) × LeavesFront meaning old new)
-    ⊎ (((fault.refusal ≡ refusal.Memory) × Keeps old new)
-    ⊎ ((meaning ≡ Err fault) × Keeps old new)))
+    ⊎ (((fault ≡ whole_fault refusal.Write) × LeavesFront (admitted_by script) old new)
+    ⊎ ((((fault ≡ whole_fault refusal.Memory) ⊎ LacksMemory script fault) × Keeps old new)
+    ⊎ ((admitted_by script ≡ Err fault) × Keeps old new)))

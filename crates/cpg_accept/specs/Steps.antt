@@ -1,15 +1,17 @@
 -- steps of the reading functions, which no contract of a public function cites
-use Rattle.std.specs.Prelude.{◌≡◌, ℕ, ◌+◌, List, length, [], ◌∷◌, ◌++◌, Option, Some, None, option_map, Result, Ok, Err}
+use Rattle.std.specs.Prelude.{◌≡◌, ◌⊎◌, ℕ, ◌+◌, List, length, [], ◌∷◌, ◌++◌, Option, Some, None, option_map, Result, Ok, Err}
 use Rattle.std.specs.Borrow.{Bor}
 use Rattle.cpg_cred.specs.declared.admission.Via.{Via}
 use Rattle.cpg_cred.specs.declared.refusals.Refusal.{Refusal}
-use Rattle.cpg_cred.specs.declared.refusals.Refusal.TheVariants.{BadCommand}
+use Rattle.cpg_cred.specs.declared.refusals.Refusal.TheVariants.{BadCommand, Memory}
 use Rattle.cpg_script.specs.declared.faults.Fault.{Fault}
-use Rattle.cpg_accept.specs.Accepting.{Admitted}
+use Rattle.cpg_accept.specs.Accepting.{Admitted, MemoryIn, all_taken, whole_fault}
 use Rattle.cpg_text.specs.Lines.{lines_left}
 use Rattle.cpg_conf.specs.Names.{next_number}
 use Rattle.cpg_accept.specs.Parts.{Piece, parts_from, text_before}
 use Rattle.cpg_accept.specs.declared.parts.Head.{Head}
+use Rattle.cpg_accept.specs.declared.parts.Kind.{Kind}
+use Rattle.cpg_accept.specs.declared.parts.Kind.TheVariants.{Ask}
 use Rattle.cpg_accept.specs.declared.parts.Part.{Part}
 
 -- the part that a view of it shows
@@ -45,3 +47,17 @@ no_command (Some line) = Err (BadCommand line)
 abbrev pub AnswersAre : Result Admitted Fault → List (Option Via) → Type 0
 AnswersAre (Ok admitted) answers = admitted.answers ≡ answers
 AnswersAre (Err fault) answers = ⊥
+
+-- a names or conf part is refused by its fault, where it has one, and else for want of memory
+abbrev pub RefusesPart : ℕ → Result Admitted Fault → Fault → Type 0
+RefusesPart part (Ok made) fault = fault ≡ record { part = Some part; refusal = Memory }
+RefusesPart part (Err first) fault = fault ≡ first
+
+-- why a part is refused; an ask part may be refused memory before its fault
+abbrev pub StopsAt : Kind → ℕ → Result Admitted Fault → Fault → Type 0
+StopsAt Ask part made fault = (fault ≡ whole_fault Memory) ⊎ (made ≡ Err fault)
+StopsAt _ part made fault = RefusesPart part made fault
+
+-- why one of the parts is refused, the first of which has that number
+abbrev pub StopsIn : ℕ → List Piece → Admitted → Fault → Type 0
+StopsIn part parts admitted fault = (fault ≡ whole_fault Memory) ⊎ (MemoryIn part parts admitted fault ⊎ (all_taken part parts admitted ≡ Err fault))

@@ -7,9 +7,9 @@ ghost use Rattle.std.specs.Prelude.{◌≡◌, ◌⊎◌, ◌≤◌, Ok, Err, le
 ghost use Rattle.std.specs.List.{concat};
 ghost use Rattle.std.specs.Io.KnownBytes.{Appends, Keeps};
 ghost use Rattle.cpg_text.specs.Lines.{lines_of};
-ghost use Rattle.cpg_accept.specs.Accepting.{admitted_by, all_taken, first_command, nobody, whole_fault, Ends, IsWritten};
+ghost use Rattle.cpg_accept.specs.Accepting.{admitted_by, all_taken, first_command, nobody, whole_fault, Ends, IsWritten, LacksMemory};
 ghost use Rattle.cpg_accept.specs.Asks.{answer_line};
-ghost use Rattle.cpg_accept.specs.Steps.{AnswersAre, no_command, parts_of_head};
+ghost use Rattle.cpg_accept.specs.Steps.{AnswersAre, no_command, parts_of_head, StopsIn};
 ghost use Rattle.cpg_text.specs.Streams.{AppendsFront};
 ghost use Rattle.cpg_script.specs.Written.{WritesLate};
 
@@ -25,9 +25,11 @@ use std::io::{Read, Write};
 /// Reads a script of names parts, conf parts and asks, and writes the answer to each ask.
 ///
 /// Nothing is written until all parts were read. `Read` comes before all other faults; then the parts are
-/// taken in order, and the first fault counts: that of a names or conf text, with the number of its part,
-/// `BadCommand` with the script's line for a line that is no ask or stands before the first part, or
-/// `Memory`. `Write` leaves a front of the text; after the others nothing is written.
+/// taken in order, and the first fault counts: that of a names or conf text, with the number of its part, or
+/// `BadCommand` with the script's line for a line that is no ask or stands before the first part. `Memory`
+/// has the number of a names or conf part to which it was refused, where neither that part nor one before it
+/// has a fault; it has none for the reading and the asks. `Write` leaves a front of the text; after the others
+/// nothing is written.
 pub fn accept_script<R: Read, W: Write>(
     alloc: Global,
     reader: &mut R,
@@ -36,7 +38,7 @@ pub fn accept_script<R: Read, W: Write>(
     ensures ok { OnOk result (IfSome (R.remaining reader.old) (λ script.
         (length script ≤ MOST_BYTES) × IsWritten (admitted_by script) (W.contents writer.old) (W.contents writer.new))) }
     ensures err { IfErr result (λ fault. IfSome (R.remaining reader.old) (λ script.
-        Ends (admitted_by script) fault (W.contents writer.old) (W.contents writer.new))) }
+        Ends script fault (W.contents writer.old) (W.contents writer.new))) }
 
     // Nothing is written before the script was read, even where the reader tells no bytes.
     ensures late { IfErr result (λ fault. WritesLate fault.refusal (W.contents writer.old) (W.contents writer.new)) }
@@ -52,7 +54,7 @@ pub fn accept_script<R: Read, W: Write>(
 /// The answers to the asks of a script.
 fn answer_script(alloc: Global, script: &[u8]) -> Result<Vec<Option<Via>>, Fault>
     ensures ok { IfOk result (λ answers. AnswersAre (admitted_by script.now) answers.items) }
-    ensures err { IfErr result (λ fault. (fault.refusal ≡ Refusal.Memory) ⊎ (admitted_by script.now ≡ Err fault)) }
+    ensures err { IfErr result (λ fault. (fault ≡ whole_fault Refusal.Memory) ⊎ (LacksMemory script.now fault ⊎ (admitted_by script.now ≡ Err fault))) }
 {
     let cut = Cut::of(0, script);
     refuse_commands(cut.before)?;
@@ -62,7 +64,7 @@ fn answer_script(alloc: Global, script: &[u8]) -> Result<Vec<Option<Via>>, Fault
 /// The answers to the asks of parts.
 fn answer_parts(alloc: Global, parts: Parts<'_>) -> Result<Vec<Option<Via>>, Fault>
     ensures ok { IfOk result (λ answers. AnswersAre (all_taken 1 (parts_of_head (parts.entry).head) nobody) answers.items) }
-    ensures err { IfErr result (λ fault. (fault.refusal ≡ Refusal.Memory) ⊎ (all_taken 1 (parts_of_head (parts.entry).head) nobody ≡ Err fault)) }
+    ensures err { IfErr result (StopsIn 1 (parts_of_head (parts.entry).head) nobody) }
 {
     let mut admitting = Admitting::new(alloc);
     let taken = take_all(alloc, &mut admitting, parts);
@@ -76,7 +78,7 @@ fn answer_parts(alloc: Global, parts: Parts<'_>) -> Result<Vec<Option<Via>>, Fau
 /// Takes the parts in, one after the other.
 fn take_all(alloc: Global, admitting: &mut Admitting, parts: Parts<'_>) -> Result<(), Fault>
     ensures ok { OnOk result (all_taken 1 (parts_of_head (parts.entry).head) admitting.old ≡ Ok admitting.new) }
-    ensures err { IfErr result (λ fault. (fault.refusal ≡ Refusal.Memory) ⊎ (all_taken 1 (parts_of_head (parts.entry).head) admitting.old ≡ Err fault)) }
+    ensures err { IfErr result (StopsIn 1 (parts_of_head (parts.entry).head) admitting.old) }
 {
     let mut number = 0u32;
     for part in parts {

@@ -2,8 +2,9 @@
 //!
 //! Proved: each part makes what `taken` says, or its fault is that one.
 
-ghost use Rattle.std.specs.Prelude.{◌≡◌, ◌⊎◌, Ok, Err, Some, OnOk, IfErr};
+ghost use Rattle.std.specs.Prelude.{◌≡◌, Ok, Some, OnOk, IfErr};
 ghost use Rattle.cpg_accept.specs.Accepting.{nobody, taken};
+ghost use Rattle.cpg_accept.specs.Steps.{RefusesPart, StopsAt};
 
 use crate::asks::answer_all;
 use crate::parts::{Kind, Part};
@@ -55,7 +56,7 @@ impl Admitting {
     /// Takes the part of that number in.
     pub fn take(&mut self, alloc: Global, number: u32, part: &Part<'_>) -> Result<(), Fault>
         ensures ok { OnOk result (taken (part.now).kind number (part.now).line ((part.now).text).now self.old ≡ Ok self.new) }
-        ensures err { IfErr result (λ fault. (fault.refusal ≡ Refusal.Memory) ⊎ (taken (part.now).kind number (part.now).line ((part.now).text).now self.old ≡ Err fault)) }
+        ensures err { IfErr result (StopsAt (part.now).kind number (taken (part.now).kind number (part.now).line ((part.now).text).now self.old)) }
     {
         match part.kind {
             Kind::Names => self.take_names(alloc, number, part.text),
@@ -65,9 +66,10 @@ impl Admitting {
     }
 
     /// A names part makes the names anew.
+    #[tactic(auto, using(crate::proofs::Stopping::refused_part))]
     fn take_names(&mut self, alloc: Global, number: u32, text: &[u8]) -> Result<(), Fault>
         ensures ok { OnOk result (taken Kind.Names number 0 text.now self.old ≡ Ok self.new) }
-        ensures err { IfErr result (λ fault. (fault.refusal ≡ Refusal.Memory) ⊎ (taken Kind.Names number 0 text.now self.old ≡ Err fault)) }
+        ensures err { IfErr result (RefusesPart number (taken Kind.Names number 0 text.now self.old)) }
     {
         match Names::read(alloc, text) {
             Ok(names) => {
@@ -79,9 +81,10 @@ impl Admitting {
     }
 
     /// A conf part adds to the list.
+    #[tactic(auto, using(crate::proofs::Stopping::refused_part))]
     fn take_conf(&mut self, alloc: Global, number: u32, text: &[u8]) -> Result<(), Fault>
         ensures ok { OnOk result (taken Kind.Conf number 0 text.now self.old ≡ Ok self.new) }
-        ensures err { IfErr result (λ fault. (fault.refusal ≡ Refusal.Memory) ⊎ (taken Kind.Conf number 0 text.now self.old ≡ Err fault)) }
+        ensures err { IfErr result (RefusesPart number (taken Kind.Conf number 0 text.now self.old)) }
     {
         let list = mem::replace(&mut self.list, AcceptList::new(alloc));
         match read_conf(alloc, text, &self.names, list) {
@@ -96,7 +99,7 @@ impl Admitting {
     /// Asks are answered by the list.
     fn take_asks(&mut self, line: u32, text: &[u8]) -> Result<(), Fault>
         ensures ok { OnOk result (taken Kind.Ask 0 line text.now self.old ≡ Ok self.new) }
-        ensures err { IfErr result (λ fault. (fault.refusal ≡ Refusal.Memory) ⊎ (taken Kind.Ask 0 line text.now self.old ≡ Err fault)) }
+        ensures err { IfErr result (StopsAt Kind.Ask 0 (taken Kind.Ask 0 line text.now self.old)) }
     {
         match answer_all(&mut self.answers, &self.list, line, text) {
             Ok(()) => Ok(()),

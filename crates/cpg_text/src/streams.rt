@@ -18,8 +18,14 @@ pub const MOST_BYTES: usize = 16_777_216;
 /// whether it gives bytes, nothing or is interrupted.
 pub const MOST_READS: usize = 16_777_217;
 
-/// All that the reader gives. `Read` where a read fails, and where the stream has more bytes or takes more
-/// reads than the most.
+/// The limits of a stream that is read whole: 16 MiB, and a read for each byte and one that meets the end.
+pub fn limits()
+    ensures bytes { MOST_BYTES ≡ 16777216 }
+    ensures reads { MOST_READS ≡ 16777217 }
+{}
+
+/// All that the reader gives, `MOST_BYTES` bytes in `MOST_READS` reads at most (`limits`). `Read` where a read
+/// fails, and where the stream has more bytes or takes more reads.
 pub fn read_whole<R: Read>(alloc: Global, reader: &mut R) -> Result<Vec<u8>, Refusal>
     ensures whole { IfOk result (λ text. IfSome (R.remaining reader.old) (λ bytes. text.items ≡ bytes)) }
     ensures short { IfOk result (λ text. vec_len text ≤ MOST_BYTES) }
