@@ -3,7 +3,8 @@
 ghost use Rattle.std.specs.Prelude.{None, [], ◌≡◌, ◌≤◌, IsTrue};
 ghost use Rattle.cpg_entry.specs.Ranges.{IsEntry};
 
-use crate::{MOST_HOPS, MOST_PLACES, Ring, Settings, Visit};
+use crate::held::Held;
+use crate::{MOST_HOPS, MOST_PLACES, Ring, Settings, Visit, WINDOW};
 use cpg_entry::{Call, Cred, Entry, NodeId, Op, Packet, Places, Refusal, Token};
 use std::alloc::Global;
 use std::process::Abort;
@@ -213,15 +214,23 @@ fn data_refused(rt: HostRuntime) -> Result<(), Fail> {
     Ok(())
 }
 
+/// Place 65 is in the slot that place 1 left, and place 129 has the same slot.
 #[test]
 fn window_moves_on(rt: HostRuntime) -> Result<(), Fail> {
     let alloc = rt.alloc();
-    let mut ring = Ring::new(alloc, settings(2, 100, 100), node(2)?)?;
+    let mut ring = Ring::new(alloc, settings(2, 200, 100), node(2)?)?;
     let far = hear(&mut ring, packet(1, 65)?);
     assert_eq!(rt; far, Some(Refusal::FarAhead));
     assert_eq!(rt; hear(&mut ring, packet(1, 1)?), None);
     deliver(&rt, &mut ring, 1)?;
-    assert_eq!(rt; hear(&mut ring, packet(1, 65)?), None);
+    for (place, refusal) in [
+        (65, None),
+        (65, Some(Refusal::Held)),
+        (1, Some(Refusal::Held)),
+        (129, Some(Refusal::FarAhead)),
+    ] {
+        assert_eq!(rt; hear(&mut ring, packet(1, place)?), refusal);
+    }
     Ok(())
 }
 
@@ -303,5 +312,64 @@ fn settings_out_of_range(rt: HostRuntime) -> Result<(), Fail> {
         let ring = Ring::new(alloc, settings(nodes, places, hops), node(1)?)?;
         assert_eq!(rt; (ring.delivered(), ring.waiting(), ring.safe()), (0, 0, 0));
     }
+    Ok(())
+}
+
+/// The entry's process at a place of a plain list.
+fn plain_at(plain: &[(u32, u32)], place: u32) -> Option<u32> {
+    for pair in plain {
+        if pair.0 == place {
+            return Some(pair.1);
+        }
+    }
+    None
+}
+
+/// Whether both hold the same at a place, and something above it.
+fn agrees(held: &Held, plain: &[(u32, u32)], place: u32) -> bool {
+    held.get(place).map(|entry| entry.pid) == plain_at(plain, place)
+        && held.holds_above(place) == plain.iter().any(|pair| pair.0 > place)
+}
+
+/// Holds a new entry so far ahead of the delivered places, where it lies in the window and isn't held.
+fn hold_ahead(
+    held: &mut Held,
+    plain: &mut Vec<(u32, u32)>,
+    ahead: u32,
+    pid: u32,
+) -> Result<(), Fail> {
+    let place = held.delivered() + ahead;
+    if ahead < 1 || ahead > WINDOW || place > MOST_PLACES || plain_at(plain, place).is_some() {
+        return Ok(());
+    }
+    plain.push((place, pid))?;
+    held.make_room()?;
+    held.hold(place, leave(1, pid)?);
+    Ok(())
+}
+
+/// Delivers the next place if it is held.
+fn advance_if_held(held: &mut Held) {
+    if held.holds(held.delivered() + 1) {
+        held.advance();
+    }
+}
+
+/// Over a long mixed run the slots hold what a plain list of places holds.
+#[test]
+fn as_a_plain_list(rt: HostRuntime) -> Result<(), Fail> {
+    let alloc = rt.alloc();
+    let mut held = Held::new(alloc)?;
+    let mut plain = Vec::new(alloc);
+    for step in 0..600u32 {
+        let mixed = step.wrapping_mul(2654435761) >> 16;
+        let ahead = if step % 4 == 0 { 1 } else { mixed % 72 };
+        hold_ahead(&mut held, &mut plain, ahead, step)?;
+        if step % 3 == 0 {
+            advance_if_held(&mut held);
+        }
+        assert!(rt; agrees(&held, &plain, mixed % 200));
+    }
+    assert!(rt; held.delivered() > 2 * WINDOW);
     Ok(())
 }
