@@ -5,8 +5,8 @@ ghost use Rattle.cpg_console.specs.Entries.{conn_text, entry_text, conn_of_word,
 ghost use Rattle.cpg_console.specs.Steps.{texts};
 
 use crate::calls::{is_enterable, put_op, read_op};
-use cpg_cred::{Cred, NodeId, Refusal};
-use cpg_entry::{Entry, Op};
+use cpg_cred::{Cred, MOST_NODES, NodeId, Refusal};
+use cpg_entry::{Entry, MOST_CONNECTIONS, Op};
 use cpg_record::ConnId;
 use cpg_script::{cut, put, read_u32};
 use cpg_text::push_number;
@@ -91,8 +91,8 @@ fn read_conn(word: &[u8]) -> Option<ConnId>
     ensures { result ≡ conn_of_word word.now }
 {
     let (node, conn) = cut(b'.', word)?;
-    let node = read_u32(1, 8, node)?;
-    let conn = read_u32(1, 65_535, conn)?;
+    let node = read_u32(1, u32::from(MOST_NODES), node)?;
+    let conn = read_u32(1, u32::from(MOST_CONNECTIONS), conn)?;
     let node = NodeId::new(node as u8)?;
     Some(ConnId {
         node,

@@ -5,7 +5,7 @@ ghost use Rattle.cpg_script.specs.Words.{cut_at};
 ghost use Rattle.cpg_console.specs.Rules.{effect_text, right_text, condition_text, conditions_text, who_text, rule_text, effect_of, right_of, first_condition, named_number, take_condition, conditions_of, who_of, who_in, rule_of};
 ghost use Rattle.cpg_console.specs.Steps.{texts};
 
-use cpg_cred::{NodeId, Refusal};
+use cpg_cred::{MOST_NODES, NodeId, Refusal};
 use cpg_rules::{Effect, Right, Rule, Who};
 use cpg_script::{cut, is, put, read_u32, strip_name};
 use cpg_text::push_number;
@@ -167,7 +167,7 @@ fn take_node(conditions: Option<&[u8]>) -> (Option<NodeId>, Option<&[u8]>)
     ensures node { result.0 ≡ (take_condition (codes "node:") 1 8 (option_map (λ rest. rest.now) conditions.entry)).0 }
     ensures left { option_map (λ rest. rest.now) result.1 ≡ (take_condition (codes "node:") 1 8 (option_map (λ rest. rest.now) conditions.entry)).1 }
 {
-    let (number, left) = take_number(b"node:".as_slice(), 1, 8, conditions);
+    let (number, left) = take_number(b"node:".as_slice(), 1, u32::from(MOST_NODES), conditions);
     match number {
         None => (None, left),
         Some(number) => (NodeId::new(number as u8), left),

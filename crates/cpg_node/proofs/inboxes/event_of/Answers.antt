@@ -15,7 +15,7 @@ returns-then-index-before-clause-ok c =
 pub returns-then-index-before-clause-few : goal.returns-then-index-before-clause-few
 returns-then-index-before-clause-few c = λ h.
     let list : c.as_slice-list.result.now ≡ events (judged c.args.policy.now) (c.loop-i.i + 1) c.args.conn = c.as_slice-list.ensures ∙ c.in_ok-events.ensures.ok in
-    let few : length c.as_slice-list.result.now ≤ 2 = subst (λ (l : List Event). length l ≤ 2) (sym list) ((c.places_tell_little.ensures (judged c.args.policy.now) c.args.conn).0 (c.loop-i.i + 1)) in
+    let few : length c.as_slice-list.result.now ≤ 2 = subst (λ (l : List Event). length l ≤ 2) (sym list) ((c.places_tell_at_most_two.ensures (judged c.args.policy.now) c.args.conn).0 (c.loop-i.i + 1)) in
     let most = c.len-i-end.ensures.most in
     let test = c.loop-i-test.true in
     let inside = c.if-index-before.true in
@@ -25,7 +25,7 @@ returns-then-index-before-clause-few c = λ h.
 pub loop-i-preserved : goal.loop-i-preserved
 loop-i-preserved c =
     let list : c.as_slice-list.result.now ≡ events (judged c.args.policy.now) (c.loop-i.i + 1) c.args.conn = c.as_slice-list.ensures ∙ c.in_ok-events.ensures.ok in
-    let few : length c.as_slice-list.result.now ≤ 2 = subst (λ (l : List Event). length l ≤ 2) (sym list) ((c.places_tell_little.ensures (judged c.args.policy.now) c.args.conn).0 (c.loop-i.i + 1)) in
+    let few : length c.as_slice-list.result.now ≤ 2 = subst (λ (l : List Event). length l ≤ 2) (sym list) ((c.places_tell_at_most_two.ensures (judged c.args.policy.now) c.args.conn).0 (c.loop-i.i + 1)) in
     let passed = c.loop-i.invariant.passed in
     let so_far = c.loop-i.invariant.few in
     let outside = c.if-index-before.false in
