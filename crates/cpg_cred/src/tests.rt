@@ -10,6 +10,7 @@ fn root_and_the_listed_are_accepted(rt: HostRuntime) -> Result<(), Fail> {
     list.add_uid(1000)?;
     list.add_uid(1000)?;
     list.add_gid(20)?;
+    list.add_gid(20)?;
     list.add_all([1000, 7].as_slice(), [20, 21].as_slice())?;
     let list = list.copy(alloc)?;
     let ask = |uid, gid| list.accepts(Cred { uid, gid });

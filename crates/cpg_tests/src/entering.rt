@@ -36,6 +36,8 @@ pub enum Ask<'a> {
     Insert(&'a str, Rule),
     /// To take the rule of that id out of the group's table.
     Remove(&'a str, u32),
+    /// Nothing more: the connection has ended.
+    Gone,
 }
 
 /// An insert of a denial at the front of the group's table.
@@ -53,14 +55,15 @@ fn name(alloc: Global, text: &str) -> Result<Name, Refusal> {
     Name::from_slice(alloc, text.as_bytes())
 }
 
-/// The call that asks it.
-pub fn call(alloc: Global, ask: &Ask) -> Result<Call, Refusal> {
+/// The op that asks it.
+fn op(alloc: Global, ask: &Ask) -> Result<Op, Refusal> {
     Ok(match ask {
-        Ask::Join(group) => Call::Join(name(alloc, group)?),
-        Ask::Leave => Call::Leave,
-        Ask::Send(text) => Call::Send(Message::from_slice(alloc, text.as_bytes())?),
-        Ask::Insert(group, rule) => Call::Insert(name(alloc, group)?, 0, *rule),
-        Ask::Remove(group, id) => Call::Remove(name(alloc, group)?, *id),
+        Ask::Join(group) => Op::Act(Call::Join(name(alloc, group)?)),
+        Ask::Leave => Op::Act(Call::Leave),
+        Ask::Send(text) => Op::Act(Call::Send(Message::from_slice(alloc, text.as_bytes())?)),
+        Ask::Insert(group, rule) => Op::Act(Call::Insert(name(alloc, group)?, 0, *rule)),
+        Ask::Remove(group, id) => Op::Act(Call::Remove(name(alloc, group)?, *id)),
+        Ask::Gone => Op::Gone,
     })
 }
 
@@ -72,7 +75,7 @@ pub fn node(number: u8) -> Result<NodeId, Refusal> {
 /// The entry of a connection that asks it.
 pub fn entry(alloc: Global, from: &Source, ask: &Ask) -> Result<Entry, Refusal> {
     let node = node(from.node)?;
-    let call = call(alloc, ask)?;
+    let op = op(alloc, ask)?;
     Ok(Entry {
         node,
         conn: from.conn,
@@ -81,7 +84,7 @@ pub fn entry(alloc: Global, from: &Source, ask: &Ask) -> Result<Entry, Refusal> 
             uid: from.uid,
             gid: from.gid,
         },
-        op: Op::Act(call),
+        op,
     })
 }
 

@@ -110,12 +110,13 @@ fn mixed_rule(number: u32) -> Rule {
 /// Something to ask at the turn, by that number.
 fn mixed_ask(turn: u32, number: u32) -> Ask<'static> {
     let group = if number % 2 == 0 { "db" } else { "app" };
-    match number / 5 % 6 {
+    match number / 5 % 7 {
         0 | 1 => Ask::Join(group),
         2 => Ask::Leave,
         3 => Ask::Send("hi"),
         4 => Ask::Insert(group, mixed_rule(number)),
-        _ => Ask::Remove(group, turn / 2),
+        5 => Ask::Remove(group, turn / 2),
+        _ => Ask::Gone,
     }
 }
 

@@ -1,9 +1,9 @@
 //! Two nodes that are fed by hand, and listings of a node that heard entries as frames.
 
-use crate::entering::{Ask, call, node};
+use crate::entering::node;
 use crate::lone_node::{node_with, settings, submit, user};
 use bytes::Bytes;
-use cpg_entry::{By, NodeId, Refusal};
+use cpg_entry::{By, Call, Message, Name, NodeId, Refusal};
 use cpg_group::{Event, Verdict};
 use cpg_node::Node;
 use std::alloc::Global;
@@ -89,13 +89,17 @@ fn commit_next(node: &mut Node) -> Result<bool, Refusal> {
     }
 }
 
+fn join_db(alloc: Global) -> Result<Call, Refusal> {
+    Ok(Call::Join(Name::from_slice(alloc, b"db")?))
+}
+
 /// A process of user 7 connects to each node and joins `db`; the first token goes round once. Gives what
 /// node 2 sent.
 fn join_both(alloc: Global, one: &mut Node, two: &mut Node) -> Result<Vec<Bytes>, Refusal> {
     one.connect(40, user(7))?;
     two.connect(50, user(7))?;
-    submit(one, 1, call(alloc, &Ask::Join("db"))?)?;
-    submit(two, 1, call(alloc, &Ask::Join("db"))?)?;
+    submit(one, 1, join_db(alloc)?)?;
+    submit(two, 1, join_db(alloc)?)?;
     let Some(first) = two.timer()? else {
         return Err(Refusal::NoFrame);
     };
@@ -113,7 +117,7 @@ fn send_hi(
     two: &mut Node,
     back: &[Bytes],
 ) -> Result<usize, Refusal> {
-    submit(one, 1, call(alloc, &Ask::Send("hi"))?)?;
+    submit(one, 1, Call::Send(Message::from_slice(alloc, b"hi")?))?;
     let sent = hear(one, back, 1)?;
     hear(two, sent.as_slice(), 0)?;
     Ok(sent.len())
