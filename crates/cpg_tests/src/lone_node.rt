@@ -65,10 +65,12 @@ fn lets_root_in(node: &mut Node) -> Result<bool, Refusal> {
     let stranger = node.connect(40, Cred { uid: 7, gid: 7 });
     let root = node.connect(40, Cred { uid: 0, gid: 0 });
     let absent = submit(node, 2, Call::Leave);
-    Ok(stranger == Err(Refusal::Access)
-        && root == Ok(1)
-        && absent == Err(Refusal::NoConnection)
-        && node.take(1)?.is_none())
+    Ok(
+        stranger == Err(Refusal::Access)
+            && root == Ok(1)
+            && absent == Err(Refusal::NoConnection)
+            && node.take(1)?.is_none(),
+    )
 }
 
 /// Both of a node that is alone in ring 7.
@@ -99,11 +101,13 @@ fn join(alloc: Global, node: &mut Node, count: usize) -> Result<(), Refusal> {
 fn takes_calls_within_limits(alloc: Global) -> Result<bool, Refusal> {
     let mut node = node_with(alloc, settings(1, 1), 1, &[])?;
     node.connect(40, Cred { uid: 0, gid: 0 })?;
-    Ok(send(alloc, &mut node, 0).is_ok()
-        && send(alloc, &mut node, 8192).is_ok()
-        && send(alloc, &mut node, 8193) == Err(Refusal::TooLong)
-        && join(alloc, &mut node, 128).is_ok()
-        && join(alloc, &mut node, 129) == Err(Refusal::BadName))
+    Ok(
+        send(alloc, &mut node, 0).is_ok()
+            && send(alloc, &mut node, 8192).is_ok()
+            && send(alloc, &mut node, 8193) == Err(Refusal::TooLong)
+            && join(alloc, &mut node, 128).is_ok()
+            && join(alloc, &mut node, 129) == Err(Refusal::BadName),
+    )
 }
 
 #[test]
@@ -203,11 +207,13 @@ fn judges_a_stray(alloc: Global) -> Result<bool, Refusal> {
     let mut node = node_with(alloc, settings(1, 2), 2, &[])?;
     node.frame(STRAY_JOIN.as_slice())?;
     let place = node.deliver()?;
-    Ok(place == Some(1)
-        && node
-            .audit()
-            .iter()
-            .all(|record| record.verdict == Verdict::Allowed(By::Default)))
+    Ok(
+        place == Some(1)
+            && node
+                .audit()
+                .iter()
+                .all(|record| record.verdict == Verdict::Allowed(By::Default)),
+    )
 }
 
 #[test]

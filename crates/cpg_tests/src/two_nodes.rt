@@ -17,11 +17,14 @@ enum Told {
     Rules(u32),
 }
 
-fn told(event: &Event) -> Told {
+fn in_short(event: &Event) -> Told {
     match event {
         Event::Verdict { place, verdict } => Told::Verdict(*place, *verdict),
         Event::Message {
-            place, node, pid, ..
+            place,
+            node,
+            pid,
+            ..
         } => Told::Message(*place, *node, *pid),
         Event::Change {
             place,
@@ -44,7 +47,7 @@ fn take_all(alloc: Global, node: &mut Node, conn: u16) -> Result<Vec<Told>, Refu
     let mut list = Vec::new(alloc);
     for _ in 0..20 {
         match node.take(conn)? {
-            Some(event) => list.push(told(&event))?,
+            Some(event) => list.push(in_short(&event))?,
             None => return Ok(list),
         }
     }
@@ -150,8 +153,10 @@ fn tells_both(alloc: Global, one: &mut Node, two: &mut Node) -> Result<bool, Ref
         Told::Change(2, 2, 0, 1),
         Told::Message(3, first, 40),
     ];
-    Ok(take_all(alloc, one, 1)?.as_slice() == of_one.as_slice()
-        && take_all(alloc, two, 1)?.as_slice() == of_two.as_slice())
+    Ok(
+        take_all(alloc, one, 1)?.as_slice() == of_one.as_slice()
+            && take_all(alloc, two, 1)?.as_slice() == of_two.as_slice(),
+    )
 }
 
 /// Whether two nodes tell their connections alike what was placed.
@@ -221,9 +226,11 @@ fn sees(alloc: Global, one: &Node, conn: u16, names: &[u8]) -> Result<bool, Refu
 /// Whether user 8 is refused by the rule, and user 7 is shown the members.
 fn lists_by_rule(one: &Node) -> Result<bool, Refusal> {
     let member = [(node(1)?, 40)];
-    Ok(one.list(1, b"db").err() == Some(Refusal::Denied(By::Rule(3)))
-        && one.list(2, b"db")?.as_slice() == member.as_slice()
-        && one.list(2, b"zz")?.as_slice().is_empty())
+    Ok(
+        one.list(1, b"db").err() == Some(Refusal::Denied(By::Rule(3)))
+            && one.list(2, b"db")?.as_slice() == member.as_slice()
+            && one.list(2, b"zz")?.as_slice().is_empty(),
+    )
 }
 
 /// Whether the node lists as its rules say.
