@@ -3,6 +3,7 @@ use Rattle.std.specs.Prelude.{◌≡◌, ℕ, ◌≤◌, Option, Some, None, Res
 use Rattle.std.specs.List.{All}
 use Rattle.cpg_cred.specs.declared.refusals.Refusal.TheVariants.{Memory, Range}
 use Rattle.cpg_cred.specs.declared.refusals.Refused.{Refused}
+use Rattle.cpg_entry.specs.declared.ranges.TheConstants.{MOST_PLACES}
 use Rattle.cpg_ring.specs.declared.visit.Visit.{Visit}
 use Rattle.cpg_ring.specs.States.{Refusal, Settings}
 use Rattle.cpg_entry.specs.Ranges.{IsToken}
@@ -32,3 +33,5 @@ pub record IsInRange (s : Settings) (v : Visit) : Type 0 where
   pub seq : v.token.seq ≤ s.places
   pub hop : v.token.hop ≤ s.hops
   pub packets : All (λ p. (1 ≤ p.place) × (p.place ≤ s.places)) v.packets
+  -- which are places that a frame may carry
+  pub places : s.places ≤ MOST_PLACES

@@ -8,21 +8,21 @@ use Rattle.cpg_entry.specs.declared.ranges.TheConstants.{MOST_HOPS, MOST_PLACES,
 use Rattle.cpg_entry.specs.Ranges.{Within, Ascends, IsToken}
 use Rattle.cpg_entry.specs.Widths.{IsU32, IsNode, TokenFits}
 use Rattle.cpg_wire.specs.Spelling.{owner_code, places_bytes, token_bytes}
-use Rattle.cpg_wire.specs.Reading.{◌>>=◌, number_at, u8_at, reach_at, owner_of, owner_at, places_at, rtr_at, token_at}
+use Rattle.cpg_wire.specs.Reading.{◌>>=◌, number_at, u8_at, extent_at, owner_of, owner_at, places_at, rtr_at, token_at}
 use Rattle.cpg_wire.proofs.Readers.{IsBytes, bind_some, some_is, Takes, Takes-then, ReadsBack, reads1, reads2, reads4, reads_then}
 use Rattle.cpg_wire.proofs.ReadsNumbers.{number_reads, u8_reads}
 
-abbrev pub IsReach : ℕ × ℕ → Type 0
-IsReach p = Within 0 MOST_PLACES p.0 × Within 0 p.0 p.1
+abbrev pub IsExtent : ℕ × ℕ → Type 0
+IsExtent p = Within 0 MOST_PLACES p.0 × Within 0 p.0 p.1
 
-abbrev pub reach_text : ℕ × ℕ → List ℕ
-reach_text p = big_bytes 4 p.0 ++ big_bytes 4 p.1
+abbrev pub extent_text : ℕ × ℕ → List ℕ
+extent_text p = big_bytes 4 p.0 ++ big_bytes 4 p.1
 
-pub reach_reads : ReadsBack (ℕ × ℕ) reach_at reach_text IsReach
-unfolding reach_at
-reach_reads = reads2 ℕ ℕ (ℕ × ℕ) (number_at 4 0 MOST_PLACES) (big_bytes 4) (Within 0 MOST_PLACES) (number_reads 4 0 MOST_PLACES (omega arith))
+pub extent_reads : ReadsBack (ℕ × ℕ) extent_at extent_text IsExtent
+unfolding extent_at
+extent_reads = reads2 ℕ ℕ (ℕ × ℕ) (number_at 4 0 MOST_PLACES) (big_bytes 4) (Within 0 MOST_PLACES) (number_reads 4 0 MOST_PLACES (omega arith))
     (λ seq. number_at 4 0 seq) (λ seq. big_bytes 4) (λ seq. Within 0 seq) (λ seq h. number_reads 4 0 seq (omega (arith, h.1)))
-    (λ a b. (a, b)) reach_text IsReach (λ a b h k. (refl, (h, k))) (λ p h. (p.0, p.1, refl, h.0, h.1))
+    (λ a b. (a, b)) extent_text IsExtent (λ a b h k. (refl, (h, k))) (λ p h. (p.0, p.1, refl, h.0, h.1))
 
 owner_text : (n : ℕ) → owner_code (owner_of n) ≡ n
 owner_text zero = refl
@@ -88,7 +88,7 @@ pub token_reads : (ring : ℕ) → IsU32 ring → ReadsBack Token (token_at ring
 unfolding token_at
 token_reads ring fits = reads4 ℕ (ℕ × ℕ) (Option ℕ) (List ℕ) Token
     (number_at 8 0 MOST_HOPS) (big_bytes 8) (Within 0 MOST_HOPS) (number_reads 8 0 MOST_HOPS (omega arith))
-    reach_at reach_text IsReach reach_reads
+    extent_at extent_text IsExtent extent_reads
     owner_at (λ o. owner_code o ∷ []) (λ o. IfSome o IsNode) owner_reads
     (λ p. rtr_at p.0) places_bytes (λ p. IsRtr p.0) (λ p h. rtr_reads p.0 (omega (arith, h.0.1)))
     (λ hop p o ns. record { ring = ring; hop = hop; seq = p.0; aru = p.1; aru_id = o; rtr = ns }) token_bytes (λ t. (t.ring ≡ ring) × (IsToken t × TokenFits t))

@@ -206,8 +206,8 @@ packet_at version ring bytes = do
   Some (record { ring = ring; place = place.0; entry = record { node = sender.0.0; conn = sender.0.1; pid = sender.0.2; cred = cred.0; op = op.0 } }, op.1)
 
 -- a token's seq and aru
-unfoldable pub reach_at : List ℕ → Option ((ℕ × ℕ) × List ℕ)
-reach_at bytes = do
+unfoldable pub extent_at : List ℕ → Option ((ℕ × ℕ) × List ℕ)
+extent_at bytes = do
   seq ← number_at 4 0 MOST_PLACES bytes
   aru ← number_at 4 0 seq.0 seq.1
   Some ((seq.0, aru.0), aru.1)
@@ -241,10 +241,10 @@ rtr_at seq bytes = do
 unfoldable pub token_at : ℕ → List ℕ → Option (Token × List ℕ)
 token_at ring bytes = do
   hop ← number_at 8 0 MOST_HOPS bytes
-  reach ← reach_at hop.1
-  owner ← owner_at reach.1
-  rtr ← rtr_at reach.0.0 owner.1
-  Some (record { ring = ring; hop = hop.0; seq = reach.0.0; aru = reach.0.1; aru_id = owner.0; rtr = rtr.0 }, rtr.1)
+  extent ← extent_at hop.1
+  owner ← owner_at extent.1
+  rtr ← rtr_at extent.0.0 owner.1
+  Some (record { ring = ring; hop = hop.0; seq = extent.0.0; aru = extent.0.1; aru_id = owner.0; rtr = rtr.0 }, rtr.1)
 
 -- the version, what is carried, and the ring's number
 unfoldable pub head_at : List ℕ → Option ((Version × Kind × ℕ) × List ℕ)

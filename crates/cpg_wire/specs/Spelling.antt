@@ -87,8 +87,8 @@ owner_code None = 0
 owner_code (Some node) = node
 
 -- Totem's seq and aru
-abbrev pub reach_bytes : Token → List ℕ
-reach_bytes token = big_bytes 4 token.seq ++ big_bytes 4 token.aru
+abbrev pub extent_bytes : Token → List ℕ
+extent_bytes token = big_bytes 4 token.seq ++ big_bytes 4 token.aru
 
 -- the places that are asked for (Totem's rtr): how many, then each
 abbrev pub places_bytes : List ℕ → List ℕ
@@ -100,7 +100,7 @@ wants_bytes token = owner_code token.aru_id ∷ places_bytes token.rtr
 
 -- Totem's token: its hop (token_seq), how far the places reach, and what is wanted
 abbrev pub token_bytes : Token → List ℕ
-token_bytes token = big_bytes 8 token.hop ++ (reach_bytes token ++ wants_bytes token)
+token_bytes token = big_bytes 8 token.hop ++ (extent_bytes token ++ wants_bytes token)
 
 -- a frame: the MARK, the version, what it carries, the ring's number (Totem's ring identifier), and that
 abbrev pub spelling : Version → Frame → List ℕ

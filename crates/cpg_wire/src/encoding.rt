@@ -10,7 +10,7 @@ ghost use Rattle.byteorder.specs.Endian.{big_bytes};
 ghost use Rattle.cpg_wire.specs.Codes.{version_code, kind_code};
 ghost use Rattle.cpg_entry.specs.Ranges.{IsCall, IsOp, IsPacket, IsToken};
 ghost use Rattle.cpg_wire.specs.Versions.{given, conditions};
-ghost use Rattle.cpg_wire.specs.Spelling.{name_bytes, message_bytes, condition_bytes, who_bytes, rule_bytes, call_bytes, op_bytes, sender_bytes, cred_bytes, packet_bytes, owner_code, reach_bytes, places_bytes, wants_bytes, token_bytes, spelling, SpellsIn};
+ghost use Rattle.cpg_wire.specs.Spelling.{name_bytes, message_bytes, condition_bytes, who_bytes, rule_bytes, call_bytes, op_bytes, sender_bytes, cred_bytes, packet_bytes, owner_code, extent_bytes, places_bytes, wants_bytes, token_bytes, spelling, SpellsIn};
 
 use crate::codes::{Kind, MARK, OpCode, Subject, Version, effect_byte, right_byte};
 use byteorder::{BigEndian, WriteBytesExt};
@@ -227,12 +227,12 @@ fn put_token(out: &mut Vec<u8>, token: &Token) -> Result<(), AllocError>
     ensures { OnOk result (out.new.items ≡ out.old.items ++ token_bytes token.now) }
 {
     put_u64(out, token.hop)?;
-    put_reach(out, token)?;
+    put_extent(out, token)?;
     put_wants(out, token)
 }
 
-fn put_reach(out: &mut Vec<u8>, token: &Token) -> Result<(), AllocError>
-    ensures { OnOk result (out.new.items ≡ out.old.items ++ reach_bytes token.now) }
+fn put_extent(out: &mut Vec<u8>, token: &Token) -> Result<(), AllocError>
+    ensures { OnOk result (out.new.items ≡ out.old.items ++ extent_bytes token.now) }
 {
     put_u32(out, token.seq)?;
     put_u32(out, token.aru)

@@ -3,7 +3,7 @@
 //! Proved: what is read is the definition `token_at`, and a copy is the token that the view shows.
 
 ghost use Rattle.std.specs.Prelude.{◌≡◌, ◌≤◌, IfOk, IfSome, IsOkUnless, option_map};
-ghost use Rattle.cpg_wire.specs.Reading.{Reads, reach_at, places_at, rtr_at, token_at};
+ghost use Rattle.cpg_wire.specs.Reading.{Reads, extent_at, places_at, rtr_at, token_at};
 ghost use Rattle.cpg_wire.specs.Views.{token_seen};
 
 use crate::fields::read_owner;
@@ -29,7 +29,7 @@ impl TokenView {
         ensures { Reads (option_map token_seen result) input.new (token_at ring input.old) }
     {
         let hop = input.u64_within(0, MOST_HOPS)?;
-        let (seq, aru) = read_reach(input)?;
+        let (seq, aru) = read_extent(input)?;
         let aru_id = read_owner(input)?;
         let rtr = read_rtr(input, seq)?;
         Some(TokenView {
@@ -60,10 +60,10 @@ impl TokenView {
 }
 
 /// The token's seq and aru.
-#[tactic(auto, unfolding(crate::specs::Reading::reach_at))]
-fn read_reach(input: &mut Input<'_>) -> Option<(u32, u32)>
-    ensures reads { Reads result input.new (reach_at input.old) }
-    ensures range { IfSome result (λ reach. reach.0 ≤ MOST_PLACES) }
+#[tactic(auto, unfolding(crate::specs::Reading::extent_at))]
+fn read_extent(input: &mut Input<'_>) -> Option<(u32, u32)>
+    ensures reads { Reads result input.new (extent_at input.old) }
+    ensures range { IfSome result (λ extent. extent.0 ≤ MOST_PLACES) }
 {
     let seq = input.u32_within(0, MOST_PLACES)?;
     let aru = input.u32_within(0, seq)?;
