@@ -1,12 +1,10 @@
 -- What is held once a burst is placed, and what the loops of a visit find there.
-use Rattle.std.proofs.Common.{◌≡◌, ◌≢◌, ◌⊎◌, ℕ, zero, suc, ◌+◌, ◌-◌, ◌<◌, ◌≤◌, Bool, true, false, not, ◌&&◌, ◌||◌, true≢false, cond, List, [], ◌∷◌, ◌++◌, length, take, Option, Some, None, refl, sym, ap, ◌∙◌, subst, inl, inr, ⊎_elim, arith, ◌==◌, nat_lt, nat_le, leb-true, ltb-true, le-leb, append-nil, append_assoc, get_or}
-use Rattle.std.specs.List.{filter, list_any}
+use Rattle.std.proofs.Common.{◌≡◌, ◌≢◌, ◌⊎◌, ℕ, suc, ◌+◌, ◌-◌, ◌<◌, ◌≤◌, Bool, true, false, ◌&&◌, ◌||◌, true≢false, List, [], ◌∷◌, ◌++◌, length, take, refl, sym, ap, ◌∙◌, inl, inr, ⊎_elim, arith, nat_lt, nat_le, leb-true, ltb-true, le-leb, get_or}
 use Rattle.std.specs.FinMap.{get, insert}
 use Rattle.std.proofs.lemmas.Bool.{cases_eq, lt-ltb}
 use Rattle.std.proofs.lemmas.List.{take_more, length-take-le}
-use Rattle.std.proofs.lemmas.List.Elements.{filter-append}
 use Rattle.cpg_ring.specs.States.{Entry, Settings, HeldPlaces, Holds, is_held}
-use Rattle.cpg_ring.specs.Visits.{placed, hold_all, held_through, reach, up_to, is_wanted}
+use Rattle.cpg_ring.specs.Visits.{placed, hold_all}
 use Rattle.cpg_ring.specs.Laws.{AllHeld, NoneAbove}
 use Rattle.cpg_ring.specs.Rings.{RingNode}
 use Rattle.cpg_ring.specs.Steps.{hold_from, held_after}

@@ -1,5 +1,5 @@
 -- The places that are held are the keys of the map.
-use Rattle.std.proofs.Common.{◌≡◌, ℕ, ◌+◌, ◌<◌, Bool, true, false, true≢false, nat_lt, ltb-true, eqb-true, eq-eqb, List, [], ◌∷◌, ◌++◌, length, take, Some, None, refl, sym, ap, ◌∙◌, subst, arith, ◌||◌, option_map, get_or, append-nil}
+use Rattle.std.proofs.Common.{◌≡◌, ℕ, ◌+◌, ◌<◌, Bool, true, false, true≢false, nat_lt, ltb-true, eqb-true, eq-eqb, List, [], ◌∷◌, ◌++◌, length, take, Some, None, refl, sym, ap, ◌∙◌, arith, ◌||◌, option_map, get_or, append-nil}
 use Rattle.std.specs.List.{list_any, cons_option}
 use Rattle.std.specs.Ordering.{nat_cmp, eq_by_cmp}
 use Rattle.std.specs.Cmp.{unsigned_tied}
@@ -8,9 +8,9 @@ use Rattle.std.proofs.lemmas.Bool.{lt-ltb}
 use Rattle.std.proofs.lemmas.List.{take_more}
 use Rattle.std.proofs.lemmas.List.Elements.{filter_map-append}
 use Rattle.cpg_ring.specs.Visits.{served}
-use Rattle.cpg_ring.specs.States.{Settings, Entry, HeldPlaces, Holds, is_held}
+use Rattle.cpg_ring.specs.States.{Settings, Entry, HeldPlaces, is_held}
 use Rattle.cpg_ring.specs.Laws.{NoneAbove}
-use Rattle.cpg_ring.proofs.Amounts.{is_some_of, holds_of}
+use Rattle.cpg_ring.proofs.Amounts.{holds_of}
 
 or_right : (b : Bool) {c : Bool} → c ≡ true → (b || c) ≡ true
 or_right true e = refl

@@ -1,10 +1,10 @@
 -- What the loops of a visit find: the greatest number with all places held, and the places to ask for.
-use Rattle.std.proofs.Common.{◌≡◌, ◌≢◌, ◌⊎◌, ℕ, zero, suc, ◌+◌, ◌-◌, ◌<◌, ◌≤◌, min, Bool, true, false, true≢false, not, cond, ◌==◌, nat_lt, nat_le, ltb-true, leb-true, le-leb, List, [], ◌∷◌, ◌++◌, length, get_or, take, Contains, refl, sym, ap, ◌∙◌, subst, inl, inr, ⊎_elim, arith, if◌then◌else◌, add-one, append-nil}
+use Rattle.std.proofs.Common.{◌≡◌, ℕ, zero, suc, ◌+◌, ◌-◌, ◌<◌, ◌≤◌, min, Bool, true, false, true≢false, not, cond, ◌==◌, nat_lt, nat_le, ltb-true, leb-true, le-leb, List, [], ◌∷◌, ◌++◌, length, get_or, take, Contains, refl, sym, ap, ◌∙◌, subst, inl, inr, ⊎_elim, arith, if◌then◌else◌, add-one, append-nil}
 use Rattle.std.specs.List.{filter, list_any}
-use Rattle.std.proofs.lemmas.Bool.{cases_eq, cases_lt, lt-ltb}
+use Rattle.std.proofs.lemmas.Bool.{cases_lt, lt-ltb}
 use Rattle.std.proofs.lemmas.List.{take_more}
 use Rattle.std.proofs.lemmas.List.Elements.{filter-append, Contains-append_left, Contains-append_right, Contains-append_cases}
-use Rattle.cpg_ring.specs.States.{HeldPlaces, Holds, is_held}
+use Rattle.cpg_ring.specs.States.{HeldPlaces, is_held}
 use Rattle.cpg_ring.specs.Visits.{held_through, reach, up_to, is_wanted, next_requests}
 use Rattle.cpg_ring.specs.Laws.{Ascends, AllHeld, NoneAbove}
 use Rattle.cpg_ring.specs.Steps.{lacks}

@@ -1,5 +1,5 @@
 -- What a ring's fields tell of the places that it holds, and what a call leaves of that.
-use Rattle.std.proofs.Common.{◌≡◌, ◌≢◌, ℕ, suc, ◌+◌, ◌<◌, ◌≤◌, IfSome, Bool, true, false, not, if◌then◌else◌, ◌==◌, nat_lt, ltb-false, is_some, List, ◌++◌, length, Option, Some, None, IsSome, Result, Ok, Err, OnOk, is_err, refl, sym, ap, ◌∙◌, subst, ⊎_elim, arith, true≢false}
+use Rattle.std.proofs.Common.{◌≡◌, ◌≢◌, ℕ, suc, ◌+◌, ◌<◌, ◌≤◌, IfSome, Bool, true, false, not, if◌then◌else◌, ◌==◌, nat_lt, ltb-false, is_some, List, length, Option, Some, None, IsSome, Result, Ok, Err, OnOk, is_err, refl, sym, ap, ◌∙◌, subst, ⊎_elim, arith, true≢false}
 use Rattle.std.specs.Ordering.{nat_cmp}
 use Rattle.std.specs.FinMap.{get, insert, empty, get-empty}
 use Rattle.std.proofs.lemmas.Option.{none-some}
@@ -11,7 +11,7 @@ use Rattle.cpg_ring.specs.Laws.{AllHeld, IsToken}
 use Rattle.cpg_ring.specs.Rings.{IsRingNode}
 use Rattle.cpg_ring.specs.Kept.{HeldValue, IsRing}
 use Rattle.cpg_ring.specs.Steps.{hold_from}
-use Rattle.cpg_ring.proofs.Holding.{put_same, put_other, put_cases}
+use Rattle.cpg_ring.proofs.Holding.{put_cases}
 use Rattle.cpg_ring.proofs.Bursts.{put_holds, from_keeps, from_held}
 
 -- a place that is delivered next is one of those up to m

@@ -1,8 +1,7 @@
 -- What an accepted visit finds at a ring, and what it leaves there.
-use Rattle.std.proofs.Common.{◌≡◌, ℕ, zero, suc, ◌+◌, ◌-◌, ◌<◌, ◌≤◌, ◌^◌, List, [], ◌∷◌, ◌++◌, length, take, Option, Some, None, refl, sym, ap, ◌∙◌, subst, arith}
-use Rattle.std.specs.List.{AllByRecursion}
+use Rattle.std.proofs.Common.{◌≡◌, ℕ, zero, suc, ◌+◌, ◌-◌, ◌<◌, ◌≤◌, ◌^◌, List, ◌∷◌, ◌++◌, length, take, Option, Some, None, refl, sym, ap, ◌∙◌, subst, arith}
 use Rattle.std.proofs.lemmas.List.{length-take-le}
-use Rattle.cpg_ring.specs.States.{Entry, Packet, Token, Settings, HeldPlaces, Holds}
+use Rattle.cpg_ring.specs.States.{Entry, Packet, Token, HeldPlaces}
 use Rattle.cpg_ring.specs.Visits.{burst_size, served, placed, next_token}
 use Rattle.cpg_ring.specs.declared.visit.Visit.{Visit}
 use Rattle.cpg_ring.specs.Laws.{AllHeld, IsToken}

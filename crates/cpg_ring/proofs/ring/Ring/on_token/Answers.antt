@@ -1,4 +1,4 @@
-use Rattle.std.proofs.Common.{◌≡◌, ◌+◌, ◌∷◌, None, sym, ap, ◌∙◌, subst, take, drop, length, arith}
+use Rattle.std.proofs.Common.{◌≡◌, ◌∷◌, None, sym, ap, ◌∙◌, subst, take, drop, arith}
 use Rattle.std.proofs.lemmas.List.{length-take-le}
 use Rattle.cpg_ring.specs.Visits.{burst_size}
 use Rattle.cpg_ring.specs.Kept.{HeldValue, newest_two}

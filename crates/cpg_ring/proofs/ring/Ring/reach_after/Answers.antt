@@ -1,4 +1,4 @@
-use Rattle.std.proofs.Common.{◌≡◌, ◌+◌, ◌-◌, ◌≤◌, min, sym, ap, ◌∙◌, subst, arith}
+use Rattle.std.proofs.Common.{◌≡◌, ◌+◌, ◌-◌, sym, ap, ◌∙◌, subst, arith}
 use Rattle.cpg_ring.specs.Visits.{held_through, reach}
 use Rattle.cpg_ring.specs.Laws.{AllHeld}
 use Rattle.cpg_ring.specs.Rings.{RingNode}

@@ -1,4 +1,4 @@
-use Rattle.std.proofs.Common.{◌≡◌, ◌+◌, ◌++◌, ◌≤◌, nat_lt, take, ap, ◌∙◌, arith}
+use Rattle.std.proofs.Common.{◌+◌, ◌++◌, nat_lt, take, ap, ◌∙◌, arith}
 use Rattle.std.specs.List.{filter}
 use Rattle.cpg_ring.specs.Visits.{up_to}
 use Rattle.cpg_ring.specs.Steps.{held_after, lacks}
