@@ -1,8 +1,8 @@
 //! The places that a node holds, and how many of them it delivered.
 //!
 //! Window and slots are this project's own. A delivered place stands in a list at its number; one of the
-//! next 64 places has the slot of its number mod 64; nothing else is held. Proved: each call is the
-//! finite map of `specs/`, and no call but `make_room` takes memory.
+//! next 64 places has the slot of its number mod 64; nothing else is held. Proved: each call does to the
+//! finite map of `specs/` what it says. Once `make_room` made room, holding and delivering take no memory.
 
 ghost use Rattle.std.specs.Prelude.{◌≡◌, ◌+◌, ◌≤◌, ◌<◌, ◌^◌, ◌%◌, ℕ, List, None, Some, suc, length, set, get_or, nat_lt, IsSome, OnOk, IfOk, IsOkUnless};
 ghost use Rattle.std.specs.Option.{option_copied};

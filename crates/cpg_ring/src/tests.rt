@@ -325,9 +325,17 @@ fn plain_at(plain: &[(u32, u32)], place: u32) -> Option<u32> {
     None
 }
 
-/// Whether both hold the same at a place, and something above it.
+/// The process of the entry that is held at a place.
+fn pid_at(held: &Held, place: u32) -> Option<u32> {
+    match held.get(place) {
+        Some(entry) => Some(entry.pid),
+        None => None,
+    }
+}
+
+/// Whether both hold the same at a place, and both something above it or neither.
 fn agrees(held: &Held, plain: &[(u32, u32)], place: u32) -> bool {
-    held.get(place).map(|entry| entry.pid) == plain_at(plain, place)
+    pid_at(held, place) == plain_at(plain, place)
         && held.holds_above(place) == plain.iter().any(|pair| pair.0 > place)
 }
 
@@ -338,13 +346,17 @@ fn hold_ahead(
     ahead: u32,
     pid: u32,
 ) -> Result<(), Fail> {
-    let place = held.delivered() + ahead;
-    if ahead < 1 || ahead > WINDOW || place > MOST_PLACES || plain_at(plain, place).is_some() {
+    if ahead < 1 || ahead > WINDOW {
         return Ok(());
     }
+    let place = held.delivered() + ahead;
+    if place > MOST_PLACES || plain_at(plain, place).is_some() {
+        return Ok(());
+    }
+    let entry = leave(1, pid)?;
     plain.push((place, pid))?;
     held.make_room()?;
-    held.hold(place, leave(1, pid)?);
+    held.hold(place, entry);
     Ok(())
 }
 
