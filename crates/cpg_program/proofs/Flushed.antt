@@ -51,11 +51,11 @@ fronted_kept : (made : Result accept.Admitted Fault) (a b c : Option (List ℕ))
 fronted_kept (Ok admitted) a b c h k = front_kept a b c (concat (accept.answer_lines admitted)) h k
 fronted_kept (Err fault) a b c h k = h
 
-ends_kept : (made : Result accept.Admitted Fault) (fault : Fault) (a b c : Option (List ℕ)) → accept.Ends made fault a b → Keeps b c → accept.Ends made fault a c
-ends_kept made fault a b c h k = elim h [
+ends_kept : (script : List ℕ) (fault : Fault) (a b c : Option (List ℕ)) → accept.Ends script fault a b → Keeps b c → accept.Ends script fault a c
+ends_kept script fault a b c h k = elim h [
   | inl read ↦ inl (read.0, Keeps-trans a b c read.1 k)
   | inr h ↦ elim h [
-    | inl write ↦ inr (inl (write.0, fronted_kept made a b c write.1 k))
+    | inl write ↦ inr (inl (write.0, fronted_kept (accept.admitted_by script) a b c write.1 k))
     | inr h ↦ elim h [
       | inl memory ↦ inr (inr (inl (memory.0, Keeps-trans a b c memory.1 k)))
       | inr first ↦ inr (inr (inr (first.0, Keeps-trans a b c first.1 k)))
@@ -68,7 +68,7 @@ prints_kept : (run : Run) (script : List ℕ) (fault : Option Fault) (a b c : Op
 prints_kept Judge script None a b c h k = (h.0, judged_kept (entries_of_script script) a b c h.1 k)
 prints_kept Judge script (Some fault) a b c h k = (h.0, leaves_kept (entries_of_script script) fault.refusal a b c h.1 k)
 prints_kept Accept script None a b c h k = (h.0, accepted_kept (accept.admitted_by script) a b c h.1 k)
-prints_kept Accept script (Some fault) a b c h k = ends_kept (accept.admitted_by script) fault a b c h k
+prints_kept Accept script (Some fault) a b c h k = ends_kept script fault a b c h k
 
 -- what was printed and is told, after the flush
 pub printed : (known : Option (List ℕ)) (run : Run) (done : Result (Unit {0}) Fault) (flushed : Bool) (fault : Option Fault) (a b c : Option (List ℕ))

@@ -18,7 +18,7 @@ abbrev pub Prints : Run → List ℕ → Option Fault → Option (List ℕ) → 
 Prints Judge script None old new = (length script ≤ 16777216) × judge.IsWritten (entries_of_script script) old new
 Prints Judge script (Some fault) old new = (fault.part ≡ None) × judge.Leaves (entries_of_script script) fault.refusal old new
 Prints Accept script None old new = (length script ≤ 16777216) × accept.IsWritten (accept.admitted_by script) old new
-Prints Accept script (Some fault) old new = accept.Ends (accept.admitted_by script) fault old new
+Prints Accept script (Some fault) old new = accept.Ends script fault old new
 
 -- the fault of a script, where it has one
 abbrev pub fault_of : Result (Unit {0}) Fault → Option Fault
