@@ -1,5 +1,9 @@
 pub mod Audits
+pub mod Conditions
 pub mod Lengths
 pub mod Lined
+pub mod Numerals
 pub mod Places
 pub mod Reading
+pub mod RuleWords
+pub mod Spacing
