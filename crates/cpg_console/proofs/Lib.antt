@@ -1,5 +1,7 @@
 pub mod Audits
+pub mod CallWords
 pub mod Conditions
+pub mod EntryWords
 pub mod Lengths
 pub mod Lined
 pub mod Numerals

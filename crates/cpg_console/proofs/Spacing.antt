@@ -71,6 +71,20 @@ two_spaced a b rest one two =
     ap (λ l. words_of (l ++ rest)) (regroup a b (codes " ")) ∙ ap words_of (regroup a (b ++ codes " ") rest)
     ∙ words_spaced a (b ++ codes " " ++ rest) one ∙ ap (λ l. a ∷ l) (words_spaced b rest two)
 
+-- what is printed after four words, put to the right
+apart : (a b c d rest : List ℕ) → a ++ codes " " ++ b ++ codes " " ++ c ++ codes " " ++ d ++ codes " " ++ rest ≡ a ++ 32 ∷ (b ++ 32 ∷ (c ++ 32 ∷ (d ++ 32 ∷ rest)))
+apart a b c d rest = simp append_assoc
+
+-- four words, each with a blank after it
+pub four_spaced : (a b c d rest : List ℕ) → is_word a ≡ true → is_word b ≡ true → is_word c ≡ true → is_word d ≡ true
+    → words_of (a ++ codes " " ++ b ++ codes " " ++ c ++ codes " " ++ d ++ codes " " ++ rest) ≡ a ∷ b ∷ c ∷ d ∷ words_of rest
+four_spaced a b c d rest one two three four =
+    ap words_of (apart a b c d rest)
+    ∙ words_first a (b ++ 32 ∷ (c ++ 32 ∷ (d ++ 32 ∷ rest))) one
+    ∙ ap (λ l. a ∷ l) (words_first b (c ++ 32 ∷ (d ++ 32 ∷ rest)) two)
+    ∙ ap (λ l. a ∷ b ∷ l) (words_first c (d ++ 32 ∷ rest) three)
+    ∙ ap (λ l. a ∷ b ∷ c ∷ l) (words_first d rest four)
+
 -- two words that are printed as one
 pub word_joined : (a b : List ℕ) → is_word a ≡ true → list_all is_name_byte b ≡ true → is_word (a ++ b) ≡ true
 word_joined a b one two =

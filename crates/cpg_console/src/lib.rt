@@ -20,4 +20,4 @@ mod verdicts;
 pub use cpg_accept::accept_script;
 pub use cpg_script::{Fault, put_fault};
 pub use judging::judge_script;
-pub use laws::{rules_read_back, whos_read_back};
+pub use laws::{entries_read_back, rules_read_back, whos_read_back};
