@@ -27,8 +27,8 @@ conn_word entry fits =
     let node : entry.node < 2 ^ 64 = omega (arith, fits.node.1) in
     let conn : entry.conn < 2 ^ 64 = omega (arith, fits.conn) in
     word_joined (decimal entry.node ++ codes ".") (decimal entry.conn)
-        (word_joined (decimal entry.node) (codes ".") (decimal_word entry.node node) refl)
-        (decimal_printed entry.conn conn)
+    (word_joined (decimal entry.node) (codes ".") (decimal_word entry.node node) refl)
+    (decimal_printed entry.conn conn)
 
 -- a connection that is printed is read as that connection
 conn_back : (entry : Entry) → IsEntry entry → EntryFits entry → conn_of_word (conn_text (conn_of entry)) ≡ Some (conn_of entry)
@@ -45,7 +45,7 @@ entry_spaced : (entry : Entry) → EntryFits entry
 unfolding entry_text
 entry_spaced entry fits =
     four_spaced (conn_text (conn_of entry)) (decimal entry.pid) (decimal entry.cred.uid) (decimal entry.cred.gid) (op_text entry.op)
-        (conn_word entry fits) (u32_word entry.pid fits.pid) (u32_word entry.cred.uid fits.uid) (u32_word entry.cred.gid fits.gid)
+    (conn_word entry fits) (u32_word entry.pid fits.pid) (u32_word entry.cred.uid fits.uid) (u32_word entry.cred.gid fits.gid)
 
 -- the four words and the op are read as that entry
 by_back : (entry : Entry) → IsEntry entry → EntryFits entry

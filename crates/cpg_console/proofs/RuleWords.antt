@@ -3,6 +3,7 @@ use Rattle.std.proofs.Common.{◌≡◌, ℕ, ◌<◌, ◌≤◌, ◌^◌, List,
 use Rattle.std.proofs.lemmas.List.Folds.{list_all-append}
 use Rattle.std.specs.Prelude.{codes, decimal, is_some, IfSome, ◌||◌}
 use Rattle.std.specs.List.{list_all}
+use Rattle.cpg_cred.specs.declared.nodes.TheConstants.{MOST_NODES}
 use Rattle.cpg_rules.specs.declared.rules.Effect.{Effect}
 use Rattle.cpg_rules.specs.declared.rules.Effect.TheVariants.{Allow, Deny}
 use Rattle.cpg_rules.specs.declared.rules.Right.{Right}
@@ -56,7 +57,7 @@ printed who fits =
     let node = condition_text (is_some who.uid || is_some who.gid) (codes "node:") who.node in
     let one : list_all is_name_byte uid ≡ true = condition_printed false (codes "uid:") who.uid refl (below 4294967295 who.uid (omega arith) (at_most 0 4294967295 who.uid fits.uid)) in
     let two : list_all is_name_byte gid ≡ true = condition_printed (is_some who.uid) (codes "gid:") who.gid refl (below 4294967295 who.gid (omega arith) (at_most 0 4294967295 who.gid fits.gid)) in
-    let three : list_all is_name_byte node ≡ true = condition_printed (is_some who.uid || is_some who.gid) (codes "node:") who.node refl (below 8 who.node (omega arith) (at_most 1 8 who.node fits.node)) in
+    let three : list_all is_name_byte node ≡ true = condition_printed (is_some who.uid || is_some who.gid) (codes "node:") who.node refl (below MOST_NODES who.node (omega arith) (at_most 1 MOST_NODES who.node fits.node)) in
     list_all-append is_name_byte (uid ++ gid) node ∙ rw (list_all-append is_name_byte uid gid, one, two, three) refl
 
 -- conditions are one word, where there is one

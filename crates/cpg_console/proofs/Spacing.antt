@@ -61,7 +61,7 @@ words_last word e =
 pub words_spaced : (word rest : List ℕ) → is_word word ≡ true → words_of (word ++ codes " " ++ rest) ≡ word ∷ words_of rest
 words_spaced word rest e = ap words_of (append_assoc word (codes " ") rest) ∙ words_first word rest e
 
--- a blank and what is printed after it, moved to the word before it
+-- what is printed after a second word, joined to that word
 regroup : (a b c : List ℕ) → (a ++ codes " " ++ b) ++ c ≡ a ++ codes " " ++ (b ++ c)
 regroup a b c = append_assoc (a ++ codes " ") b c
 

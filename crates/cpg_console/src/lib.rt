@@ -1,7 +1,8 @@
 //! Scripts, as text both ways: lines to entries, and records and events to lines.
 //!
 //! The forms are this project's own. Proved: what is read and what is written are the definitions in
-//! `specs/`, byte for byte, where the reader and the writer tell their bytes.
+//! `specs/`, byte for byte, where the reader and the writer tell their bytes; and what is printed of an entry
+//! or of a rule is read as that entry or rule again.
 #![tactic(auto)]
 
 mod calls;
