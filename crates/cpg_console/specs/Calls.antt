@@ -1,5 +1,6 @@
 -- calls and ops as words, both ways
-use Rattle.std.specs.Prelude.{ℕ, List, [], ◌∷◌, ◌++◌, length, codes, decimal, Bool, true, false, nat_le, Option, Some, None, option_map, if◌then◌else◌}
+use Rattle.std.specs.Prelude.{ℕ, ◌<◌, List, [], ◌∷◌, ◌++◌, length, codes, decimal, Bool, true, false, nat_le, Option, Some, None, option_map, if◌then◌else◌}
+use Rattle.std.specs.List.{AllByRecursion}
 use Rattle.std.specs.Str.{bytes_eq}
 use Rattle.cpg_rules.specs.declared.rules.Rule.{Rule}
 use Rattle.cpg_entry.specs.declared.calls.Call.{Call}
@@ -77,6 +78,11 @@ is_gone _ = false
 -- the op of the words of a CALL or `gone`
 abbrev pub op_of : List (List ℕ) → Option Op
 op_of words = if is_gone words then Some Gone else option_map (λ call. Act call) (call_of words)
+
+-- what a send carries is bytes
+abbrev pub SendsBytes : Op → Type 0
+SendsBytes (Act (Send message)) = AllByRecursion (λ byte. byte < 256) message
+SendsBytes _ = Unit {0}
 
 -- the names that a call has are accepted, and its message has at most 8,192 bytes
 abbrev pub is_within_limits : Call → Bool

@@ -1,13 +1,15 @@
 //! Scripts, as text both ways: lines to entries, and records and events to lines.
 //!
 //! The forms are this project's own. Proved: what is read and what is written are the definitions in
-//! `specs/`, byte for byte, where the reader and the writer tell their bytes.
+//! `specs/`, byte for byte, where the reader and the writer tell their bytes; and what is printed of an entry
+//! or of a rule is read as that entry or rule again.
 #![tactic(auto)]
 
 mod calls;
 mod entries;
 mod events;
 mod judging;
+mod laws;
 mod output;
 mod records;
 mod rules;
@@ -19,3 +21,4 @@ mod verdicts;
 pub use cpg_accept::accept_script;
 pub use cpg_script::{Fault, put_fault};
 pub use judging::judge_script;
+pub use laws::{entries_read_back, rules_read_back, whos_read_back};
