@@ -168,7 +168,7 @@ at_node w (Connect n pid cred) x is s = still w n x _ is (still_unless (connect_
 at_node w (Submit n conn call) x is s = submits w n conn call x is s.number (open_client x conn) (submit_refusal x conn call) refl
 at_node w (Disconnect n conn) x is s = ends w n conn x is s.number (open_client x conn)
 at_node w (Arrival n k) x is s = arrives w n k x is s
-at_node w (Timer n) x is s = moves_as w n x _ (λ r. send_again r r.sent) is (again_same x)
+at_node w (Timer n) x is s = moves_as w n x _ (λ r. send_again r r.last_token) is (again_same x)
 at_node w (Deliver n) x is s = moves_as w n x _ deliver is (delivers_same x)
 at_node w (Take n conn) x is s = still w n x _ is (still_took x conn)
 at_node w (Listing n conn g) x is s = still w n x (x, []) is (record { state = refl; sent = refl })

@@ -30,7 +30,7 @@ use Rattle.cpg_world_laws.specs.Replies.{Answer, IsReply, IsAnswerAt, IsAnswerOf
 use Rattle.cpg_world_laws.specs.Claims.{IsAgreed, taken_in, had, given_by, gives, given}
 use Rattle.cpg_world_laws.proofs.Lists.{item_map, map_with_as, take_less}
 use Rattle.cpg_world_laws.proofs.Growing.{agreed_grows}
-use Rattle.cpg_world_laws.proofs.Inboxes.{inbox_grows}
+use Rattle.cpg_record.proofs.Inboxes.{inbox_grows}
 use Rattle.cpg_world_laws.proofs.Projecting.{Numbered}
 
 abbrev pub AllAgreed : WorldValue → Type 0
