@@ -138,6 +138,12 @@ fn delivers(node: &mut Node, way: Way, first: usize, last: usize) -> Result<bool
 
 const ALLOWED: Verdict = Verdict::Allowed(By::Default);
 
+/// Whether connection 1 of the node is told just that.
+fn tells(alloc: Global, node: &mut Node, expected: &[Told]) -> Result<bool, Refusal> {
+    let list = take_all(alloc, node, 1)?;
+    Ok(list.as_slice() == expected)
+}
+
 /// Whether both connections were told what they have to be.
 fn tells_both(alloc: Global, one: &mut Node, two: &mut Node) -> Result<bool, Refusal> {
     let first = node(1)?;
@@ -153,21 +159,49 @@ fn tells_both(alloc: Global, one: &mut Node, two: &mut Node) -> Result<bool, Ref
         Told::Change(2, 2, 0, 1),
         Told::Message(3, first, 40),
     ];
-    Ok(
-        take_all(alloc, one, 1)?.as_slice() == of_one.as_slice()
-            && take_all(alloc, two, 1)?.as_slice() == of_two.as_slice(),
-    )
+    let one_is_told = tells(alloc, one, of_one.as_slice())?;
+    let two_is_told = tells(alloc, two, of_two.as_slice())?;
+    Ok(one_is_told && two_is_told)
+}
+
+/// Whether both nodes deliver those places now, and then no more.
+fn deliver_both(
+    one: &mut Node,
+    two: &mut Node,
+    way: Way,
+    first: usize,
+    last: usize,
+) -> Result<bool, Refusal> {
+    let by_one = delivers(one, way, first, last)?;
+    let by_two = delivers(two, way, first, last)?;
+    Ok(by_one && by_two)
+}
+
+/// What is left to do once the first token went round, and whether all of it goes as it has to.
+fn go_on(
+    alloc: Global,
+    one: &mut Node,
+    two: &mut Node,
+    way: Way,
+    back: &[Bytes],
+) -> Result<bool, Refusal> {
+    let joined = deliver_both(one, two, way, 1, 2)?;
+    let sent = send_hi(alloc, one, two, back)?;
+    let heard = deliver_both(one, two, way, 3, 3)?;
+    let told = tells_both(alloc, one, two)?;
+    Ok(joined && sent == 2 && heard && told)
+}
+
+fn meet(alloc: Global, one: &mut Node, two: &mut Node, way: Way) -> Result<bool, Refusal> {
+    let back = join_both(alloc, one, two)?;
+    go_on(alloc, one, two, way, back.as_slice())
 }
 
 /// Whether two nodes tell their connections alike what was placed.
 fn agree(alloc: Global, way: Way) -> Result<bool, Refusal> {
     let mut one = node_with(alloc, settings(1, 2), 1, &[7])?;
     let mut two = node_with(alloc, settings(1, 2), 2, &[7])?;
-    let back = join_both(alloc, &mut one, &mut two)?;
-    let joined = delivers(&mut one, way, 1, 2)? && delivers(&mut two, way, 1, 2)?;
-    let sent = send_hi(alloc, &mut one, &mut two, back.as_slice())?;
-    let heard = delivers(&mut one, way, 3, 3)? && delivers(&mut two, way, 3, 3)?;
-    Ok(joined && sent == 2 && heard && tells_both(alloc, &mut one, &mut two)?)
+    meet(alloc, &mut one, &mut two, way)
 }
 
 #[test]
@@ -198,18 +232,21 @@ const DENY_LIST: [u8; 39] = [
     b'b', 0, 2, 3, 1, 1, 0, 0, 0, 8,
 ];
 
-/// Node 1 of 2, which heard and delivered these entries, with a connection of user 8 and one of user 7.
-fn listing_node(alloc: Global) -> Result<Node, Refusal> {
-    let mut one = node_with(alloc, settings(1, 2), 1, &[7, 8])?;
-    one.frame(JOIN_DB.as_slice())?;
-    one.frame(JOIN_APP.as_slice())?;
-    one.frame(DENY_LIST.as_slice())?;
-    for _ in 0..3 {
-        one.deliver()?;
-    }
+/// The node hears a frame and delivers its place.
+fn hear_and_deliver(one: &mut Node, bytes: &[u8]) -> Result<(), Refusal> {
+    one.frame(bytes)?;
+    one.deliver()?;
+    Ok(())
+}
+
+/// Node 1 of 2 hears and delivers these entries, and then a process of user 8 and one of user 7 connect.
+fn prepare(one: &mut Node) -> Result<(), Refusal> {
+    hear_and_deliver(one, JOIN_DB.as_slice())?;
+    hear_and_deliver(one, JOIN_APP.as_slice())?;
+    hear_and_deliver(one, DENY_LIST.as_slice())?;
     one.connect(60, user(8))?;
     one.connect(61, user(7))?;
-    Ok(one)
+    Ok(())
 }
 
 /// Whether the connection sees the groups of those names, which are spelled with a blank behind each.
@@ -223,20 +260,34 @@ fn sees(alloc: Global, one: &Node, conn: u16, names: &[u8]) -> Result<bool, Refu
     Ok(text.as_slice() == names)
 }
 
-/// Whether user 8 is refused by the rule, and user 7 is shown the members.
-fn lists_by_rule(one: &Node) -> Result<bool, Refusal> {
-    let member = [(node(1)?, 40)];
-    Ok(
-        one.list(1, b"db").err() == Some(Refusal::Denied(By::Rule(3)))
-            && one.list(2, b"db")?.as_slice() == member.as_slice()
-            && one.list(2, b"zz")?.as_slice().is_empty(),
-    )
+/// Whether user 7 is shown those members of the group.
+fn shows(one: &Node, group: &[u8], members: &[(NodeId, u32)]) -> Result<bool, Refusal> {
+    let listed = one.list(2, group)?;
+    Ok(listed.as_slice() == members)
+}
+
+/// Whether user 8 is refused the members of `db` by the rule.
+fn denies(one: &Node) -> bool {
+    match one.list(1, b"db") {
+        Ok(_) => false,
+        Err(refusal) => refusal == Refusal::Denied(By::Rule(3)),
+    }
 }
 
 /// Whether the node lists as its rules say.
+fn lists_as_ruled(alloc: Global, one: &Node) -> Result<bool, Refusal> {
+    let member = [(node(1)?, 40)];
+    let of_eight = sees(alloc, one, 1, b"app ")?;
+    let of_seven = sees(alloc, one, 2, b"app db ")?;
+    let members = shows(one, b"db", member.as_slice())?;
+    let nobody = shows(one, b"zz", &[])?;
+    Ok(of_eight && of_seven && members && nobody && denies(one))
+}
+
 fn lists_for_its_connections(alloc: Global) -> Result<bool, Refusal> {
-    let one = listing_node(alloc)?;
-    Ok(sees(alloc, &one, 1, b"app ")? && sees(alloc, &one, 2, b"app db ")? && lists_by_rule(&one)?)
+    let mut one = node_with(alloc, settings(1, 2), 1, &[7, 8])?;
+    prepare(&mut one)?;
+    lists_as_ruled(alloc, &one)
 }
 
 #[test]
