@@ -17,8 +17,8 @@ mod records;
 mod verdicts;
 
 pub use connections::ConnId;
-pub use events::{Event, Events};
 pub use cpg_entry::MOST_PLACES;
+pub use events::{Event, Events};
 pub use limits::MOST_MEMBERS;
 pub use memberships::{Member, Members};
 pub use moves::{Cause, Move, Moves};

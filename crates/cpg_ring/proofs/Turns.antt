@@ -44,7 +44,7 @@ pub visit_made : (x : RingNode) (t next : Token) (first packets : List Packet) (
 visit_made x t next first packets count h c f p n = λ i. record { packets = (p ∙ λ j. f j ++ placed x.settings t.seq (take (c j) x.state.waiting)) i; token = (n ∙ (ap (λ k. next_token x.node t (t.seq + k) (held_after x t.seq k) x.state.delivered) c ∙ ap (λ m. next_token x.node t (t.seq + m) (held_after x t.seq (burst_size x.settings x.state t.seq)) x.state.delivered) (sym (length-take-le (burst_size x.settings x.state t.seq) x.state.waiting h.ready)))) i }
 
 pub in_range : (x : RingNode) (t : Token) (v : Visit) → IsRingNode x.settings x.node → IsToken t → refusal_of x t ≡ None → v ≡ visit_of x t → IsInRange x.settings v
-in_range x t v node range none is = subst (IsInRange x.settings) (sym is) (let w = visit_is x.settings x.node x.state t node.0 range none in record { token = w.token; seq = w.seq; hop = w.hop; packets = w.packets ; places = node.0.places.1 })
+in_range x t v node range none is = subst (IsInRange x.settings) (sym is) (let w = visit_is x.settings x.node x.state t node.0 range none in record { token = w.token; seq = w.seq; hop = w.hop; packets = w.packets; places = node.0.places.1 })
 
 -- one aru more, the newest
 pub newest_first : (a : ℕ) (now before : Option ℕ) → newest_two (Some a) now ≡ take 2 (a ∷ newest_two now before)

@@ -82,9 +82,9 @@ numbered_on w e numbered = by_node (item w.nodes (node_in e)) refl
     by_node None is m y at = numbered m y at
     by_node (Some x) is m y at = ⊎_elim
         (λ (here : (m ≡ node_in e) × ((moves w.sent e x).0 ≡ y)).
-            let s = numbered (node_in e) x is in
-            let t = stays_moves w.sent e x in
-            restand (subst (λ (z : NodeValue). Stands w m z) here.1 (subst (λ k. Stands w k (moves w.sent e x).0) (sym here.0) (record { settings = t.settings ∙ s.settings; number = t.number ∙ s.number; list = t.list ∙ s.list }))))
+        let s = numbered (node_in e) x is in
+        let t = stays_moves w.sent e x in
+        restand (subst (λ (z : NodeValue). Stands w m z) here.1 (subst (λ k. Stands w k (moves w.sent e x).0) (sym here.0) (record { settings = t.settings ∙ s.settings; number = t.number ∙ s.number; list = t.list ∙ s.list }))))
         (λ (there : (m ≢ node_in e) × (item w.nodes m ≡ Some y)). restand (numbered m y there.1))
         (with_item_cases w.nodes (node_in e) m (moves w.sent e x).0 y at)
       where
