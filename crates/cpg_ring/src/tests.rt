@@ -1,14 +1,12 @@
 //! Worked visits, refusals and ranges.
 
-ghost use Rattle.std.specs.Prelude.{None, [], ◌≡◌, ◌≤◌, IsTrue};
-ghost use Rattle.cpg_entry.specs.Ranges.{IsEntry};
+ghost use Rattle.std.specs.Prelude.{None, [], ◌≡◌, ◌≤◌, IsTrue, IfOk, IfSome};
+ghost use Rattle.cpg_entry.specs.Ranges.{IsEntry, IsToken};
 
 use crate::held::Held;
 use crate::{MOST_HOPS, MOST_PLACES, Ring, Settings, Visit, WINDOW};
 use cpg_entry::{Call, Cred, Entry, NodeId, Op, Packet, Places, Refusal, Token};
 use std::alloc::Global;
-use std::process::Abort;
-use std::test::Fail;
 
 fn settings(nodes: u8, places: u32, hops: u64) -> Settings {
     Settings {
@@ -19,12 +17,17 @@ fn settings(nodes: u8, places: u32, hops: u64) -> Settings {
     }
 }
 
-fn node(number: u8) -> Result<NodeId, Fail> {
-    Ok(NodeId::new(number).ok_or("a node's number")?)
+fn node(number: u8) -> Result<NodeId, Refusal> {
+    NodeId::new(number).ok_or(Refusal::Range)
+}
+
+/// A ring of that many nodes with 100 hops, as one of them sees it.
+fn ring(alloc: Global, nodes: u8, places: u32, number: u8) -> Result<Ring, Refusal> {
+    Ring::new(alloc, settings(nodes, places, 100), node(number)?)
 }
 
 /// A leave by connection 1 of that node.
-fn leave(number: u8, pid: u32) -> Result<Entry, Fail> {
+fn leave(number: u8, pid: u32) -> Result<Entry, Refusal> {
     Ok(Entry {
         node: node(number)?,
         conn: 1,
@@ -34,7 +37,7 @@ fn leave(number: u8, pid: u32) -> Result<Entry, Fail> {
     })
 }
 
-fn packet(ring: u32, place: u32) -> Result<Packet, Fail> {
+fn packet(ring: u32, place: u32) -> Result<Packet, Refusal> {
     Ok(Packet {
         ring,
         place,
@@ -66,7 +69,7 @@ fn may_be_asked(entry: &Entry) -> bool
     }
 }
 
-/// The packet arrives, if it can be spelled in a frame.
+/// The packet arrives, if it can be spelled in a frame. Gives why it is refused, if it is.
 fn hear(ring: &mut Ring, packet: Packet) -> Option<Refusal> {
     if packet.place < 1 || packet.place > MOST_PLACES || !may_be_asked(&packet.entry) {
         return Some(Refusal::Malformed);
@@ -77,242 +80,399 @@ fn hear(ring: &mut Ring, packet: Packet) -> Option<Refusal> {
     }
 }
 
-/// The last token that the one node sent arrives at the other.
-fn pass(alloc: Global, from: &Ring, to: &mut Ring) -> Result<Visit, Fail> {
-    match from.resend() {
-        Some(last) => {
-            let last = last.copy(alloc)?;
-            Ok(to.on_token(&last)?)
-        }
-        None => Err(Fail::from("a token that was sent")),
+/// A packet of that ring and place arrives.
+fn hear_place(ring: &mut Ring, number: u32, place: u32) -> Result<Option<Refusal>, Refusal> {
+    let packet = packet(number, place)?;
+    Ok(hear(ring, packet))
+}
+
+/// What a visit sends, in short.
+#[derive(Debug, Clone, Copy, PartialEq, Eq)]
+struct Sent {
+    packets: usize,
+    /// The place of the first packet, and the process that it is of.
+    first: Option<(u32, u32)>,
+    hop: u64,
+    seq: u32,
+    aru: u32,
+    aru_id: Option<NodeId>,
+    /// How many places are asked for, and the first of them.
+    requests: usize,
+    asked: Option<u32>,
+}
+
+fn in_short(visit: &Visit) -> Sent {
+    Sent {
+        packets: visit.packets.as_slice().len(),
+        first: match visit.packets.as_slice().first() {
+            Some(packet) => Some((packet.place, packet.entry.pid)),
+            None => None,
+        },
+        hop: visit.token.hop,
+        seq: visit.token.seq,
+        aru: visit.token.aru,
+        aru_id: visit.token.aru_id,
+        requests: visit.token.rtr.as_slice().len(),
+        asked: visit.token.rtr.as_slice().first().copied(),
     }
+}
+
+/// A visit that sends no packets and asks for nothing.
+fn bare(hop: u64, seq: u32, aru: u32, aru_id: Option<NodeId>) -> Sent {
+    Sent {
+        packets: 0,
+        first: None,
+        hop,
+        seq,
+        aru,
+        aru_id,
+        requests: 0,
+        asked: None,
+    }
+}
+
+/// A copy of the last token that the node sent.
+fn last_token(alloc: Global, ring: &Ring) -> Result<Option<Token>, Refusal>
+    ensures { IfOk result (λ last. IfSome last IsToken) }
+{
+    match ring.resend() {
+        Some(last) => Ok(Some(last.copy(alloc)?)),
+        None => Ok(None),
+    }
+}
+
+/// The token visits the ring.
+fn be_visited(ring: &mut Ring, last: Option<Token>) -> Result<Visit, Refusal>
+    requires { IfSome last IsToken }
+{
+    match last {
+        Some(last) => ring.on_token(&last),
+        None => Err(Refusal::NoFrame),
+    }
+}
+
+/// The last token that the one node sent arrives at the other.
+fn pass(alloc: Global, from: &Ring, to: &mut Ring) -> Result<Sent, Refusal> {
+    let last = last_token(alloc, from)?;
+    let visit = be_visited(to, last)?;
+    Ok(in_short(&visit))
 }
 
 /// The token that a ring of one node sent comes round.
-fn come_round(alloc: Global, ring: &mut Ring) -> Result<Visit, Fail> {
-    match ring.resend() {
-        Some(last) => {
-            let last = last.copy(alloc)?;
-            Ok(ring.on_token(&last)?)
+fn come_round(alloc: Global, ring: &mut Ring) -> Result<Sent, Refusal> {
+    let last = last_token(alloc, ring)?;
+    let visit = be_visited(ring, last)?;
+    Ok(in_short(&visit))
+}
+
+/// One of the visit's packets arrives.
+fn hear_one(alloc: Global, ring: &mut Ring, visit: &Visit, index: usize) -> Result<bool, Refusal> {
+    match visit.packets.as_slice().get(index) {
+        Some(packet) => {
+            let packet = packet.copy(alloc)?;
+            Ok(hear(ring, packet).is_none())
         }
-        None => Err(Fail::from("a token that was sent")),
+        None => Ok(false),
     }
+}
+
+/// The token comes from node 2 to node 1, and of the packets that node 1 sends one reaches node 2.
+fn pass_on(
+    alloc: Global,
+    one: &mut Ring,
+    two: &mut Ring,
+    index: usize,
+) -> Result<(Sent, bool), Refusal> {
+    let last = last_token(alloc, two)?;
+    let visit = be_visited(one, last)?;
+    let heard = hear_one(alloc, two, &visit, index)?;
+    Ok((in_short(&visit), heard))
 }
 
 /// A token of hop 1, with no owner and no requests, arrives.
-fn hear_token(alloc: Global, ring: &mut Ring, seq: u32, aru: u32) -> Result<Visit, Refusal>
+fn hear_token(alloc: Global, ring: &mut Ring, seq: u32, aru: u32) -> Result<Sent, Refusal>
     requires seq { seq ≤ 1000 }
     requires aru { aru ≤ seq }
 {
-    ring.on_token(&token(alloc, 1, seq, aru))
+    let visit = ring.on_token(&token(alloc, 1, seq, aru))?;
+    Ok(in_short(&visit))
 }
 
-fn fill(ring: &mut Ring, number: u8, count: u32) -> Result<(), Fail> {
+fn enqueue(ring: &mut Ring, entry: Entry) -> Option<Refusal> {
+    match ring.enqueue(entry) {
+        Ok(()) => None,
+        Err(refused) => Some(refused.refusal),
+    }
+}
+
+/// So many calls are put among those that wait. Whether each was taken.
+fn fill(ring: &mut Ring, number: u8, count: u32) -> Result<bool, Refusal> {
     for pid in 0..count {
-        if ring.enqueue(leave(number, pid)?).is_err() {
-            return Err(Fail::from("a call that waits"));
+        if enqueue(ring, leave(number, pid)?).is_some() {
+            return Ok(false);
         }
     }
-    Ok(())
+    Ok(true)
+}
+
+/// Four calls wait at the one node of a ring of three places: three of them take the places, one waits on,
+/// and the first token is stale then.
+fn uses_its_places(alloc: Global, one: &mut Ring) -> Result<bool, Refusal> {
+    let filled = fill(one, 1, 4)?;
+    let sent = come_round(alloc, one)?;
+    let expected = Sent {
+        packets: 3,
+        first: Some((1, 0)),
+        ..bare(1, 3, 3, None)
+    };
+    let stale = one.visit(&token(alloc, 0, 0, 0)).err() == Some(Refusal::Stale);
+    Ok(filled && sent == expected && one.waiting() == 1 && stale)
+}
+
+fn places_end(alloc: Global) -> Result<bool, Refusal> {
+    let mut one = ring(alloc, 1, 3, 1)?;
+    uses_its_places(alloc, &mut one)
 }
 
 #[test]
-fn places_run_out(rt: HostRuntime) -> Result<(), Fail> {
-    let alloc = rt.alloc();
-    let mut ring = Ring::new(alloc, settings(1, 3, 100), node(1)?)?;
-    fill(&mut ring, 1, 4)?;
-    let first = token(alloc, 0, 0, 0);
-    assert_eq!(rt; ring.resend().ok_or("the first token")?, &first);
-    let seen = ring.visit(&first)?;
-    let visit = come_round(alloc, &mut ring)?;
-    assert_eq!(rt; seen.packets.as_slice(), visit.packets.as_slice());
-    assert_eq!(rt; visit.packets.as_slice().len(), 3);
-    for (i, packet) in visit.packets.as_slice().iter().enumerate() {
-        assert_eq!(rt; packet.place as usize, i + 1);
-        assert_eq!(rt; packet.entry.pid as usize, i);
-    }
-    assert_eq!(rt; visit.token, token(alloc, 1, 3, 3));
-    assert_eq!(rt; ring.waiting(), 1);
-    assert_eq!(rt; ring.resend().ok_or("a token")?, &visit.token);
-    assert_eq!(rt; ring.visit(&first).err(), Some(Refusal::Stale));
-    Ok(())
+fn places_run_out(rt: HostRuntime) {
+    assert!(rt; places_end(rt.alloc()) == Ok(true));
 }
 
-#[test]
-fn window_is_full(rt: HostRuntime) -> Result<(), Fail> {
-    let alloc = rt.alloc();
-    let mut ring = Ring::new(alloc, settings(1, 100, 100), node(1)?)?;
-    fill(&mut ring, 1, 65)?;
+/// Whether eight visits place eight calls each.
+fn place_in_bursts(alloc: Global, one: &mut Ring) -> Result<bool, Refusal> {
     for _ in 0..8 {
-        let visit = come_round(alloc, &mut ring)?;
-        assert_eq!(rt; visit.packets.as_slice().len(), 8);
+        if come_round(alloc, one)?.packets != 8 {
+            return Ok(false);
+        }
     }
-    let visit = come_round(alloc, &mut ring)?;
-    assert_eq!(rt; visit.packets.as_slice().len(), 0);
+    Ok(true)
+}
+
+/// Delivers the next place, if it is held.
+fn deliver(ring: &mut Ring) -> u32 {
     if ring.next_place().is_some() {
         ring.advance();
     }
-    assert_eq!(rt; ring.delivered(), 1);
-    let visit = come_round(alloc, &mut ring)?;
-    let [placed] = visit.packets.as_slice() else {
-        return Err(Fail::from("one packet"));
+    ring.delivered()
+}
+
+/// Whether 64 places are given out, then none, and one more when one place is delivered.
+fn fills_the_window(alloc: Global, one: &mut Ring) -> Result<bool, Refusal> {
+    let filled = fill(one, 1, 65)?;
+    let placed = place_in_bursts(alloc, one)?;
+    let none = come_round(alloc, one)?.packets == 0;
+    let delivered = deliver(one) == 1;
+    let last = come_round(alloc, one)?;
+    Ok(filled && placed && none && delivered && last.packets == 1 && last.first == Some((65, 64)))
+}
+
+fn window_ends(alloc: Global) -> Result<bool, Refusal> {
+    let mut one = ring(alloc, 1, 100, 1)?;
+    fills_the_window(alloc, &mut one)
+}
+
+#[test]
+fn window_is_full(rt: HostRuntime) {
+    assert!(rt; window_ends(rt.alloc()) == Ok(true));
+}
+
+/// Node 2 of 2 holds place 2 alone, and asks for place 1.
+fn asks_for_what_is_missing(alloc: Global) -> Result<bool, Refusal> {
+    let mut two = ring(alloc, 2, 100, 2)?;
+    let heard = hear_place(&mut two, 1, 2)?;
+    let sent = hear_token(alloc, &mut two, 2, 2)?;
+    let expected = Sent {
+        requests: 1,
+        asked: Some(1),
+        ..bare(2, 2, 0, Some(node(2)?))
     };
-    assert_eq!(rt; (placed.place, placed.entry.pid), (65, 64));
-    Ok(())
+    Ok(heard.is_none() && sent == expected)
 }
 
 #[test]
-fn missing_place_is_asked_for(rt: HostRuntime) -> Result<(), Fail> {
-    let alloc = rt.alloc();
-    let mut ring = Ring::new(alloc, settings(2, 100, 100), node(2)?)?;
-    assert_eq!(rt; hear(&mut ring, packet(1, 2)?), None);
-    let visit = hear_token(alloc, &mut ring, 2, 2)?;
-    assert!(rt; visit.packets.as_slice().is_empty());
-    let mut wanted = token(alloc, 2, 2, 0);
-    wanted.aru_id = Some(node(2)?);
-    wanted.rtr = Places::from_slice(alloc, &[1])?;
-    assert_eq!(rt; visit.token, wanted);
-    Ok(())
+fn missing_place_is_asked_for(rt: HostRuntime) {
+    assert!(rt; asks_for_what_is_missing(rt.alloc()) == Ok(true));
 }
 
-#[test]
-fn queue_is_full(rt: HostRuntime) -> Result<(), Fail> {
-    let alloc = rt.alloc();
-    let mut ring = Ring::new(alloc, settings(1, 100, 100), node(1)?)?;
-    fill(&mut ring, 1, 256)?;
-    match ring.enqueue(leave(1, 256)?) {
-        Ok(()) => return Err(Fail::from("a full queue")),
-        Err(refused) => {
-            assert_eq!(rt; refused.refusal, Refusal::QueueFull);
-            assert_eq!(rt; refused.back, leave(1, 256)?);
-        }
+/// Whether one call more is given back.
+fn gives_back(one: &mut Ring) -> Result<bool, Refusal> {
+    match one.enqueue(leave(1, 256)?) {
+        Ok(()) => Ok(false),
+        Err(refused) => Ok(refused.refusal == Refusal::QueueFull && refused.back.pid == 256),
     }
+}
+
+/// Whether an end still waits, as the last of 257.
+fn takes_an_end(one: &mut Ring) -> Result<bool, Refusal> {
     let mut end = leave(1, 257)?;
     end.op = Op::Gone;
-    assert!(rt; ring.enqueue_end(end).is_ok());
-    assert_eq!(rt; ring.waiting(), 257);
-    Ok(())
+    let taken = one.enqueue_end(end).is_ok();
+    Ok(taken && one.waiting() == 257)
+}
+
+fn queue_ends(alloc: Global) -> Result<bool, Refusal> {
+    let mut one = ring(alloc, 1, 100, 1)?;
+    let filled = fill(&mut one, 1, 256)?;
+    let back = gives_back(&mut one)?;
+    let end = takes_an_end(&mut one)?;
+    Ok(filled && back && end)
 }
 
 #[test]
-fn data_refused(rt: HostRuntime) -> Result<(), Fail> {
-    let alloc = rt.alloc();
-    let mut ring = Ring::new(alloc, settings(2, 100, 100), node(2)?)?;
-    for (number, place, refusal) in [
+fn queue_is_full(rt: HostRuntime) {
+    assert!(rt; queue_ends(rt.alloc()) == Ok(true));
+}
+
+/// Whether packets of those rings and places are refused for those reasons, one after the other.
+fn refuses(two: &mut Ring, rows: &[(u32, u32, Option<Refusal>)]) -> Result<bool, Refusal> {
+    for (number, place, refusal) in rows {
+        if hear_place(two, *number, *place)? != *refusal {
+            return Ok(false);
+        }
+    }
+    Ok(true)
+}
+
+/// Whether a token that is behind what is held, or past the ring's places, is implausible.
+fn doubts(alloc: Global, two: &mut Ring) -> bool {
+    let behind = hear_token(alloc, two, 63, 0).err();
+    let past = hear_token(alloc, two, 101, 0).err();
+    behind == Some(Refusal::Implausible) && past == Some(Refusal::Implausible)
+}
+
+fn refuses_data(alloc: Global) -> Result<bool, Refusal> {
+    let mut two = ring(alloc, 2, 100, 2)?;
+    let rows = [
         (9, 1, Some(Refusal::Foreign)),
         (1, 101, Some(Refusal::Implausible)),
         (1, 65, Some(Refusal::FarAhead)),
         (1, 64, None),
         (1, 64, Some(Refusal::Held)),
-    ] {
-        assert_eq!(rt; hear(&mut ring, packet(number, place)?), refusal);
-    }
-    for seq in [63, 101] {
-        let refusal = hear_token(alloc, &mut ring, seq, 0).err();
-        assert_eq!(rt; refusal, Some(Refusal::Implausible));
-    }
-    Ok(())
+    ];
+    let refused = refuses(&mut two, rows.as_slice())?;
+    Ok(refused && doubts(alloc, &mut two))
+}
+
+#[test]
+fn data_refused(rt: HostRuntime) {
+    assert!(rt; refuses_data(rt.alloc()) == Ok(true));
 }
 
 /// Place 65 is in the slot that place 1 left, and place 129 has the same slot.
-#[test]
-fn window_moves_on(rt: HostRuntime) -> Result<(), Fail> {
-    let alloc = rt.alloc();
-    let mut ring = Ring::new(alloc, settings(2, 200, 100), node(2)?)?;
-    let far = hear(&mut ring, packet(1, 65)?);
-    assert_eq!(rt; far, Some(Refusal::FarAhead));
-    assert_eq!(rt; hear(&mut ring, packet(1, 1)?), None);
-    deliver(&rt, &mut ring, 1)?;
-    for (place, refusal) in [
-        (65, None),
-        (65, Some(Refusal::Held)),
-        (1, Some(Refusal::Held)),
-        (129, Some(Refusal::FarAhead)),
-    ] {
-        assert_eq!(rt; hear(&mut ring, packet(1, place)?), refusal);
-    }
-    Ok(())
+fn moves_its_window(alloc: Global) -> Result<bool, Refusal> {
+    let mut two = ring(alloc, 2, 200, 2)?;
+    let before = [(1, 65, Some(Refusal::FarAhead)), (1, 1, None)];
+    let after = [
+        (1, 65, None),
+        (1, 65, Some(Refusal::Held)),
+        (1, 1, Some(Refusal::Held)),
+        (1, 129, Some(Refusal::FarAhead)),
+    ];
+    let first = refuses(&mut two, before.as_slice())?;
+    let delivered = deliver(&mut two) == 1;
+    let then = refuses(&mut two, after.as_slice())?;
+    Ok(first && delivered && then)
 }
 
-/// The next place is held, and it is that one; then it is delivered.
-fn deliver(rt: &impl Abort, ring: &mut Ring, place: u32) -> Result<(), Fail> {
-    if ring.next_place().is_none() {
-        return Err(Fail::from("a place that is held"));
-    }
-    ring.advance();
-    assert_eq!(rt; ring.delivered(), place);
-    Ok(())
+#[test]
+fn window_moves_on(rt: HostRuntime) {
+    assert!(rt; moves_its_window(rt.alloc()) == Ok(true));
 }
 
-/// The second node misses place 1, asks for it, and gets it again; then the safe mark rises round the
-/// ring.
-#[test]
-fn lost_frame(rt: HostRuntime) -> Result<(), Fail> {
-    let alloc = rt.alloc();
-    let mut one = Ring::new(alloc, settings(2, 4096, 100), node(1)?)?;
-    let mut two = Ring::new(alloc, settings(2, 4096, 100), node(2)?)?;
-    assert!(rt; one.resend().is_none());
-    assert!(rt; two.resend().is_some());
-    fill(&mut one, 1, 2)?;
-    let first = pass(alloc, &two, &mut one)?;
-    assert_eq!(rt; first.token, token(alloc, 1, 2, 2));
-    let [_, second] = first.packets.as_slice() else {
-        return Err(Fail::from("two packets"));
+/// Node 2 misses place 1, asks for it, and gets it again.
+fn asks_and_gets(alloc: Global, one: &mut Ring, two: &mut Ring) -> Result<bool, Refusal> {
+    let second = Some(node(2)?);
+    let filled = fill(one, 1, 2)?;
+    let (first, heard) = pass_on(alloc, one, two, 1)?;
+    let nothing = two.next_place().is_none();
+    let asking = pass(alloc, one, two)?;
+    let (again, heard_again) = pass_on(alloc, one, two, 0)?;
+    let sent = Sent {
+        packets: 2,
+        first: Some((1, 0)),
+        ..bare(1, 2, 2, None)
     };
-    assert_eq!(rt; hear(&mut two, second.copy(alloc)?), None);
-    assert!(rt; two.next_place().is_none());
-
-    let visit = pass(alloc, &one, &mut two)?;
-    let mut wanted = token(alloc, 2, 2, 0);
-    wanted.aru_id = Some(node(2)?);
-    wanted.rtr = Places::from_slice(alloc, &[1])?;
-    assert_eq!(rt; visit.token, wanted);
-
-    let visit = pass(alloc, &two, &mut one)?;
-    let mut wanted = token(alloc, 3, 2, 0);
-    wanted.aru_id = Some(node(2)?);
-    assert_eq!(rt; visit.token, wanted);
-    let [again] = visit.packets.as_slice() else {
-        return Err(Fail::from("one packet"));
+    let asked = Sent {
+        requests: 1,
+        asked: Some(1),
+        ..bare(2, 2, 0, second)
     };
-    assert_eq!(rt; hear(&mut two, again.copy(alloc)?), None);
-    deliver(&rt, &mut two, 1)?;
-    deliver(&rt, &mut two, 2)?;
-    assert!(rt; two.next_place().is_none());
+    let served = Sent {
+        packets: 1,
+        first: Some((1, 0)),
+        ..bare(3, 2, 0, second)
+    };
+    Ok(
+        filled
+            && heard
+            && nothing
+            && heard_again
+            && first == sent
+            && asking == asked
+            && again == served,
+    )
+}
 
-    let visit = pass(alloc, &one, &mut two)?;
-    assert_eq!(rt; visit.token, token(alloc, 4, 2, 2));
-    assert_eq!(rt; (one.safe(), two.safe()), (0, 0));
-    pass(alloc, &two, &mut one)?;
-    assert_eq!(rt; one.safe(), 0);
-    pass(alloc, &one, &mut two)?;
-    assert_eq!(rt; two.safe(), 2);
-    pass(alloc, &two, &mut one)?;
-    assert_eq!(rt; one.safe(), 2);
-    Ok(())
+/// Node 2 delivers both places, and the safe mark rises as the token goes round.
+fn rises_to_safe(alloc: Global, one: &mut Ring, two: &mut Ring) -> Result<bool, Refusal> {
+    let delivered = deliver(two) == 1 && deliver(two) == 2 && two.next_place().is_none();
+    let whole = pass(alloc, one, two)? == bare(4, 2, 2, None);
+    let early = one.safe() == 0 && two.safe() == 0;
+    pass(alloc, two, one)?;
+    let later = one.safe() == 0;
+    pass(alloc, one, two)?;
+    let of_two = two.safe() == 2;
+    pass(alloc, two, one)?;
+    Ok(delivered && whole && early && later && of_two && one.safe() == 2)
+}
+
+fn recovers(alloc: Global) -> Result<bool, Refusal> {
+    let mut one = ring(alloc, 2, 4096, 1)?;
+    let mut two = ring(alloc, 2, 4096, 2)?;
+    let new = one.resend().is_none() && two.resend().is_some();
+    let got = asks_and_gets(alloc, &mut one, &mut two)?;
+    let safe = rises_to_safe(alloc, &mut one, &mut two)?;
+    Ok(new && got && safe)
 }
 
 #[test]
-fn settings_out_of_range(rt: HostRuntime) -> Result<(), Fail> {
+fn lost_frame(rt: HostRuntime) {
+    assert!(rt; recovers(rt.alloc()) == Ok(true));
+}
+
+/// Whether there is no such ring.
+fn is_out_of_range(alloc: Global, nodes: u8, places: u32, hops: u64, number: u8) -> bool {
+    match NodeId::new(number) {
+        Some(node) => {
+            Ring::new(alloc, settings(nodes, places, hops), node).err() == Some(Refusal::Range)
+        }
+        None => false,
+    }
+}
+
+/// Whether a ring of those settings is new.
+fn begins(alloc: Global, nodes: u8, places: u32, hops: u64) -> Result<bool, Refusal> {
+    let ring = Ring::new(alloc, settings(nodes, places, hops), node(1)?)?;
+    Ok(ring.delivered() == 0 && ring.waiting() == 0 && ring.safe() == 0)
+}
+
+#[test]
+fn settings_out_of_range(rt: HostRuntime) {
     let alloc = rt.alloc();
-    for (nodes, places, hops) in [
-        (0, 100, 100),
-        (9, 100, 100),
-        (2, 0, 100),
-        (2, MOST_PLACES + 1, 100),
-        (2, 100, 0),
-        (2, 100, MOST_HOPS + 1),
+    for (nodes, places, hops, number) in [
+        (0, 100, 100, 1),
+        (9, 100, 100, 1),
+        (2, 0, 100, 1),
+        (2, MOST_PLACES + 1, 100, 1),
+        (2, 100, 0, 1),
+        (2, 100, MOST_HOPS + 1, 1),
+        (2, 100, 100, 3),
     ] {
-        let refusal = Ring::new(alloc, settings(nodes, places, hops), node(1)?).err();
-        assert_eq!(rt; refusal, Some(Refusal::Range));
+        assert!(rt; is_out_of_range(alloc, nodes, places, hops, number));
     }
-    let stranger = Ring::new(alloc, settings(2, 100, 100), node(3)?).err();
-    assert_eq!(rt; stranger, Some(Refusal::Range));
-    for (nodes, places, hops) in [(1, 1, 1), (8, MOST_PLACES, MOST_HOPS)] {
-        let ring = Ring::new(alloc, settings(nodes, places, hops), node(1)?)?;
-        assert_eq!(rt; (ring.delivered(), ring.waiting(), ring.safe()), (0, 0, 0));
-    }
-    Ok(())
+    assert!(rt; begins(alloc, 1, 1, 1) == Ok(true));
+    assert!(rt; begins(alloc, 8, MOST_PLACES, MOST_HOPS) == Ok(true));
 }
 
 /// The entry's process at a place of a plain list.
@@ -345,7 +505,7 @@ fn hold_ahead(
     plain: &mut Vec<(u32, u32)>,
     ahead: u32,
     pid: u32,
-) -> Result<(), Fail> {
+) -> Result<(), Refusal> {
     if ahead < 1 || ahead > WINDOW {
         return Ok(());
     }
@@ -367,21 +527,34 @@ fn advance_if_held(held: &mut Held) {
     }
 }
 
-/// Over a long mixed run the slots hold what a plain list of places holds.
-#[test]
-fn as_a_plain_list(rt: HostRuntime) -> Result<(), Fail> {
-    let alloc = rt.alloc();
+/// One step of a mixed run; whether the slots then hold what a plain list of places holds.
+fn step_agrees(held: &mut Held, plain: &mut Vec<(u32, u32)>, step: u32) -> Result<bool, Refusal> {
+    let mixed = step.wrapping_mul(2654435761) >> 16;
+    let ahead = if step % 4 == 0 { 1 } else { mixed % 72 };
+    hold_ahead(held, plain, ahead, step)?;
+    if step % 3 == 0 {
+        advance_if_held(held);
+    }
+    Ok(agrees(held, plain.as_slice(), mixed % 200))
+}
+
+/// Whether they agree after each of 600 steps, by which the window moved on far.
+fn agree_throughout(held: &mut Held, plain: &mut Vec<(u32, u32)>) -> Result<bool, Refusal> {
+    for step in 0..600u32 {
+        if !step_agrees(held, plain, step)? {
+            return Ok(false);
+        }
+    }
+    Ok(held.delivered() > 2 * WINDOW)
+}
+
+fn holds_as_a_plain_list(alloc: Global) -> Result<bool, Refusal> {
     let mut held = Held::new(alloc)?;
     let mut plain = Vec::new(alloc);
-    for step in 0..600u32 {
-        let mixed = step.wrapping_mul(2654435761) >> 16;
-        let ahead = if step % 4 == 0 { 1 } else { mixed % 72 };
-        hold_ahead(&mut held, &mut plain, ahead, step)?;
-        if step % 3 == 0 {
-            advance_if_held(&mut held);
-        }
-        assert!(rt; agrees(&held, &plain, mixed % 200));
-    }
-    assert!(rt; held.delivered() > 2 * WINDOW);
-    Ok(())
+    agree_throughout(&mut held, &mut plain)
+}
+
+#[test]
+fn as_a_plain_list(rt: HostRuntime) {
+    assert!(rt; holds_as_a_plain_list(rt.alloc()) == Ok(true));
 }
