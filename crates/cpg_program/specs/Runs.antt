@@ -1,6 +1,7 @@
 -- what a run of the program prints of a script, and how it ends
 use Rattle.std.specs.Prelude.{ℕ, ◌≡◌, ◌≤◌, Bool, true, false, List, length, Option, Some, None, Result, Ok, Err}
 use Rattle.cpg_cred.specs.declared.refusals.Refusal.TheVariants.{Write}
+use Rattle.cpg_text.specs.declared.streams.TheConstants.{MOST_BYTES}
 use Rattle.cpg_script.specs.declared.faults.Fault.{Fault}
 use Rattle.cpg_accept.specs.Accepting as accept
 use Rattle.cpg_console.specs.Judging as judge
@@ -15,9 +16,9 @@ status_after (Some fault) = 1
 
 -- what a run writes of a script to standard output: all of its text, or after a fault what that fault leaves
 abbrev pub Prints : Run → List ℕ → Option Fault → Option (List ℕ) → Option (List ℕ) → Type 0
-Prints Judge script None old new = (length script ≤ 16777216) × judge.IsWritten (entries_of_script script) old new
+Prints Judge script None old new = (length script ≤ MOST_BYTES) × judge.IsWritten (entries_of_script script) old new
 Prints Judge script (Some fault) old new = (fault.part ≡ None) × judge.Leaves (entries_of_script script) fault.refusal old new
-Prints Accept script None old new = (length script ≤ 16777216) × accept.IsWritten (accept.admitted_by script) old new
+Prints Accept script None old new = (length script ≤ MOST_BYTES) × accept.IsWritten (accept.admitted_by script) old new
 Prints Accept script (Some fault) old new = accept.Ends script fault old new
 
 -- the fault of a script, where it has one
