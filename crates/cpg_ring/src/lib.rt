@@ -17,7 +17,7 @@ pub use cpg_cred::MOST_NODES;
 pub use cpg_entry::{
     Entry, Frame, MOST_HOPS, MOST_PLACES, MOST_REQUESTS, NodeId, Packet, Refusal, Token,
 };
-pub use ring::Ring;
+pub use ring::{Ring, are_settings};
 pub use settings::{BURST, MOST_WAITING, Settings, WINDOW};
 pub use theorem::{every_packet, every_place, every_schedule, every_visit, limits};
 pub use visit::{Packets, Visit};

@@ -53,7 +53,8 @@ impl Model for Ring {
     ghost invariant = { λ a. IsRing a.settings a.node a.held a.last_token };
 }
 
-fn allows(settings: &Settings) -> bool
+/// Whether each setting is in its range.
+pub fn are_settings(settings: &Settings) -> bool
     ensures { IsTrue result ↔ IsSettings settings.now }
 {
     settings.nodes >= 1
@@ -70,7 +71,7 @@ impl Ring {
     pub fn new(alloc: Global, settings: Settings, node: NodeId) -> Result<Ring, Refusal>
         ensures { IsMade settings node result }
     {
-        if !allows(&settings) || node.get() > settings.nodes {
+        if !are_settings(&settings) || node.get() > settings.nodes {
             return Err(Refusal::Range);
         }
         let held = Held::new(alloc)?;

@@ -1,27 +1,30 @@
 -- What holds of every run of events from a world that was reached.
-use Rattle.std.specs.Prelude.{◌≡◌, ◌≢◌, ◌⊎◌, ◌↔◌, ℕ, suc, ◌+◌, ◌<◌, ◌≤◌, List, [], ◌∷◌, ◌++◌, length, map, take, drop, Option, Some, None, IsSome, Result, Ok, Err, IsErr, slice_get, if◌then◌else◌, ◌==◌, ◌&&◌, false}
+use Rattle.std.specs.Prelude.{◌≡◌, ◌≢◌, ◌⊎◌, ◌↔◌, ℕ, ◌≤◌, List, [], ◌∷◌, ◌++◌, length, take, Option, Some, None, Ok, Err, slice_get, if◌then◌else◌, ◌==◌, ◌&&◌, false}
 use Rattle.std.specs.List.{Contains}
 use Rattle.cpg_cred.specs.declared.bases.By.{By}
 use Rattle.cpg_cred.specs.declared.bases.By.TheVariants as by
 use Rattle.cpg_cred.specs.declared.credentials.Cred.{Cred}
 use Rattle.cpg_cred.specs.Listed.{Listed}
-use Rattle.cpg_cred.specs.declared.refusals.Refusal.TheVariants.{Access, Denied}
-use Rattle.cpg_record.specs.declared.connections.ConnId.{ConnId}
+use Rattle.cpg_cred.specs.declared.refusals.Refusal.TheVariants.{Access, NoConnection, Denied}
+use Rattle.cpg_rules.specs.declared.rules.Effect.TheVariants.{Deny}
+use Rattle.cpg_rules.specs.declared.rules.Right.TheVariants as right
 use Rattle.cpg_record.specs.declared.events.Event.{Event}
+use Rattle.cpg_record.specs.declared.events.Event.TheVariants as event
 use Rattle.cpg_record.specs.declared.records.Record.{Record}
-use Rattle.cpg_record.specs.Events.{inbox}
 use Rattle.cpg_record.specs.Judging.{judged, record_of}
-use Rattle.cpg_record.specs.Laws.{LeavesAll}
+use Rattle.cpg_record.specs.Laws.{InGroup, LeavesAll}
 use Rattle.cpg_record.specs.Membership.{is_allowed}
-use Rattle.cpg_ring.specs.States.{Entry, Frame, Refusal}
-use Rattle.cpg_ring.specs.declared.settings.Settings.{Settings}
+use Rattle.cpg_record.specs.Places.{records_before}
+use Rattle.cpg_record.specs.Reasons.{Says}
+use Rattle.cpg_record.specs.Receiving.{IsSent}
+use Rattle.cpg_record.specs.RuleTables.{rules_of}
+use Rattle.cpg_ring.specs.States.{Entry, Frame}
 use Rattle.cpg_ring.specs.Worlds.{item, agreed}
 use Rattle.cpg_ring.specs.Claims.{Chain, Safe, by_node, waiting_at}
 use Rattle.cpg_node.specs.declared.connections.Client.{Client}
-use Rattle.cpg_node.specs.Nodes.{NodeValue, records_of, inbox_of}
+use Rattle.cpg_node.specs.Nodes.{NodeValue, records_of, inbox_of, conn_id, open_client, asker_by}
 use Rattle.cpg_world_laws.specs.declared.events.WorldEvent.{WorldEvent}
-use Rattle.cpg_world_laws.specs.declared.events.WorldEvent.TheVariants.{Connect, Submit, Disconnect, Frame as Arrival, Timer, Deliver, Take, List as Listing, Groups}
-use Rattle.cpg_world_laws.specs.declared.replies.Reply.{Reply}
+use Rattle.cpg_world_laws.specs.declared.events.WorldEvent.TheVariants.{Connect, Take, List as Listing}
 use Rattle.cpg_world_laws.specs.declared.replies.Reply.TheVariants as reply
 use Rattle.cpg_world_laws.specs.Worlds.{WorldValue, happens, runs, admits, node_in, ring_world}
 use Rattle.cpg_world_laws.specs.Replies.{Answer, AtEach}
@@ -34,6 +37,20 @@ IsLetIn list cred = (cred.uid ≡ 0) ⊎ ((cred.gid ≡ 0) ⊎ ((Contains list.u
 abbrev pub IsJustAdmission : WorldValue → WorldEvent → Answer → Type 0
 IsJustAdmission w (Connect n pid cred) a = (a ≡ Err Access) ↔ ¬ IsLetIn w.list cred
 IsJustAdmission w e a = Unit {0}
+
+-- the rules' first that speaks of a listing by that connection denies it, and is named
+abbrev pub IsDeniedByRule : NodeValue → List ℕ → By → Option Client → Type 0
+IsDeniedByRule x g basis None = ⊥
+IsDeniedByRule x g basis (Some c) = (id : ℕ) × (basis ≡ by.Rule id) × Says (rules_of (records_of x) g) right.List (asker_by x c) Deny (by.Rule id)
+
+abbrev pub IsDeniedAt : Option NodeValue → ℕ → List ℕ → By → Type 0
+IsDeniedAt None conn g basis = ⊥
+IsDeniedAt (Some x) conn g basis = IsDeniedByRule x g basis (open_client x conn)
+
+-- Listings: of a List, that a denial names the rule that decided, never a default.
+abbrev pub IsJustListing : WorldValue → WorldEvent → Answer → Type 0
+IsJustListing w (Listing n conn g) a = (basis : By) → a ≡ Err (Denied basis) → IsDeniedAt (item w.nodes n) conn g basis
+IsJustListing w e a = Unit {0}
 
 -- a refused event leaves the world as it was
 abbrev pub ChangesNothing : WorldValue → WorldEvent → Answer → Type 0
@@ -62,6 +79,16 @@ taken_in (Some c) = c.taken
 abbrev pub had : Option NodeValue → ℕ → List Event
 had None conn = []
 had (Some x) conn = take (taken_in (item x.clients conn)) (inbox_of x conn)
+
+-- all events for the connection over what its node delivered
+abbrev pub inbox_at : Option NodeValue → ℕ → List Event
+inbox_at None conn = []
+inbox_at (Some x) conn = inbox_of x conn
+
+-- Inboxes: of a Take by an open connection, that it is answered None exactly where the connection had all of its inbox.
+abbrev pub EndsExactly : WorldValue → WorldEvent → Answer → Type 0
+EndsExactly w (Take n conn) a = a ≢ Err NoConnection → ((a ≡ Ok (reply.Took None)) ↔ (had (item w.nodes n) conn ≡ inbox_at (item w.nodes n) conn))
+EndsExactly w e a = Unit {0}
 
 -- what an answer to Take gives
 abbrev pub given_by : Answer → List Event
@@ -93,6 +120,13 @@ admitted w n (e ∷ es) = admits_at n e (item w.nodes n) ++ admitted (happens w 
 abbrev pub entries_of : WorldValue → ℕ → List Entry
 entries_of w n = by_node n (agreed w.sent) ++ waiting_at (item (ring_world w).nodes n)
 
+-- The inboxes of a node have exactly the messages that members of a group were allowed to send at the places that it delivered, each for
+-- the connections that were in the group then.
+abbrev pub InboxesAreExact : NodeValue → Type 0
+InboxesAreExact x = (conn place : ℕ) (g : List ℕ) (node pid : ℕ) (message : List ℕ) →
+    Contains (inbox_of x conn) (event.Message place g node pid message)
+    ↔ (IsSent (records_of x) place g node pid message × InGroup (records_before (records_of x) place) (conn_id x conn) g)
+
 -- What is true of every world that is reached.
 pub record IsTrueWorld (w : WorldValue) : Type 0 where
   -- copies apart, one token for each hop, of which the last alone can be accepted, by one node
@@ -101,6 +135,8 @@ pub record IsTrueWorld (w : WorldValue) : Type 0 where
   pub judged_alike : (n : ℕ) (x : NodeValue) → item w.nodes n ≡ Some x → IsAgreed w.sent x
   -- by the rules before it
   pub by_rules_before : JudgedByThoseBefore (judged (agreed w.sent))
+  -- a process receives exactly the allowed messages of members placed while it was joined
+  pub receives : (n : ℕ) (x : NodeValue) → item w.nodes n ≡ Some x → InboxesAreExact x
   -- a denial changes nothing
   pub denials : DenialsChangeNothing (judged (agreed w.sent))
   -- all nodes hold all places up to any node's safe mark
@@ -112,6 +148,10 @@ pub record IsTrueRun (w : WorldValue) (events : List WorldEvent) (answers : List
   pub admission : AtEach IsJustAdmission w events answers
   -- a connection has received a front of its inbox, item by item
   pub received : (n conn : ℕ) → had (item w.nodes n) conn ++ given n conn events answers ≡ had (item (runs w events).nodes n) conn
+  -- and a take answers none exactly where that is all of it
+  pub ends : AtEach EndsExactly w events answers
+  -- a listing is denied by a rule that is named
+  pub listings : AtEach IsJustListing w events answers
   -- a node's entries take places in the order in which they were admitted, each once
   pub in_order : (n : ℕ) → entries_of (runs w events) n ≡ entries_of w n ++ admitted w n events
   -- a refused event leaves the world as it was

@@ -11,8 +11,8 @@ ghost use Rattle.cpg_world_laws.specs.Replies.{Answer, AreReplies};
 ghost use Rattle.cpg_world_laws.specs.Claims.{IsTrueWorld, IsTrueRun};
 
 use cpg_record::laws::{
-    denial_changes_nothing, each_entry_is_judged, each_is_judged_by_those_before,
-    prefixes_are_judged_alike,
+    denial_changes_nothing, denied_listings_name_their_rule, each_entry_is_judged,
+    each_is_judged_by_those_before, prefixes_are_judged_alike, receives_exactly,
 };
 use cpg_ring::every_schedule;
 
@@ -26,4 +26,6 @@ pub fn every_run()
     each_entry_is_judged();
     each_is_judged_by_those_before();
     denial_changes_nothing();
+    receives_exactly();
+    denied_listings_name_their_rule();
 }

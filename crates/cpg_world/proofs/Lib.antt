@@ -1,0 +1,4 @@
+pub mod Stepping
+pub mod Sending
+pub mod Hearing
+pub mod Running

@@ -1,0 +1,92 @@
+-- What a take and a listing are answered.
+use Rattle.std.proofs.Common.{◌≡◌, ◌≢◌, ◌↔◌, Bool, true, false, ℕ, zero, suc, List, [], ◌∷◌, take, Option, Some, None, Result, Ok, Err, refl, sym, ap, ◌∙◌, slice_get, if◌then◌else◌}
+use Rattle.std.proofs.lemmas.Option.{none-some}
+use Rattle.cpg_cred.specs.declared.bases.By.{By}
+use Rattle.cpg_cred.specs.declared.refusals.Refusal.TheVariants.{NoConnection, Denied}
+use Rattle.cpg_record.specs.declared.events.Event.{Event}
+use Rattle.cpg_record.specs.Reasons.{DeniedListingsNameTheirRule}
+use Rattle.cpg_ring.specs.Worlds.{item}
+use Rattle.cpg_node.specs.declared.connections.Client.{Client}
+use Rattle.cpg_node.specs.Nodes.{NodeValue, records_of, inbox_of, asker_by, open_client, if_open}
+use Rattle.cpg_node.specs.Calls.{next_event, list_for}
+use Rattle.cpg_world_laws.specs.declared.events.WorldEvent.{WorldEvent}
+use Rattle.cpg_world_laws.specs.declared.events.WorldEvent.TheVariants.{Connect, Submit, Disconnect, Frame as Arrival, Timer, Deliver, Take, List as Listing, Groups}
+use Rattle.cpg_world_laws.specs.declared.replies.Reply.TheVariants as reply
+use Rattle.cpg_world_laws.specs.Worlds.{WorldValue}
+use Rattle.cpg_world_laws.specs.Replies.{Answer, take_answer, listing_answer, list_answer, IsAnswerOf, IsReply}
+use Rattle.cpg_world_laws.specs.Claims.{IsDeniedByRule, IsDeniedAt, IsJustListing, taken_in, had, inbox_at, EndsExactly}
+use Rattle.cpg_world_laws.proofs.Projecting.{Numbered}
+
+-- nothing is at a place past the end, and then all is taken
+all_taken : {X : Type 0} (xs : List X) (i : ℕ) → slice_get xs i ≡ None → take i xs ≡ xs
+all_taken [] zero h = refl
+all_taken [] (suc i) h = refl
+all_taken (x ∷ xs) zero h = absurd (none-some x (sym h))
+all_taken (x ∷ xs) (suc i) h = ap (λ l. x ∷ l) (all_taken xs i h)
+
+abbrev tail_of : {X : Type 0} → List X → List X
+tail_of [] = []
+tail_of (x ∷ xs) = xs
+
+no_more : {X : Type 0} (xs : List X) (i : ℕ) → take i xs ≡ xs → slice_get xs i ≡ None
+no_more [] zero h = refl
+no_more [] (suc i) h = refl
+no_more (x ∷ xs) zero h = absurd cc
+no_more (x ∷ xs) (suc i) h = no_more xs i (ap tail_of h)
+
+took_none : (event : Option Event) → ◌≡◌ {A = Answer} (Ok (reply.Took event)) (Ok (reply.Took None)) → event ≡ None
+took_none event h = cc
+
+-- the open connection is the one that took so many events
+as_taken : (o : Option Client) (c : Client) → if_open o ≡ Some c → taken_in o ≡ c.taken
+as_taken None c h = absurd cc
+as_taken (Some d) c h = by_flag d.ended refl h
+  where
+    by_flag : (b : Bool) → d.ended ≡ b → (if b then None else Some d) ≡ Some c → d.taken ≡ c.taken
+    by_flag true is h = absurd cc
+    by_flag false is h = cc
+
+pub ends_exactly : (w : WorldValue) (e : WorldEvent) (a : Answer) → Numbered w → IsReply w e a → EndsExactly w e a
+ends_exactly w (Take n conn) a numbered answered = λ is_open. by_node is_open (item w.nodes n) answered
+  where
+    by_client : a ≢ Err NoConnection → (x : NodeValue) (o : Option Client) → open_client x conn ≡ o → a ≡ take_answer x conn o → (a ≡ Ok (reply.Took None)) ↔ (had (Some x) conn ≡ inbox_of x conn)
+    by_client is_open x None is answer = absurd (is_open answer)
+    by_client is_open x (Some c) is answer =
+        let t : taken_in (item x.clients conn) ≡ c.taken = as_taken (item x.clients conn) c is in
+        (λ h. ap (λ k. take k (inbox_of x conn)) t ∙ all_taken (inbox_of x conn) c.taken (took_none (next_event x conn c) (sym answer ∙ h)),
+         λ h. answer ∙ ap (λ event. Ok (reply.Took event)) (no_more (inbox_of x conn) c.taken (sym (ap (λ k. take k (inbox_of x conn)) t) ∙ h)))
+
+    by_node : a ≢ Err NoConnection → (o : Option NodeValue) → IsAnswerOf w.sent (Take n conn) o a → (a ≡ Ok (reply.Took None)) ↔ (had o conn ≡ inbox_at o conn)
+    by_node is_open None answer = absurd answer
+    by_node is_open (Some x) answer = by_client is_open x (open_client x conn) refl answer
+ends_exactly w (Connect n pid cred) a numbered answered = tt
+ends_exactly w (Submit n conn call) a numbered answered = tt
+ends_exactly w (Disconnect n conn) a numbered answered = tt
+ends_exactly w (Arrival n k) a numbered answered = tt
+ends_exactly w (Timer n) a numbered answered = tt
+ends_exactly w (Deliver n) a numbered answered = tt
+ends_exactly w (Listing n conn g) a numbered answered = tt
+ends_exactly w (Groups n conn) a numbered answered = tt
+
+denied_by : (r : Result (List (ℕ × ℕ)) By) (basis : By) → listing_answer r ≡ Err (Denied basis) → r ≡ Err basis
+denied_by (Ok list) basis h = absurd cc
+denied_by (Err other) basis h = cc
+
+pub just_listing : DeniedListingsNameTheirRule → (w : WorldValue) (e : WorldEvent) (a : Answer) → Numbered w → IsReply w e a → IsJustListing w e a
+just_listing law w (Listing n conn g) a numbered answered = λ basis denied. by_node basis denied (item w.nodes n) answered
+  where
+    by_client : (basis : By) → a ≡ Err (Denied basis) → (x : NodeValue) (o : Option Client) → a ≡ list_answer x g o → IsDeniedByRule x g basis o
+    by_client basis denied x None answer = absurd cc
+    by_client basis denied x (Some c) answer = (law (records_of x) (asker_by x c) g basis).0 (denied_by (list_for x c g) basis (sym answer ∙ denied))
+
+    by_node : (basis : By) → a ≡ Err (Denied basis) → (o : Option NodeValue) → IsAnswerOf w.sent (Listing n conn g) o a → IsDeniedAt o conn g basis
+    by_node basis denied None answer = absurd answer
+    by_node basis denied (Some x) answer = by_client basis denied x (open_client x conn) answer
+just_listing law w (Connect n pid cred) a numbered answered = tt
+just_listing law w (Submit n conn call) a numbered answered = tt
+just_listing law w (Disconnect n conn) a numbered answered = tt
+just_listing law w (Arrival n k) a numbered answered = tt
+just_listing law w (Timer n) a numbered answered = tt
+just_listing law w (Deliver n) a numbered answered = tt
+just_listing law w (Take n conn) a numbered answered = tt
+just_listing law w (Groups n conn) a numbered answered = tt
