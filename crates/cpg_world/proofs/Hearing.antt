@@ -1,5 +1,5 @@
 -- A frame that comes.
-use Rattle.std.proofs.Common.{◌≡◌, ℕ, zero, suc, ◌-◌, ◌<◌, ◌≤◌, List, [], ◌∷◌, ◌++◌, length, get_or, map, All, Option, Some, None, Result, Ok, Err, refl, sym, ap, ◌∙◌, subst, option_map, arith, slice_get, append-nil}
+use Rattle.std.proofs.Common.{◌≡◌, ℕ, zero, suc, ◌-◌, ◌<◌, ◌≤◌, List, [], ◌++◌, length, get_or, Option, Some, None, Ok, Err, refl, sym, ap, ◌∙◌, subst, option_map, arith, slice_get, append-nil}
 use Rattle.std.proofs.lemmas.Option.{none-some, same_Some, slice_get-get_or, slice_get-map, slice_get_past, slice_get_within, get_or_from_slice_get}
 use Rattle.std.proofs.lemmas.List.{length-map}
 use Rattle.cpg_cred.specs.declared.refusals.Refusal.{Refusal}
@@ -11,12 +11,13 @@ use Rattle.cpg_ring.specs.States.{Frame}
 use Rattle.cpg_ring.specs.Worlds.{item}
 use Rattle.cpg_node.specs.Nodes.{NodeValue}
 use Rattle.cpg_node.specs.Calls.{frame_refusal, after_frame, answers_to}
-use Rattle.cpg_node.specs.Answers.{IsFrameAnswer, spelled, CanBeSpelled}
+use Rattle.cpg_node.specs.Answers.{IsFrameAnswer, CanBeSpelled}
 use Rattle.cpg_world_laws.specs.declared.events.WorldEvent.TheVariants as events
 use Rattle.cpg_world_laws.specs.declared.replies.Reply.TheVariants as reply
 use Rattle.cpg_world_laws.specs.Worlds.{Move, unless, hears}
 use Rattle.cpg_world_laws.specs.Replies.{or_reply, frame_answer}
 use Rattle.cpg_world.specs.Kept.{frames_of, AreSpelled, IsMet}
+use Rattle.cpg_world.specs.Runs.{IsSpelledBy}
 use Rattle.cpg_world.proofs.Sending.{ReadAgain, fits_two}
 
 -- there are as many frames as byte strings
@@ -31,6 +32,7 @@ pub record There (sent : List (List ℕ)) (k : ℕ) (bytes : List ℕ) : Type 0 
   pub frame : Frame
   pub is : item (frames_of sent) k ≡ Some frame
   pub read : frame_of bytes ≡ Some frame
+  pub spells : IsSpelledBy (item (frames_of sent) k) bytes
   pub range : CanBeSpelled frame
 
 -- byte string k spells frame k
@@ -52,24 +54,26 @@ there law sent (suc i) bytes are low high at = by_frame (slice_get (frames_of se
     by_frame (Some f) is =
         let range : CanBeSpelled f = subst CanBeSpelled (get_or_from_slice_get (frames_of sent) i f f is) (are.range i f (slice_get_within (frames_of sent) i f is)) in
         let made : spelling Two f ≡ bytes = same_Some (spelling Two f) bytes (sym (ap (option_map (spelling Two)) is) ∙ mapped) in
-        record { frame = f; is = is; read = ap frame_of (sym made) ∙ law Two f range.0 range.1 (fits_two f); range = range }
+        record { frame = f; is = is; read = ap frame_of (sym made) ∙ law Two f range.0 range.1 (fits_two f); spells = subst (λ o. IsSpelledBy o bytes) (sym is) (sym made); range = range }
 
 -- a frame that is taken
 pub heard_ok : (frames : List Frame) (n k : ℕ) (x y : NodeValue) (f : Frame) (count : ℕ) (later : List Frame) → item frames k ≡ Some f → frame_refusal x f ≡ None → y ≡ after_frame x f → count ≡ length (answers_to x f) → later ≡ frames ++ answers_to x f → IsMet frames (events.Frame n k) x (Ok (reply.Sent count)) y later
 heard_ok frames n k x y f count later is none made counted more =
-    let hears_is : hears (item frames k) x ≡ (after_frame x f, answers_to x f) = ap (λ o. hears o x) is ∙ ap (λ r. unless r x (after_frame x f, answers_to x f)) none in
-    (ap (λ m. Ok (reply.Sent m)) counted ∙ sym (ap (frame_answer x) is ∙ ap (λ r. or_reply r (reply.Sent (length (answers_to x f)))) none),
-     made ∙ sym (ap (λ (m : Move). m.0) hears_is),
-     more ∙ sym (ap (λ (m : Move). frames ++ m.1) hears_is))
+    let hears_is : hears (item frames k) x ≡ (after_frame x f, answers_to x f) = ap (λ o. hears o x) is ∙ ap (λ r. unless r x (after_frame x f, answers_to x f)) none in (
+      ap (λ m. Ok (reply.Sent m)) counted ∙ sym (ap (frame_answer x) is ∙ ap (λ r. or_reply r (reply.Sent (length (answers_to x f)))) none),
+      made ∙ sym (ap (λ (m : Move). m.0) hears_is),
+      more ∙ sym (ap (λ (m : Move). frames ++ m.1) hears_is),
+    )
 
 -- a frame that is refused
 unheard : (frames : List Frame) (n k : ℕ) (x : NodeValue) (f : Frame) (why : Refusal) (y : NodeValue) → item frames k ≡ Some f → frame_refusal x f ≡ Some why → y ≡ x →
     (Err why ≡ frame_answer x (item frames k)) × (y ≡ (hears (item frames k) x).0) × (frames ≡ frames ++ (hears (item frames k) x).1)
 unheard frames n k x f why y is refuses same =
-    let hears_is : hears (item frames k) x ≡ (x, []) = ap (λ o. hears o x) is ∙ ap (λ r. unless r x (after_frame x f, answers_to x f)) refuses in
-    (sym (ap (frame_answer x) is ∙ ap (λ r. or_reply r (reply.Sent (length (answers_to x f)))) refuses),
-     same ∙ sym (ap (λ (m : Move). m.0) hears_is),
-     sym (append-nil frames) ∙ sym (ap (λ (m : Move). frames ++ m.1) hears_is))
+    let hears_is : hears (item frames k) x ≡ (x, []) = ap (λ o. hears o x) is ∙ ap (λ r. unless r x (after_frame x f, answers_to x f)) refuses in (
+      sym (ap (frame_answer x) is ∙ ap (λ r. or_reply r (reply.Sent (length (answers_to x f)))) refuses),
+      same ∙ sym (ap (λ (m : Move). m.0) hears_is),
+      sym (append-nil frames) ∙ sym (ap (λ (m : Move). frames ++ m.1) hears_is),
+    )
 
 pub heard_err : {X : Type 0} (items : X → List (List ℕ)) (frames : List Frame) (n k : ℕ) (x : NodeValue) (f : Frame) (why : Refusal) (y : NodeValue) → item frames k ≡ Some f → IsFrameAnswer items x (Some f) (Err why) y → IsMet frames (events.Frame n k) x (Err why) y frames
 heard_err items frames n k x f refusal.Memory y is h = (h, refl)

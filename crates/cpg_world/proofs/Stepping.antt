@@ -1,15 +1,15 @@
 -- What one step at a node makes of a world.
-use Rattle.std.proofs.Common.{◌≡◌, ◌⊎◌, ℕ, zero, suc, ◌-◌, ◌<◌, ◌≤◌, List, [], ◌∷◌, ◌++◌, length, get_or, set, Option, Some, None, Result, Ok, Err, refl, sym, ap, ◌∙◌, subst, inl, inr, ⊎_elim, arith, slice_get, append-nil}
+use Rattle.std.proofs.Common.{◌≡◌, ◌⊎◌, ℕ, zero, suc, ◌-◌, ◌≤◌, List, ◌++◌, length, get_or, set, Some, Ok, Err, refl, sym, ap, ◌∙◌, subst, inl, inr, ⊎_elim, arith}
 use Rattle.std.proofs.lemmas.Option.{slice_get-get_or}
 use Rattle.cpg_cred.specs.declared.refusals.Refusal.TheVariants as refusal
-use Rattle.cpg_ring.specs.States.{Frame, IsSettings}
+use Rattle.cpg_ring.specs.States.{Frame}
 use Rattle.cpg_ring.specs.Worlds.{item, with_item}
 use Rattle.cpg_node.specs.Nodes.{NodeValue}
 use Rattle.cpg_world_laws.specs.declared.events.WorldEvent.{WorldEvent}
 use Rattle.cpg_world_laws.specs.Worlds.{WorldValue, moves, moved, node_in, happens, Reached}
-use Rattle.cpg_world_laws.specs.Replies.{Answer, IsAnswerAt, IsAnswerOf, IsReply}
+use Rattle.cpg_world_laws.specs.Replies.{Answer, IsAnswerAt, IsAnswerOf}
 use Rattle.cpg_world_laws.proofs.Lists.{with_as}
-use Rattle.cpg_world_laws.proofs.Reached.{reached_on, same_settings}
+use Rattle.cpg_world_laws.proofs.Reached.{reached_on}
 use Rattle.cpg_world.specs.Kept.{IsMet}
 use Rattle.cpg_world.specs.Runs.{IsStep}
 
@@ -69,7 +69,7 @@ stepped w e a x y later reached is met = ⊎_elim memory moves_on (met_cases w.s
     refused m = unmoved (subst (λ z. IsMet w.sent e x z y later) m met)
 
     memory : (a ≡ Err refusal.Memory) × (y ≡ x) × (later ≡ w.sent) → Stepped w e a after
-    memory h = record { step = record { refused = refused; happened = λ other. absurd (other h.0) }; reached = subst Reached (sym (unmoved h.1)) reached }
+    memory h = record { step = record { refused = refused; happened = λ other. absurd (other h.0) }; reached = subst Reached (sym (unmoved (h.1, h.2))) reached }
 
     moves_on : IsAnswerAt w.sent e x a × (y ≡ (moves w.sent e x).0) × (later ≡ w.sent ++ (moves w.sent e x).1) → Stepped w e a after
     moves_on h =

@@ -31,8 +31,9 @@ fn new_node(
 {
     match NodeId::new(number) {
         None => Err(Refusal::Range),
-        Some(id) => Node::new(alloc, settings, id, list.copy(alloc)?)
-            .map_err(|refused| refusal_in(refused)),
+        Some(id) => Node::new(alloc, settings, id, list.copy(alloc)?).map_err(|refused| refusal_in(
+            refused,
+        )),
     }
 }
 

@@ -19,14 +19,26 @@ pub(crate) fn refusal_in<T: Drop>(refused: Refused<T>) -> Refusal
     refused.refusal
 }
 
-fn meet_connect(node: &mut Node, id: NodeId, pid: u32, cred: Cred, sent: &Vec<Bytes>) -> Result<Reply, Refusal>
+fn meet_connect(
+    node: &mut Node,
+    id: NodeId,
+    pid: u32,
+    cred: Cred,
+    sent: &Vec<Bytes>,
+) -> Result<Reply, Refusal>
     ensures { IsMet (frames_of sent.now.items) (events.Connect id pid cred) node.old result node.new (frames_of sent.now.items) }
 {
     let conn = node.connect(pid, cred)?;
     Ok(Reply::Connected(conn))
 }
 
-fn meet_submit(node: &mut Node, id: NodeId, conn: u16, call: Call, sent: &Vec<Bytes>) -> Result<Reply, Refusal>
+fn meet_submit(
+    node: &mut Node,
+    id: NodeId,
+    conn: u16,
+    call: Call,
+    sent: &Vec<Bytes>,
+) -> Result<Reply, Refusal>
     ensures { IsMet (frames_of sent.now.items) (events.Submit id conn call) node.old result node.new (frames_of sent.now.items) }
 {
     match node.submit(conn, call) {
@@ -35,7 +47,12 @@ fn meet_submit(node: &mut Node, id: NodeId, conn: u16, call: Call, sent: &Vec<By
     }
 }
 
-fn meet_disconnect(node: &mut Node, id: NodeId, conn: u16, sent: &Vec<Bytes>) -> Result<Reply, Refusal>
+fn meet_disconnect(
+    node: &mut Node,
+    id: NodeId,
+    conn: u16,
+    sent: &Vec<Bytes>,
+) -> Result<Reply, Refusal>
     ensures { IsMet (frames_of sent.now.items) (events.Disconnect id conn) node.old result node.new (frames_of sent.now.items) }
 {
     node.disconnect(conn)?;
@@ -56,7 +73,13 @@ fn meet_take(node: &mut Node, id: NodeId, conn: u16, sent: &Vec<Bytes>) -> Resul
     Ok(Reply::Took(event))
 }
 
-fn meet_list(node: &Node, id: NodeId, conn: u16, group: &Name, sent: &Vec<Bytes>) -> Result<Reply, Refusal>
+fn meet_list(
+    node: &Node,
+    id: NodeId,
+    conn: u16,
+    group: &Name,
+    sent: &Vec<Bytes>,
+) -> Result<Reply, Refusal>
     ensures { IsMet (frames_of sent.now.items) (events.List id conn group.now) node.now result node.now (frames_of sent.now.items) }
 {
     let list = node.list(conn, group.as_slice())?;
@@ -70,7 +93,12 @@ fn meet_groups(node: &Node, id: NodeId, conn: u16, sent: &Vec<Bytes>) -> Result<
     Ok(Reply::Groups(names))
 }
 
-fn meet_frame(node: &mut Node, id: NodeId, k: usize, sent: &mut Vec<Bytes>) -> Result<Reply, Refusal>
+fn meet_frame(
+    node: &mut Node,
+    id: NodeId,
+    k: usize,
+    sent: &mut Vec<Bytes>,
+) -> Result<Reply, Refusal>
     requires spelled { AreSpelled sent.old.items }
     ensures met { IsMet (frames_of sent.old.items) (events.Frame id k) node.old result node.new (frames_of sent.new.items) }
     ensures spelled { AreSpelled sent.new.items }
@@ -133,7 +161,11 @@ pub(crate) fn node_of(event: &WorldEvent) -> NodeId
 }
 
 /// The event at its node.
-pub(crate) fn meet(node: &mut Node, sent: &mut Vec<Bytes>, event: WorldEvent) -> Result<Reply, Refusal>
+pub(crate) fn meet(
+    node: &mut Node,
+    sent: &mut Vec<Bytes>,
+    event: WorldEvent,
+) -> Result<Reply, Refusal>
     requires spelled { AreSpelled sent.old.items }
     ensures met { IsMet (frames_of sent.old.items) event node.old result node.new (frames_of sent.new.items) }
     ensures spelled { AreSpelled sent.new.items }

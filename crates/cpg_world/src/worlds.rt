@@ -164,9 +164,10 @@ impl World {
     pub fn sent_frame(&self, number: usize) -> Option<&Bytes>
         ensures { MatchOption result (item self.now.sent number ≡ None) (λ bytes. IsSpelledBy (item self.now.sent number) bytes.now) }
     {
-        if number == 0 {
+        reads_what_is_spelled();
+        if number == 0 || number > self.sent.len() {
             return None;
         }
-        self.sent.get(number - 1)
+        Some(&self.sent[number - 1])
     }
 }

@@ -91,7 +91,7 @@ numbered_on w e numbered = by_node (item w.nodes (node_in e)) refl
         restand : Stands w m y → Stands (moved w (node_in e) (Some x) (moves w.sent e)) m y
         restand s = record { settings = s.settings; number = s.number; list = s.list }
 
-length-up_to : (n : ℕ) → length (up_to n) ≡ n
+pub length-up_to : (n : ℕ) → length (up_to n) ≡ n
 length-up_to zero = refl
 length-up_to (suc n) = let e = length-up_to n in let l = length-append (up_to n) (suc n ∷ []) in omega arith
 

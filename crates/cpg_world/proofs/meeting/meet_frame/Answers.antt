@@ -1,5 +1,5 @@
 use Rattle.bytes.specs.declared.shared.Bytes.{Bytes}
-use Rattle.std.proofs.Common.{Vec, Global, ◌≡◌, ◌≤◌, ◌<◌, ◌-◌, Option, Some, Ok, Err, IfSome, All, List, length, refl, sym, ap, ◌∙◌, ◌++◌, subst, get_or, arith}
+use Rattle.std.proofs.Common.{Vec, Global, ◌≡◌, ◌-◌, Option, Some, Ok, Err, IfSome, All, length, sym, ap, ◌∙◌, ◌++◌, subst, get_or, arith}
 use Rattle.std.proofs.lemmas.List.{length-map}
 use Rattle.cpg_wire.specs.declared.codes.Version.TheVariants.{Two}
 use Rattle.cpg_wire.specs.Reading.{frame_of}
@@ -10,7 +10,7 @@ use Rattle.cpg_node.specs.Answers.{IsFrameAnswer, CanBeSpelled}
 use Rattle.cpg_world_laws.specs.declared.events.WorldEvent.TheVariants as events
 use Rattle.cpg_world.specs.Kept.{frames_of, IsMet}
 use Rattle.cpg_world.proofs.Hearing.{none_there, unsent, There, there, heard_ok, heard_err}
-use Rattle.cpg_world.proofs.Sending.{Sent, sends}
+use Rattle.cpg_world.proofs.Sending.{sends}
 use Rattle.cpg_world.proofs.meeting.meet_frame.Goals as goal
 
 pub returns-then-k-len-clause-met : goal.returns-then-k-len-clause-met

@@ -2,9 +2,9 @@ use Rattle.std.proofs.Common.{◌≡◌, ◌≤◌, ◌-◌, List, length, get_o
 use Rattle.cpg_ring.specs.Worlds.{item, with_item}
 use Rattle.cpg_node.specs.Nodes.{NodeValue}
 use Rattle.cpg_world_laws.specs.Worlds.{WorldValue, node_in, Reached}
-use Rattle.cpg_world.specs.Kept.{frames_of, IsWorldKept}
+use Rattle.cpg_world.specs.Kept.{frames_of}
 use Rattle.cpg_world.specs.Runs.{IsStep}
-use Rattle.cpg_world.proofs.Stepping.{Stepped, stepped, with_move, set_is, item_is}
+use Rattle.cpg_world.proofs.Stepping.{stepped, set_is, item_is}
 use Rattle.cpg_world.proofs.worlds.World.step.Goals as goal
 
 pub invariant_of-self : goal.invariant_of-self
