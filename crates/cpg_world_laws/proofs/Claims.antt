@@ -1,29 +1,22 @@
 -- What holds of every world and every run, from what holds of every ring.
-use Rattle.std.proofs.Common.{◌≡◌, ◌≢◌, ◌⊎◌, ◌↔◌, ℕ, zero, suc, ◌+◌, ◌<◌, ◌≤◌, Bool, true, false, not, List, [], ◌∷◌, ◌++◌, length, map, take, drop, get_or, Option, Some, None, is_some, Result, Ok, Err, refl, sym, ap, ◌∙◌, subst, inl, inr, ⊎_elim, arith, append-nil, option_map, if◌then◌else◌, ◌==◌, nat_le, slice_get, append_assoc}
-use Rattle.std.specs.List.{Contains, list_any}
-use Rattle.std.proofs.lemmas.Bool.{cases_eq}
-use Rattle.std.proofs.lemmas.Option.{none-some, same_Some, slice_get_within, get_or_from_slice_get}
-use Rattle.cpg_cred.specs.Listed.{Listed}
-use Rattle.cpg_cred.specs.declared.credentials.Cred.{Cred}
-use Rattle.cpg_cred.specs.declared.refusals.Refusal.{Refusal}
-use Rattle.cpg_record.specs.declared.records.Record.{Record}
-use Rattle.cpg_record.specs.Judging.{judged, record_of}
+use Rattle.std.proofs.Common.{◌≡◌, ℕ, ◌≤◌, List, [], ◌∷◌, ◌++◌, length, take, Some, refl, sym, ap, ◌∙◌, subst, append-nil, option_map, append_assoc}
+use Rattle.cpg_record.specs.Judging.{judged}
 use Rattle.cpg_record.specs.Laws.{PrefixesAreJudgedAlike, EachEntryIsJudged, EachIsJudgedByThoseBefore, DenialChangesNothing}
-use Rattle.cpg_ring.specs.States.{Entry, NodeState, IsSettings}
+use Rattle.cpg_ring.specs.States.{Entry, IsSettings}
 use Rattle.cpg_ring.specs.declared.settings.Settings.{Settings}
 use Rattle.cpg_ring.specs.Worlds as ring
 use Rattle.cpg_ring.specs.Worlds.{item, with_item, start, agreed}
 use Rattle.cpg_ring.specs.Claims as claims
 use Rattle.cpg_ring.specs.Claims.{Chain, Agreement, Safe, OnceInOrder}
-use Rattle.cpg_node.specs.Nodes.{NodeValue, delivered_entries, records_of}
+use Rattle.cpg_node.specs.Nodes.{delivered_entries}
 use Rattle.cpg_world_laws.specs.declared.events.WorldEvent.{WorldEvent}
 use Rattle.cpg_world_laws.specs.Worlds.{WorldValue, happens, runs, Reached, ring_world}
 use Rattle.cpg_world_laws.specs.Replies.{Answer, AtEach, IsReply, AreReplies}
-use Rattle.cpg_world_laws.specs.Claims.{IsAgreed, JudgedByThoseBefore, DenialsChangeNothing, had, given, gives, admitted, entries_of, IsTrueWorld, IsTrueRun, IsJustAdmission, ChangesNothing}
+use Rattle.cpg_world_laws.specs.Claims.{JudgedByThoseBefore, had, given, gives, admitted, entries_of, IsTrueWorld, IsTrueRun, IsJustAdmission, ChangesNothing}
 use Rattle.cpg_world_laws.proofs.Lists.{item_map}
 use Rattle.cpg_world_laws.proofs.Growing.{delivered_are}
 use Rattle.cpg_world_laws.proofs.Projecting.{Numbered, ring_events, state_of}
-use Rattle.cpg_world_laws.proofs.Reached.{RingReached, ring_reached, reached_on, runs_ring, run_on, numbered_on, same_settings}
+use Rattle.cpg_world_laws.proofs.Reached.{RingReached, ring_reached, reached_on, runs_ring, numbered_on, same_settings}
 use Rattle.cpg_world_laws.proofs.Received.{AllAgreed, AllWithin, within_step, gift_step, within_new}
 use Rattle.cpg_world_laws.proofs.Orders.{run_admits}
 use Rattle.cpg_world_laws.proofs.Refusals.{just_admission, changes_nothing}

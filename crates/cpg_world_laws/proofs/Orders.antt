@@ -1,12 +1,12 @@
 -- What a world admits is what its ring admits.
-use Rattle.std.proofs.Common.{◌≡◌, ◌≢◌, ℕ, zero, suc, Bool, true, false, List, [], ◌∷◌, ◌++◌, map, Option, Some, None, refl, sym, ap, ◌∙◌, subst, ⊎_elim, arith, append-nil, option_map, if◌then◌else◌, ◌==◌, append_assoc, eq-eqb, ne_eqb}
+use Rattle.std.proofs.Common.{◌≡◌, ◌≢◌, ℕ, Bool, true, false, List, [], ◌∷◌, ◌++◌, map, Option, Some, None, refl, sym, ap, ◌∙◌, subst, ⊎_elim, append-nil, option_map, if◌then◌else◌, ◌==◌, append_assoc, ne_eqb}
 use Rattle.std.proofs.lemmas.Bool.{cases_eq}
 use Rattle.std.proofs.lemmas.Option.{none-some}
 use Rattle.cpg_cred.specs.declared.refusals.Refusal.{Refusal}
 use Rattle.cpg_cred.specs.declared.refusals.Refusal.TheVariants.{QueueFull}
 use Rattle.cpg_entry.specs.declared.calls.Call.{Call}
 use Rattle.cpg_entry.specs.declared.calls.Op.TheVariants.{Act, Gone}
-use Rattle.cpg_ring.specs.States.{Entry, NodeState}
+use Rattle.cpg_ring.specs.States.{Entry}
 use Rattle.cpg_ring.specs.declared.settings.Settings.{Settings}
 use Rattle.cpg_ring.specs.Moves.{is_full}
 use Rattle.cpg_ring.specs.Worlds as ring
@@ -18,10 +18,10 @@ use Rattle.cpg_node.specs.Nodes.{NodeValue, open_client, entry_by}
 use Rattle.cpg_node.specs.Calls.{submit_refusal_by, submit_refusal, call_refusal, first_of}
 use Rattle.cpg_world_laws.specs.declared.events.WorldEvent.{WorldEvent}
 use Rattle.cpg_world_laws.specs.declared.events.WorldEvent.TheVariants.{Connect, Submit, Disconnect, Frame as Arrival, Timer, Deliver, Take, List as Listing, Groups}
-use Rattle.cpg_world_laws.specs.Worlds.{WorldValue, node_in, moves, moved, happens, runs, ring_world, entry_of, if_admitted, admits}
+use Rattle.cpg_world_laws.specs.Worlds.{WorldValue, node_in, happens, ring_world, entry_of, if_admitted, admits}
 use Rattle.cpg_world_laws.specs.Claims.{admits_at, admitted}
 use Rattle.cpg_world_laws.proofs.Lists.{item_map}
-use Rattle.cpg_world_laws.proofs.Projecting.{Stands, Numbered, event_at, event_if, ring_event, ring_events, projects, state_of}
+use Rattle.cpg_world_laws.proofs.Projecting.{Numbered, event_at, event_if, ring_event, ring_events, projects, state_of}
 use Rattle.cpg_world_laws.proofs.Reached.{numbered_on, same_settings}
 
 admitted_on : (s : Settings) (w : ring.World) (n : ℕ) (a b : List ring.Event) → claims.admitted s w n (a ++ b) ≡ claims.admitted s w n a ++ claims.admitted s (ring.run s w a) n b

@@ -1,26 +1,23 @@
 -- Each event of a world is at most one event of its ring.
-use Rattle.std.proofs.Common.{◌≡◌, ℕ, zero, suc, Bool, true, false, List, [], ◌∷◌, ◌++◌, length, map, Option, Some, None, refl, sym, ap, ◌∙◌, subst, arith, append-nil, option_map, if◌then◌else◌, append_assoc}
-use Rattle.std.proofs.lemmas.Option.{none-some, same_Some}
-use Rattle.cpg_cred.specs.Listed.{Listed}
+use Rattle.std.proofs.Common.{◌≡◌, ℕ, suc, Bool, true, false, List, [], ◌∷◌, ◌++◌, map, Option, Some, None, refl, sym, ap, ◌∙◌, append-nil, option_map, if◌then◌else◌}
+use Rattle.std.proofs.lemmas.Option.{none-some}
 use Rattle.cpg_cred.specs.declared.refusals.Refusal.TheVariants.{QueueFull}
 use Rattle.cpg_entry.specs.declared.calls.Call.{Call}
-use Rattle.cpg_entry.specs.declared.calls.Op.{Op}
 use Rattle.cpg_entry.specs.declared.calls.Op.TheVariants.{Act, Gone}
 use Rattle.cpg_entry.specs.declared.frames.Frame.TheVariants as frame
 use Rattle.cpg_record.specs.declared.events.Event.{Event}
 use Rattle.cpg_ring.specs.States.{Entry, Token, Frame, Refusal, NodeState, is_held}
-use Rattle.cpg_ring.specs.declared.settings.Settings.{Settings}
-use Rattle.cpg_ring.specs.Visits.{token_refusal, visit_step}
+use Rattle.cpg_ring.specs.Visits.{token_refusal}
 use Rattle.cpg_ring.specs.Moves.{data_refusal, is_full, after_entry, after_delivery}
 use Rattle.cpg_ring.specs.Worlds as ring
 use Rattle.cpg_ring.specs.Worlds.{item, with_item, Enqueue, EnqueueEnd, Arrive, Timer as Timeout, Deliver as Delivery, enqueue, enqueue_end, receive, receive_token, receive_data, send_again, deliver}
 use Rattle.cpg_node.specs.declared.connections.Client.{Client}
 use Rattle.cpg_node.specs.Nodes.{NodeValue, open_client, entry_by}
-use Rattle.cpg_node.specs.Calls.{connect_refusal, connected, submit_refusal_by, submit_refusal, submitted, with_entry, ended_by, call_refusal, first_of, disconnected, frame_refusal, after_frame, answers_to, heard, delivered, took, taken_by, counted, next_event}
+use Rattle.cpg_node.specs.Calls.{connect_refusal, connected, submit_refusal_by, submit_refusal, with_entry, ended_by, call_refusal, first_of, after_frame, answers_to, delivered, took, taken_by, counted, next_event}
 use Rattle.cpg_world_laws.specs.declared.events.WorldEvent.{WorldEvent}
 use Rattle.cpg_world_laws.specs.declared.events.WorldEvent.TheVariants.{Connect, Submit, Disconnect, Frame as Arrival, Timer, Deliver, Take, List as Listing, Groups}
-use Rattle.cpg_world_laws.specs.Worlds.{WorldValue, Move, unless, hears, moves, node_in, moved, happens, runs, ring_world, entry_of, if_admitted, admits}
-use Rattle.cpg_world_laws.proofs.Lists.{item_map, map_with, map_with_as, with_as}
+use Rattle.cpg_world_laws.specs.Worlds.{WorldValue, Move, unless, hears, moves, node_in, moved, happens, ring_world, entry_of, if_admitted, admits}
+use Rattle.cpg_world_laws.proofs.Lists.{item_map, map_with, with_as}
 
 abbrev pub state_of : NodeValue → NodeState
 state_of x = x.ring.state

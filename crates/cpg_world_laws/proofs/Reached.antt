@@ -1,5 +1,5 @@
 -- A world that is reached is one of its ring.
-use Rattle.std.proofs.Common.{◌≡◌, ◌≢◌, ℕ, zero, suc, List, [], ◌∷◌, ◌++◌, map, Option, Some, None, refl, sym, ap, ◌∙◌, subst, ⊎_elim, arith, append-nil, option_map, append_assoc, length, length-append}
+use Rattle.std.proofs.Common.{◌≡◌, ◌≢◌, ℕ, zero, suc, List, [], ◌∷◌, ◌++◌, Option, Some, None, refl, sym, ap, ◌∙◌, subst, ⊎_elim, arith, option_map, length, length-append}
 use Rattle.std.proofs.lemmas.Option.{none-some, same_Some, slice_get-map}
 use Rattle.cpg_cred.specs.Listed.{Listed}
 use Rattle.cpg_cred.specs.declared.refusals.Refusal.{Refusal}
@@ -14,8 +14,8 @@ use Rattle.cpg_ring.specs.Worlds.{item, with_item, start}
 use Rattle.cpg_ring.proofs.Lists.{with_item_cases, get_push_cases}
 use Rattle.cpg_node.specs.declared.connections.Client.{Client}
 use Rattle.cpg_node.specs.Nodes.{NodeValue, new_value, open_client}
-use Rattle.cpg_node.specs.Calls.{connect_refusal, connected, submit_refusal, submitted, with_entry, ended_by, disconnected, frame_refusal, after_frame, answers_to, took, taken_by, counted, next_event}
-use Rattle.cpg_entry.specs.declared.calls.Op.TheVariants.{Act, Gone}
+use Rattle.cpg_node.specs.Calls.{connect_refusal, connected, submit_refusal, submitted, with_entry, ended_by, frame_refusal, after_frame, answers_to, taken_by, counted, next_event}
+use Rattle.cpg_entry.specs.declared.calls.Op.TheVariants.{Act}
 use Rattle.cpg_world_laws.specs.declared.events.WorldEvent.{WorldEvent}
 use Rattle.cpg_world_laws.specs.declared.events.WorldEvent.TheVariants.{Connect, Submit, Disconnect, Frame as Arrival, Timer, Deliver, Take, List as Listing, Groups}
 use Rattle.cpg_world_laws.specs.Worlds.{WorldValue, Move, unless, hears, moves, node_in, moved, happens, runs, new_world, Reached, ring_world}

@@ -1,12 +1,12 @@
 -- What connections take is a front of their inboxes.
-use Rattle.std.proofs.Common.{◌≡◌, ◌≢◌, ℕ, zero, suc, ◌+◌, ◌<◌, ◌≤◌, Bool, true, false, ◌&&◌, List, [], ◌∷◌, ◌++◌, length, map, take, drop, Option, Some, None, Result, Ok, Err, refl, sym, ap, ◌∙◌, subst, ⊎_elim, arith, append-nil, option_map, if◌then◌else◌, ◌==◌, slice_get, length-append, append_assoc, take-append-drop, eq-eqb, eqb-true, ne_eqb}
+use Rattle.std.proofs.Common.{◌≡◌, ◌≢◌, ℕ, zero, suc, ◌<◌, ◌≤◌, Bool, true, false, ◌&&◌, List, [], ◌∷◌, ◌++◌, length, take, drop, Option, Some, None, Ok, refl, sym, ap, ◌∙◌, subst, ⊎_elim, arith, append-nil, option_map, if◌then◌else◌, ◌==◌, slice_get, length-append, take-append-drop, eq-eqb, ne_eqb}
 use Rattle.std.proofs.lemmas.Bool.{cases_eq}
 use Rattle.std.proofs.lemmas.Option.{none-some, same_Some, slice_get-map, slice_get_within, get_or_from_slice_get}
 use Rattle.std.proofs.lemmas.List.{take-append-le}
 use Rattle.std.proofs.Math.Seq.{take-suc}
 use Rattle.cpg_cred.specs.Listed.{Listed}
 use Rattle.cpg_cred.specs.declared.refusals.Refusal.{Refusal}
-use Rattle.cpg_entry.specs.declared.calls.Op.TheVariants.{Act, Gone}
+use Rattle.cpg_entry.specs.declared.calls.Op.TheVariants.{Act}
 use Rattle.cpg_entry.specs.declared.frames.Frame.TheVariants as frame
 use Rattle.cpg_record.specs.declared.events.Event.{Event}
 use Rattle.cpg_record.specs.declared.records.Record.{Record}
@@ -15,23 +15,22 @@ use Rattle.cpg_record.specs.Judging.{judged}
 use Rattle.cpg_record.specs.Laws.{PrefixesAreJudgedAlike}
 use Rattle.cpg_ring.specs.States.{Entry, Frame, NodeState, is_held}
 use Rattle.cpg_ring.specs.declared.settings.Settings.{Settings}
-use Rattle.cpg_ring.specs.Visits.{token_refusal, visit_step, up_to}
+use Rattle.cpg_ring.specs.Visits.{token_refusal, up_to}
 use Rattle.cpg_ring.specs.Moves.{data_refusal, after_delivery}
-use Rattle.cpg_ring.specs.Worlds.{Move as Reading, item, with_item, agreed, receive, receive_token, receive_data, deliver}
+use Rattle.cpg_ring.specs.Worlds.{Move as Reading, item, with_item, agreed, receive, receive_token, receive_data}
 use Rattle.cpg_ring.proofs.Lists.{item_with_same, item_with_other, with_item_cases}
 use Rattle.cpg_node.specs.declared.connections.Client.{Client}
 use Rattle.cpg_node.specs.Nodes.{NodeValue, new_value, records_of, inbox_of, conn_id, open_client, if_open}
-use Rattle.cpg_node.specs.Calls.{connect_refusal, connected, submit_refusal, submitted, with_entry, ended_by, disconnected, frame_refusal, after_frame, answers_to, took, taken_by, counted, next_event, delivered, closed_refusal}
+use Rattle.cpg_node.specs.Calls.{connect_refusal, connected, submit_refusal, submitted, with_entry, ended_by, frame_refusal, after_frame, answers_to, taken_by, counted, next_event}
 use Rattle.cpg_world_laws.specs.declared.events.WorldEvent.{WorldEvent}
 use Rattle.cpg_world_laws.specs.declared.events.WorldEvent.TheVariants.{Connect, Submit, Disconnect, Frame as Arrival, Timer, Deliver, Take, List as Listing, Groups}
 use Rattle.cpg_world_laws.specs.declared.replies.Reply.TheVariants as reply
-use Rattle.cpg_world_laws.specs.Worlds.{WorldValue, Move, unless, hears, moves, node_in, moved, happens, runs, new_world}
-use Rattle.cpg_world_laws.specs.Replies.{Answer, IsReply, IsAnswerAt, IsAnswerOf, take_answer, AtEach}
-use Rattle.cpg_world_laws.specs.Claims.{IsAgreed, taken_in, had, given_by, gives, given}
+use Rattle.cpg_world_laws.specs.Worlds.{WorldValue, Move, unless, hears, moves, node_in, moved, happens, new_world}
+use Rattle.cpg_world_laws.specs.Replies.{Answer, IsReply, IsAnswerAt, IsAnswerOf, take_answer}
+use Rattle.cpg_world_laws.specs.Claims.{IsAgreed, taken_in, had, given_by, gives}
 use Rattle.cpg_world_laws.proofs.Lists.{item_map, map_with_as, take_less}
 use Rattle.cpg_world_laws.proofs.Growing.{agreed_grows}
 use Rattle.cpg_record.proofs.Inboxes.{inbox_grows}
-use Rattle.cpg_world_laws.proofs.Projecting.{Numbered}
 
 abbrev pub AllAgreed : WorldValue → Type 0
 AllAgreed w = (n : ℕ) (x : NodeValue) → item w.nodes n ≡ Some x → IsAgreed w.sent x

@@ -1,7 +1,6 @@
 -- A refused event leaves the world as it was, and Connect is refused with Access exactly where the credentials are not let in.
-use Rattle.std.proofs.Common.{◌≡◌, ◌≢◌, ◌⊎◌, ◌↔◌, ℕ, zero, suc, Bool, true, false, not, List, [], ◌∷◌, ◌++◌, length, Option, Some, None, is_some, Result, Ok, Err, refl, sym, ap, ◌∙◌, subst, inl, inr, ⊎_elim, arith, append-nil, if◌then◌else◌, ◌==◌, nat_le, ◌<◌, ◌||◌, slice_index_or, eq-eqb, eqb-true, nat_eq, true≢false}
+use Rattle.std.proofs.Common.{◌≡◌, ◌↔◌, ℕ, zero, suc, Bool, true, false, not, List, [], ◌∷◌, ◌++◌, length, Option, Some, None, is_some, Result, Ok, Err, refl, sym, ap, ◌∙◌, subst, inl, inr, ⊎_elim, arith, append-nil, if◌then◌else◌, ◌==◌, nat_le, ◌<◌, ◌||◌, slice_index_or, eq-eqb, eqb-true, nat_eq, true≢false}
 use Rattle.std.specs.List.{Contains, list_any}
-use Rattle.std.proofs.lemmas.Option.{none-some}
 use Rattle.cpg_cred.specs.Listed.{Listed}
 use Rattle.cpg_cred.specs.Admission.{via_of}
 use Rattle.cpg_cred.specs.declared.admission.Via.{Via}
@@ -9,9 +8,9 @@ use Rattle.cpg_cred.specs.declared.admission.Via.TheVariants.{RootUser, RootGrou
 use Rattle.std.proofs.lemmas.Map.Views.{Contains-from_any}
 use Rattle.cpg_cred.specs.declared.credentials.Cred.{Cred}
 use Rattle.cpg_cred.specs.declared.refusals.Refusal.{Refusal}
-use Rattle.cpg_cred.specs.declared.refusals.Refusal.TheVariants.{Access, ConnectionsFull, NoConnection}
+use Rattle.cpg_cred.specs.declared.refusals.Refusal.TheVariants.{Access, ConnectionsFull}
 use Rattle.cpg_ring.specs.States.{Frame}
-use Rattle.cpg_ring.specs.Worlds.{item, with_item}
+use Rattle.cpg_ring.specs.Worlds.{item}
 use Rattle.cpg_node.specs.declared.connections.Client.{Client}
 use Rattle.cpg_node.specs.Nodes.{NodeValue, open_client}
 use Rattle.cpg_node.specs.Calls.{connect_refusal, connected, submit_refusal, submitted, closed_refusal, ended_by, frame_refusal, after_frame, answers_to, taken_by}
@@ -19,7 +18,7 @@ use Rattle.cpg_world_laws.specs.declared.events.WorldEvent.{WorldEvent}
 use Rattle.cpg_world_laws.specs.declared.events.WorldEvent.TheVariants.{Connect, Submit, Disconnect, Frame as Arrival, Timer, Deliver, Take, List as Listing, Groups}
 use Rattle.cpg_world_laws.specs.declared.replies.Reply.{Reply}
 use Rattle.cpg_world_laws.specs.declared.replies.Reply.TheVariants as reply
-use Rattle.cpg_world_laws.specs.Worlds.{WorldValue, Move, unless, hears, moves, node_in, moved, happens}
+use Rattle.cpg_world_laws.specs.Worlds.{WorldValue, Move, unless, hears, moves, node_in, moved}
 use Rattle.cpg_world_laws.specs.Replies.{Answer, or_reply, frame_answer, take_answer, IsAnswerAt, IsAnswerOf, IsReply}
 use Rattle.cpg_world_laws.specs.Claims.{IsLetIn, IsJustAdmission, ChangesNothing}
 use Rattle.cpg_world_laws.proofs.Lists.{with_as}

@@ -1,27 +1,21 @@
 -- What holds of every run of events from a world that was reached.
-use Rattle.std.specs.Prelude.{◌≡◌, ◌≢◌, ◌⊎◌, ◌↔◌, ℕ, suc, ◌+◌, ◌<◌, ◌≤◌, List, [], ◌∷◌, ◌++◌, length, map, take, drop, Option, Some, None, IsSome, Result, Ok, Err, IsErr, slice_get, if◌then◌else◌, ◌==◌, ◌&&◌, false}
+use Rattle.std.specs.Prelude.{◌≡◌, ◌⊎◌, ◌↔◌, ℕ, ◌≤◌, List, [], ◌∷◌, ◌++◌, length, take, Option, Some, None, Ok, Err, slice_get, if◌then◌else◌, ◌==◌, ◌&&◌, false}
 use Rattle.std.specs.List.{Contains}
-use Rattle.cpg_cred.specs.declared.bases.By.{By}
-use Rattle.cpg_cred.specs.declared.bases.By.TheVariants as by
 use Rattle.cpg_cred.specs.declared.credentials.Cred.{Cred}
 use Rattle.cpg_cred.specs.Listed.{Listed}
-use Rattle.cpg_cred.specs.declared.refusals.Refusal.TheVariants.{Access, Denied}
-use Rattle.cpg_record.specs.declared.connections.ConnId.{ConnId}
+use Rattle.cpg_cred.specs.declared.refusals.Refusal.TheVariants.{Access}
 use Rattle.cpg_record.specs.declared.events.Event.{Event}
 use Rattle.cpg_record.specs.declared.records.Record.{Record}
-use Rattle.cpg_record.specs.Events.{inbox}
 use Rattle.cpg_record.specs.Judging.{judged, record_of}
 use Rattle.cpg_record.specs.Laws.{LeavesAll}
 use Rattle.cpg_record.specs.Membership.{is_allowed}
-use Rattle.cpg_ring.specs.States.{Entry, Frame, Refusal}
-use Rattle.cpg_ring.specs.declared.settings.Settings.{Settings}
+use Rattle.cpg_ring.specs.States.{Entry, Frame}
 use Rattle.cpg_ring.specs.Worlds.{item, agreed}
 use Rattle.cpg_ring.specs.Claims.{Chain, Safe, by_node, waiting_at}
 use Rattle.cpg_node.specs.declared.connections.Client.{Client}
 use Rattle.cpg_node.specs.Nodes.{NodeValue, records_of, inbox_of}
 use Rattle.cpg_world_laws.specs.declared.events.WorldEvent.{WorldEvent}
-use Rattle.cpg_world_laws.specs.declared.events.WorldEvent.TheVariants.{Connect, Submit, Disconnect, Frame as Arrival, Timer, Deliver, Take, List as Listing, Groups}
-use Rattle.cpg_world_laws.specs.declared.replies.Reply.{Reply}
+use Rattle.cpg_world_laws.specs.declared.events.WorldEvent.TheVariants.{Connect, Take}
 use Rattle.cpg_world_laws.specs.declared.replies.Reply.TheVariants as reply
 use Rattle.cpg_world_laws.specs.Worlds.{WorldValue, happens, runs, admits, node_in, ring_world}
 use Rattle.cpg_world_laws.specs.Replies.{Answer, AtEach}

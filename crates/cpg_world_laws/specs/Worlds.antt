@@ -1,12 +1,11 @@
 -- All nodes of a ring, and every frame that was ever sent. Frames are counted from 1; they arrive any number of times and in any order,
 -- and a loss is a frame that no event brings.
 use Rattle.std.specs.Prelude.{◌≡◌, ℕ, List, [], ◌∷◌, ◌++◌, map, Option, Some, None}
-use Rattle.std.specs.List.{fold}
 use Rattle.cpg_cred.specs.Listed.{Listed}
 use Rattle.cpg_entry.specs.declared.calls.Op.{Op}
 use Rattle.cpg_entry.specs.declared.calls.Op.TheVariants.{Act, Gone}
 use Rattle.cpg_entry.specs.declared.frames.Frame.TheVariants as frame
-use Rattle.cpg_ring.specs.States.{Entry, Frame, Refusal, NodeState}
+use Rattle.cpg_ring.specs.States.{Entry, Frame, Refusal}
 use Rattle.cpg_ring.specs.declared.settings.Settings.{Settings}
 use Rattle.cpg_ring.specs.Visits.{up_to}
 use Rattle.cpg_ring.specs.Moves.{first_token}

@@ -1,4 +1,4 @@
-use Rattle.cpg_world_laws.proofs.Claims.{Below, true_world, true_run}
+use Rattle.cpg_world_laws.proofs.Claims.{true_world, true_run}
 use Rattle.cpg_world_laws.proofs.theorem.every_run.Goals as goal
 
 pub returns-clause-world : goal.returns-clause-world
