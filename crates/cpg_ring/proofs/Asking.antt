@@ -23,10 +23,10 @@ ascends_take low high (suc n) (x ∷ xs) a = (a.0, a.1, ascends_take x high n xs
 contains_later : (y x : ℕ) (xs : List ℕ) → Contains xs x → Contains (y ∷ xs) x
 contains_later y x xs c = let h = c.1 in (suc c.0, omega arith, c.2)
 
-contains_head : (x : ℕ) (xs : List ℕ) → Contains (x ∷ xs) x
+pub contains_head : (x : ℕ) (xs : List ℕ) → Contains (x ∷ xs) x
 contains_head x xs = (0, omega arith, refl)
 
-contains_cons : (y x : ℕ) (xs : List ℕ) → Contains (y ∷ xs) x → (y ≡ x) ⊎ Contains xs x
+pub contains_cons : (y x : ℕ) (xs : List ℕ) → Contains (y ∷ xs) x → (y ≡ x) ⊎ Contains xs x
 contains_cons y x xs c = ⊎_elim (λ a. inl (contains_one y x a)) inr (Contains-append_cases (y ∷ []) xs x c)
 
 -- so each of them lies between

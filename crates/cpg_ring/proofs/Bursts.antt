@@ -22,7 +22,7 @@ pub burst_keeps : (s : Settings) (held : HeldPlaces) (seq : ℕ) (now : List Ent
 burst_keeps s held seq [] place d = d
 burst_keeps s held seq (e ∷ now) place d = burst_keeps s (insert held (suc seq) e) (suc seq) now place (put_holds held (suc seq) e place d)
 
-burst_has : (s : Settings) (held : HeldPlaces) (seq : ℕ) (now : List Entry) (place : ℕ) → seq < place → place ≤ seq + length now → Holds (hold_all held (placed s seq now)) place
+pub burst_has : (s : Settings) (held : HeldPlaces) (seq : ℕ) (now : List Entry) (place : ℕ) → seq < place → place ≤ seq + length now → Holds (hold_all held (placed s seq now)) place
 burst_has s held seq [] place low high = absurd (omega arith)
 burst_has s held seq (e ∷ now) place low high = ⊎_elim
     (λ (same : place ≡ suc seq). burst_keeps s (insert held (suc seq) e) (suc seq) now place (e, ap (get (insert held (suc seq) e)) same ∙ put_same held (suc seq) e))

@@ -68,7 +68,7 @@ begins s = record {
     new zero r e = absurd (none-some r e)
     new (suc k) r e = made (slice_get (up_to s.nodes) k) (suc k) r (sym (slice_get-map (new_node s) (up_to s.nodes) k) ∙ e)
 
-length-up_to : (n : ℕ) → length (up_to n) ≡ n
+pub length-up_to : (n : ℕ) → length (up_to n) ≡ n
 length-up_to zero = refl
 length-up_to (suc n) = let e = length-up_to n in let l = length-append (up_to n) (suc n ∷ []) in omega arith
 

@@ -34,7 +34,7 @@ pub holds_to : (held : HeldPlaces) (seq place : ℕ) → 1 ≤ place → place �
 holds_to held seq place low high = holds_through held 0 seq (λ p l h. absurd (omega arith)) place low high
 
 -- so that number is no more than the agreed list's length
-held_within : (held : HeldPlaces) (A : List Entry) → Agrees held A → (a : ℕ) → ((place : ℕ) → 1 ≤ place → place ≤ a → Holds held place) → a ≤ length A
+pub held_within : (held : HeldPlaces) (A : List Entry) → Agrees held A → (a : ℕ) → ((place : ℕ) → 1 ≤ place → place ≤ a → Holds held place) → a ≤ length A
 held_within held A agrees zero h = omega arith
 held_within held A agrees (suc a) h = let e = h (suc a) (omega arith) (omega arith) in (item_within A (suc a) e.0 (agrees.at (suc a) e.0 e.1)).1
 

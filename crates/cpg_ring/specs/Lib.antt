@@ -3,6 +3,7 @@ pub mod Visits
 pub mod Moves
 pub mod Worlds
 pub mod Claims
+pub mod Progress
 pub mod Laws
 pub mod Rings
 pub mod Answers

@@ -1,7 +1,8 @@
 //! The ring: the token's visits, the window of places, and the order that all nodes agree on.
 //!
 //! The token and its visits are those of Totem's single ring; burst, window and limits are this project's
-//! own. Proved: `every_schedule`, for every list of events, and that each call of `Ring` is the definition.
+//! own. Proved: `every_schedule`, for every list of events, `no_dead_end`, that what is lost can be recovered,
+//! and that each call of `Ring` is the definition.
 #![tactic(auto)]
 
 mod held;
@@ -19,5 +20,5 @@ pub use cpg_entry::{
 };
 pub use ring::{Ring, are_settings};
 pub use settings::{BURST, MOST_WAITING, Settings, WINDOW};
-pub use theorem::{every_packet, every_place, every_schedule, every_visit, limits};
+pub use theorem::{every_packet, every_place, every_schedule, every_visit, limits, no_dead_end};
 pub use visit::{Packets, Visit};

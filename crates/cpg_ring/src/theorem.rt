@@ -9,6 +9,7 @@ ghost use Rattle.cpg_entry.specs.Ranges.{IsToken};
 ghost use Rattle.cpg_ring.specs.Laws.{IsVisit, StaysHeld, IsOwnPacket};
 ghost use Rattle.cpg_ring.specs.Worlds.{World, Reached};
 ghost use Rattle.cpg_ring.specs.Claims.{Chain, Agreement, Safe, OnceInOrder};
+ghost use Rattle.cpg_ring.specs.Progress.{CatchesUp, DeliveredTo, HasHops, Recovers, hops_for};
 ghost use Rattle.cpg_ring.specs.declared.settings.TheConstants.{BURST, MOST_WAITING, WINDOW};
 
 /// Holds of every ring and every world that a list of events leads to: frames may be lost, come again
@@ -36,6 +37,15 @@ pub fn every_place()
 /// waited.
 pub fn every_packet()
     ensures { (s : Settings) (n : ℕ) (r : NodeState) (t : Token) → All (IsOwnPacket s r) (visit_step s n r t).packets }
+{}
+
+/// Holds of every ring and every world that a list of events leads to: whatever was lost so far, events can
+/// follow after which every node delivered all. Frames sent already may arrive (`catches_up`); or they are
+/// all lost for good, and the nodes send again what is missed (`recovers`), if each token sent so far leaves
+/// the ring three rounds of hops for each place that some node may lack.
+pub fn no_dead_end()
+    ensures catches_up { (s : Settings) (w : World) → IsSettings s → Reached s w → CatchesUp s w }
+    ensures recovers { (s : Settings) (w : World) (done : ℕ) → IsSettings s → Reached s w → DeliveredTo w done → HasHops s w (hops_for s w done) → Recovers s w }
 {}
 
 /// The numbers of a ring: of a visit, of the queue, and of its settings.

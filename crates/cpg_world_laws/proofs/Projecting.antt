@@ -55,12 +55,12 @@ ring_events w [] = []
 ring_events w (e ∷ es) = ring_event w e ++ ring_events (happens w e) es
 
 -- a node moves in the ring as it does in the world
-record Same (m : Move) (r : ring.Move) : Type 0 where
-  state : state_of m.0 ≡ r.0
-  sent : m.1 ≡ r.1
+pub record Same (m : Move) (r : ring.Move) : Type 0 where
+  pub state : state_of m.0 ≡ r.0
+  pub sent : m.1 ≡ r.1
 
 -- nothing of the ring moves
-abbrev Still : NodeValue → Move → Type 0
+abbrev pub Still : NodeValue → Move → Type 0
 Still x m = Same m (state_of x, [])
 
 -- the ring's part of a world where a node moved
@@ -69,11 +69,11 @@ ring_moved w n m r same =
     ap (λ (nodes : List NodeState). let world : ring.World = record { nodes = nodes; sent = w.sent ++ m.1 } in world) (map_with state_of w.nodes n m.0 ∙ ap (with_item (map state_of w.nodes) n) same.state)
     ∙ ap (λ (more : List Frame). let world : ring.World = record { nodes = with_item (map state_of w.nodes) n r.0; sent = w.sent ++ more } in world) same.sent
 
-item_state : (w : WorldValue) (n : ℕ) (o : Option NodeValue) → item w.nodes n ≡ o → item (map state_of w.nodes) n ≡ option_map state_of o
+pub item_state : (w : WorldValue) (n : ℕ) (o : Option NodeValue) → item w.nodes n ≡ o → item (map state_of w.nodes) n ≡ option_map state_of o
 item_state w n o is = item_map state_of w.nodes n ∙ ap (option_map state_of) is
 
 -- where nothing of the ring moves, the ring's part stays
-still : (w : WorldValue) (n : ℕ) (x : NodeValue) (m : Move) → item w.nodes n ≡ Some x → Still x m → ring_world (moved w n (Some x) (λ _. m)) ≡ ring_world w
+pub still : (w : WorldValue) (n : ℕ) (x : NodeValue) (m : Move) → item w.nodes n ≡ Some x → Still x m → ring_world (moved w n (Some x) (λ _. m)) ≡ ring_world w
 still w n x m is s = ring_moved w n m (state_of x, []) s
     ∙ (ap (λ (nodes : List NodeState). let world : ring.World = record { nodes = nodes; sent = w.sent ++ [] } in world) (with_as (map state_of w.nodes) n (state_of x) (item_state w n (Some x) is))
     ∙ ap (λ (sent : List Frame). let world : ring.World = record { nodes = map state_of w.nodes; sent = sent } in world) (append-nil w.sent))

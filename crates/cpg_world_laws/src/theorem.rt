@@ -5,10 +5,12 @@ ghost use Rattle.cpg_cred.specs.Listed.{Listed};
 ghost use Rattle.cpg_ring.specs.States.{IsSettings};
 ghost use Rattle.cpg_ring.specs.declared.settings.Settings.{Settings};
 ghost use Rattle.cpg_ring.specs.Worlds.{run, start};
+ghost use Rattle.cpg_ring.specs.Progress.{DeliveredTo, HasHops, hops_for};
 ghost use Rattle.cpg_world_laws.specs.declared.events.WorldEvent.{WorldEvent};
 ghost use Rattle.cpg_world_laws.specs.Worlds.{WorldValue, Reached, new_world, runs, ring_world};
 ghost use Rattle.cpg_world_laws.specs.Replies.{Answer, AreReplies};
 ghost use Rattle.cpg_world_laws.specs.Claims.{IsTrueWorld, IsTrueRun};
+ghost use Rattle.cpg_world_laws.specs.Progress.{CatchesUp, Recovers};
 
 use cpg_record::laws::{
     denial_changes_nothing, denied_listings_name_their_rule, each_entry_is_judged,
@@ -28,4 +30,17 @@ pub fn every_run()
     denial_changes_nothing();
     receives_exactly();
     denied_listings_name_their_rule();
+}
+
+/// Holds of every world that a list of events leads to: whatever was lost so far, events can follow after
+/// which every node delivered all, and every open connection took all that is for it. Frames sent already
+/// may arrive (`catches_up`); or they are all lost for good, and the nodes send again what is missed
+/// (`recovers`), if each token sent so far leaves the ring three rounds of hops for each place that some
+/// node may lack.
+pub fn no_dead_end()
+    ensures catches_up { (w : WorldValue) → IsSettings w.settings → Reached w → CatchesUp w }
+    ensures recovers { (w : WorldValue) (done : ℕ) → IsSettings w.settings → Reached w → DeliveredTo (ring_world w) done → HasHops w.settings (ring_world w) (hops_for w.settings (ring_world w) done) → Recovers w }
+{
+    every_schedule();
+    cpg_ring::no_dead_end();
 }
