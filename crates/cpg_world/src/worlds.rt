@@ -1,6 +1,6 @@
 //! All nodes, and every frame that was ever sent.
 
-ghost use Rattle.std.specs.Prelude.{◌≡◌, ◌≢◌, ◌≤◌, [], ◌∷◌, ◌++◌, length, take, All, None, Some, Ok, Err, OnOk, OnErr, IfOk, MatchOption};
+ghost use Rattle.std.specs.Prelude.{◌≡◌, ◌≢◌, ◌↔◌, ◌≤◌, [], ◌∷◌, ◌++◌, length, take, All, IsTrue, None, Some, Ok, Err, OnOk, OnErr, IfOk, MatchOption};
 ghost use Rattle.cpg_ring.specs.Worlds.{item};
 ghost use Rattle.cpg_world_laws.specs.Worlds.{node_in};
 ghost use Rattle.cpg_world_laws.specs.Claims.{IsTrueWorld, IsTrueRun};
@@ -140,6 +140,16 @@ impl World {
         ensures settings { result ≡ self.now.settings.nodes }
     {
         self.settings.nodes
+    }
+
+    /// Whether each event's node is one of the world's.
+    pub fn has_nodes_of(&self, events: &[WorldEvent]) -> bool
+        ensures { IsTrue result ↔ All (λ e. node_in e ≤ length self.now.nodes) events.now }
+    {
+        let nodes = self.nodes.len();
+        events
+            .iter()
+            .all(|event| node_of(event).get() as usize <= nodes)
     }
 
     /// The node of that number, which is one of the world's.

@@ -104,7 +104,7 @@ impl PlainNode {
             return Short::Delivered(None);
         }
         self.delivered = next;
-        Short::Delivered(Some(next as u32))
+        Short::Delivered(Some(next.min(PLACES) as u32))
     }
 
     /// How many places it delivered.

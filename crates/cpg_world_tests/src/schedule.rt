@@ -20,6 +20,7 @@ enum Step {
 }
 
 /// Numbers that look random: a linear congruence, by Knuth's constants.
+#[derive(Drop)]
 struct Dice {
     state: u64,
 }
@@ -36,7 +37,7 @@ impl Dice {
 
     /// The number of a node.
     fn node(&mut self) -> u64 {
-        self.roll(NODES) + 1
+        self.roll(NODES).saturating_add(1)
     }
 }
 
@@ -138,7 +139,7 @@ fn answer(alloc: Global, plain: &mut Plain, step: Step, entry: u64) -> Result<Sh
 }
 
 fn node_id(number: u64) -> Result<NodeId, Refusal> {
-    NodeId::new(number as u8).ok_or(Refusal::Range)
+    NodeId::new(number.min(255) as u8).ok_or(Refusal::Range)
 }
 
 /// The event of a world that the step is. An entry's number is its message.
@@ -205,22 +206,22 @@ fn says(op: &Op, entry: u64) -> bool {
 
 /// Whether the node delivered what the plain one did.
 fn delivered_alike(world: &World, plain: &PlainNode, id: NodeId) -> bool {
+    if id.get() > world.nodes() {
+        return false;
+    }
     let records = world.node(id).audit();
-    let same = records
-        .iter()
-        .enumerate()
-        .all(|(i, record)| says(&record.entry.op, plain.entry_at(i as u64 + 1)));
+    let same = records.iter().enumerate().all(|(i, record)| says(
+        &record.entry.op,
+        plain.entry_at(i as u64 + 1),
+    ));
     same && records.len() as u64 == plain.delivered()
 }
 
 fn all_delivered_alike(world: &World, nodes: &[PlainNode]) -> bool {
-    nodes
-        .iter()
-        .enumerate()
-        .all(|(i, plain)| match node_id(i as u64 + 1) {
-            Ok(id) => id.get() <= world.nodes() && delivered_alike(world, plain, id),
-            Err(_) => false,
-        })
+    nodes.iter().enumerate().all(|(i, plain)| match node_id(i as u64 + 1) {
+        Ok(id) => id.get() <= world.nodes() && delivered_alike(world, plain, id),
+        Err(_) => false,
+    })
 }
 
 /// How many places all nodes delivered together.
@@ -233,8 +234,11 @@ fn delivered_by_all(nodes: &[PlainNode]) -> u64 {
 
 /// Whether a new world answers the schedule as the plain ring does, and delivers the same.
 fn runs_alike(world: &mut World, plain: &Plain, schedule: &Schedule) -> bool {
-    answers(world, schedule.events.as_slice(), schedule.expected.as_slice())
-        && all_delivered_alike(world, plain.nodes.as_slice())
+    answers(
+        world,
+        schedule.events.as_slice(),
+        schedule.expected.as_slice(),
+    ) && all_delivered_alike(world, plain.nodes.as_slice())
         && plain.sent.len() == world.sent()
         && delivered_by_all(plain.nodes.as_slice()) > 1000
 }

@@ -82,6 +82,9 @@ fn are(answers: &[Result<Reply, Refusal>], expected: &[Short]) -> bool {
 
 /// Whether the world answers the events so, all of them.
 pub fn answers(world: &mut World, events: &[WorldEvent], expected: &[Short]) -> bool {
+    if !world.has_nodes_of(events) {
+        return false;
+    }
     let run = world.run(events);
     let same = are(run.replies.as_slice(), expected);
     let all = run.done == events.len();
