@@ -1,76 +1,142 @@
 //! A copy of each type equals its client.
 
 use crate::entering::are_equal;
+use crate::nodes::list_of;
 use crate::rejoining::{events_at, member_conn, rejoin};
 use cpg_cred::{AcceptList, Cred, Refusal, Via};
-use cpg_entry::{Entry, NodeId, Op, Packet, Places, Token};
-use cpg_group::{Event, Events, Members, Moves, Policy, Record, Records};
+use cpg_entry::{Call, Entry, NodeId, Op, Packet, Places, Token};
+use cpg_group::{ConnId, Event, Events, Members, Moves, Policy, Record, Records};
 use std::alloc::Global;
+
+/// Whether the copy equals the entry.
+fn is_entry(copy: Entry, entry: &Entry) -> bool {
+    let answer = copy.equals(entry);
+    drop(copy);
+    answer
+}
 
 /// Whether a copy of the entry equals it.
 fn copies_entry(alloc: Global, entry: &Entry) -> Result<bool, Refusal> {
-    Ok(entry.copy(alloc)?.equals(entry))
+    Ok(is_entry(entry.copy(alloc)?, entry))
+}
+
+/// Whether the copy equals the call.
+fn is_call(copy: Call, call: &Call) -> bool {
+    let answer = copy.equals(call);
+    drop(copy);
+    answer
 }
 
 /// Whether a copy of the op's call, if it has one, equals it.
 fn copies_call(alloc: Global, op: &Op) -> Result<bool, Refusal> {
     match op {
-        Op::Act(call) => Ok(call.copy(alloc)?.equals(call)),
+        Op::Act(call) => Ok(is_call(call.copy(alloc)?, call)),
         Op::Gone => Ok(true),
     }
 }
 
-/// A packet with a copy of the entry.
-fn packet_of(alloc: Global, entry: &Entry) -> Result<Packet, Refusal> {
-    Ok(Packet {
+/// A packet of the entry.
+fn packet_of(entry: Entry) -> Packet {
+    Packet {
         ring: 1,
         place: 2,
-        entry: entry.copy(alloc)?,
-    })
+        entry,
+    }
+}
+
+/// Whether the copy equals the packet.
+fn is_packet(copy: Packet, packet: &Packet) -> bool {
+    let answer = copy == *packet;
+    drop(copy);
+    answer
 }
 
 /// Whether a copy of the packet equals it.
 fn copies_packet(alloc: Global, packet: &Packet) -> Result<bool, Refusal> {
-    Ok(packet.copy(alloc)? == *packet)
+    Ok(is_packet(packet.copy(alloc)?, packet))
+}
+
+/// Whether a copy of a packet of the entry equals it.
+fn copies_packet_with(alloc: Global, entry: Entry) -> Result<bool, Refusal> {
+    let packet = packet_of(entry);
+    let answer = copies_packet(alloc, &packet);
+    drop(packet);
+    answer
 }
 
 /// Whether a copy of a packet with the entry equals it.
 fn copies_packet_of(alloc: Global, entry: &Entry) -> Result<bool, Refusal> {
-    copies_packet(alloc, &packet_of(alloc, entry)?)
+    copies_packet_with(alloc, entry.copy(alloc)?)
+}
+
+/// Whether the copy equals the record.
+fn is_record(copy: Record, past: &Record) -> bool {
+    let answer = copy.equals(past);
+    drop(copy);
+    answer
 }
 
 /// Whether a copy of the record equals it.
 fn copies_record(alloc: Global, past: &Record) -> Result<bool, Refusal> {
-    Ok(past.copy(alloc)?.equals(past))
+    Ok(is_record(past.copy(alloc)?, past))
+}
+
+/// Whether a copy of the list equals those members.
+fn copies_list(alloc: Global, list: &Members, members: &Members) -> Result<bool, Refusal> {
+    Ok(list.copy(alloc)?.equals(members))
 }
 
 /// Whether a copy of a list of those members equals it.
 fn copies_members(alloc: Global, members: &Members) -> Result<bool, Refusal> {
     let list = Members::from_slice(alloc, members.as_slice())?;
-    Ok(list.copy(alloc)?.equals(members))
+    let answer = copies_list(alloc, &list, members);
+    drop(list);
+    answer
 }
 
-/// Copies of the records, one by one.
-fn copy_each(alloc: Global, records: &[Record]) -> Result<Records, Refusal> {
-    let mut copies = Records::new(alloc);
+/// Puts copies of the records, one by one, behind those that are there.
+fn copy_each(alloc: Global, copies: &mut Records, records: &[Record]) -> Result<(), Refusal> {
     for past in records {
         copies.push(past.copy(alloc)?)?;
     }
-    Ok(copies)
+    Ok(())
+}
+
+/// Whether a copy of the copies equals the records, and there are five.
+fn copies_list_of(alloc: Global, copies: &Records, records: &[Record]) -> Result<bool, Refusal> {
+    let list = copies.copy(alloc)?;
+    let answer = are_equal(list.as_slice(), records);
+    drop(list);
+    Ok(answer && records.len() == 5)
+}
+
+/// Whether a copy of a list of the records, which is put together here, equals it, and there are five.
+fn copies_all(alloc: Global, copies: &mut Records, records: &[Record]) -> Result<bool, Refusal> {
+    copy_each(alloc, copies, records)?;
+    copies_list_of(alloc, copies, records)
 }
 
 /// Whether a copy of a list of the records equals it, and there are five.
 fn copies_records(alloc: Global, records: &[Record]) -> Result<bool, Refusal> {
-    let copies = copy_each(alloc, records)?.copy(alloc)?;
-    Ok(are_equal(copies.as_slice(), records) && copies.len() == 5)
+    let mut copies = Records::new(alloc);
+    let answer = copies_all(alloc, &mut copies, records);
+    drop(copies);
+    answer
+}
+
+/// Whether copies of the entry and of all its parts equal their sources.
+fn copies_entry_parts(alloc: Global, entry: &Entry) -> Result<bool, Refusal> {
+    Ok(
+        copies_entry(alloc, entry)?
+            && copies_call(alloc, &entry.op)?
+            && copies_packet_of(alloc, entry)?,
+    )
 }
 
 /// Whether copies of the record and of all its parts equal their sources.
 fn copies_parts(alloc: Global, past: &Record) -> Result<bool, Refusal> {
     Ok(
-        copies_entry(alloc, &past.entry)?
-            && copies_call(alloc, &past.entry.op)?
-            && copies_packet_of(alloc, &past.entry)?
+        copies_entry_parts(alloc, &past.entry)?
             && copies_record(alloc, past)?
             && copies_members(alloc, &past.members)?,
     )
@@ -95,7 +161,9 @@ fn copies_rejoining(alloc: Global, policy: &mut Policy) -> Result<bool, Refusal>
 #[test]
 fn entries_packets_calls_and_records(rt: HostRuntime) {
     let mut policy = Policy::new(rt.alloc());
-    assert!(rt; copies_rejoining(rt.alloc(), &mut policy) == Ok(true));
+    let answer = copies_rejoining(rt.alloc(), &mut policy);
+    drop(policy);
+    assert!(rt; answer == Ok(true));
 }
 
 /// Whether the events have the same place and the same contents as far as they are shown here.
@@ -147,15 +215,23 @@ fn same_event(a: &Event, b: &Event) -> bool {
     }
 }
 
-/// Whether a copy of the event is the same as the other.
+/// Whether the copy is the same as the other.
+fn is_event(copy: Event, other: &Event) -> bool {
+    let answer = same_event(&copy, other);
+    drop(copy);
+    answer
+}
+
+/// Whether the event, and a copy of it, is the same as the other.
 fn copies_event(alloc: Global, event: &Event, other: &Event) -> Result<bool, Refusal> {
-    Ok(same_event(&event.copy(alloc)?, other))
+    let copied = is_event(event.copy(alloc)?, other);
+    Ok(copied && same_event(event, other))
 }
 
 /// Whether the events, and a copy of each, are the same as the others.
 fn same_events(alloc: Global, events: &[Event], others: &[Event]) -> Result<bool, Refusal> {
     for (event, other) in events.iter().zip(others) {
-        if !same_event(event, other) || !copies_event(alloc, event, other)? {
+        if !copies_event(alloc, event, other)? {
             return Ok(false);
         }
     }
@@ -164,24 +240,40 @@ fn same_events(alloc: Global, events: &[Event], others: &[Event]) -> Result<bool
 
 /// Whether a copy of the events, and a copy of each event in it, is the same.
 fn copies_events(alloc: Global, events: &Events) -> Result<bool, Refusal> {
-    same_events(alloc, events.copy(alloc)?.as_slice(), events.as_slice())
+    let copy = events.copy(alloc)?;
+    let answer = same_events(alloc, copy.as_slice(), events.as_slice());
+    drop(copy);
+    answer
+}
+
+/// Whether copies of what the place tells the connection are the same.
+fn copies_told(alloc: Global, policy: &Policy, place: u32, conn: &ConnId) -> Result<bool, Refusal> {
+    let events = events_at(policy, place, conn)?;
+    let answer = copies_events(alloc, &events);
+    drop(events);
+    answer
 }
 
 /// Whether copies of what the first five places tell the member are the same.
 fn copies_all_events(alloc: Global, policy: &Policy) -> Result<bool, Refusal> {
     let conn = member_conn()?;
     for place in 1..6u32 {
-        if !copies_events(alloc, &events_at(policy, place, &conn)?)? {
+        if !copies_told(alloc, policy, place, &conn)? {
             return Ok(false);
         }
     }
     Ok(true)
 }
 
+/// Whether a copy of the moves is no moves.
+fn copies_moves(alloc: Global, moves: &Moves) -> Result<bool, Refusal> {
+    Ok(moves.copy(alloc)?.equals(&Moves::new(alloc)))
+}
+
 /// Whether a copy of no moves is no moves.
 fn copies_no_moves(alloc: Global) -> Result<bool, Refusal> {
     let moves = Moves::from_slice(alloc, &[])?;
-    Ok(moves.copy(alloc)?.equals(&Moves::new(alloc)))
+    copies_moves(alloc, &moves)
 }
 
 /// Whether copies of what the rejoining tells the member are the same.
@@ -193,7 +285,13 @@ fn copies_what_is_told(alloc: Global, policy: &mut Policy) -> Result<bool, Refus
 #[test]
 fn events(rt: HostRuntime) {
     let mut policy = Policy::new(rt.alloc());
-    assert!(rt; copies_what_is_told(rt.alloc(), &mut policy) == Ok(true));
+    let answer = copies_what_is_told(rt.alloc(), &mut policy);
+    drop(policy);
+    assert!(rt; answer == Ok(true));
+}
+
+#[test]
+fn no_moves(rt: HostRuntime) {
     assert!(rt; copies_no_moves(rt.alloc()) == Ok(true));
 }
 
@@ -211,15 +309,33 @@ fn copies_token(alloc: Global) -> Result<bool, Refusal> {
     Ok(copy == token && copy.rtr.as_slice() == [1].as_slice())
 }
 
+/// How the list accepts user 7.
+fn acceptance_by(list: &AcceptList) -> Result<Via, Refusal> {
+    list.accepts(Cred { uid: 7, gid: 9 })
+}
+
+/// How a copy of the list accepts user 7.
+fn acceptance_by_copy(alloc: Global, list: &AcceptList) -> Result<Via, Refusal> {
+    let copy = list.copy(alloc)?;
+    let answer = acceptance_by(&copy);
+    drop(copy);
+    answer
+}
+
 /// How a copy of a list of user 7 accepts that user.
 fn copied_acceptance(alloc: Global) -> Result<Via, Refusal> {
-    let mut list = AcceptList::new(alloc);
-    list.add_uid(7)?;
-    list.copy(alloc)?.accepts(Cred { uid: 7, gid: 9 })
+    let list = list_of(alloc, [7].as_slice())?;
+    let answer = acceptance_by_copy(alloc, &list);
+    drop(list);
+    answer
 }
 
 #[test]
-fn tokens_and_lists(rt: HostRuntime) {
+fn tokens(rt: HostRuntime) {
     assert!(rt; copies_token(rt.alloc()) == Ok(true));
+}
+
+#[test]
+fn lists(rt: HostRuntime) {
     assert!(rt; copied_acceptance(rt.alloc()) == Ok(Via::User));
 }

@@ -72,11 +72,9 @@ pub fn node(number: u8) -> Result<NodeId, Refusal> {
     NodeId::new(number).ok_or(Refusal::Range)
 }
 
-/// The entry of a connection that asks it.
-pub fn entry(alloc: Global, from: &Source, ask: &Ask) -> Result<Entry, Refusal> {
-    let node = node(from.node)?;
-    let op = op(alloc, ask)?;
-    Ok(Entry {
+/// The entry of a connection of that node that asks it.
+fn entry_of(node: NodeId, from: &Source, op: Op) -> Entry {
+    Entry {
         node,
         conn: from.conn,
         pid: from.pid,
@@ -85,7 +83,13 @@ pub fn entry(alloc: Global, from: &Source, ask: &Ask) -> Result<Entry, Refusal> 
             gid: from.gid,
         },
         op,
-    })
+    }
+}
+
+/// The entry of a connection that asks it.
+pub fn entry(alloc: Global, from: &Source, ask: &Ask) -> Result<Entry, Refusal> {
+    let node = node(from.node)?;
+    Ok(entry_of(node, from, op(alloc, ask)?))
 }
 
 /// Judges the entry and puts it last; a policy that is full refuses it.
@@ -109,7 +113,9 @@ pub fn answer(
     ask: &Ask,
 ) -> Result<Verdict, Refusal> {
     let entry = entry(alloc, from, ask)?;
-    enter(policy, &entry)
+    let answer = enter(policy, &entry);
+    drop(entry);
+    answer
 }
 
 /// Judges those rows, from the first on.
@@ -131,13 +137,18 @@ pub enum Change {
     NoMembers,
 }
 
+/// Makes the change.
+fn make(alloc: Global, past: &mut Record, change: &Change) {
+    match change {
+        Change::Verdict(verdict) => past.verdict = *verdict,
+        Change::NoMembers => past.members = Members::new(alloc),
+    }
+}
+
 /// A copy of the record with that change.
 fn changed(alloc: Global, past: &Record, change: &Change) -> Result<Record, Refusal> {
     let mut copy = past.copy(alloc)?;
-    match change {
-        Change::Verdict(verdict) => copy.verdict = *verdict,
-        Change::NoMembers => copy.members = Members::new(alloc),
-    }
+    make(alloc, &mut copy, change);
     Ok(copy)
 }
 
@@ -155,6 +166,21 @@ fn changed_if(
     }
 }
 
+/// Puts copies of the records behind those that are there, the one at the index with that change.
+fn push_changed(
+    alloc: Global,
+    copies: &mut Records,
+    records: &[Record],
+    index: usize,
+    change: &Change,
+) -> Result<(), Refusal> {
+    for past in records {
+        let is_one = copies.len() == index;
+        copies.push(changed_if(alloc, past, is_one, change)?)?;
+    }
+    Ok(())
+}
+
 /// Copies of the records, the one at the index with that change.
 pub fn changed_at(
     alloc: Global,
@@ -163,21 +189,33 @@ pub fn changed_at(
     change: &Change,
 ) -> Result<Records, Refusal> {
     let mut copies = Records::new(alloc);
-    for past in records {
-        let is_one = copies.len() == index;
-        copies.push(changed_if(alloc, past, is_one, change)?)?;
-    }
+    push_changed(alloc, &mut copies, records, index, change)?;
     Ok(copies)
+}
+
+/// Whether the records are equal.
+fn is_same(one: &Record, other: &Record) -> bool {
+    one.equals(other)
 }
 
 /// Whether the records are equal, pair by pair.
 pub fn are_equal(a: &[Record], b: &[Record]) -> bool {
     for (one, other) in a.iter().zip(b) {
-        if !one.equals(other) {
+        if !is_same(one, other) {
             return false;
         }
     }
     true
+}
+
+/// Whether the names are those, in that order.
+pub fn are_named(names: &[Name], texts: &[&[u8]]) -> bool {
+    for (name, text) in names.iter().zip(texts) {
+        if !name.is(text) {
+            return false;
+        }
+    }
+    names.len() == texts.len()
 }
 
 /// How many rules the group's table has.

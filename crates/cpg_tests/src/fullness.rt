@@ -29,7 +29,9 @@ fn lets_128_join_alone(alloc: Global, policy: &mut Policy) -> Result<bool, Refus
 #[test]
 fn the_129th_join_is_denied(rt: HostRuntime) {
     let mut policy = Policy::new(rt.alloc());
-    assert!(rt; lets_128_join_alone(rt.alloc(), &mut policy) == Ok(true));
+    let answer = lets_128_join_alone(rt.alloc(), &mut policy);
+    drop(policy);
+    assert!(rt; answer == Ok(true));
 }
 
 /// The user who may edit every table.
@@ -68,7 +70,9 @@ fn lets_64_rules_in_alone(alloc: Global, policy: &mut Policy) -> Result<bool, Re
 #[test]
 fn the_65th_rule_is_denied(rt: HostRuntime) {
     let mut policy = Policy::new(rt.alloc());
-    assert!(rt; lets_64_rules_in_alone(rt.alloc(), &mut policy) == Ok(true));
+    let answer = lets_64_rules_in_alone(rt.alloc(), &mut policy);
+    drop(policy);
+    assert!(rt; answer == Ok(true));
 }
 
 /// What user 0 is answered who takes the rule of id 5 out of the group's table.
@@ -93,5 +97,7 @@ fn removes_from_full(alloc: Global, policy: &mut Policy) -> Result<bool, Refusal
 #[test]
 fn a_full_table_can_be_removed_from(rt: HostRuntime) {
     let mut policy = Policy::new(rt.alloc());
-    assert!(rt; removes_from_full(rt.alloc(), &mut policy) == Ok(true));
+    let answer = removes_from_full(rt.alloc(), &mut policy);
+    drop(policy);
+    assert!(rt; answer == Ok(true));
 }

@@ -13,6 +13,8 @@ mod listings;
 #[cfg(test)]
 mod lone_node;
 #[cfg(test)]
+mod nodes;
+#[cfg(test)]
 mod plain;
 #[cfg(test)]
 mod rejoining;

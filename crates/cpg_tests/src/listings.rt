@@ -1,8 +1,10 @@
 //! What askers see, and the check of records.
 
-use crate::entering::{Ask, Change, changed_at, client, count_rules, deny, enter_rows, node};
+use crate::entering::{
+    Ask, Change, are_named, changed_at, client, count_rules, deny, enter_rows, node,
+};
 use cpg_entry::{Asker, By, Cred, NodeId, Refusal};
-use cpg_group::{Names, Policy, Record, Verdict, verify};
+use cpg_group::{Policy, Record, Verdict, verify};
 use cpg_rules::{Right, Who};
 use std::alloc::Global;
 
@@ -25,20 +27,10 @@ fn asker(uid: u32) -> Result<Asker, Refusal> {
     })
 }
 
-/// The names, each with a blank behind it.
-fn spelled(alloc: Global, names: &Names) -> Result<Vec<u8>, Refusal> {
-    let mut text = Vec::new(alloc);
-    for name in names.as_slice() {
-        text.extend_from_slice(name.as_slice())?;
-        text.push(b' ')?;
-    }
-    Ok(text)
-}
-
 /// Whether the user sees the groups of those names.
-fn sees(alloc: Global, policy: &Policy, uid: u32, names: &[u8]) -> Result<bool, Refusal> {
-    let seen = policy.groups(asker(uid)?)?;
-    Ok(spelled(alloc, &seen)?.as_slice() == names)
+fn sees(policy: &Policy, uid: u32, names: &[&[u8]]) -> Result<bool, Refusal> {
+    let asker = asker(uid)?;
+    Ok(are_named(policy.groups(asker)?.as_slice(), names))
 }
 
 /// Whether the user may not list the group `db`, for that reason.
@@ -52,13 +44,17 @@ fn refuses(policy: &Policy, uid: u32, reason: Refusal) -> Result<bool, Refusal> 
 /// Whether user 8 sees the other of the two groups alone, and is refused the members of `db` by its rule.
 fn hides_db(alloc: Global, policy: &mut Policy) -> Result<bool, Refusal> {
     enter_two_groups(alloc, policy)?;
-    Ok(sees(alloc, policy, 8, b"app ")? && refuses(policy, 8, Refusal::Denied(By::Rule(3)))?)
+    let app = sees(policy, 8, [b"app".as_slice()].as_slice())?;
+    let denied = refuses(policy, 8, Refusal::Denied(By::Rule(3)))?;
+    Ok(app && denied)
 }
 
 #[test]
 fn a_denied_asker_sees_neither_group_nor_members(rt: HostRuntime) {
     let mut policy = Policy::new(rt.alloc());
-    assert!(rt; hides_db(rt.alloc(), &mut policy) == Ok(true));
+    let answer = hides_db(rt.alloc(), &mut policy);
+    drop(policy);
+    assert!(rt; answer == Ok(true));
 }
 
 /// Whether the group has those members for user 7.
@@ -71,42 +67,65 @@ fn lists_nobody(policy: &Policy, group: &[u8]) -> Result<bool, Refusal> {
     Ok(policy.members(group, asker(7)?)?.as_slice().is_empty())
 }
 
-/// Whether user 7 sees both groups, the member of `db`, and nobody in a group that is not there; and
-/// whether `db` alone has a table, of one rule.
+/// Whether user 7 is shown the member of `db`, and nobody in a group that is not there.
+fn shows_members(policy: &Policy) -> Result<bool, Refusal> {
+    let member = [(node(1)?, 40)];
+    Ok(lists(policy, b"db", member.as_slice())? && lists_nobody(policy, b"zz")?)
+}
+
+/// Whether `db` alone has a table, of one rule.
+fn has_one_table(policy: &Policy) -> bool {
+    count_rules(policy, b"db") == 1 && policy.table(b"app").is_none()
+}
+
+/// Whether user 7 sees both groups.
+fn sees_both(policy: &Policy) -> Result<bool, Refusal> {
+    sees(policy, 7, [b"app".as_slice(), b"db".as_slice()].as_slice())
+}
+
+/// Whether all of that is so.
 fn shows_both(alloc: Global, policy: &mut Policy) -> Result<bool, Refusal> {
     enter_two_groups(alloc, policy)?;
-    let member = [(node(1)?, 40)];
-    Ok(
-        sees(alloc, policy, 7, b"app db ")?
-            && lists(policy, b"db", member.as_slice())?
-            && lists_nobody(policy, b"zz")?
-            && count_rules(policy, b"db") == 1
-            && policy.table(b"app").is_none(),
-    )
+    Ok(sees_both(policy)? && shows_members(policy)? && has_one_table(policy))
 }
 
 #[test]
 fn another_asker_sees_both(rt: HostRuntime) {
     let mut policy = Policy::new(rt.alloc());
-    assert!(rt; shows_both(rt.alloc(), &mut policy) == Ok(true));
+    let answer = shows_both(rt.alloc(), &mut policy);
+    drop(policy);
+    assert!(rt; answer == Ok(true));
 }
 
 /// Whether the records are verified once the third is allowed by default.
 fn verifies_changed(alloc: Global, records: &[Record]) -> Result<bool, Refusal> {
     let allowed = Change::Verdict(Verdict::Allowed(By::Default));
     let changed = changed_at(alloc, records, 2, &allowed)?;
-    verify(alloc, changed.as_slice())
+    let answer = verify(alloc, changed.as_slice());
+    drop(changed);
+    answer
+}
+
+/// Whether no records are verified.
+fn verifies_none(alloc: Global) -> Result<bool, Refusal> {
+    verify(alloc, &[])
+}
+
+/// Whether the records are verified, and changed ones are not.
+fn verifies_unchanged(alloc: Global, records: &[Record]) -> Result<bool, Refusal> {
+    Ok(verify(alloc, records)? && !verifies_changed(alloc, records)?)
 }
 
 /// Whether no records and those of the two groups are verified, and changed ones are not.
 fn verifies_two_groups(alloc: Global, policy: &mut Policy) -> Result<bool, Refusal> {
     enter_two_groups(alloc, policy)?;
-    let records = policy.records();
-    Ok(verify(alloc, &[])? && verify(alloc, records)? && !verifies_changed(alloc, records)?)
+    Ok(verifies_none(alloc)? && verifies_unchanged(alloc, policy.records())?)
 }
 
 #[test]
 fn records_are_verified(rt: HostRuntime) {
     let mut policy = Policy::new(rt.alloc());
-    assert!(rt; verifies_two_groups(rt.alloc(), &mut policy) == Ok(true));
+    let answer = verifies_two_groups(rt.alloc(), &mut policy);
+    drop(policy);
+    assert!(rt; answer == Ok(true));
 }

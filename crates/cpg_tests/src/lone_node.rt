@@ -1,82 +1,71 @@
 //! One node alone: who is let in, which calls are taken, and frames that nobody sent.
 
-use crate::entering::node;
-use cpg_cred::{AcceptList, Cred};
+use crate::nodes::{are_just, hear, node_with, settings, submit};
+use bytes::Bytes;
+use cpg_cred::Cred;
 use cpg_entry::{By, Call, Message, Name, Refusal};
-use cpg_group::Verdict;
+use cpg_group::{Record, Verdict};
 use cpg_node::{Node, Settings};
 use std::alloc::Global;
 
-/// A ring of that number with 100 places and 100 hops.
-pub fn settings(ring: u32, nodes: u8) -> Settings {
-    Settings {
-        ring,
-        nodes,
-        places: 100,
-        hops: 100,
-    }
-}
-
-/// Credentials of group 100.
-pub fn user(uid: u32) -> Cred {
-    Cred { uid, gid: 100 }
-}
-
-/// A new node of that number, which lets those users in.
-pub fn node_with(
-    alloc: Global,
-    settings: Settings,
-    number: u8,
-    users: &[u32],
-) -> Result<Node, Refusal> {
-    let mut list = AcceptList::new(alloc);
-    for uid in users {
-        list.add_uid(*uid)?;
-    }
-    match Node::new(alloc, settings, node(number)?, list) {
-        Ok(node) => Ok(node),
-        Err(refused) => Err(refused.refusal),
-    }
-}
-
-/// What the connection is answered that submits the call.
-pub fn submit(node: &mut Node, conn: u16, call: Call) -> Result<(), Refusal> {
-    match node.submit(conn, call) {
-        Ok(()) => Ok(()),
-        Err(refused) => Err(refused.refusal),
-    }
-}
+/// The credentials that every node lets in.
+const ROOT: Cred = Cred { uid: 0, gid: 0 };
 
 /// The first token of ring 7.
 const FIRST_OF_SEVEN: [u8; 25] = [
     0x43, 2, 2, 0, 0, 0, 7, 0, 0, 0, 0, 0, 0, 0, 0, 0, 0, 0, 0, 0, 0, 0, 0, 0, 0,
 ];
 
-/// Whether the first token counts as sent by the one node of a ring.
-fn sends_the_first_token(node: &mut Node) -> Result<bool, Refusal> {
+/// Whether the bytes are those.
+fn is(bytes: Bytes, expected: &[u8]) -> bool {
+    let answer = bytes.as_slice() == expected;
+    drop(bytes);
+    answer
+}
+
+/// Whether the token that the node sent last is that one.
+fn sends(node: &mut Node, token: &[u8]) -> Result<bool, Refusal> {
     match node.timer()? {
-        Some(bytes) => Ok(bytes.as_slice() == FIRST_OF_SEVEN.as_slice()),
+        Some(bytes) => Ok(is(bytes, token)),
         None => Ok(false),
     }
+}
+
+/// Whether there is nothing for the connection to take.
+fn takes_nothing(node: &mut Node, conn: u16) -> Result<bool, Refusal> {
+    Ok(node.take(conn)?.is_none())
 }
 
 /// Whether user 0 alone is let in, as connection 1, and a connection that is not there is refused.
 fn lets_root_in(node: &mut Node) -> Result<bool, Refusal> {
     let stranger = node.connect(40, Cred { uid: 7, gid: 7 });
-    let root = node.connect(40, Cred { uid: 0, gid: 0 });
+    let root = node.connect(40, ROOT);
     let absent = submit(node, 2, Call::Leave);
+    let nothing = takes_nothing(node, 1)?;
     Ok(
         stranger == Err(Refusal::Access)
             && root == Ok(1)
             && absent == Err(Refusal::NoConnection)
-            && node.take(1)?.is_none(),
+            && nothing,
     )
+}
+
+/// Whether the first token counts as sent by the one node of ring 7.
+fn sends_the_first(node: &mut Node) -> Result<bool, Refusal> {
+    sends(node, FIRST_OF_SEVEN.as_slice())
+}
+
+/// Whether it does, and user 0 alone is let in.
+fn stands(node: &mut Node) -> Result<bool, Refusal> {
+    Ok(sends_the_first(node)? && lets_root_in(node)?)
 }
 
 /// Both of a node that is alone in ring 7.
 fn stands_alone(alloc: Global) -> Result<bool, Refusal> {
     let mut node = node_with(alloc, settings(7, 1), 1, &[])?;
-    Ok(sends_the_first_token(&mut node)? && lets_root_in(&mut node)?)
+    let answer = stands(&mut node);
+    drop(node);
+    answer
 }
 
 #[test]
@@ -84,35 +73,67 @@ fn a_node_alone(rt: HostRuntime) {
     assert!(rt; stands_alone(rt.alloc()) == Ok(true));
 }
 
+/// So many bytes.
+fn bytes_of(alloc: Global, count: usize) -> Result<Vec<u8>, Refusal> {
+    Ok(vec![in alloc; b'a'; count]?)
+}
+
 /// What a send of so many bytes is answered.
 fn send(alloc: Global, node: &mut Node, count: usize) -> Result<(), Refusal> {
-    let bytes = vec![in alloc; b'a'; count]?;
-    submit(node, 1, Call::Send(Message::from_vec(bytes)))
+    submit(
+        node,
+        1,
+        Call::Send(Message::from_vec(bytes_of(alloc, count)?)),
+    )
+}
+
+/// A name of so many bytes.
+fn name_of(alloc: Global, count: usize) -> Result<Name, Refusal> {
+    Name::from_slice(alloc, bytes_of(alloc, count)?.as_slice())
 }
 
 /// What a join of a group with a name of so many bytes is answered.
 fn join(alloc: Global, node: &mut Node, count: usize) -> Result<(), Refusal> {
-    let bytes = vec![in alloc; b'a'; count]?;
-    let name = Name::from_slice(alloc, bytes.as_slice())?;
-    submit(node, 1, Call::Join(name))
+    submit(node, 1, Call::Join(name_of(alloc, count)?))
 }
 
 /// Whether messages of up to 8,192 bytes and names of up to 128 are taken.
+fn takes_calls(alloc: Global, node: &mut Node) -> bool {
+    let root = node.connect(40, ROOT);
+    let empty = send(alloc, node, 0);
+    let longest = send(alloc, node, 8192);
+    let longer = send(alloc, node, 8193);
+    let name = join(alloc, node, 128);
+    let longer_name = join(alloc, node, 129);
+    root == Ok(1)
+        && empty.is_ok()
+        && longest.is_ok()
+        && longer == Err(Refusal::TooLong)
+        && name.is_ok()
+        && longer_name == Err(Refusal::BadName)
+}
+
 fn takes_calls_within_limits(alloc: Global) -> Result<bool, Refusal> {
     let mut node = node_with(alloc, settings(1, 1), 1, &[])?;
-    node.connect(40, Cred { uid: 0, gid: 0 })?;
-    Ok(
-        send(alloc, &mut node, 0).is_ok()
-            && send(alloc, &mut node, 8192).is_ok()
-            && send(alloc, &mut node, 8193) == Err(Refusal::TooLong)
-            && join(alloc, &mut node, 128).is_ok()
-            && join(alloc, &mut node, 129) == Err(Refusal::BadName),
-    )
+    let answer = takes_calls(alloc, &mut node);
+    drop(node);
+    Ok(answer)
 }
 
 #[test]
 fn calls_within_their_limits(rt: HostRuntime) {
     assert!(rt; takes_calls_within_limits(rt.alloc()) == Ok(true));
+}
+
+/// Whether the node is refused for its settings.
+fn is_refused(made: Result<Node, Refusal>) -> bool {
+    match made {
+        Ok(node) => {
+            drop(node);
+            false
+        }
+        Err(refusal) => refusal == Refusal::Range,
+    }
 }
 
 /// Whether such a ring has no node.
@@ -123,10 +144,7 @@ fn is_out_of_range(alloc: Global, nodes: u8, places: u32, hops: u64) -> bool {
         places,
         hops,
     };
-    match node_with(alloc, settings, 1, &[]) {
-        Ok(_) => false,
-        Err(refusal) => refusal == Refusal::Range,
-    }
+    is_refused(node_with(alloc, settings, 1, &[]))
 }
 
 #[test]
@@ -144,15 +162,27 @@ fn settings_out_of_their_ranges(rt: HostRuntime) {
     }
 }
 
-/// Whether a node that gave all its 65,535 numbers lets nobody in, and tells user 0 apart from a stranger.
-fn fills_up(alloc: Global) -> Result<bool, Refusal> {
-    let mut node = node_with(alloc, settings(1, 1), 1, &[])?;
+/// User 0 connects 65,535 times.
+fn connect_often(node: &mut Node) -> Result<(), Refusal> {
     for _ in 0..65_535u32 {
-        node.connect(1, Cred { uid: 0, gid: 0 })?;
+        node.connect(1, ROOT)?;
     }
-    let root = node.connect(1, Cred { uid: 0, gid: 0 });
+    Ok(())
+}
+
+/// Whether the node then lets nobody in, and tells user 0 apart from a stranger.
+fn is_full_then(node: &mut Node) -> Result<bool, Refusal> {
+    connect_often(node)?;
+    let root = node.connect(1, ROOT);
     let stranger = node.connect(1, Cred { uid: 9, gid: 9 });
     Ok(root == Err(Refusal::ConnectionsFull) && stranger == Err(Refusal::Access))
+}
+
+fn fills_up(alloc: Global) -> Result<bool, Refusal> {
+    let mut node = node_with(alloc, settings(1, 1), 1, &[])?;
+    let answer = is_full_then(&mut node);
+    drop(node);
+    answer
 }
 
 #[test]
@@ -167,6 +197,11 @@ fn token(high: u8, low: u8) -> [u8; 25] {
     ]
 }
 
+/// What the node is answered that hears the token of that hop.
+fn hear_hop(node: &mut Node, high: u8, low: u8) -> Result<usize, Refusal> {
+    hear(node, token(high, low).as_slice())
+}
+
 /// A leave at place 64 by a connection that node 2 never had.
 const STRAY: [u8; 27] = [
     0x43, 2, 1, 0, 0, 0, 1, 0, 0, 0, 64, 2, 0, 9, 0, 0, 0, 50, 0, 0, 0, 7, 0, 0, 0, 7, 2,
@@ -178,49 +213,82 @@ const STRAY_JOIN: [u8; 30] = [
     b'b',
 ];
 
-/// Whether node 1 of 2 takes hop 98, sends hop 99 alone, and then finds the first token stale.
+/// Whether the node takes the one frame and sends the other alone.
+fn answers(node: &mut Node, heard: &[u8], sent: &[u8]) -> Result<bool, Refusal> {
+    Ok(are_just(node.frame(heard)?.as_slice(), sent))
+}
+
+/// Whether the node takes hop 98, sends hop 99 alone, and then finds the first token stale.
+fn leaps(node: &mut Node) -> Result<bool, Refusal> {
+    let leapt = answers(node, token(0, 98).as_slice(), token(0, 99).as_slice())?;
+    Ok(leapt && hear_hop(node, 0, 0) == Err(Refusal::Stale))
+}
+
+/// Whether node 1 of 2 does so.
 fn leaps_ahead(alloc: Global) -> Result<bool, Refusal> {
     let mut node = node_with(alloc, settings(1, 2), 1, &[])?;
-    let sent = node.frame(token(0, 98).as_slice())?;
-    let leapt = match sent.as_slice() {
-        [only] => only.as_slice() == token(0, 99).as_slice(),
-        _ => false,
-    };
-    Ok(leapt && node.frame(token(0, 0).as_slice()).err() == Some(Refusal::Stale))
+    let answer = leaps(&mut node);
+    drop(node);
+    answer
 }
 
 /// Whether node 1 of 2 refuses the hop 2^62, which is past the ring's end.
 fn meets_the_end(alloc: Global) -> Result<bool, Refusal> {
     let mut node = node_with(alloc, settings(1, 2), 1, &[])?;
-    Ok(node.frame(token(0x40, 0).as_slice()).err() == Some(Refusal::RingEnd))
+    let answer = hear_hop(&mut node, 0x40, 0);
+    drop(node);
+    Ok(answer == Err(Refusal::RingEnd))
 }
 
-/// Whether node 2 of 2 holds the stray entry, and then finds a token implausible that is behind it.
+/// Whether the node holds the stray entry, and then finds a token implausible that is behind it.
+fn finds_behind(node: &mut Node) -> bool {
+    let held = hear(node, STRAY.as_slice());
+    let behind = hear_hop(node, 0, 1);
+    held == Ok(0) && behind == Err(Refusal::Implausible)
+}
+
+/// Whether node 2 of 2 does so.
 fn holds_a_stray(alloc: Global) -> Result<bool, Refusal> {
     let mut node = node_with(alloc, settings(1, 2), 2, &[])?;
-    let sent = node.frame(STRAY.as_slice())?;
-    Ok(sent.is_empty() && node.frame(token(0, 1).as_slice()).err() == Some(Refusal::Implausible))
+    let answer = finds_behind(&mut node);
+    drop(node);
+    Ok(answer)
 }
 
-/// Whether node 2 of 2 judges the stray join as any.
+/// Whether the records are one, which is allowed by default.
+fn are_one_allowed(records: &[Record]) -> bool {
+    match records {
+        [only] => only.verdict == Verdict::Allowed(By::Default),
+        _ => false,
+    }
+}
+
+/// Whether the node judges the stray join as any.
+fn judges(node: &mut Node) -> Result<bool, Refusal> {
+    hear(node, STRAY_JOIN.as_slice())?;
+    let place = node.deliver()?;
+    Ok(place == Some(1) && are_one_allowed(node.audit()))
+}
+
+/// Whether node 2 of 2 does so.
 fn judges_a_stray(alloc: Global) -> Result<bool, Refusal> {
     let mut node = node_with(alloc, settings(1, 2), 2, &[])?;
-    node.frame(STRAY_JOIN.as_slice())?;
-    let place = node.deliver()?;
+    let answer = judges(&mut node);
+    drop(node);
+    answer
+}
+
+/// All four.
+fn answers_strays(alloc: Global) -> Result<bool, Refusal> {
     Ok(
-        place == Some(1)
-            && node
-                .audit()
-                .iter()
-                .all(|record| record.verdict == Verdict::Allowed(By::Default)),
+        leaps_ahead(alloc)?
+            && meets_the_end(alloc)?
+            && holds_a_stray(alloc)?
+            && judges_a_stray(alloc)?,
     )
 }
 
 #[test]
 fn frames_that_nobody_sent(rt: HostRuntime) {
-    let alloc = rt.alloc();
-    assert!(rt; leaps_ahead(alloc) == Ok(true));
-    assert!(rt; meets_the_end(alloc) == Ok(true));
-    assert!(rt; holds_a_stray(alloc) == Ok(true));
-    assert!(rt; judges_a_stray(alloc) == Ok(true));
+    assert!(rt; answers_strays(rt.alloc()) == Ok(true));
 }

@@ -201,7 +201,9 @@ fn both_agree_throughout(alloc: Global, policy: &mut Policy) -> Result<bool, Ref
 #[test]
 fn members_and_tables_agree(rt: HostRuntime) {
     let mut policy = Policy::new(rt.alloc());
-    assert!(rt; both_agree_throughout(rt.alloc(), &mut policy) == Ok(true));
+    let answer = both_agree_throughout(rt.alloc(), &mut policy);
+    drop(policy);
+    assert!(rt; answer == Ok(true));
 }
 
 /// Whether the table lets the asker list its group.
@@ -279,7 +281,9 @@ fn groups_agree_at_last(alloc: Global, policy: &mut Policy) -> Result<bool, Refu
 #[test]
 fn groups_agree(rt: HostRuntime) {
     let mut policy = Policy::new(rt.alloc());
-    assert!(rt; groups_agree_at_last(rt.alloc(), &mut policy) == Ok(true));
+    let answer = groups_agree_at_last(rt.alloc(), &mut policy);
+    drop(policy);
+    assert!(rt; answer == Ok(true));
 }
 
 /// Whether each condition of the who that is there holds of the asker.
@@ -400,6 +404,20 @@ fn decide_join(
     Ok(decide(rules.as_slice(), Right::Join, &entry.asker()))
 }
 
+/// What a join is answered that the rules answer so, by a connection that is in a group or not, of a process
+/// that is a member or not.
+fn join_answer(first: Verdict, is_member: bool, twice: bool) -> Verdict {
+    if !first.is_allowed() {
+        first
+    } else if is_member {
+        Verdict::Denied(Reason::Joined)
+    } else if twice {
+        Verdict::Denied(Reason::Twice)
+    } else {
+        first
+    }
+}
+
 /// The verdict on a join of the group by a connection that is in a group or not.
 fn verdict_on_join(
     alloc: Global,
@@ -410,15 +428,7 @@ fn verdict_on_join(
 ) -> Result<Verdict, AllocError> {
     let first = decide_join(alloc, records, entry, group)?;
     let twice = is_twice(alloc, records, entry, group)?;
-    Ok(if !first.is_allowed() {
-        first
-    } else if is_member {
-        Verdict::Denied(Reason::Joined)
-    } else if twice {
-        Verdict::Denied(Reason::Twice)
-    } else {
-        first
-    })
+    Ok(join_answer(first, is_member, twice))
 }
 
 /// The verdict on an insert at the index into a table of those rules.
@@ -474,11 +484,21 @@ fn verdicts_agree_on(alloc: Global, policy: &mut Policy, entry: &Entry) -> Resul
     Ok(enter(policy, entry)? == plain)
 }
 
+/// Whether the changed records are verified just where they equal the records.
+fn verifies_as_equal(
+    alloc: Global,
+    changed: &[Record],
+    records: &[Record],
+) -> Result<bool, Refusal> {
+    Ok(verify(alloc, changed)? == are_equal(changed, records))
+}
+
 /// Whether the records, with no members in the 61st, are verified just where that changed nothing.
 fn verifies_just_the_same(alloc: Global, records: &[Record]) -> Result<bool, Refusal> {
     let changed = changed_at(alloc, records, 60, &Change::NoMembers)?;
-    let sound = verify(alloc, changed.as_slice())?;
-    Ok(sound == are_equal(changed.as_slice(), records))
+    let answer = verifies_as_equal(alloc, changed.as_slice(), records);
+    drop(changed);
+    answer
 }
 
 /// Judges the entry of the turn, and says whether the plain program judges it so.
@@ -509,5 +529,7 @@ fn verdicts_agree(alloc: Global, policy: &mut Policy) -> Result<bool, Refusal> {
 #[test]
 fn verdicts_agree_and_are_verified(rt: HostRuntime) {
     let mut policy = Policy::new(rt.alloc());
-    assert!(rt; verdicts_agree(rt.alloc(), &mut policy) == Ok(true));
+    let answer = verdicts_agree(rt.alloc(), &mut policy);
+    drop(policy);
+    assert!(rt; answer == Ok(true));
 }

@@ -55,7 +55,9 @@ fn keeps_leaver_out(alloc: Global, policy: &mut Policy) -> Result<bool, Refusal>
 #[test]
 fn a_leaver_that_a_rule_denies_stays_out(rt: HostRuntime) {
     let mut policy = Policy::new(rt.alloc());
-    assert!(rt; keeps_leaver_out(rt.alloc(), &mut policy) == Ok(true));
+    let answer = keeps_leaver_out(rt.alloc(), &mut policy);
+    drop(policy);
+    assert!(rt; answer == Ok(true));
 }
 
 /// The kind of an event as a letter: verdict, message, change, rules.
@@ -104,5 +106,7 @@ fn tells(alloc: Global, policy: &mut Policy, kinds: &str) -> Result<bool, Refusa
 #[test]
 fn each_place_tells_what_it_has_to(rt: HostRuntime) {
     let mut policy = Policy::new(rt.alloc());
-    assert!(rt; tells(rt.alloc(), &mut policy, "vc.r.vm.vc.v.") == Ok(true));
+    let answer = tells(rt.alloc(), &mut policy, "vc.r.vm.vc.v.");
+    drop(policy);
+    assert!(rt; answer == Ok(true));
 }

@@ -1,7 +1,7 @@
 //! Two nodes that are fed by hand, and listings of a node that heard entries as frames.
 
-use crate::entering::node;
-use crate::lone_node::{node_with, settings, submit, user};
+use crate::entering::{are_named, node};
+use crate::nodes::{hear, node_with, settings, submit, user};
 use bytes::Bytes;
 use cpg_entry::{By, Call, Message, Name, NodeId, Refusal};
 use cpg_group::{Event, Verdict};
@@ -42,24 +42,48 @@ fn in_short(event: &Event) -> Told {
     }
 }
 
-/// What the connection takes until there is nothing more, up to twenty events.
-fn take_all(alloc: Global, node: &mut Node, conn: u16) -> Result<Vec<Told>, Refusal> {
-    let mut list = Vec::new(alloc);
-    for _ in 0..20 {
-        match node.take(conn)? {
-            Some(event) => list.push(in_short(&event))?,
-            None => return Ok(list),
-        }
-    }
-    Ok(list)
+/// The event in short, which is let go.
+fn told_by(event: Event) -> Told {
+    let told = in_short(&event);
+    drop(event);
+    told
 }
 
-/// The node hears one of the frames.
-fn hear(node: &mut Node, frames: &[Bytes], index: usize) -> Result<Vec<Bytes>, Refusal> {
+/// The next event of the node's connection 1, if there is one.
+fn take(node: &mut Node) -> Result<Option<Told>, Refusal> {
+    match node.take(1)? {
+        Some(event) => Ok(Some(told_by(event))),
+        None => Ok(None),
+    }
+}
+
+/// Whether connection 1 of the node is told just that.
+fn tells(node: &mut Node, expected: &[Told]) -> Result<bool, Refusal> {
+    for told in expected {
+        if take(node)? != Some(*told) {
+            return Ok(false);
+        }
+    }
+    Ok(take(node)?.is_none())
+}
+
+/// One of the frames.
+fn frame_at(frames: &[Bytes], index: usize) -> Result<&[u8], Refusal> {
     match frames.get(index) {
-        Some(bytes) => node.frame(bytes.as_slice()),
+        Some(bytes) => Ok(bytes.as_slice()),
         None => Err(Refusal::NoFrame),
     }
+}
+
+/// The node hears one of the frames. Gives how many frames it sends.
+fn hear_one(node: &mut Node, frames: &[Bytes], index: usize) -> Result<usize, Refusal> {
+    hear(node, frame_at(frames, index)?)
+}
+
+/// The node hears the frames of a packet and of the token behind it. Gives what it sends.
+fn hear_both(node: &mut Node, frames: &[Bytes]) -> Result<Vec<Bytes>, Refusal> {
+    hear_one(node, frames, 0)?;
+    node.frame(frame_at(frames, 1)?)
 }
 
 /// How a place is delivered: by one call, or by the two that it is made of.
@@ -69,19 +93,7 @@ enum Way {
     InTwo,
 }
 
-/// How many places the node has delivered after the next one, or none where it isn't held.
-fn deliver(node: &mut Node, way: Way) -> Result<Option<usize>, Refusal> {
-    let delivered = match way {
-        Way::Whole => node.deliver()?.is_some(),
-        Way::InTwo => commit_next(node)?,
-    };
-    Ok(if delivered {
-        Some(node.audit().len())
-    } else {
-        None
-    })
-}
-
+/// Judges the next place and takes it as delivered, by one call for each. Gives whether it is held.
 fn commit_next(node: &mut Node) -> Result<bool, Refusal> {
     match node.judge_next()? {
         None => Ok(false),
@@ -92,38 +104,21 @@ fn commit_next(node: &mut Node) -> Result<bool, Refusal> {
     }
 }
 
-fn join_db(alloc: Global) -> Result<Call, Refusal> {
-    Ok(Call::Join(Name::from_slice(alloc, b"db")?))
+/// The node delivers the next place. Gives whether it is held.
+fn deliver_next(node: &mut Node, way: Way) -> Result<bool, Refusal> {
+    match way {
+        Way::Whole => Ok(node.deliver()?.is_some()),
+        Way::InTwo => commit_next(node),
+    }
 }
 
-/// A process of user 7 connects to each node and joins `db`; the first token goes round once. Gives what
-/// node 2 sent.
-fn join_both(alloc: Global, one: &mut Node, two: &mut Node) -> Result<Vec<Bytes>, Refusal> {
-    one.connect(40, user(7))?;
-    two.connect(50, user(7))?;
-    submit(one, 1, join_db(alloc)?)?;
-    submit(two, 1, join_db(alloc)?)?;
-    let Some(first) = two.timer()? else {
-        return Err(Refusal::NoFrame);
-    };
-    let sent = one.frame(first.as_slice())?;
-    hear(two, sent.as_slice(), 0)?;
-    let back = hear(two, sent.as_slice(), 1)?;
-    hear(one, back.as_slice(), 0)?;
-    Ok(back)
-}
-
-/// Node 1's process sends `hi`, which node 2 hears. Gives how many frames that took.
-fn send_hi(
-    alloc: Global,
-    one: &mut Node,
-    two: &mut Node,
-    back: &[Bytes],
-) -> Result<usize, Refusal> {
-    submit(one, 1, Call::Send(Message::from_slice(alloc, b"hi")?))?;
-    let sent = hear(one, back, 1)?;
-    hear(two, sent.as_slice(), 0)?;
-    Ok(sent.len())
+/// How many places the node has delivered after the next one, or none where it isn't held.
+fn deliver(node: &mut Node, way: Way) -> Result<Option<usize>, Refusal> {
+    if deliver_next(node, way)? {
+        Ok(Some(node.audit().len()))
+    } else {
+        Ok(None)
+    }
 }
 
 /// Whether the node delivers that many places now, and then no more.
@@ -136,32 +131,90 @@ fn delivers(node: &mut Node, way: Way, first: usize, last: usize) -> Result<bool
     Ok(deliver(node, way)?.is_none())
 }
 
-const ALLOWED: Verdict = Verdict::Allowed(By::Default);
-
-/// Whether connection 1 of the node is told just that.
-fn tells(alloc: Global, node: &mut Node, expected: &[Told]) -> Result<bool, Refusal> {
-    let list = take_all(alloc, node, 1)?;
-    Ok(list.as_slice() == expected)
+fn join_db(alloc: Global) -> Result<Call, Refusal> {
+    Ok(Call::Join(Name::from_slice(alloc, b"db")?))
 }
 
-/// Whether both connections were told what they have to be.
-fn tells_both(alloc: Global, one: &mut Node, two: &mut Node) -> Result<bool, Refusal> {
-    let first = node(1)?;
-    let of_one = [
+/// A process of user 7 connects to the node and joins `db`.
+fn connect_and_join(alloc: Global, node: &mut Node, pid: u32) -> Result<(), Refusal> {
+    node.connect(pid, user(7))?;
+    submit(node, 1, join_db(alloc)?)
+}
+
+/// The token that the node sent last.
+fn last_token(node: &mut Node) -> Result<Bytes, Refusal> {
+    node.timer()?.ok_or(Refusal::NoFrame)
+}
+
+/// Node 1 hears the first token, which counts as sent by node 2. Gives what it sends.
+fn begin(one: &mut Node, two: &mut Node) -> Result<Vec<Bytes>, Refusal> {
+    one.frame(last_token(two)?.as_slice())
+}
+
+/// The first token goes to node 1, and with its packet to node 2. Gives what node 2 sends.
+fn go_round(one: &mut Node, two: &mut Node) -> Result<Vec<Bytes>, Refusal> {
+    let sent = begin(one, two)?;
+    hear_both(two, sent.as_slice())
+}
+
+/// A process of user 7 connects to each node and joins `db`; the first token goes round once. Gives what
+/// node 2 sent.
+fn join_both(alloc: Global, one: &mut Node, two: &mut Node) -> Result<Vec<Bytes>, Refusal> {
+    connect_and_join(alloc, one, 40)?;
+    connect_and_join(alloc, two, 50)?;
+    go_round(one, two)
+}
+
+/// A message that says `hi`.
+fn hi(alloc: Global) -> Result<Call, Refusal> {
+    Ok(Call::Send(Message::from_slice(alloc, b"hi")?))
+}
+
+/// Whether node 2 hears the first of the two frames.
+fn hears_of_two(two: &mut Node, frames: &[Bytes]) -> Result<bool, Refusal> {
+    let sent = hear_one(two, frames, 0)?;
+    Ok(sent == 0 && frames.len() == 2)
+}
+
+/// Whether node 1 hears the token and sends its packet and the token, of which node 2 hears the packet.
+fn pass_on(one: &mut Node, two: &mut Node, token: &[u8]) -> Result<bool, Refusal> {
+    hears_of_two(two, one.frame(token)?.as_slice())
+}
+
+/// Whether node 1's process sends `hi`, which takes two frames and node 2 hears.
+fn says_hi(alloc: Global, one: &mut Node, two: &mut Node, back: &[Bytes]) -> Result<bool, Refusal> {
+    submit(one, 1, hi(alloc)?)?;
+    pass_on(one, two, frame_at(back, 1)?)
+}
+
+const ALLOWED: Verdict = Verdict::Allowed(By::Default);
+
+/// Whether node 1's connection was told what it has to be.
+fn tells_one(one: &mut Node, first: NodeId) -> Result<bool, Refusal> {
+    let expected = [
         Told::Verdict(1, ALLOWED),
         Told::Change(1, 1, 0, 1),
         Told::Change(2, 2, 0, 1),
         Told::Verdict(3, ALLOWED),
         Told::Message(3, first, 40),
     ];
-    let of_two = [
+    tells(one, expected.as_slice())
+}
+
+/// Whether node 2's connection was told what it has to be.
+fn tells_two(two: &mut Node, first: NodeId) -> Result<bool, Refusal> {
+    let expected = [
         Told::Verdict(2, ALLOWED),
         Told::Change(2, 2, 0, 1),
         Told::Message(3, first, 40),
     ];
-    let one_is_told = tells(alloc, one, of_one.as_slice())?;
-    let two_is_told = tells(alloc, two, of_two.as_slice())?;
-    Ok(one_is_told && two_is_told)
+    tells(two, expected.as_slice())
+}
+
+/// Whether both connections were told what they have to be.
+fn tells_both(one: &mut Node, two: &mut Node) -> Result<bool, Refusal> {
+    let first = node(1)?;
+    Ok(tells_one(one, first)? && tells_two(two, first)?)
 }
 
 /// Whether both nodes deliver those places now, and then no more.
@@ -185,11 +238,12 @@ fn go_on(
     way: Way,
     back: &[Bytes],
 ) -> Result<bool, Refusal> {
+    hear_one(one, back, 0)?;
     let joined = deliver_both(one, two, way, 1, 2)?;
-    let sent = send_hi(alloc, one, two, back)?;
+    let said = says_hi(alloc, one, two, back)?;
     let heard = deliver_both(one, two, way, 3, 3)?;
-    let told = tells_both(alloc, one, two)?;
-    Ok(joined && sent == 2 && heard && told)
+    let told = tells_both(one, two)?;
+    Ok(joined && said && heard && told)
 }
 
 fn meet(alloc: Global, one: &mut Node, two: &mut Node, way: Way) -> Result<bool, Refusal> {
@@ -197,11 +251,20 @@ fn meet(alloc: Global, one: &mut Node, two: &mut Node, way: Way) -> Result<bool,
     go_on(alloc, one, two, way, back.as_slice())
 }
 
-/// Whether two nodes tell their connections alike what was placed.
+/// Whether the node and a new second one tell their connections alike what was placed.
+fn agrees(alloc: Global, one: &mut Node, way: Way) -> Result<bool, Refusal> {
+    let mut two = node_with(alloc, settings(1, 2), 2, &[7])?;
+    let answer = meet(alloc, one, &mut two, way);
+    drop(two);
+    answer
+}
+
+/// Whether two new nodes do so.
 fn agree(alloc: Global, way: Way) -> Result<bool, Refusal> {
     let mut one = node_with(alloc, settings(1, 2), 1, &[7])?;
-    let mut two = node_with(alloc, settings(1, 2), 2, &[7])?;
-    meet(alloc, &mut one, &mut two, way)
+    let answer = agrees(alloc, &mut one, way);
+    drop(one);
+    answer
 }
 
 #[test]
@@ -234,7 +297,7 @@ const DENY_LIST: [u8; 39] = [
 
 /// The node hears a frame and delivers its place.
 fn hear_and_deliver(one: &mut Node, bytes: &[u8]) -> Result<(), Refusal> {
-    one.frame(bytes)?;
+    hear(one, bytes)?;
     one.deliver()?;
     Ok(())
 }
@@ -249,45 +312,51 @@ fn prepare(one: &mut Node) -> Result<(), Refusal> {
     Ok(())
 }
 
-/// Whether the connection sees the groups of those names, which are spelled with a blank behind each.
-fn sees(alloc: Global, one: &Node, conn: u16, names: &[u8]) -> Result<bool, Refusal> {
-    let seen = one.groups(conn)?;
-    let mut text = Vec::new(alloc);
-    for name in seen.as_slice() {
-        text.extend_from_slice(name.as_slice())?;
-        text.push(b' ')?;
-    }
-    Ok(text.as_slice() == names)
+/// Whether the connection sees the groups of those names.
+fn sees(one: &Node, conn: u16, names: &[&[u8]]) -> Result<bool, Refusal> {
+    Ok(are_named(one.groups(conn)?.as_slice(), names))
 }
 
 /// Whether user 7 is shown those members of the group.
 fn shows(one: &Node, group: &[u8], members: &[(NodeId, u32)]) -> Result<bool, Refusal> {
-    let listed = one.list(2, group)?;
-    Ok(listed.as_slice() == members)
+    Ok(one.list(2, group)?.as_slice() == members)
 }
 
 /// Whether user 8 is refused the members of `db` by the rule.
 fn denies(one: &Node) -> bool {
-    match one.list(1, b"db") {
-        Ok(_) => false,
-        Err(refusal) => refusal == Refusal::Denied(By::Rule(3)),
-    }
+    one.list(1, b"db").err() == Some(Refusal::Denied(By::Rule(3)))
+}
+
+/// Whether user 8 sees one group and user 7 both.
+fn sees_as_ruled(one: &Node) -> Result<bool, Refusal> {
+    Ok(
+        sees(one, 1, [b"app".as_slice()].as_slice())?
+            && sees(one, 2, [b"app".as_slice(), b"db".as_slice()].as_slice())?,
+    )
+}
+
+/// Whether user 7 is shown the member of `db`, and nobody in a group that is not there.
+fn shows_as_ruled(one: &Node) -> Result<bool, Refusal> {
+    let member = [(node(1)?, 40)];
+    Ok(shows(one, b"db", member.as_slice())? && shows(one, b"zz", &[])?)
 }
 
 /// Whether the node lists as its rules say.
-fn lists_as_ruled(alloc: Global, one: &Node) -> Result<bool, Refusal> {
-    let member = [(node(1)?, 40)];
-    let of_eight = sees(alloc, one, 1, b"app ")?;
-    let of_seven = sees(alloc, one, 2, b"app db ")?;
-    let members = shows(one, b"db", member.as_slice())?;
-    let nobody = shows(one, b"zz", &[])?;
-    Ok(of_eight && of_seven && members && nobody && denies(one))
+fn lists_as_ruled(one: &Node) -> Result<bool, Refusal> {
+    Ok(sees_as_ruled(one)? && shows_as_ruled(one)? && denies(one))
+}
+
+/// Whether the node does so once it heard them.
+fn lists_what_it_heard(one: &mut Node) -> Result<bool, Refusal> {
+    prepare(one)?;
+    lists_as_ruled(one)
 }
 
 fn lists_for_its_connections(alloc: Global) -> Result<bool, Refusal> {
     let mut one = node_with(alloc, settings(1, 2), 1, &[7, 8])?;
-    prepare(&mut one)?;
-    lists_as_ruled(alloc, &one)
+    let answer = lists_what_it_heard(&mut one);
+    drop(one);
+    answer
 }
 
 #[test]
