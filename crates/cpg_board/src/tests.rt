@@ -1,0 +1,1 @@
+ghost use Rattle.std.specs.Prelude.{◌≡◌};
