@@ -119,16 +119,16 @@ impl Board {
     pub fn read_next<'a>(&'a self, seat: &mut Seat) -> Result<Option<&'a Record>, Refusal>
         requires { IsSeatOf self.now seat.old }
         ensures seat { IsSeatOf self.now seat.new }
-        ensures ok { IfOk result (λ next. MatchOption next (seat.new ≡ seat.old) (λ standing. records_of seat.new ≡ records_of seat.old ++ standing.now ∷ [])) }
+        ensures ok { IfOk result (λ seen. MatchOption seen (seat.new ≡ seat.old) (λ standing. records_of seat.new ≡ records_of seat.old ++ standing.now ∷ [])) }
         ensures err { OnErr result (seat.new ≡ seat.old) }
         ensures memory { IsOkUnless result Refusal.Memory }
         ensures full { length seat.old ≡ length self.now → result ≡ Ok None }
     {
-        let index = seat.len();
-        let Some(mut note) = self.note_at(index) else {
+        let next = seat.len();
+        let Some(mut note) = self.note_at(next) else {
             return Ok(None);
         };
-        match self.cells[index].get_as(&mut note) {
+        match self.cells[next].get_as(&mut note) {
             None => Ok(None),
             Some(standing) => {
                 seat.notes.push(note)?;

@@ -3,7 +3,7 @@
 use cpg_record::Record;
 
 /// Why a record was not settled.
-#[derive(Drop)]
+#[derive(Debug, Clone, Copy)]
 pub enum Settled<'a> {
     /// Memory was asked for and not given.
     Memory,
