@@ -1,7 +1,7 @@
 -- What a seat's notes know.
 use Rattle.std.proofs.Common.{◌≡◌, ◌<◌, ◌≤◌, ◌+◌, ◌-◌, ℕ, zero, suc, List, [], ◌∷◌, ◌++◌, length, take, get_or, map, refl, sym, ap, subst, ◌∙◌, Option, Some, None, slice_get, arith}
 use Rattle.std.proofs.Math.Seq.{take-suc}
-use Rattle.std.proofs.lemmas.List.{map-append, length-append}
+use Rattle.std.proofs.lemmas.List.{map-append, length-append, take_at}
 use Rattle.std.proofs.lemmas.Option.{slice_get_within, get_or_from_slice_get, slice_get_read, slice_get-map}
 use Rattle.std.specs.Option.{option_map}
 use Rattle.std.specs.declared.alloc.Global.{Global}
@@ -11,7 +11,7 @@ use Rattle.cpg_record.specs.declared.records.Record.{Record}
 use Rattle.cpg_record.specs.Places.{record_at}
 use Rattle.cpg_record.proofs.Placing.{record_at-index}
 use Rattle.cpg_board.specs.Noted.{known_of, with_known, AllKnow}
-use Rattle.cpg_board.specs.Seats.{SeatValue, IsSeatOf, records_of}
+use Rattle.cpg_board.specs.Seats.{SeatValue, IsSeatOf, Begins, records_of}
 
 -- notes that all know something know as many cells as there are notes
 pub known_length : {X : Type 0} (ns : List (Note X)) → AllKnow ns → length (known_of ns) ≡ length ns
@@ -49,6 +49,10 @@ pub grown_seat : (board : List ℕ) (seat : SeatValue) (old new : List (Note Rec
     → known_of old ≡ seat → IsSeatOf board seat → slice_get board (length seat) ≡ Some n.cell → n.known ≡ Some x → new ≡ old ++ n ∷ [] → IsSeatOf board (known_of new)
 grown_seat board seat old new n x known is at knows more =
     subst (λ l. IsSeatOf board l) (sym (ap known_of more ∙ known_push old n x knows ∙ ap (λ l. l ++ (n.cell, x) ∷ []) known)) (seat_push board seat n.cell x is at)
+
+pub grown_begins : (seat : SeatValue) (old new : List (Note Record)) (n : Note Record) (x : Record) → known_of old ≡ seat → n.known ≡ Some x → new ≡ old ++ n ∷ [] → Begins seat (known_of new)
+grown_begins seat old new n x known knows more =
+    ap (take (length seat)) (ap known_of more ∙ known_push old n x knows ∙ ap (λ l. l ++ (n.cell, x) ∷ []) known) ∙ take_at seat ((n.cell, x) ∷ []) (length seat) refl
 
 pub grown_records : (seat : SeatValue) (old new : List (Note Record)) (n : Note Record) (x : Record) → known_of old ≡ seat → n.known ≡ Some x → new ≡ old ++ n ∷ [] → records_of (known_of new) ≡ records_of seat ++ x ∷ []
 grown_records seat old new n x known knows more =

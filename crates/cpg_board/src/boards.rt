@@ -90,10 +90,10 @@ impl Board {
     /// another stands there, which the seat then knows. Refused with BoardFull where the seat knows every
     /// place; with Memory where the seat has no room; with Differs; with Memory where the record can't be
     /// copied.
-    #[tactic(auto, using(crate::proofs::Known::known_length, crate::proofs::Known::all_push, crate::proofs::Known::grown_seat, crate::proofs::Known::grown_records))]
+    #[tactic(auto, using(crate::proofs::Known::known_length, crate::proofs::Known::all_push, crate::proofs::Known::grown_seat, crate::proofs::Known::grown_begins, crate::proofs::Known::grown_records))]
     pub fn settle<'a>(&'a self, seat: &mut Seat, wanted: &Record) -> Result<(), Settled<'a>>
         requires { IsSeatOf self.now seat.old }
-        ensures seat { IsSeatOf self.now seat.new }
+        ensures seat { IsSeatOf self.now seat.new × Begins seat.old seat.new }
         ensures ok { OnOk result (records_of seat.new ≡ records_of seat.old ++ wanted.now ∷ []) }
         ensures err { IfErr result (λ why. Refuses self.now seat.old wanted.now why seat.new) }
     {
@@ -115,10 +115,10 @@ impl Board {
 
     /// Looks at the place after the seat's last; the seat knows from then on what stands there, if anything
     /// does.
-    #[tactic(auto, using(crate::proofs::Known::known_length, crate::proofs::Known::cell_at, crate::proofs::Known::all_push, crate::proofs::Known::grown_seat, crate::proofs::Known::grown_records))]
+    #[tactic(auto, using(crate::proofs::Known::known_length, crate::proofs::Known::cell_at, crate::proofs::Known::all_push, crate::proofs::Known::grown_seat, crate::proofs::Known::grown_begins, crate::proofs::Known::grown_records))]
     pub fn read_next<'a>(&'a self, seat: &mut Seat) -> Result<Option<&'a Record>, Refusal>
         requires { IsSeatOf self.now seat.old }
-        ensures seat { IsSeatOf self.now seat.new }
+        ensures seat { IsSeatOf self.now seat.new × Begins seat.old seat.new }
         ensures ok { IfOk result (λ seen. MatchOption seen (seat.new ≡ seat.old) (λ standing. records_of seat.new ≡ records_of seat.old ++ standing.now ∷ [])) }
         ensures err { OnErr result (seat.new ≡ seat.old) }
         ensures memory { IsOkUnless result Refusal.Memory }

@@ -87,6 +87,7 @@ impl Node {
     pub fn connect(&mut self, pid: u32, cred: Cred) -> Result<u16, Refusal>
         ensures answer { IsAnswer (connect_refusal self.old cred) (λ conn. (conn ≡ suc (length self.old.clients)) × (self.new ≡ connected self.old pid cred)) result }
         ensures err { OnErr result (self.new ≡ self.old) }
+        ensures kept { records_of self.new ≡ records_of self.old }
     {
         if self.list.accepts(cred).is_err() {
             return Err(Refusal::Access);
@@ -117,6 +118,7 @@ impl Node {
         ensures answer { IsAnswer (submit_refusal self.old conn call) (λ _. self.new ≡ submitted self.old conn call) (answer_of result) }
         ensures err { OnErr result (self.new ≡ self.old) }
         ensures back { IfErr result (λ refused. refused.back ≡ call) }
+        ensures kept { records_of self.new ≡ records_of self.old }
     {
         let Some(client) = self.client(conn) else {
             return Err(Refused {
@@ -144,6 +146,7 @@ impl Node {
     pub fn disconnect(&mut self, conn: u16) -> Result<(), Refusal>
         ensures answer { IsAnswer (closed_refusal (open_client self.old conn)) (λ _. self.new ≡ disconnected self.old conn) result }
         ensures err { OnErr result (self.new ≡ self.old) }
+        ensures kept { records_of self.new ≡ records_of self.old }
     {
         let Some(client) = self.client(conn) else {
             return Err(Refusal::NoConnection);
@@ -250,6 +253,7 @@ impl Node {
         ensures answer { IsTakeAnswer self.old conn (open_client self.old conn) result }
         ensures ok { OnOk result (self.new ≡ took self.old conn) }
         ensures err { OnErr result (self.new ≡ self.old) }
+        ensures kept { records_of self.new ≡ records_of self.old }
     {
         let Some(client) = self.client(conn) else {
             return Err(Refusal::NoConnection);

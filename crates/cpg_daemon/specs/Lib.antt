@@ -1,0 +1,2 @@
+pub mod Delivering
+pub mod Stations
