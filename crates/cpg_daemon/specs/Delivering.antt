@@ -35,3 +35,11 @@ DeliverRefuses cells old Memory new = (new.node ≡ old.node) × (new.halted ≡
 DeliverRefuses cells old BoardFull new = (new ≡ old) × (length old.seat ≡ length cells)
 DeliverRefuses cells old Differs new = (new.node ≡ old.node) × (new.halted ≡ true) × FindsAnother new
 DeliverRefuses cells old _ new = ⊥
+
+-- Why a judgement does not come to stand at the place, and what that leaves of the seat. Memory: it is as it
+-- was. BoardFull: so too, and it knows every cell. Differs: it knows another record there.
+abbrev pub StandsNot : List ℕ → SeatValue → ℕ → Record → Refusal → SeatValue → Type 0
+StandsNot board before place wanted Memory after = after ≡ before
+StandsNot board before place wanted BoardFull after = (after ≡ before) × (length before ≡ length board)
+StandsNot board before place wanted Differs after = IsAnother (record_at (records_of after) place) wanted
+StandsNot board before place wanted _ after = ⊥

@@ -1,10 +1,11 @@
 //! A judgement comes to stand on the board.
 
-ghost use Rattle.std.specs.Prelude.{◌≡◌, Some, IfOk, IfErr};
+ghost use Rattle.std.specs.Prelude.{◌≡◌, ◌<◌, ◌≤◌, suc, length, Some, IfOk, IfErr, OnOk};
+ghost use Rattle.cpg_cred.specs.declared.refusals.Refusal.TheVariants.{Differs};
 ghost use Rattle.cpg_record.specs.Places.{record_at};
 ghost use Rattle.cpg_board.specs.Seats.{IsSeatOf, Begins, records_of};
-ghost use Rattle.cpg_daemon.specs.Delivering.{StandsNot};
-ghost use Rattle.cpg_daemon.specs.Stations.{audit_of, Keeps, next_of};
+ghost use Rattle.cpg_daemon.specs.Delivering.{IsAnother, StandsNot};
+ghost use Rattle.cpg_daemon.specs.Stations.{audit_of, Keeps};
 
 use cpg_board::{Board, Seat, Settled};
 use cpg_cred::Refusal;
@@ -24,6 +25,7 @@ fn compare(board: &Board, seat: &Seat, place: u32, wanted: &Record) -> Result<()
     }
 }
 
+#[tactic(auto, using(crate::proofs::Steps::settled, crate::proofs::Steps::settled_at, crate::proofs::Steps::settled_other))]
 /// Has the node's judgement of its next place stand on the board there, and known to the seat, unless
 /// another record stands there. Gives the place.
 pub(crate) fn stand(
@@ -34,7 +36,6 @@ pub(crate) fn stand(
 ) -> Result<u32, Refusal>
     requires seat { IsSeatOf board.now seat.old }
     requires kept { Keeps (audit_of node.now) seat.old }
-    requires more { length (audit_of node.now) < most_places }
     ensures seat { IsSeatOf board.now seat.new × Begins seat.old seat.new }
     ensures kept { Keeps (audit_of node.now) seat.new }
     ensures ok { IfOk result (λ place. (place ≡ suc (length (audit_of node.now))) × (record_at (records_of seat.new) place ≡ Some wanted.now)) }
