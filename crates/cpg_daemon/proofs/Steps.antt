@@ -1,9 +1,8 @@
 -- How a node's records and its seat stay together.
-use Rattle.std.proofs.Common.{◌≡◌, ◌≢◌, ◌≤◌, ◌+◌, ℕ, suc, Bool, List, [], ◌∷◌, ◌++◌, length, take, map, refl, sym, ap, ◌∙◌, subst, Option, Some, None, slice_get, arith, option_map, is_some, if◌then◌else◌}
+use Rattle.std.proofs.Common.{◌≡◌, ◌≢◌, ◌≤◌, ◌+◌, ℕ, suc, Bool, List, [], ◌∷◌, ◌++◌, length, take, refl, sym, ap, ◌∙◌, subst, Option, Some, None, slice_get, arith, option_map, is_some, if◌then◌else◌}
 use Rattle.std.proofs.lemmas.List.{length-append, length-map, take_at, take_all}
 use Rattle.std.proofs.lemmas.List.Sums.{fold_push}
-use Rattle.std.proofs.lemmas.Option.{slice_get_within, none-some, same_Some}
-use denote.Bor.{Bor}
+use Rattle.std.proofs.lemmas.Option.{none-some, same_Some}
 use Rattle.cpg_record.specs.declared.records.Record.{Record}
 use Rattle.cpg_record.specs.Judging.{judged, with_judgement, record_of}
 use Rattle.cpg_record.specs.Places.{record_at}
@@ -13,7 +12,7 @@ use Rattle.cpg_ring.specs.Moves.{next_entry, after_delivery}
 use Rattle.cpg_node.specs.Nodes.{NodeValue, delivered_entries}
 use Rattle.cpg_node.specs.Calls.{next_record, delivered}
 use Rattle.cpg_node.proofs.Keeping.{delivered_more}
-use Rattle.cpg_board.specs.Seats.{SeatValue, Begins, records_of}
+use Rattle.cpg_board.specs.Seats.{SeatValue, records_of}
 use Rattle.cpg_board.proofs.Known.{take_next}
 use Rattle.cpg_daemon.specs.Delivering.{IsAnother}
 use Rattle.cpg_daemon.specs.Stations.{audit_of, Keeps}

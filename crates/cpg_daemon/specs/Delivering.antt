@@ -5,7 +5,7 @@ use Rattle.cpg_cred.specs.declared.refusals.Refusal.TheVariants.{Memory, BoardFu
 use Rattle.cpg_record.specs.declared.records.Record.{Record}
 use Rattle.cpg_record.specs.Places.{record_at}
 use Rattle.cpg_node.specs.Calls.{next_record, delivered}
-use Rattle.cpg_board.specs.Seats.{SeatValue, Begins, records_of}
+use Rattle.cpg_board.specs.Seats.{SeatValue, records_of}
 use Rattle.cpg_daemon.specs.Stations.{StationValue, audit_of}
 
 -- the place that the node delivers next

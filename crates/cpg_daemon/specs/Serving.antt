@@ -1,5 +1,5 @@
 -- What a station is to the sessions at its node.
-use Rattle.std.specs.Prelude.{ℕ, ◌≡◌, ◌<◌, ◌≤◌, true, false, List, length}
+use Rattle.std.specs.Prelude.{◌≡◌, ◌<◌, ◌≤◌, true, false, length}
 use Rattle.cpg_cred.specs.declared.refusals.Refusal.{Refusal}
 use Rattle.cpg_cred.specs.declared.refusals.Refusal.TheVariants.{Memory, Behind, Stopped}
 use Rattle.cpg_board.specs.Seats.{SeatValue, Begins, records_of}

@@ -1,5 +1,5 @@
 -- What a station is seen as, and what is true of every one.
-use Rattle.std.specs.Prelude.{ℕ, ◌≡◌, ◌+◌, ◌≤◌, Bool, List, length}
+use Rattle.std.specs.Prelude.{◌≡◌, ◌+◌, ◌≤◌, Bool, List, length}
 use Rattle.cpg_record.specs.declared.records.Record.{Record}
 use Rattle.cpg_node.specs.Nodes as nodes
 use Rattle.cpg_board.specs.Seats.{SeatValue, Begins, records_of}

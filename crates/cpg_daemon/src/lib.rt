@@ -6,6 +6,7 @@
 //! is delivered stands on the board.
 #![tactic(auto)]
 
+pub mod laws;
 mod naming;
 mod standing;
 mod stations;
