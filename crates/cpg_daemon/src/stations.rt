@@ -17,6 +17,8 @@ ghost use Rattle.cpg_daemon.specs.Delivering.{Delivers, DeliverRefuses};
 ghost use Rattle.cpg_daemon.specs.Serving.{BringsUp, StaysDown};
 ghost use Rattle.cpg_daemon.specs.Stations.{KeepsRest, audit_of};
 
+mod serving;
+
 use crate::naming::BoardName;
 use crate::standing::stand;
 use bytes::Bytes;
