@@ -23,6 +23,7 @@ use Rattle.cpg_ring.proofs.Amounts.{accepted, placed_keeps}
 use Rattle.cpg_ring.proofs.Rings.{data_accepted}
 use Rattle.cpg_record.specs.declared.records.Record.{Record}
 use Rattle.cpg_record.specs.Judging.{judged, record_of, IsNext}
+use Rattle.cpg_record.proofs.Denials.{each_entry_is_judged}
 use Rattle.cpg_node.specs.Nodes.{NodeValue, with_ring, delivered_entries, if_open}
 use Rattle.cpg_node.specs.Calls.{answers_to, after_frame}
 use Rattle.cpg_wire.specs.declared.codes.Version.TheVariants.{Two}
@@ -268,6 +269,30 @@ pub committed : (x : RingNode) (policy : List Entry) (next : Record) → policy 
 committed x policy next same sound h =
     let n = next_of x next h in
     (sound_delivery x n.entry sound n.held, ap (λ l. l ++ next.entry ∷ []) same ∙ (ap (λ e. delivered_entries x.state ++ e ∷ []) (ap (λ (r : Record). r.entry) n.made) ∙ sym (delivered_more x.state n.entry n.held)))
+
+-- each place that was delivered has its entry
+delivered_all : (held : HeldPlaces) (d : ℕ) → AllHeld held d → length (filter_map (get held) (up_to d)) ≡ d
+delivered_all held zero all = refl
+delivered_all held (suc d) all =
+    let here = all (suc d) (omega arith) (omega arith) in
+    let before = delivered_all held d (λ place low high. all place low (omega arith)) in
+    let more = ap length (filter_map-append (get held) (up_to d) (suc d ∷ []) ∙ ap (λ o. filter_map (get held) (up_to d) ++ cons_option o []) here.1) in
+    let sum = length-append (filter_map (get held) (up_to d)) (here.0 ∷ []) in
+    omega (arith, before, more, sum)
+
+pub delivered_count : (r : NodeState) → AllHeld r.held r.delivered → length (judged (delivered_entries r)) ≡ r.delivered
+delivered_count r all = (each_entry_is_judged (delivered_entries r)).0 ∙ delivered_all r.held r.delivered all
+
+-- there are no more than a ring has places
+pub delivered_most : (x : RingNode) → IsSound x → x.state.delivered ≤ 1048576
+delivered_most x sound = by_count x.state.delivered refl
+  where
+    by_count : (d : ℕ) → x.state.delivered ≡ d → x.state.delivered ≤ 1048576
+    by_count zero is = omega (arith, is)
+    by_count (suc d) is =
+        let last = sound.delivered (suc d) (omega arith) (omega (arith, is)) in
+        let within = (sound.held (suc d) last.0 last.1).place.1 in
+        omega (arith, is, within)
 
 -- the packets up to one more
 packets_more : (ps : List Packet) (i : ℕ) (p : Packet) → i < length ps → p ≡ get_or ps i p → map frame.Packet (take (i + 1) ps) ≡ map frame.Packet (take i ps) ++ frame.Packet p ∷ []

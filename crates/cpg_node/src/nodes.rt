@@ -3,7 +3,7 @@
 ghost use Rattle.std.specs.Prelude.{◌≡◌, ◌≤◌, ◌↔◌, ◌++◌, ◌∷◌, [], suc, length, None, Some, Option, IsSome, All, Ok, OnOk, OnErr, IfOk, IfErr, IfSome, MatchOption, IsOkUnless, option_map};
 ghost use Rattle.cpg_entry.specs.declared.calls.Call.{Call as CallValue};
 ghost use Rattle.cpg_entry.specs.declared.frames.Frame.TheVariants as frames;
-ghost use Rattle.cpg_record.specs.Judging.{judged};
+ghost use Rattle.cpg_record.specs.Judging.{judged, most_places};
 ghost use Rattle.cpg_record.specs.RuleTables.{rules_of};
 ghost use Rattle.cpg_ring.specs.Answers.{IsAnswer, answer_of};
 ghost use Rattle.cpg_wire.specs.declared.codes.Version.TheVariants.{Two};
@@ -87,6 +87,7 @@ impl Node {
     pub fn connect(&mut self, pid: u32, cred: Cred) -> Result<u16, Refusal>
         ensures answer { IsAnswer (connect_refusal self.old cred) (λ conn. (conn ≡ suc (length self.old.clients)) × (self.new ≡ connected self.old pid cred)) result }
         ensures err { OnErr result (self.new ≡ self.old) }
+        ensures kept { records_of self.new ≡ records_of self.old }
     {
         if self.list.accepts(cred).is_err() {
             return Err(Refusal::Access);
@@ -117,6 +118,7 @@ impl Node {
         ensures answer { IsAnswer (submit_refusal self.old conn call) (λ _. self.new ≡ submitted self.old conn call) (answer_of result) }
         ensures err { OnErr result (self.new ≡ self.old) }
         ensures back { IfErr result (λ refused. refused.back ≡ call) }
+        ensures kept { records_of self.new ≡ records_of self.old }
     {
         let Some(client) = self.client(conn) else {
             return Err(Refused {
@@ -144,6 +146,7 @@ impl Node {
     pub fn disconnect(&mut self, conn: u16) -> Result<(), Refusal>
         ensures answer { IsAnswer (closed_refusal (open_client self.old conn)) (λ _. self.new ≡ disconnected self.old conn) result }
         ensures err { OnErr result (self.new ≡ self.old) }
+        ensures kept { records_of self.new ≡ records_of self.old }
     {
         let Some(client) = self.client(conn) else {
             return Err(Refusal::NoConnection);
@@ -170,6 +173,7 @@ impl Node {
         ensures answer { IsFrameAnswer (λ list. list.items) self.old (frame_of bytes.now) result self.new }
         ensures few { IfOk result (λ list. length list.items ≤ 41) }
         ensures range { OnOk result (IfSome (frame_of bytes.now) (λ f. All CanBeSpelled (answers_to self.old f))) }
+        ensures kept { records_of self.new ≡ records_of self.old }
     {
         match decode(self.alloc, bytes)? {
             Frame::Packet(packet) => {
@@ -249,6 +253,7 @@ impl Node {
         ensures answer { IsTakeAnswer self.old conn (open_client self.old conn) result }
         ensures ok { OnOk result (self.new ≡ took self.old conn) }
         ensures err { OnErr result (self.new ≡ self.old) }
+        ensures kept { records_of self.new ≡ records_of self.old }
     {
         let Some(client) = self.client(conn) else {
             return Err(Refusal::NoConnection);
@@ -300,6 +305,16 @@ impl Node {
         ensures { result.now ≡ records_of self.now }
     {
         self.policy.records()
+    }
+
+    /// How many places it delivered: it has a record of each.
+    #[tactic(auto, using(crate::proofs::Keeping::delivered_most))]
+    pub fn delivered(&self) -> u32
+        ensures place { result ≡ self.now.ring.state.delivered }
+        ensures count { length (records_of self.now) ≡ result }
+        ensures most { result ≤ most_places }
+    {
+        self.ring.delivered()
     }
 
     /// A group's current table, where it is not empty.

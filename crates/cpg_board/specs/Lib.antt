@@ -1,0 +1,4 @@
+pub mod Making
+pub mod Noted
+pub mod Seats
+pub mod Settling

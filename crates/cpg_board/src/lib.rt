@@ -1,0 +1,21 @@
+//! A board of records that all threads share, each of whose places is set at most once, and seats: what
+//! each of them has seen of it.
+//!
+//! That records are agreed on by such a board is this project's own; the cells are those of `once_cell`.
+//! Proved of every schedule: two seats of one board never know different records at a place, so one of them
+//! begins the other (`Board::meet`); a seat only grows, by what stands in the board's next cell. No call
+//! waits for another thread.
+#![tactic(auto)]
+
+mod boards;
+mod notes;
+mod seats;
+mod settling;
+
+pub use boards::Board;
+pub use cpg_record::{MOST_PLACES, Record};
+pub use seats::Seat;
+pub use settling::Settled;
+
+#[cfg(test)]
+mod tests;

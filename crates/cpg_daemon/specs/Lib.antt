@@ -1,0 +1,4 @@
+pub mod Delivering
+pub mod Laws
+pub mod Serving
+pub mod Stations
