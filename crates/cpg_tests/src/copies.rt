@@ -102,12 +102,17 @@ fn copy_each(alloc: Global, copies: &mut Records, records: &[Record]) -> Result<
     Ok(())
 }
 
+/// Whether both are the same five records.
+fn are_five(list: &[Record], records: &[Record]) -> bool {
+    are_equal(list, records) && list.len() == 5 && records.len() == 5
+}
+
 /// Whether a copy of the copies equals the records, and there are five.
 fn copies_list_of(alloc: Global, copies: &Records, records: &[Record]) -> Result<bool, Refusal> {
     let list = copies.copy(alloc)?;
-    let answer = are_equal(list.as_slice(), records);
+    let answer = are_five(list.as_slice(), records);
     drop(list);
-    Ok(answer && records.len() == 5)
+    Ok(answer)
 }
 
 /// Whether a copy of a list of the records, which is put together here, equals it, and there are five.

@@ -9,7 +9,7 @@ use cpg_node::Node;
 use std::alloc::Global;
 
 /// An event in short: its place, and of a change how many members, leavers and joiners it tells.
-#[derive(Debug, Clone, Copy, PartialEq, Eq)]
+#[derive(Clone, Copy, PartialEq, Eq)]
 enum Told {
     Verdict(u32, Verdict),
     Message(u32, NodeId, u32),
