@@ -52,9 +52,10 @@ ends_exactly w (Take n conn) a numbered answered = λ is_open. by_node is_open (
     by_client : a ≢ Err NoConnection → (x : NodeValue) (o : Option Client) → open_client x conn ≡ o → a ≡ take_answer x conn o → (a ≡ Ok (reply.Took None)) ↔ (had (Some x) conn ≡ inbox_of x conn)
     by_client is_open x None is answer = absurd (is_open answer)
     by_client is_open x (Some c) is answer =
-        let t : taken_in (item x.clients conn) ≡ c.taken = as_taken (item x.clients conn) c is in
-        (λ h. ap (λ k. take k (inbox_of x conn)) t ∙ all_taken (inbox_of x conn) c.taken (took_none (next_event x conn c) (sym answer ∙ h)),
-         λ h. answer ∙ ap (λ event. Ok (reply.Took event)) (no_more (inbox_of x conn) c.taken (sym (ap (λ k. take k (inbox_of x conn)) t) ∙ h)))
+        let t : taken_in (item x.clients conn) ≡ c.taken = as_taken (item x.clients conn) c is in (
+          λ h. ap (λ k. take k (inbox_of x conn)) t ∙ all_taken (inbox_of x conn) c.taken (took_none (next_event x conn c) (sym answer ∙ h)),
+          λ h. answer ∙ ap (λ event. Ok (reply.Took event)) (no_more (inbox_of x conn) c.taken (sym (ap (λ k. take k (inbox_of x conn)) t) ∙ h)),
+        )
 
     by_node : a ≢ Err NoConnection → (o : Option NodeValue) → IsAnswerOf w.sent (Take n conn) o a → (a ≡ Ok (reply.Took None)) ↔ (had o conn ≡ inbox_at o conn)
     by_node is_open None answer = absurd answer
