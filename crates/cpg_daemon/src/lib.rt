@@ -13,3 +13,6 @@ mod stations;
 
 pub use naming::BoardName;
 pub use stations::Station;
+
+#[cfg(test)]
+mod tests;

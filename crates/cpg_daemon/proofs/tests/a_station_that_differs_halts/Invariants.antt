@@ -1,0 +1,4 @@
+use Rattle.cpg_daemon.proofs.tests.a_station_that_differs_halts.Given as goal
+
+abbrev pub ghosts-halts : goal.ghosts-halts
+ghosts-halts g a = record { cells = a.board.now }

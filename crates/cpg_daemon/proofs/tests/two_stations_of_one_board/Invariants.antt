@@ -1,0 +1,4 @@
+use Rattle.cpg_daemon.proofs.tests.two_stations_of_one_board.Given as goal
+
+abbrev pub ghosts-tell : goal.ghosts-tell
+ghosts-tell g a = record { cells = a.board.now }
