@@ -7,15 +7,59 @@ ghost use Rattle.cpg_daemon.specs.Stations.{audit_of};
 use crate::{BoardName, Station};
 use bytes::Bytes;
 use cpg_board::{Board, Seat};
-use cpg_cred::{AcceptList, Cred, NodeId, Refusal};
+use cpg_cred::{AcceptList, Cred, NodeId, Refusal, Refused};
 use cpg_entry::{Call, Message, Name};
 use cpg_node::{Event, Node, Settings};
 use std::alloc::Global;
 use std::marker::Brand;
 use std::test::Fail;
 
-/// A new node of that number in a ring of two, which lets user 7 in.
-fn new_node(alloc: Global, number: u8) -> Result<Node, Refusal>
+/// The first token of ring 1.
+const FIRST: [u8; 25] = [
+    0x43, 2, 2, 0, 0, 0, 1, 0, 0, 0, 0, 0, 0, 0, 0, 0, 0, 0, 0, 0, 0, 0, 0, 0, 0,
+];
+
+/// What a pair of stations of one board does.
+#[derive(Clone, Copy, PartialEq, Eq)]
+enum Case {
+    /// Nodes 1 and 2 tell their connections of two joins and a message.
+    Tells,
+    /// A board of two gets full.
+    Fills,
+    /// Two that are both node 1 judge different joins.
+    Differs,
+    /// The second, which is node 1 too, has delivered less than a session saw at the first.
+    LagsBehind,
+}
+
+/// The number of the second station's node, and the process that connects to it.
+fn second_of(case: Case) -> (u8, u32) {
+    match case {
+        Case::Tells | Case::Fills => (2, 50),
+        Case::Differs => (1, 41),
+        Case::LagsBehind => (1, 40),
+    }
+}
+
+/// A list of user 7.
+fn new_list(alloc: Global) -> Result<AcceptList, Refusal> {
+    let mut list = AcceptList::new(alloc);
+    match list.add_uid(7) {
+        Ok(()) => Ok(list),
+        Err(refusal) => {
+            drop(list);
+            Err(refusal)
+        }
+    }
+}
+
+/// The refusal alone.
+fn refusal_in<T: Drop>(refused: Refused<T>) -> Refusal {
+    refused.refusal
+}
+
+/// A new node of that number in a ring of two, with that list.
+fn node_with(alloc: Global, id: NodeId, list: AcceptList) -> Result<Node, Refusal>
     ensures { IfOk result (λ node. audit_of node ≡ []) }
 {
     let settings = Settings {
@@ -24,80 +68,110 @@ fn new_node(alloc: Global, number: u8) -> Result<Node, Refusal>
         places: 100,
         hops: 100,
     };
-    let id = NodeId::new(number).ok_or(Refusal::Range)?;
-    let mut list = AcceptList::new(alloc);
-    list.add_uid(7)?;
-    match Node::new(alloc, settings, id, list) {
-        Ok(node) => Ok(node),
-        Err(refused) => Err(refused.refusal),
+    Node::new(alloc, settings, id, list).map_err(|refused| refusal_in(refused))
+}
+
+/// A new node of that number, which lets user 7 in.
+fn new_node(alloc: Global, number: u8) -> Result<Node, Refusal>
+    ensures { IfOk result (λ node. audit_of node ≡ []) }
+{
+    match NodeId::new(number) {
+        None => Err(Refusal::Range),
+        Some(id) => node_with(alloc, id, new_list(alloc)?),
     }
 }
 
-/// Its station, where a process of user 7 with that pid has connected.
+/// Its station, with a new seat of the board.
 fn new_station<B: BoardName>(
     alloc: Global,
     board: &Board,
     number: u8,
-    pid: u32,
 ) -> Result<Station<B>, Refusal> {
-    let mut station = Station::new(new_node(alloc, number)?, board.seat());
+    Ok(Station::new(new_node(alloc, number)?, board.seat()))
+}
+
+/// A process of user 7 with that pid connects.
+fn connect<B: BoardName>(station: &mut Station<B>, pid: u32) -> Result<(), Refusal> {
     station.connect(pid, Cred { uid: 7, gid: 100 })?;
-    Ok(station)
+    Ok(())
 }
 
 /// Connection 1 submits the call.
 fn submit<B: BoardName>(station: &mut Station<B>, call: Call) -> Result<(), Refusal> {
-    match station.submit(1, call) {
-        Ok(()) => Ok(()),
-        Err(refused) => Err(refused.refusal),
-    }
+    station
+        .submit(1, call)
+        .map_err(|refused| refusal_in(refused))
 }
 
 fn join(alloc: Global) -> Result<Call, Refusal> {
     Ok(Call::Join(Name::from_slice(alloc, b"db")?))
 }
 
-/// The station hears one of the frames.
-fn hear<B: BoardName>(
-    station: &mut Station<B>,
-    frames: &[Bytes],
-    index: usize,
-) -> Result<Vec<Bytes>, Refusal> {
+/// A message that says `hi`.
+fn hi(alloc: Global) -> Result<Call, Refusal> {
+    Ok(Call::Send(Message::from_slice(alloc, b"hi")?))
+}
+
+/// One of the frames.
+fn frame_at(frames: &[Bytes], index: usize) -> Result<&[u8], Refusal> {
     match frames.get(index) {
-        Some(bytes) => station.frame(bytes.as_slice()),
+        Some(bytes) => Ok(bytes.as_slice()),
         None => Err(Refusal::NoFrame),
     }
 }
 
-/// Both join `db`, and the first token goes round once. Gives what station 2 sent.
+/// The station hears one of the frames. Gives how many it sends.
+fn hear<B: BoardName>(
+    station: &mut Station<B>,
+    frames: &[Bytes],
+    index: usize,
+) -> Result<usize, Refusal> {
+    Ok(station.frame(frame_at(frames, index)?)?.len())
+}
+
+/// The station hears a packet and the token behind it. Gives what it sends.
+fn hear_both<B: BoardName>(
+    station: &mut Station<B>,
+    frames: &[Bytes],
+) -> Result<Vec<Bytes>, Refusal> {
+    hear(station, frames, 0)?;
+    station.frame(frame_at(frames, 1)?)
+}
+
+/// Both join `db`.
 fn join_both<B: BoardName>(
     alloc: Global,
     one: &mut Station<B>,
     two: &mut Station<B>,
-) -> Result<Vec<Bytes>, Refusal> {
+) -> Result<(), Refusal> {
     submit(one, join(alloc)?)?;
-    submit(two, join(alloc)?)?;
-    let Some(first) = two.timer()? else {
-        return Err(Refusal::NoFrame);
-    };
-    let sent = one.frame(first.as_slice())?;
-    hear(two, sent.as_slice(), 0)?;
-    let back = hear(two, sent.as_slice(), 1)?;
-    hear(one, back.as_slice(), 0)?;
-    Ok(back)
+    submit(two, join(alloc)?)
 }
 
-/// Station 1's connection sends `hi`, which station 2 hears.
+/// Station 1 hears the first token. Gives what it sends.
+fn begin<B: BoardName>(one: &mut Station<B>) -> Result<Vec<Bytes>, Refusal> {
+    one.frame(FIRST.as_slice())
+}
+
+/// The first token goes round. Gives what station 2 sends.
+fn go_round<B: BoardName>(
+    one: &mut Station<B>,
+    two: &mut Station<B>,
+) -> Result<Vec<Bytes>, Refusal> {
+    let sent = begin(one)?;
+    hear_both(two, sent.as_slice())
+}
+
+/// Station 1 hears the packet and the token of station 2, sends `hi`, and station 2 hears its packet.
 fn send_hi<B: BoardName>(
     alloc: Global,
     one: &mut Station<B>,
     two: &mut Station<B>,
     back: &[Bytes],
-) -> Result<(), Refusal> {
-    submit(one, Call::Send(Message::from_slice(alloc, b"hi")?))?;
-    let sent = hear(one, back, 1)?;
-    hear(two, sent.as_slice(), 0)?;
-    Ok(())
+) -> Result<usize, Refusal> {
+    hear(one, back, 0)?;
+    submit(one, hi(alloc)?)?;
+    hear(two, one.frame(frame_at(back, 1)?)?.as_slice(), 0)
 }
 
 /// The two joins and the message take places 1 to 3, which both hold.
@@ -105,8 +179,9 @@ fn place_three<B: BoardName>(
     alloc: Global,
     one: &mut Station<B>,
     two: &mut Station<B>,
-) -> Result<(), Refusal> {
-    let back = join_both(alloc, one, two)?;
+) -> Result<usize, Refusal> {
+    join_both(alloc, one, two)?;
+    let back = go_round(one, two)?;
     send_hi(alloc, one, two, back.as_slice())
 }
 
@@ -196,35 +271,15 @@ fn tell_alike<B: BoardName>(
         && takes(board, two, "vcm-")
 }
 
-/// Stations 1 and 2 of the board.
-fn new_pair<B: BoardName>(
-    alloc: Global,
-    board: &Board,
-) -> Result<(Station<B>, Station<B>), Refusal> {
-    let one = new_station(alloc, board, 1, 40)?;
-    let two = new_station(alloc, board, 2, 50)?;
-    Ok((one, two))
-}
-
-/// Whether stations of the board tell their connections of the joins and the message.
-fn tell<B: BoardName>(alloc: Global, board: &Board) -> bool
-    requires { board.now ≡ B.cells }
-{
-    match new_pair::<B>(alloc, board) {
-        Ok((mut one, mut two)) => tell_alike(alloc, board, &mut one, &mut two),
-        Err(_) => false,
-    }
-}
-
 #[test]
 fn two_stations_of_one_board(rt: HostRuntime) -> Result<(), Fail> {
     let board = Board::new(rt.alloc(), 100)?;
-    assert!(rt; tell::<Brand>(rt.alloc(), &board));
+    assert!(rt; goes::<Brand>(rt.alloc(), &board, Case::Tells) == Ok(true));
     Ok(())
 }
 
 /// Whether the stations place three, and a board of two gets full, and the first goes on.
-fn fills_with<B: BoardName>(
+fn fills<B: BoardName>(
     alloc: Global,
     board: &Board,
     one: &mut Station<B>,
@@ -240,63 +295,42 @@ fn fills_with<B: BoardName>(
         && matches!(refusal_of(board, two), None)
 }
 
-fn fills<B: BoardName>(alloc: Global, board: &Board) -> bool
-    requires { board.now ≡ B.cells }
-{
-    match new_pair::<B>(alloc, board) {
-        Ok((mut one, mut two)) => fills_with(alloc, board, &mut one, &mut two),
-        Err(_) => false,
-    }
-}
-
 #[test]
 fn a_board_fills(rt: HostRuntime) -> Result<(), Fail> {
     let board = Board::new(rt.alloc(), 2)?;
-    assert!(rt; fills::<Brand>(rt.alloc(), &board));
+    assert!(rt; goes::<Brand>(rt.alloc(), &board, Case::Fills) == Ok(true));
     Ok(())
 }
 
-/// The first token of ring 1.
-const FIRST: [u8; 25] = [
-    0x43, 2, 2, 0, 0, 0, 1, 0, 0, 0, 0, 0, 0, 0, 0, 0, 0, 0, 0, 0, 0, 0, 0, 0, 0,
-];
-
-/// Station 1 with a process of that pid, whose join it holds at place 1.
-fn with_join<B: BoardName>(alloc: Global, board: &Board, pid: u32) -> Result<Station<B>, Refusal> {
-    let mut one = new_station(alloc, board, 1, pid)?;
-    submit(&mut one, join(alloc)?)?;
-    one.frame(FIRST.as_slice())?;
-    Ok(one)
+/// The station's connection joins, and the station, of node 1, holds that at place 1.
+fn hold_join<B: BoardName>(alloc: Global, one: &mut Station<B>) -> Result<usize, Refusal> {
+    submit(one, join(alloc)?)?;
+    Ok(begin(one)?.len())
 }
 
 /// Whether the first station settles its join, and the second, which finds it on the board instead of its
 /// own, delivers nothing and is halted.
-fn differs<B: BoardName>(board: &Board, first: &mut Station<B>, second: &mut Station<B>) -> bool
+fn differs<B: BoardName>(
+    alloc: Global,
+    board: &Board,
+    first: &mut Station<B>,
+    second: &mut Station<B>,
+) -> bool
     requires { board.now ≡ B.cells }
 {
-    delivers(board, first, 1)
+    hold_join(alloc, first).is_ok()
+        && hold_join(alloc, second).is_ok()
+        && delivers(board, first, 1)
         && matches!(refusal_of(board, second), Some(Refusal::Differs))
         && !first.is_halted()
         && second.is_halted()
         && second.delivered() == 0
 }
 
-fn halts<B: BoardName>(alloc: Global, board: &Board) -> bool
-    requires { board.now ≡ B.cells }
-{
-    match (
-        with_join::<B>(alloc, board, 40),
-        with_join::<B>(alloc, board, 41),
-    ) {
-        (Ok(mut first), Ok(mut second)) => differs(board, &mut first, &mut second),
-        _ => false,
-    }
-}
-
 #[test]
 fn a_station_that_differs_halts(rt: HostRuntime) -> Result<(), Fail> {
     let board = Board::new(rt.alloc(), 2)?;
-    assert!(rt; halts::<Brand>(rt.alloc(), &board));
+    assert!(rt; goes::<Brand>(rt.alloc(), &board, Case::Differs) == Ok(true));
     Ok(())
 }
 
@@ -317,22 +351,81 @@ fn refuses<B: BoardName>(
     served && behind && matches!(next_kind(board, second, seat), Err(Refusal::Stopped))
 }
 
-fn refuses_session<B: BoardName>(alloc: Global, board: &Board) -> bool
+fn lags_behind<B: BoardName>(
+    alloc: Global,
+    board: &Board,
+    first: &mut Station<B>,
+    second: &mut Station<B>,
+) -> bool
     requires { board.now ≡ B.cells }
 {
     let mut seat = board.seat();
-    match (
-        with_join::<B>(alloc, board, 40),
-        with_join::<B>(alloc, board, 40),
-    ) {
-        (Ok(mut first), Ok(mut second)) => refuses(board, &mut first, &mut second, &mut seat),
-        _ => false,
+    hold_join(alloc, first).is_ok()
+        && hold_join(alloc, second).is_ok()
+        && refuses(board, first, second, &mut seat)
+}
+
+/// Whether the pair does what it has to.
+fn pair_goes<B: BoardName>(
+    alloc: Global,
+    board: &Board,
+    one: &mut Station<B>,
+    two: &mut Station<B>,
+    case: Case,
+) -> bool
+    requires { board.now ≡ B.cells }
+{
+    match case {
+        Case::Tells => tell_alike(alloc, board, one, two),
+        Case::Fills => fills(alloc, board, one, two),
+        Case::Differs => differs(alloc, board, one, two),
+        Case::LagsBehind => lags_behind(alloc, board, one, two),
     }
+}
+
+/// Whether both connect, and the pair does what it has to.
+fn connected_goes<B: BoardName>(
+    alloc: Global,
+    board: &Board,
+    one: &mut Station<B>,
+    two: &mut Station<B>,
+    case: Case,
+) -> bool
+    requires { board.now ≡ B.cells }
+{
+    connect(one, 40).is_ok()
+        && connect(two, second_of(case).1).is_ok()
+        && pair_goes(alloc, board, one, two, case)
+}
+
+/// Whether the station and a new second one do so.
+fn first_goes<B: BoardName>(
+    alloc: Global,
+    board: &Board,
+    one: &mut Station<B>,
+    case: Case,
+) -> Result<bool, Refusal>
+    requires { board.now ≡ B.cells }
+{
+    let mut two = new_station(alloc, board, second_of(case).0)?;
+    let right = connected_goes(alloc, board, one, &mut two, case);
+    drop(two);
+    Ok(right)
+}
+
+/// Whether two new stations do so.
+fn goes<B: BoardName>(alloc: Global, board: &Board, case: Case) -> Result<bool, Refusal>
+    requires { board.now ≡ B.cells }
+{
+    let mut one = new_station::<B>(alloc, board, 1)?;
+    let right = first_goes(alloc, board, &mut one, case);
+    drop(one);
+    right
 }
 
 #[test]
 fn a_station_behind_refuses_a_session(rt: HostRuntime) -> Result<(), Fail> {
     let board = Board::new(rt.alloc(), 2)?;
-    assert!(rt; refuses_session::<Brand>(rt.alloc(), &board));
+    assert!(rt; goes::<Brand>(rt.alloc(), &board, Case::LagsBehind) == Ok(true));
     Ok(())
 }
