@@ -7,9 +7,10 @@ ghost use Rattle.cpg_daemon.specs.Stations.{audit_of};
 use crate::{BoardName, Station};
 use bytes::Bytes;
 use cpg_board::{Board, Seat};
-use cpg_cred::{AcceptList, Cred, NodeId, Refusal, Refused};
+use cpg_cred::{AcceptList, By, Cred, NodeId, Refusal, Refused};
 use cpg_entry::{Call, Message, Name};
 use cpg_node::{Event, Node, Settings};
+use cpg_record::Verdict;
 use std::alloc::Global;
 use std::marker::Brand;
 use std::test::Fail;
@@ -212,22 +213,53 @@ fn delivers_three<B: BoardName>(board: &Board, station: &mut Station<B>) -> bool
         && matches!(station.deliver(board), Ok(None))
 }
 
-/// The kind of an event as a letter: verdict, message, change, rules.
-fn kind_of(event: &Event) -> char {
+/// An event in short: its place, and of a change how many members, leavers and joiners it tells.
+#[derive(Clone, Copy, PartialEq, Eq)]
+enum Told {
+    Verdict(u32, Verdict),
+    Message(u32, NodeId, u32),
+    Change(u32, usize, usize, usize),
+    Rules(u32),
+}
+
+fn in_short(event: &Event) -> Told {
     match event {
-        Event::Verdict { .. } => 'v',
-        Event::Message { .. } => 'm',
-        Event::Change { .. } => 'c',
-        Event::RulesChanged { .. } => 'r',
+        Event::Verdict { place, verdict } => Told::Verdict(*place, *verdict),
+        Event::Message {
+            place,
+            node,
+            pid,
+            ..
+        } => Told::Message(*place, *node, *pid),
+        Event::Change {
+            place,
+            members,
+            left,
+            joined,
+            ..
+        } => Told::Change(
+            *place,
+            members.as_slice().len(),
+            left.as_slice().len(),
+            joined.as_slice().len(),
+        ),
+        Event::RulesChanged { place, .. } => Told::Rules(*place),
     }
 }
 
-/// The kind of the next event of the session, or what refuses it; a dash where there is none.
-fn next_kind<B: BoardName>(
+/// The event in short, which is let go.
+fn told_by(event: Event) -> Told {
+    let told = in_short(&event);
+    drop(event);
+    told
+}
+
+/// The next event of the session of connection 1, if there is one, or what refuses it.
+fn next_told<B: BoardName>(
     board: &Board,
     station: &mut Station<B>,
     seat: &mut Seat,
-) -> Result<char, Refusal>
+) -> Result<Option<Told>, Refusal>
     requires board { board.now ≡ B.cells }
     requires seat { IsSeatOf B.cells seat.old }
     ensures { IsSeatOf B.cells seat.new }
@@ -236,22 +268,66 @@ fn next_kind<B: BoardName>(
         return Err(Refusal::NoConnection);
     };
     match station.take_for(board, &who, seat)? {
-        Some(event) => Ok(kind_of(&event)),
-        None => Ok('-'),
+        Some(event) => Ok(Some(told_by(event))),
+        None => Ok(None),
     }
 }
 
-/// Whether a session of connection 1 takes events of those kinds.
-fn takes<B: BoardName>(board: &Board, station: &mut Station<B>, kinds: &str) -> bool
+/// Whether a session of connection 1, which has seen nothing, is told just that next.
+fn is_told<B: BoardName>(board: &Board, station: &mut Station<B>, expected: Option<Told>) -> bool
     requires { board.now ≡ B.cells }
 {
-    for kind in kinds.chars() {
-        let mut seat = board.seat();
-        if !matches!(next_kind(board, station, &mut seat), Ok(found) if found == kind) {
+    let mut seat = board.seat();
+    let told = next_told(board, station, &mut seat);
+    drop(seat);
+    told == Ok(expected)
+}
+
+/// Whether sessions of connection 1 are told that, and then no more.
+fn takes<B: BoardName>(board: &Board, station: &mut Station<B>, expected: &[Told]) -> bool
+    requires { board.now ≡ B.cells }
+{
+    for told in expected {
+        if !is_told(board, station, Some(*told)) {
             return false;
         }
     }
-    true
+    is_told(board, station, None)
+}
+
+const ALLOWED: Verdict = Verdict::Allowed(By::Default);
+
+/// What connection 1 of node 1 is told of the joins and the message.
+fn told_at_one(first: NodeId) -> [Told; 5] {
+    [
+        Told::Verdict(1, ALLOWED),
+        Told::Change(1, 1, 0, 1),
+        Told::Change(2, 2, 0, 1),
+        Told::Verdict(3, ALLOWED),
+        Told::Message(3, first, 40),
+    ]
+}
+
+/// What connection 1 of node 2 is told of them.
+fn told_at_two(first: NodeId) -> [Told; 3] {
+    [
+        Told::Verdict(2, ALLOWED),
+        Told::Change(2, 2, 0, 1),
+        Told::Message(3, first, 40),
+    ]
+}
+
+/// Whether both connections are told what they have to be.
+fn tells_both<B: BoardName>(
+    board: &Board,
+    one: &mut Station<B>,
+    two: &mut Station<B>,
+    first: NodeId,
+) -> bool
+    requires { board.now ≡ B.cells }
+{
+    takes(board, one, told_at_one(first).as_slice())
+        && takes(board, two, told_at_two(first).as_slice())
 }
 
 /// Whether the two stations, which have delivered nothing, tell their connections of the joins and the
@@ -267,8 +343,10 @@ fn tell_alike<B: BoardName>(
     place_three(alloc, one, two).is_ok()
         && delivers_three(board, one)
         && delivers_three(board, two)
-        && takes(board, one, "vccvm-")
-        && takes(board, two, "vcm-")
+        && match NodeId::new(1) {
+            Some(first) => tells_both(board, one, two, first),
+            None => false,
+        }
 }
 
 #[test]
@@ -345,10 +423,11 @@ fn refuses<B: BoardName>(
     requires board { board.now ≡ B.cells }
     requires seat { IsSeatOf B.cells seat.old }
 {
-    let served = delivers(board, first, 1) && matches!(next_kind(board, first, seat), Ok('v'));
-    let behind = matches!(next_kind(board, second, seat), Err(Refusal::Behind(0)));
+    let served = delivers(board, first, 1)
+        && next_told(board, first, seat) == Ok(Some(Told::Verdict(1, ALLOWED)));
+    let behind = next_told(board, second, seat) == Err(Refusal::Behind(0));
     second.halt();
-    served && behind && matches!(next_kind(board, second, seat), Err(Refusal::Stopped))
+    served && behind && next_told(board, second, seat) == Err(Refusal::Stopped)
 }
 
 fn lags_behind<B: BoardName>(
