@@ -1,11 +1,4 @@
 pub mod Audits
-pub mod CallWords
-pub mod Conditions
-pub mod EntryWords
-pub mod Lengths
 pub mod Lined
-pub mod Numerals
 pub mod Places
 pub mod Reading
-pub mod RuleWords
-pub mod Spacing

@@ -11,8 +11,8 @@ use Rattle.cpg_record.specs.Connections.{conn_of, is_conn}
 use Rattle.cpg_record.specs.Events.{inbox}
 use Rattle.cpg_record.specs.Judging.{judged}
 use Rattle.cpg_script.specs.Written.{LeavesLines}
-use Rattle.cpg_console.specs.Events.{event_line, inbox_line}
-use Rattle.cpg_console.specs.Records.{audit_line, count_line}
+use Rattle.cpg_print.specs.Events.{event_line, inbox_line}
+use Rattle.cpg_print.specs.Records.{audit_line, count_line}
 
 -- the audit lines of records, the first of which stands at place 1
 abbrev pub audit_lines : List Record → List (List ℕ)

@@ -1,9 +1,3 @@
-pub mod Calls
-pub mod Entries
-pub mod Events
 pub mod Judging
-pub mod Records
-pub mod Rules
 pub mod Scripts
 pub mod Steps
-pub mod Verdicts

@@ -4,7 +4,7 @@ use Rattle.cpg_entry.specs.declared.entries.Entry.{Entry}
 use Rattle.cpg_record.specs.Judging.{most_places}
 use Rattle.cpg_text.specs.Lines.{words_of}
 use Rattle.cpg_script.specs.Commands.{commands_of}
-use Rattle.cpg_console.specs.Entries.{entry_of}
+use Rattle.cpg_print.specs.Entries.{entry_of}
 
 -- the entry of a line, if there is room for one
 abbrev pub entry_in : ℕ → List ℕ → Option Entry

@@ -1,16 +1,11 @@
 -- steps of the reading functions, which no contract of a public function cites
-use Rattle.std.specs.Prelude.{ℕ, ◌≡◌, ◌-◌, ⊤, List, ◌++◌, length, map, Result, Ok, Err}
-use Rattle.std.specs.Borrow.{Bor}
+use Rattle.std.specs.Prelude.{ℕ, ◌≡◌, ◌-◌, ⊤, List, ◌++◌, length, Result, Ok, Err}
 use Rattle.cpg_cred.specs.declared.refusals.Refusal.{Refusal}
 use Rattle.cpg_cred.specs.declared.refusals.Refusal.TheVariants as refusal
 use Rattle.cpg_entry.specs.declared.entries.Entry.{Entry}
 use Rattle.cpg_record.specs.Judging.{most_places}
 use Rattle.cpg_script.specs.Commands.{commands_from}
 use Rattle.cpg_console.specs.Scripts.{entries_from}
-
--- the bytes of words
-abbrev pub texts : List (Bor (List ℕ)) → List (List ℕ)
-texts words = map (λ word. word.now) words
 
 -- entries, and then those of the commands after them
 abbrev pub entries_before : List Entry → Result (List Entry) ℕ → Result (List Entry) ℕ

@@ -10,15 +10,15 @@ ghost use Rattle.cpg_record.specs.Connections.{is_conn};
 ghost use Rattle.cpg_record.specs.Judging.{judged, most_places, record_of, IsNext};
 ghost use Rattle.cpg_script.specs.Written.{LeavesLines, WritesLate};
 ghost use Rattle.cpg_console.specs.Judging.{audit_lines, with_conn, conns_of, judge_lines, EndsJudging, IsWritten, Leaves};
-ghost use Rattle.cpg_console.specs.Records.{audit_line};
+ghost use Rattle.cpg_print.specs.Records.{audit_line};
 ghost use Rattle.cpg_console.specs.Scripts.{entries_of_script};
 
 use crate::output::{write_count, write_inboxes};
-use crate::records::put_audit;
 use crate::scripts::read_entries;
 use cpg_cred::Refusal;
 use cpg_entry::Entry;
 use cpg_group::Policy;
+use cpg_print::put_audit;
 use cpg_record::{ConnId, Record};
 use cpg_script::{Fault, write_line};
 use cpg_text::{MOST_BYTES, read_whole};

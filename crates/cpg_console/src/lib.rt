@@ -5,20 +5,13 @@
 //! or of a rule is read as that entry or rule again.
 #![tactic(auto)]
 
-mod calls;
-mod entries;
-mod events;
 mod judging;
-mod laws;
 mod output;
-mod records;
-mod rules;
 mod scripts;
 #[cfg(test)]
 mod tests;
-mod verdicts;
 
 pub use cpg_accept::accept_script;
+pub use cpg_print::{entries_read_back, rules_read_back, whos_read_back};
 pub use cpg_script::{Fault, put_fault};
 pub use judging::judge_script;
-pub use laws::{entries_read_back, rules_read_back, whos_read_back};

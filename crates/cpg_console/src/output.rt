@@ -8,14 +8,13 @@ ghost use Rattle.std.specs.Io.KnownBytes.{Appends};
 ghost use Rattle.cpg_record.specs.Events.{events, inbox};
 ghost use Rattle.cpg_record.specs.Judging.{judged};
 ghost use Rattle.cpg_script.specs.Written.{LeavesLines};
-ghost use Rattle.cpg_console.specs.Events.{event_line, inbox_line};
+ghost use Rattle.cpg_print.specs.Events.{event_line, inbox_line};
 ghost use Rattle.cpg_console.specs.Judging.{inbox_lines};
-ghost use Rattle.cpg_console.specs.Records.{count_line};
+ghost use Rattle.cpg_print.specs.Records.{count_line};
 
-use crate::events::{put_event, put_inbox};
-use crate::records::put_count;
 use cpg_cred::Refusal;
 use cpg_group::Policy;
+use cpg_print::{put_count, put_event, put_inbox};
 use cpg_record::{ConnId, Event};
 use cpg_script::write_line;
 use std::io::Write;

@@ -3,18 +3,15 @@
 ghost use Rattle.std.specs.Prelude.{◌≡◌, ◌≤◌, ◌∷◌, ◌-◌, ◌+◌, ◌==◌, ℕ, List, Ok, length, not, IfOk, IfErr, OnOk, IsOkUnless};
 ghost use Rattle.cpg_record.specs.Judging.{most_places};
 ghost use Rattle.cpg_text.specs.Lines.{words_of};
-ghost use Rattle.cpg_console.specs.Entries.{entry_of};
+ghost use Rattle.cpg_print.specs.Entries.{entry_of};
 ghost use Rattle.cpg_console.specs.Scripts.{entry_in, entries_of_script};
 ghost use Rattle.cpg_console.specs.Steps.{entries_with, FailsAs};
 
-use crate::entries::read_entry;
 use cpg_cred::Refusal;
 use cpg_entry::{Entry, MOST_PLACES};
-use cpg_text::{Lines, MOST_BYTES, first_words, is_ignored, trim};
+use cpg_print::entry_in_line;
+use cpg_text::{Lines, MOST_BYTES, is_ignored, trim};
 use std::alloc::Global;
-
-/// The words of the longest line, and one more.
-const WORDS: usize = 11;
 
 /// The entries of a script, or `BadCommand` with its first bad line.
 #[tactic(auto, using(crate::proofs::Lined::lines_few, crate::proofs::Reading::entries_with_none))]
@@ -63,14 +60,5 @@ fn read_line(alloc: Global, count: usize, line: &[u8]) -> Result<Option<Entry>, 
     if count >= MOST_PLACES as usize {
         return Ok(None);
     }
-    read_words(alloc, line)
-}
-
-#[tactic(auto, using(crate::proofs::Lengths::entry_of_first))]
-fn read_words(alloc: Global, line: &[u8]) -> Result<Option<Entry>, Refusal>
-    ensures ok { IfOk result (λ found. found ≡ entry_of (words_of line.now)) }
-    ensures memory { IsOkUnless result Refusal.Memory }
-{
-    let words = first_words(alloc, WORDS, line)?;
-    read_entry(alloc, words.as_slice())
+    entry_in_line(alloc, line)
 }

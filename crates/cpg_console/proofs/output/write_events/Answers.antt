@@ -1,6 +1,6 @@
 use Rattle.std.proofs.Common.{◌<◌, length, map, take, ◌∷◌, [], sym, arith}
 use Rattle.cpg_script.proofs.Lined.{leaves_amid, map_around, map_one_more, lines_after, text_of_line}
-use Rattle.cpg_console.specs.Events.{event_line}
+use Rattle.cpg_print.specs.Events.{event_line}
 use Rattle.cpg_console.proofs.output.write_events.Goals as goal
 
 pub returns-in-Err-clause-err : goal.returns-in-Err-clause-err

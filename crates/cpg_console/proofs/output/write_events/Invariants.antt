@@ -1,7 +1,7 @@
 use Rattle.std.proofs.Common.{map, take}
 use Rattle.std.specs.List.{concat}
 use Rattle.std.specs.Io.KnownBytes.{Appends}
-use Rattle.cpg_console.specs.Events.{event_line}
+use Rattle.cpg_print.specs.Events.{event_line}
 use Rattle.cpg_console.proofs.output.write_events.Given as goal
 
 abbrev pub invariant-loop-event : goal.invariant-loop-event

@@ -3,7 +3,7 @@ use Rattle.std.proofs.lemmas.Result.{err_from_is_err_and}
 use Rattle.cpg_record.specs.Events.{inbox}
 use Rattle.cpg_record.specs.Judging.{judged}
 use Rattle.cpg_script.proofs.Lined.{leaves_first, err_after, text_of_line}
-use Rattle.cpg_console.specs.Events.{inbox_line, event_line}
+use Rattle.cpg_print.specs.Events.{inbox_line, event_line}
 use Rattle.cpg_console.specs.Judging.{inbox_lines}
 use Rattle.cpg_console.proofs.output.write_inbox.Goals as goal
 

@@ -7,7 +7,7 @@ use Rattle.cpg_record.specs.Events.{events, inbox}
 use Rattle.cpg_record.specs.Judging.{judged}
 use Rattle.cpg_record.proofs.Denials.{each_entry_is_judged}
 use Rattle.cpg_script.proofs.Lined.{leaves_amid, lines_after, map-flat_map}
-use Rattle.cpg_console.specs.Events.{event_line}
+use Rattle.cpg_print.specs.Events.{event_line}
 use Rattle.cpg_console.proofs.Places.{places_around, places_one_more}
 use Rattle.cpg_console.proofs.output.write_places.Goals as goal
 

@@ -3,7 +3,7 @@ use Rattle.std.specs.List.{concat, flat_map, range_with_len}
 use Rattle.std.specs.Io.KnownBytes.{Appends}
 use Rattle.cpg_record.specs.Events.{events}
 use Rattle.cpg_record.specs.Judging.{judged}
-use Rattle.cpg_console.specs.Events.{event_line}
+use Rattle.cpg_print.specs.Events.{event_line}
 use Rattle.cpg_console.proofs.output.write_places.Given as goal
 
 abbrev pub invariant-loop-before : goal.invariant-loop-before

@@ -1,16 +1,20 @@
 //! Entries as lines, both ways: `NODE.CONN PID UID GID CALL`, or `gone` for CALL.
 
 ghost use Rattle.std.specs.Prelude.{◌≡◌, ◌++◌, OnOk, IfOk, IsOkUnless, option_map};
-ghost use Rattle.cpg_console.specs.Entries.{conn_text, entry_text, conn_of_word, entry_by, enterable_op, entry_of};
-ghost use Rattle.cpg_console.specs.Steps.{texts};
+ghost use Rattle.cpg_text.specs.Lines.{words_of};
+ghost use Rattle.cpg_print.specs.Entries.{conn_text, entry_text, conn_of_word, entry_by, enterable_op, entry_of};
+ghost use Rattle.cpg_print.specs.Words.{texts};
 
 use crate::calls::{is_enterable, put_op, read_op};
 use cpg_cred::{Cred, MOST_NODES, NodeId, Refusal};
 use cpg_entry::{Entry, MOST_CONNECTIONS, Op};
 use cpg_record::ConnId;
 use cpg_script::{cut, put, read_u32};
-use cpg_text::push_number;
+use cpg_text::{first_words, push_number};
 use std::alloc::Global;
+
+/// The words of the longest line, and one more.
+const WORDS: usize = 11;
 
 /// Puts NODE.CONN at the line's end.
 pub fn put_conn(line: &mut Vec<u8>, conn: &ConnId) -> Result<(), Refusal>
@@ -41,7 +45,7 @@ pub fn put_entry(line: &mut Vec<u8>, entry: &Entry) -> Result<(), Refusal>
 
 /// The entry that a line's words say, with an op within its limits.
 #[tactic(auto, using(crate::proofs::Lengths::entry_of_short))]
-pub fn read_entry(alloc: Global, words: &[&[u8]]) -> Result<Option<Entry>, Refusal>
+fn read_entry(alloc: Global, words: &[&[u8]]) -> Result<Option<Entry>, Refusal>
     ensures ok { IfOk result (λ found. found ≡ entry_of (texts words.now)) }
     ensures memory { IsOkUnless result Refusal.Memory }
 {
@@ -98,4 +102,14 @@ fn read_conn(word: &[u8]) -> Option<ConnId>
         node,
         conn: conn as u16,
     })
+}
+
+/// The entry of a line, if it is one.
+#[tactic(auto, using(crate::proofs::Lengths::entry_of_first))]
+pub fn entry_in_line(alloc: Global, line: &[u8]) -> Result<Option<Entry>, Refusal>
+    ensures ok { IfOk result (λ found. found ≡ entry_of (words_of line.now)) }
+    ensures memory { IsOkUnless result Refusal.Memory }
+{
+    let words = first_words(alloc, WORDS, line)?;
+    read_entry(alloc, words.as_slice())
 }

@@ -10,7 +10,7 @@ use Rattle.std.specs.Str.{all_ascii_digits}
 use Rattle.cpg_entry.specs.Names.{is_name_byte}
 use Rattle.cpg_entry.specs.Ranges.{Within}
 use Rattle.cpg_text.specs.Numbers.{value_after, value_of, is_number, number_in}
-use Rattle.cpg_console.proofs.Spacing.{is_word, lacks, passes_also}
+use Rattle.cpg_print.proofs.Spacing.{is_word, lacks, passes_also}
 
 -- the number of digits, read from the left
 reads : IsNumeralModel (λ ds. all_ascii_digits ds ≡ true) value_of

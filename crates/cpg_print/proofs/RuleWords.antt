@@ -13,10 +13,10 @@ use Rattle.cpg_rules.specs.declared.rules.Who.{Who}
 use Rattle.cpg_entry.specs.Names.{is_name_byte}
 use Rattle.cpg_entry.specs.Widths.{WhoFits}
 use Rattle.cpg_text.specs.Lines.{words_of}
-use Rattle.cpg_console.specs.Rules.{effect_text, right_text, condition_text, conditions_text, who_text, rule_text, effect_of, right_of, rule_of}
-use Rattle.cpg_console.proofs.Conditions.{at_most, who_back, who_with}
-use Rattle.cpg_console.proofs.Numerals.{decimal_printed}
-use Rattle.cpg_console.proofs.Spacing.{HasFirst, is_word, two_spaced, word_of_bytes, words_last}
+use Rattle.cpg_print.specs.Rules.{effect_text, right_text, condition_text, conditions_text, who_text, rule_text, effect_of, right_of, rule_of}
+use Rattle.cpg_print.proofs.Conditions.{at_most, who_back, who_with}
+use Rattle.cpg_print.proofs.Numerals.{decimal_printed}
+use Rattle.cpg_print.proofs.Spacing.{HasFirst, is_word, two_spaced, word_of_bytes, words_last}
 
 effect_back : (effect : Effect) → effect_of (effect_text effect) ≡ Some effect
 effect_back Allow = refl

@@ -2,7 +2,7 @@
 
 ghost use Rattle.std.specs.Prelude.{◌≡◌, ◌++◌, codes, OnOk, IsOkUnless};
 ghost use Rattle.std.specs.List.{flat_map};
-ghost use Rattle.cpg_console.specs.Events.{cause_text, move_text, moves_text, news_text, place_of, event_line, inbox_line};
+ghost use Rattle.cpg_print.specs.Events.{cause_text, move_text, moves_text, news_text, place_of, event_line, inbox_line};
 
 use crate::entries::put_conn;
 use crate::records::{put_member, put_members};

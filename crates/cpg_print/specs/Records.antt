@@ -3,8 +3,8 @@ use Rattle.std.specs.Prelude.{ℕ, List, [], ◌++◌, codes, decimal, Option, S
 use Rattle.cpg_record.specs.declared.memberships.Member.{Member}
 use Rattle.cpg_record.specs.declared.records.Record.{Record}
 use Rattle.cpg_script.specs.Words.{listed}
-use Rattle.cpg_console.specs.Entries.{entry_text}
-use Rattle.cpg_console.specs.Verdicts.{verdict_text}
+use Rattle.cpg_print.specs.Entries.{entry_text}
+use Rattle.cpg_print.specs.Verdicts.{verdict_text}
 
 -- NODE/PID
 abbrev pub member_text : Member → List ℕ

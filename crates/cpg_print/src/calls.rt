@@ -1,8 +1,8 @@
 //! Calls and ops as words, both ways.
 
 ghost use Rattle.std.specs.Prelude.{◌≡◌, ◌<◌, ◌++◌, OnOk, IfOk, IfSome, IsOkUnless};
-ghost use Rattle.cpg_console.specs.Calls.{call_text, op_text, join_of, leave_of, send_of, insert_at, insert_of, remove_of, call_of, is_gone, op_of, is_within_limits, is_enterable};
-ghost use Rattle.cpg_console.specs.Steps.{texts};
+ghost use Rattle.cpg_print.specs.Calls.{call_text, op_text, join_of, leave_of, send_of, insert_at, insert_of, remove_of, call_of, is_gone, op_of, is_within_limits, is_enterable};
+ghost use Rattle.cpg_print.specs.Words.{texts};
 
 use crate::rules::{put_rule, read_rule};
 use cpg_cred::Refusal;

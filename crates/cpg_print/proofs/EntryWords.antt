@@ -9,11 +9,11 @@ use Rattle.cpg_entry.specs.Widths.{EntryFits, IsU32}
 use Rattle.cpg_record.specs.Connections.{conn_of}
 use Rattle.cpg_text.specs.Lines.{words_of}
 use Rattle.cpg_script.specs.Words.{◌>>=◌, u32_of, cut_at}
-use Rattle.cpg_console.specs.Calls.{SendsBytes, op_text}
-use Rattle.cpg_console.specs.Entries.{conn_text, entry_text, conn_in_parts, conn_of_word, entry_by, entry_of}
-use Rattle.cpg_console.proofs.CallWords.{op_back}
-use Rattle.cpg_console.proofs.Numerals.{decimal_lacks, decimal_printed, decimal_word, number_back}
-use Rattle.cpg_console.proofs.Spacing.{is_word, cut_first, four_spaced, word_joined}
+use Rattle.cpg_print.specs.Calls.{SendsBytes, op_text}
+use Rattle.cpg_print.specs.Entries.{conn_text, entry_text, conn_in_parts, conn_of_word, entry_by, entry_of}
+use Rattle.cpg_print.proofs.CallWords.{op_back}
+use Rattle.cpg_print.proofs.Numerals.{decimal_lacks, decimal_printed, decimal_word, number_back}
+use Rattle.cpg_print.proofs.Spacing.{is_word, cut_first, four_spaced, word_joined}
 
 u32_back : (n : ℕ) → IsU32 n → u32_of (decimal n) ≡ Some n
 u32_back n fits = number_back 0 4294967295 n (omega (arith, fits.1)) fits

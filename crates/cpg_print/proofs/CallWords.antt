@@ -16,12 +16,12 @@ use Rattle.cpg_entry.proofs.Naming.{name_passes}
 use Rattle.cpg_text.specs.Lines.{words_of}
 use Rattle.cpg_text.specs.Percent.{encoded, encoded_byte, escape, is_plain, text_of}
 use Rattle.cpg_text.proofs.Round.{message_of_text_of}
-use Rattle.cpg_console.specs.Rules.{effect_text, right_text, who_text, rule_text}
-use Rattle.cpg_console.specs.Calls.{SendsBytes, call_text, op_text, op_of, is_within_limits}
-use Rattle.cpg_console.specs.Entries.{enterable_op}
-use Rattle.cpg_console.proofs.Numerals.{decimal_word, number_back}
-use Rattle.cpg_console.proofs.RuleWords.{rule_back, rule_words}
-use Rattle.cpg_console.proofs.Spacing.{HasFirst, is_word, two_spaced, word_of_bytes, words_first, words_last, words_spaced}
+use Rattle.cpg_print.specs.Rules.{effect_text, right_text, who_text, rule_text}
+use Rattle.cpg_print.specs.Calls.{SendsBytes, call_text, op_text, op_of, is_within_limits}
+use Rattle.cpg_print.specs.Entries.{enterable_op}
+use Rattle.cpg_print.proofs.Numerals.{decimal_word, number_back}
+use Rattle.cpg_print.proofs.RuleWords.{rule_back, rule_words}
+use Rattle.cpg_print.proofs.Spacing.{HasFirst, is_word, two_spaced, word_of_bytes, words_first, words_last, words_spaced}
 
 -- a group's name is a word
 name_word : (name : List ℕ) → IsName name → is_word name ≡ true

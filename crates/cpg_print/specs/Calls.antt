@@ -12,7 +12,7 @@ use Rattle.cpg_entry.specs.declared.messages.TheConstants.{MOST_MESSAGE_BYTES}
 use Rattle.cpg_text.specs.Numbers.{number_in}
 use Rattle.cpg_text.specs.Percent.{message_of, text_of}
 use Rattle.cpg_script.specs.Words.{◌>>=◌, u32_of}
-use Rattle.cpg_console.specs.Rules.{rule_of, rule_text}
+use Rattle.cpg_print.specs.Rules.{rule_of, rule_text}
 
 -- CALL, as it is printed
 abbrev pub call_text : Call → List ℕ

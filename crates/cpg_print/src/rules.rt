@@ -2,8 +2,8 @@
 
 ghost use Rattle.std.specs.Prelude.{◌≡◌, ◌++◌, ◌≤◌, OnOk, IsOkUnless, codes, option_map};
 ghost use Rattle.cpg_script.specs.Words.{cut_at};
-ghost use Rattle.cpg_console.specs.Rules.{effect_text, right_text, condition_text, conditions_text, who_text, rule_text, effect_of, right_of, first_condition, named_number, take_condition, conditions_of, who_of, who_in, rule_of};
-ghost use Rattle.cpg_console.specs.Steps.{texts};
+ghost use Rattle.cpg_print.specs.Rules.{effect_text, right_text, condition_text, conditions_text, who_text, rule_text, effect_of, right_of, first_condition, named_number, take_condition, conditions_of, who_of, who_in, rule_of};
+ghost use Rattle.cpg_print.specs.Words.{texts};
 
 use cpg_cred::{MOST_NODES, NodeId, Refusal};
 use cpg_rules::{Effect, Right, Rule, Who};

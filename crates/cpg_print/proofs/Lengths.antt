@@ -1,10 +1,10 @@
 -- how many words there are
 use Rattle.std.proofs.Common.{◌≡◌, ℕ, ◌<◌, List, [], ◌∷◌, length, take, None, refl, arith}
 use Rattle.std.specs.Borrow.{Bor}
-use Rattle.cpg_console.specs.Calls.{insert_of}
-use Rattle.cpg_console.specs.Entries.{entry_of}
-use Rattle.cpg_console.specs.Rules.{rule_of}
-use Rattle.cpg_console.specs.Steps.{texts}
+use Rattle.cpg_print.specs.Calls.{insert_of}
+use Rattle.cpg_print.specs.Entries.{entry_of}
+use Rattle.cpg_print.specs.Rules.{rule_of}
+use Rattle.cpg_print.specs.Words.{texts}
 
 -- no entry is of fewer than four words
 pub entry_of_short : (words : List (Bor (List ℕ))) → length words < 4 → entry_of (texts words) ≡ None

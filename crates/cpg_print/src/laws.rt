@@ -7,9 +7,9 @@ ghost use Rattle.cpg_entry.specs.declared.entries.Entry.{Entry};
 ghost use Rattle.cpg_entry.specs.Ranges.{IsEntry};
 ghost use Rattle.cpg_entry.specs.Widths.{EntryFits, WhoFits};
 ghost use Rattle.cpg_text.specs.Lines.{words_of};
-ghost use Rattle.cpg_console.specs.Calls.{SendsBytes};
-ghost use Rattle.cpg_console.specs.Entries.{entry_of, entry_text};
-ghost use Rattle.cpg_console.specs.Rules.{effect_text, right_text, who_of, who_text, rule_of, rule_text};
+ghost use Rattle.cpg_print.specs.Calls.{SendsBytes};
+ghost use Rattle.cpg_print.specs.Entries.{entry_of, entry_text};
+ghost use Rattle.cpg_print.specs.Rules.{effect_text, right_text, who_of, who_text, rule_of, rule_text};
 
 /// Whom a rule speaks of is read again from what is printed of it.
 #[tactic(auto, using(crate::proofs::Conditions::who_back))]

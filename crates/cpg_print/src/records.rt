@@ -3,7 +3,7 @@
 ghost use Rattle.std.specs.Prelude.{◌≡◌, ◌++◌, codes, OnOk, IsOkUnless};
 ghost use Rattle.std.specs.Option.{option_copied};
 ghost use Rattle.std.specs.List.{flat_map};
-ghost use Rattle.cpg_console.specs.Records.{member_text, members_text, group_text, outcome_text, audit_line, count_line};
+ghost use Rattle.cpg_print.specs.Records.{member_text, members_text, group_text, outcome_text, audit_line, count_line};
 
 use crate::entries::put_entry;
 use crate::verdicts::put_verdict;

@@ -2,7 +2,7 @@
 
 ghost use Rattle.std.specs.Prelude.{◌≡◌, ◌++◌, OnOk, IsOkUnless};
 ghost use Rattle.cpg_cred.specs.Shown.{by_text};
-ghost use Rattle.cpg_console.specs.Verdicts.{reason_text, verdict_text};
+ghost use Rattle.cpg_print.specs.Verdicts.{reason_text, verdict_text};
 
 use cpg_cred::{By, Refusal};
 use cpg_record::{Reason, Verdict};

@@ -1,0 +1,7 @@
+pub mod Calls
+pub mod Entries
+pub mod Events
+pub mod Records
+pub mod Rules
+pub mod Verdicts
+pub mod Words

@@ -1,0 +1,21 @@
+//! Printed forms, as text both ways: entries, calls and rules are read from words and printed as such;
+//! verdicts, records and events are printed.
+//!
+//! The forms are this project's own. Proved: what is read and what is printed are the definitions in `specs/`,
+//! byte for byte; and what is printed of an entry, of a rule or of a who is read as that again.
+#![tactic(auto)]
+
+mod calls;
+mod entries;
+mod events;
+mod laws;
+mod records;
+mod rules;
+mod verdicts;
+
+pub use entries::{entry_in_line, put_conn, put_entry};
+pub use events::{put_event, put_inbox};
+pub use laws::{entries_read_back, rules_read_back, whos_read_back};
+pub use records::{put_audit, put_count, put_members};
+pub use rules::put_rule;
+pub use verdicts::put_verdict;
