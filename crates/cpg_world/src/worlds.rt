@@ -49,8 +49,10 @@ impl World {
     /// A new world: new nodes with that list, and the first token is sent. Refused with Range where a
     /// setting is out of its range.
     pub fn new(alloc: Global, settings: Settings, list: &AcceptList) -> Result<World, Refusal>
-        ensures { IsWorldMade settings list.now result }
+        ensures made { IsWorldMade settings list.now result }
+        ensures world { IfOk result (λ world. IsTrueWorld world) }
     {
+        every_run();
         if !are_settings(&settings) {
             return Err(Refusal::Range);
         }
@@ -72,8 +74,10 @@ impl World {
     /// The event's node is one of the world's.
     pub fn step(&mut self, event: WorldEvent) -> Result<Reply, Refusal>
         requires { node_in event ≤ length self.old.nodes }
-        ensures { IsStep self.old event result self.new }
+        ensures step { IsStep self.old event result self.new }
+        ensures world { IsTrueWorld self.new }
     {
+        every_run();
         let id = node_of(&event);
         let node = &mut self.nodes[id.get() as usize - 1];
         meet(node, &mut self.sent, event)

@@ -9,7 +9,12 @@ invariant_of-result c =
     let settings : IsSettings c.args.settings = search rules in
     (begun c.reads_what_is_spelled.ensures.again c.args.settings c.in_ok-list.list c.in_ok-nodes.nodes.items c.in_ok-sent.sent.items settings c.in_ok-nodes.ensures.ok c.in_ok-sent.ensures.ok c.in_ok-sent.ensures.range).kept
 
-pub returns : goal.returns
-returns c =
+pub returns-clause-made : goal.returns-clause-made
+returns-clause-made c =
     let settings : IsSettings c.args.settings = search rules in
     (settings, (begun c.reads_what_is_spelled.ensures.again c.args.settings c.in_ok-list.list c.in_ok-nodes.nodes.items c.in_ok-sent.sent.items settings c.in_ok-nodes.ensures.ok c.in_ok-sent.ensures.ok c.in_ok-sent.ensures.range).is ∙ ap (new_world c.args.settings) c.in_ok-list.ensures.ok)
+
+pub returns-clause-world : goal.returns-clause-world
+returns-clause-world c =
+    let kept = invariant_of-result c in
+    c.every_run.ensures.world _ kept.settings kept.reached

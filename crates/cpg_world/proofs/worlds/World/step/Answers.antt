@@ -25,8 +25,8 @@ invariant_of-self c =
       spelled = c.meet.ensures.spelled;
     }
 
-pub returns : goal.returns
-returns c =
+pub returns-clause-step : goal.returns-clause-step
+returns-clause-step c =
     let e = c.args.event in
     let nodes = c.self.inside.nodes.items in
     let w : WorldValue = record { settings = c.self.inside.settings; list = c.self.inside.list; nodes = nodes; sent = frames_of c.self.inside.sent.items } in
@@ -39,3 +39,8 @@ returns c =
     let same : set nodes (c.get.result - 1) c.meet.new.node ≡ with_item nodes (node_in e) c.meet.new.node = ap (λ k. set nodes (k - 1) c.meet.new.node) g ∙ set_is nodes (node_in e) c.meet.new.node low in
     subst (λ (v : WorldValue). IsStep v e c.meet.result (record { settings = w.settings; list = w.list; nodes = set nodes (c.get.result - 1) c.meet.new.node; sent = frames_of c.meet.new.sent.items })) c.self.view_is
     (subst (λ (l : List NodeValue). IsStep w e c.meet.result (record { settings = w.settings; list = w.list; nodes = l; sent = frames_of c.meet.new.sent.items })) (sym same) s.step)
+
+pub returns-clause-world : goal.returns-clause-world
+returns-clause-world c =
+    let kept = invariant_of-self c in
+    c.every_run.ensures.world _ kept.settings kept.reached
