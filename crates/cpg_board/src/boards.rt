@@ -1,6 +1,6 @@
 //! The board, with its calls.
 
-ghost use Rattle.std.specs.Prelude.{◌≡◌, ◌≢◌, ◌++◌, ◌∷◌, ◌<◌, ◌≤◌, [], length, take, Some, None, Ok, slice_get, IfOk, IfErr, OnOk, OnErr, IsOkUnless, MatchOption, MatchResult, vec_len, vec_capacity};
+ghost use Rattle.std.specs.Prelude.{◌≡◌, ◌≢◌, ◌++◌, ◌∷◌, ◌<◌, ◌≤◌, [], length, take, Some, None, Ok, IsOk, slice_get, IfOk, IfErr, OnOk, OnErr, IsOkUnless, MatchOption, MatchResult, vec_len, vec_capacity};
 ghost use Rattle.cpg_record.specs.Places.{record_at};
 ghost use Rattle.cpg_board.specs.Making.{HasBoard, IsUnmade};
 ghost use Rattle.cpg_board.specs.Noted.{known_of, AllKnow};
@@ -195,6 +195,7 @@ impl Board {
         ensures ok { OnOk result (IsLonger seat.old other.now seat.new × Begins other.now seat.new) }
         ensures err { OnErr result (seat.new ≡ seat.old) }
         ensures memory { IsOkUnless result Refusal.Memory }
+        ensures none { length other.now ≤ length seat.old → IsOk result }
     {
         let (had, more) = (seat.len(), other.len());
         match self.meet(&*seat, other) {

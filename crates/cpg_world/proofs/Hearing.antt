@@ -1,5 +1,5 @@
 -- A frame that comes.
-use Rattle.std.proofs.Common.{◌≡◌, ℕ, zero, suc, ◌-◌, ◌<◌, ◌≤◌, List, [], ◌++◌, length, get_or, Option, Some, None, Ok, Err, refl, sym, ap, ◌∙◌, subst, option_map, arith, slice_get, append-nil}
+use Rattle.std.proofs.Common.{◌≡◌, ℕ, zero, suc, ◌-◌, ◌<◌, ◌≤◌, List, [], ◌++◌, length, get_or, Option, Some, None, IsSome, Ok, Err, refl, sym, ap, ◌∙◌, subst, option_map, arith, slice_get, append-nil}
 use Rattle.std.proofs.lemmas.Option.{none-some, same_Some, slice_get-get_or, slice_get-map, slice_get_past, slice_get_within, get_or_from_slice_get}
 use Rattle.std.proofs.lemmas.List.{length-map}
 use Rattle.cpg_cred.specs.declared.refusals.Refusal.{Refusal}
@@ -76,7 +76,7 @@ unheard frames n k x f why y is refuses same =
     )
 
 pub heard_err : {X : Type 0} (items : X → List (List ℕ)) (frames : List Frame) (n k : ℕ) (x : NodeValue) (f : Frame) (why : Refusal) (y : NodeValue) → item frames k ≡ Some f → IsFrameAnswer items x (Some f) (Err why) y → IsMet frames (events.Frame n k) x (Err why) y frames
-heard_err items frames n k x f refusal.Memory y is h = (h, refl)
+heard_err items frames n k x f refusal.Memory y is h = (h, refl, subst IsSome (sym is) refl)
 heard_err items frames n k x f refusal.Access y is h = unheard frames n k x f refusal.Access y is h.0 h.1
 heard_err items frames n k x f refusal.NoConnection y is h = unheard frames n k x f refusal.NoConnection y is h.0 h.1
 heard_err items frames n k x f refusal.BadName y is h = unheard frames n k x f refusal.BadName y is h.0 h.1

@@ -11,7 +11,7 @@ use Rattle.cpg_world_laws.specs.Replies.{Answer, IsAnswerAt, IsAnswerOf}
 use Rattle.cpg_world_laws.proofs.Lists.{with_as}
 use Rattle.cpg_world_laws.proofs.Reached.{reached_on}
 use Rattle.cpg_world.specs.Kept.{IsMet}
-use Rattle.cpg_world.specs.Runs.{IsStep}
+use Rattle.cpg_world.specs.Runs.{IsStep, MayGrow, MayGrowAt}
 
 pub met_cases : (sent : List Frame) (e : WorldEvent) (x : NodeValue) (a : Answer) (y : NodeValue) (later : List Frame) → IsMet sent e x a y later →
     ((a ≡ Err refusal.Memory) × (y ≡ x) × (later ≡ sent)) ⊎ (IsAnswerAt sent e x a × (y ≡ (moves sent e x).0) × (later ≡ sent ++ (moves sent e x).1))
@@ -65,8 +65,10 @@ stepped w e a x y later reached is met = ⊎_elim memory moves_on (met_cases w.s
     unmoved : (y ≡ x) × (later ≡ w.sent) → after ≡ w
     unmoved h = ap (λ z. with_move w (node_in e) z later) h.0 ∙ (ap (with_move w (node_in e) x) h.1 ∙ ap (λ (nodes : List NodeValue). let world : WorldValue = record { settings = w.settings; list = w.list; nodes = nodes; sent = w.sent } in world) (with_as w.nodes (node_in e) x is))
 
-    refused : a ≡ Err refusal.Memory → after ≡ w
-    refused m = unmoved (subst (λ z. IsMet w.sent e x z y later) m met)
+    refused : a ≡ Err refusal.Memory → (after ≡ w) × MayGrowAt w.sent e (item w.nodes (node_in e))
+    refused m =
+        let h : (y ≡ x) × (later ≡ w.sent) × MayGrow w.sent e x = subst (λ z. IsMet w.sent e x z y later) m met in
+        (unmoved (h.0, h.1), subst (MayGrowAt w.sent e) (sym is) h.2)
 
     memory : (a ≡ Err refusal.Memory) × (y ≡ x) × (later ≡ w.sent) → Stepped w e a after
     memory h = record { step = record { refused = refused; happened = λ other. absurd (other h.0) }; reached = subst Reached (sym (unmoved (h.1, h.2))) reached }

@@ -9,6 +9,7 @@ use Rattle.cpg_node.specs.Answers.{spelled, CanBeSpelled}
 use Rattle.cpg_world_laws.specs.declared.events.WorldEvent.{WorldEvent}
 use Rattle.cpg_world_laws.specs.Worlds.{WorldValue, moves, happens, Reached}
 use Rattle.cpg_world_laws.specs.Replies.{Answer, IsAnswerAt, IsReply}
+use Rattle.cpg_world.specs.Runs.{MayGrow}
 
 -- the frames that byte strings spell
 abbrev pub frames_of : List (List ℕ) → List Frame
@@ -26,10 +27,10 @@ pub record IsWorldKept (w : WorldValue) (sent : List (List ℕ)) : Type 0 where
   pub reached : Reached w
   pub spelled : AreSpelled sent
 
--- An event at its node: memory is refused, and the node and the frames are as before; or it is answered, the node moves, and what it
+-- An event at its node: memory is refused, where it may be asked for, and the node and the frames are as before; or it is answered, the node moves, and what it
 -- sends comes after the frames before.
 abbrev pub IsMet : List Frame → WorldEvent → NodeValue → Answer → NodeValue → List Frame → Type 0
-IsMet sent e x (Err refusal.Memory) y later = (y ≡ x) × (later ≡ sent)
+IsMet sent e x (Err refusal.Memory) y later = (y ≡ x) × (later ≡ sent) × MayGrow sent e x
 IsMet sent e x answer y later = IsAnswerAt sent e x answer × (y ≡ (moves sent e x).0) × (later ≡ sent ++ (moves sent e x).1)
 
 -- the event was answered, its reply stands after the others, and it happened

@@ -1,5 +1,5 @@
 -- What the calls of a world answer.
-use Rattle.std.specs.Prelude.{◌≡◌, ◌≢◌, ℕ, ◌≤◌, List, length, take, Option, Some, None, Result, Ok, Err}
+use Rattle.std.specs.Prelude.{◌≡◌, ◌≢◌, ℕ, ◌≤◌, List, length, take, Option, Some, None, IsSome, Result, Ok, Err, IsOk}
 use Rattle.cpg_cred.specs.Listed.{Listed}
 use Rattle.cpg_cred.specs.declared.refusals.Refusal.{Refusal}
 use Rattle.cpg_cred.specs.declared.refusals.Refusal.TheVariants.{Range, Memory}
@@ -8,7 +8,12 @@ use Rattle.cpg_wire.specs.Spelling.{spelling}
 use Rattle.cpg_ring.specs.States.{Frame, IsSettings}
 use Rattle.cpg_ring.specs.declared.settings.Settings.{Settings}
 use Rattle.cpg_world_laws.specs.declared.events.WorldEvent.{WorldEvent}
-use Rattle.cpg_world_laws.specs.Worlds.{WorldValue, happens, runs, new_world}
+use Rattle.cpg_ring.specs.Worlds.{item}
+use Rattle.cpg_node.specs.declared.connections.Client.{Client}
+use Rattle.cpg_node.specs.Nodes.{NodeValue, open_client}
+use Rattle.cpg_node.specs.Calls.{connect_refusal, submit_refusal, closed_refusal, next_place, list_for}
+use Rattle.cpg_world_laws.specs.declared.events.WorldEvent.TheVariants.{Connect, Submit, Disconnect, Frame as Arrival, Timer, Deliver, Take, List as Listing, Groups}
+use Rattle.cpg_world_laws.specs.Worlds.{WorldValue, node_in, happens, runs, new_world}
 use Rattle.cpg_world_laws.specs.Replies.{Answer, IsReply, AreReplies}
 
 -- A new world where the settings are in their ranges, else Range; or Memory in the world's place.
@@ -18,9 +23,31 @@ IsWorldMade s list (Err Range) = ¬ IsSettings s
 IsWorldMade s list (Err Memory) = IsSettings s
 IsWorldMade s list (Err _) = ⊥
 
--- One event: its reply, and the world after it; or Memory, and the world as it was.
+-- a listing that nothing denies
+abbrev pub IsLetList : NodeValue → List ℕ → Option Client → Type 0
+IsLetList x g None = ⊥
+IsLetList x g (Some c) = IsOk (list_for x c g)
+
+-- At a node an event may ask for memory: it is not refused, or the frame is there, or a place is held to be delivered.
+abbrev pub MayGrow : List Frame → WorldEvent → NodeValue → Type 0
+MayGrow sent (Connect n pid cred) x = connect_refusal x cred ≡ None
+MayGrow sent (Submit n conn call) x = submit_refusal x conn call ≡ None
+MayGrow sent (Disconnect n conn) x = closed_refusal (open_client x conn) ≡ None
+MayGrow sent (Arrival n k) x = IsSome (item sent k)
+MayGrow sent (Timer n) x = Unit {0}
+MayGrow sent (Deliver n) x = IsSome (next_place x)
+MayGrow sent (Take n conn) x = closed_refusal (open_client x conn) ≡ None
+MayGrow sent (Listing n conn g) x = IsLetList x g (open_client x conn)
+MayGrow sent (Groups n conn) x = closed_refusal (open_client x conn) ≡ None
+
+-- the node is there, and may ask for memory
+abbrev pub MayGrowAt : List Frame → WorldEvent → Option NodeValue → Type 0
+MayGrowAt sent e None = ⊥
+MayGrowAt sent e (Some x) = MayGrow sent e x
+
+-- One event: its reply, and the world after it; or Memory, where it may be asked for, and the world as it was.
 pub record IsStep (w : WorldValue) (e : WorldEvent) (answer : Answer) (after : WorldValue) : Type 0 where
-  pub refused : answer ≡ Err Memory → after ≡ w
+  pub refused : answer ≡ Err Memory → (after ≡ w) × MayGrowAt w.sent e (item w.nodes (node_in e))
   pub happened : answer ≢ Err Memory → IsReply w e answer × (after ≡ happens w e)
 
 -- The first of the events happened, as many as there are answers: these are the replies to them, and that is the world after them.
