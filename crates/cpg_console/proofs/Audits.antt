@@ -14,7 +14,8 @@ use Rattle.cpg_record.proofs.Denials.{each_entry_is_judged, prefixes_are_judged_
 use Rattle.cpg_text.specs.Lines.{words_of}
 use Rattle.cpg_script.proofs.Lined.{enumerate_from-append}
 use Rattle.cpg_print.specs.Entries.{entry_of}
-use Rattle.cpg_console.specs.Judging.{audit_lines, conns_of, with_conn}
+use Rattle.cpg_print.specs.Records.{audit_lines}
+use Rattle.cpg_console.specs.Judging.{conns_of, with_conn}
 use Rattle.cpg_print.specs.Records.{audit_line}
 use Rattle.cpg_console.specs.Scripts.{entries_from, entry_then}
 

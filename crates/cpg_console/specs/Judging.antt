@@ -1,6 +1,6 @@
 -- what is printed of a script of entries, and what its faults leave
 use Rattle.std.specs.Prelude.{ℕ, ◌≡◌, ⊤, List, [], ◌∷◌, ◌++◌, length, map, if◌then◌else◌, Option, Result, Ok, Err}
-use Rattle.std.specs.List.{concat, enumerate_from, flat_map, fold, list_any}
+use Rattle.std.specs.List.{concat, flat_map, fold, list_any}
 use Rattle.std.specs.Io.KnownBytes.{Appends, Keeps}
 use Rattle.cpg_cred.specs.declared.refusals.Refusal.{Refusal}
 use Rattle.cpg_cred.specs.declared.refusals.Refusal.TheVariants as refusal
@@ -12,11 +12,7 @@ use Rattle.cpg_record.specs.Events.{inbox}
 use Rattle.cpg_record.specs.Judging.{judged}
 use Rattle.cpg_script.specs.Written.{LeavesLines}
 use Rattle.cpg_print.specs.Events.{event_line, inbox_line}
-use Rattle.cpg_print.specs.Records.{audit_line, count_line}
-
--- the audit lines of records, the first of which stands at place 1
-abbrev pub audit_lines : List Record → List (List ℕ)
-audit_lines records = map (λ past. audit_line past.0 past.1) (enumerate_from 1 records)
+use Rattle.cpg_print.specs.Records.{audit_lines, count_line}
 
 -- the connections with one more at the end, if it was absent
 abbrev pub with_conn : List ConnId → ConnId → List ConnId

@@ -9,7 +9,8 @@ ghost use Rattle.std.specs.Io.KnownBytes.{Appends};
 ghost use Rattle.cpg_record.specs.Connections.{is_conn};
 ghost use Rattle.cpg_record.specs.Judging.{judged, most_places, record_of, IsNext};
 ghost use Rattle.cpg_script.specs.Written.{LeavesLines, WritesLate};
-ghost use Rattle.cpg_console.specs.Judging.{audit_lines, with_conn, conns_of, judge_lines, EndsJudging, IsWritten, Leaves};
+ghost use Rattle.cpg_print.specs.Records.{audit_lines};
+ghost use Rattle.cpg_console.specs.Judging.{with_conn, conns_of, judge_lines, EndsJudging, IsWritten, Leaves};
 ghost use Rattle.cpg_print.specs.Records.{audit_line};
 ghost use Rattle.cpg_console.specs.Scripts.{entries_of_script};
 

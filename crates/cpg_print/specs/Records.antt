@@ -1,5 +1,6 @@
 -- members and records as they are printed
-use Rattle.std.specs.Prelude.{ℕ, List, [], ◌++◌, codes, decimal, Option, Some, None}
+use Rattle.std.specs.Prelude.{ℕ, List, [], ◌++◌, map, codes, decimal, Option, Some, None}
+use Rattle.std.specs.List.{enumerate_from}
 use Rattle.cpg_record.specs.declared.memberships.Member.{Member}
 use Rattle.cpg_record.specs.declared.records.Record.{Record}
 use Rattle.cpg_script.specs.Words.{listed}
@@ -30,3 +31,7 @@ audit_line place past = decimal place ++ codes " " ++ entry_text past.entry ++ c
 -- how many records there are
 abbrev pub count_line : ℕ → List ℕ
 count_line count = codes "records " ++ decimal count ++ codes "\n"
+
+-- the audit lines of records, the first of which stands at place 1
+abbrev pub audit_lines : List Record → List (List ℕ)
+audit_lines records = map (λ past. audit_line past.0 past.1) (enumerate_from 1 records)

@@ -5,6 +5,7 @@
 //! byte for byte; and what is printed of an entry, of a rule or of a who is read as that again.
 #![tactic(auto)]
 
+mod answers;
 mod calls;
 mod entries;
 mod events;
@@ -13,6 +14,10 @@ mod records;
 mod rules;
 mod verdicts;
 
+pub use answers::{
+    put_groups_line, put_members_line, put_refused_line, put_safe_line, put_took_line,
+};
+pub use calls::read_call;
 pub use entries::{entry_in_line, put_conn, put_entry};
 pub use events::{put_event, put_inbox};
 pub use laws::{entries_read_back, rules_read_back, whos_read_back};

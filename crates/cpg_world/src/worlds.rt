@@ -1,6 +1,7 @@
 //! All nodes, and every frame that was ever sent.
 
-ghost use Rattle.std.specs.Prelude.{◌≡◌, ◌≢◌, ◌↔◌, ◌≤◌, [], ◌∷◌, ◌++◌, length, take, All, IsTrue, None, Some, Ok, Err, OnOk, OnErr, IfOk, MatchOption};
+ghost use Rattle.std.specs.Prelude.{◌≡◌, ◌≢◌, ◌↔◌, ◌≤◌, [], ◌∷◌, ◌++◌, length, take, All, IsTrue, None, Some, Ok, Err, OnOk, OnErr, IfOk, IfSome, MatchOption};
+ghost use Rattle.cpg_wire.specs.Reading.{frame_of};
 ghost use Rattle.cpg_ring.specs.Worlds.{item};
 ghost use Rattle.cpg_world_laws.specs.Worlds.{node_in};
 ghost use Rattle.cpg_world_laws.specs.Claims.{IsTrueWorld, IsTrueRun};
@@ -176,7 +177,8 @@ impl World {
     /// The bytes of the frame of that number, counted from 1, if so many were sent: its spelling of
     /// version 2.
     pub fn sent_frame(&self, number: usize) -> Option<&Bytes>
-        ensures { MatchOption result (item self.now.sent number ≡ None) (λ bytes. IsSpelledBy (item self.now.sent number) bytes.now) }
+        ensures spelled { MatchOption result (item self.now.sent number ≡ None) (λ bytes. IsSpelledBy (item self.now.sent number) bytes.now) }
+        ensures frame { IfSome result (λ bytes. frame_of bytes.now ≡ item self.now.sent number) }
     {
         reads_what_is_spelled();
         if number == 0 || number > self.sent.len() {

@@ -1,7 +1,7 @@
 use Rattle.std.proofs.Common.{◌<◌, ◌∷◌, [], length, sym, ◌∙◌, arith}
 use Rattle.cpg_record.specs.Judging.{judged}
 use Rattle.cpg_script.proofs.Lined.{leaves_amid, lines_after, text_of_line}
-use Rattle.cpg_console.specs.Judging.{audit_lines}
+use Rattle.cpg_print.specs.Records.{audit_lines}
 use Rattle.cpg_console.proofs.Audits.{audits_around, audits_more, seen_more, next_line}
 use Rattle.cpg_console.proofs.judging.judge_entries.Goals as goal
 

@@ -2,7 +2,7 @@ use Rattle.std.proofs.Common.{◌≡◌, take}
 use Rattle.std.specs.List.{concat}
 use Rattle.std.specs.Io.KnownBytes.{Appends}
 use Rattle.cpg_record.specs.Judging.{judged}
-use Rattle.cpg_console.specs.Judging.{audit_lines}
+use Rattle.cpg_print.specs.Records.{audit_lines}
 use Rattle.cpg_console.proofs.judging.judge_entries.Given as goal
 
 abbrev pub invariant-loop-entry : goal.invariant-loop-entry

@@ -7,7 +7,8 @@ use Rattle.cpg_record.specs.declared.connections.ConnId.{ConnId}
 use Rattle.cpg_record.specs.Judging.{judged}
 use Rattle.cpg_script.specs.Written.{LeavesLines}
 use Rattle.cpg_script.proofs.Lined.{leaves_first, leaves_amid, memory_amid, lines_after, ok_after, err_after, text_of_line}
-use Rattle.cpg_console.specs.Judging.{audit_lines, conns_of, inbox_lines, judge_lines}
+use Rattle.cpg_print.specs.Records.{audit_lines}
+use Rattle.cpg_console.specs.Judging.{conns_of, inbox_lines, judge_lines}
 use Rattle.cpg_print.specs.Records.{count_line}
 use Rattle.cpg_console.proofs.judging.write_judgement.Goals as goal
 

@@ -1,0 +1,5 @@
+pub mod Commands
+pub mod Lines
+pub mod Running
+pub mod Scripts
+pub mod Steps

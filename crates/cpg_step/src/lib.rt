@@ -1,0 +1,18 @@
+//! `cpgring step`: a script of commands over a world, one event or one look at a time.
+//!
+//! The forms are this project's own. Proved: the whole script is read and checked before it begins, each
+//! command meets the world that those before it left, and what is printed of it is the definition in
+//! `specs/`, byte for byte, where the reader and the writer tell their bytes.
+#![tactic(auto)]
+
+mod acting;
+mod commands;
+mod looking;
+mod printing;
+mod reading;
+mod running;
+mod scripts;
+
+pub use commands::{Command, Look};
+pub use cpg_script::Fault;
+pub use running::run_script;

@@ -1,0 +1,316 @@
+//! Commands from words.
+//!
+//! Proved: each function reads what the definition in `specs/Commands.antt` says, in a ring of so many nodes.
+
+ghost use Rattle.std.specs.Prelude.{◌≡◌, ◌≤◌, OnOk, IfOk, IfSome, IsOkUnless, option_map};
+ghost use Rattle.cpg_text.specs.Lines.{words_of};
+ghost use Rattle.cpg_world_laws.specs.Worlds.{node_in};
+ghost use Rattle.cpg_world_laws.specs.declared.events.WorldEvent.TheVariants.{Submit, Disconnect, Take, Groups, Timer, Deliver};
+ghost use Rattle.cpg_print.specs.Words.{texts};
+ghost use Rattle.cpg_step.specs.declared.commands.Look.TheVariants.{Audit, Safe};
+ghost use Rattle.cpg_step.specs.Commands.{node_of, conn_of, u64_of, node_alone, node_and_conn, connect_of, submit_of, frame_of, list_of, event_of, show_of, rules_of, look_of, command_of, LooksWithin, IsWithin};
+
+use crate::commands::{Command, Look};
+use cpg_cred::{Cred, MOST_NODES, NodeId, Refusal};
+use cpg_entry::{Call, MOST_CONNECTIONS, Name};
+use cpg_print::read_call;
+use cpg_script::{is, read_u32};
+use cpg_text::{first_words, read_number};
+use cpg_world::WorldEvent;
+use std::alloc::Global;
+
+/// The words of the longest line, and one more.
+const WORDS: usize = 10;
+
+/// The node of a NODE, where the ring has it.
+fn read_node(nodes: u8, word: &[u8]) -> Option<NodeId>
+    ensures node { result ≡ node_of nodes word.now }
+    ensures within { IfSome result (λ node. node ≤ nodes) }
+{
+    let number = read_u32(1, u32::from(MOST_NODES), word)?;
+    let node = NodeId::new(number as u8)?;
+    if node.get() <= nodes {
+        Some(node)
+    } else {
+        None
+    }
+}
+
+/// The connection of a CONN.
+fn read_conn(word: &[u8]) -> Option<u16>
+    ensures { result ≡ conn_of word.now }
+{
+    let number = read_u32(1, u32::from(MOST_CONNECTIONS), word)?;
+    Some(number as u16)
+}
+
+/// The node of a NODE that is the only word.
+fn read_node_alone(nodes: u8, words: &[&[u8]]) -> Option<NodeId>
+    ensures node { result ≡ node_alone nodes (texts words.now) }
+    ensures within { IfSome result (λ node. node ≤ nodes) }
+{
+    match words {
+        [node] => read_node(nodes, node),
+        _ => None,
+    }
+}
+
+/// The node and the connection of NODE CONN, where there are no more words.
+fn read_node_and_conn(nodes: u8, words: &[&[u8]]) -> Option<(NodeId, u16)>
+    ensures at { result ≡ node_and_conn nodes (texts words.now) }
+    ensures within { IfSome result (λ at. at.0 ≤ nodes) }
+{
+    match words {
+        [node, conn] => {
+            let node = read_node(nodes, node)?;
+            let conn = read_conn(conn)?;
+            Some((node, conn))
+        }
+        _ => None,
+    }
+}
+
+fn read_connect(nodes: u8, words: &[&[u8]]) -> Option<WorldEvent>
+    ensures event { result ≡ connect_of nodes (texts words.now) }
+    ensures within { IfSome result (λ event. node_in event ≤ nodes) }
+{
+    match words {
+        [node, pid, uid, gid] => {
+            let node = read_node(nodes, node)?;
+            let pid = read_u32(0, u32::MAX, pid)?;
+            let uid = read_u32(0, u32::MAX, uid)?;
+            let gid = read_u32(0, u32::MAX, gid)?;
+            Some(WorldEvent::Connect(node, pid, Cred { uid, gid }))
+        }
+        _ => None,
+    }
+}
+
+fn read_submit(alloc: Global, nodes: u8, words: &[&[u8]]) -> Result<Option<WorldEvent>, Refusal>
+    ensures event { IfOk result (λ found. found ≡ submit_of nodes (texts words.now)) }
+    ensures within { IfOk result (λ found. IfSome found (λ event. node_in event ≤ nodes)) }
+    ensures memory { IsOkUnless result Refusal.Memory }
+{
+    match words {
+        [node, conn, call @ ..] => {
+            let (Some(node), Some(conn)) = (read_node(nodes, node), read_conn(conn)) else {
+                return Ok(None);
+            };
+            let call = read_call(alloc, call)?;
+            Ok(submit_by(node, conn, call))
+        }
+        _ => Ok(None),
+    }
+}
+
+fn submit_by(node: NodeId, conn: u16, call: Option<Call>) -> Option<WorldEvent>
+    ensures { result ≡ option_map (λ c. Submit node conn c) call }
+{
+    let call = call?;
+    Some(WorldEvent::Submit(node, conn, call))
+}
+
+fn read_frame(nodes: u8, words: &[&[u8]]) -> Option<WorldEvent>
+    ensures event { result ≡ frame_of nodes (texts words.now) }
+    ensures within { IfSome result (λ event. node_in event ≤ nodes) }
+{
+    match words {
+        [node, number] => {
+            let node = read_node(nodes, node)?;
+            let number = read_number(0, u64::MAX, number)?;
+            Some(WorldEvent::Frame(node, number as usize))
+        }
+        _ => None,
+    }
+}
+
+fn read_list(alloc: Global, nodes: u8, words: &[&[u8]]) -> Result<Option<WorldEvent>, Refusal>
+    ensures event { IfOk result (λ found. found ≡ list_of nodes (texts words.now)) }
+    ensures within { IfOk result (λ found. IfSome found (λ event. node_in event ≤ nodes)) }
+    ensures memory { IsOkUnless result Refusal.Memory }
+{
+    match words {
+        [node, conn, group] => {
+            let (Some(node), Some(conn)) = (read_node(nodes, node), read_conn(conn)) else {
+                return Ok(None);
+            };
+            let group = Name::from_slice(alloc, group)?;
+            Ok(Some(WorldEvent::List(node, conn, group)))
+        }
+        _ => Ok(None),
+    }
+}
+
+fn read_disconnect(nodes: u8, words: &[&[u8]]) -> Option<WorldEvent>
+    ensures event { result ≡ option_map (λ at. Disconnect at.0 at.1) (node_and_conn nodes (texts words.now)) }
+    ensures within { IfSome result (λ event. node_in event ≤ nodes) }
+{
+    let (node, conn) = read_node_and_conn(nodes, words)?;
+    Some(WorldEvent::Disconnect(node, conn))
+}
+
+fn read_take(nodes: u8, words: &[&[u8]]) -> Option<WorldEvent>
+    ensures event { result ≡ option_map (λ at. Take at.0 at.1) (node_and_conn nodes (texts words.now)) }
+    ensures within { IfSome result (λ event. node_in event ≤ nodes) }
+{
+    let (node, conn) = read_node_and_conn(nodes, words)?;
+    Some(WorldEvent::Take(node, conn))
+}
+
+fn read_groups(nodes: u8, words: &[&[u8]]) -> Option<WorldEvent>
+    ensures event { result ≡ option_map (λ at. Groups at.0 at.1) (node_and_conn nodes (texts words.now)) }
+    ensures within { IfSome result (λ event. node_in event ≤ nodes) }
+{
+    let (node, conn) = read_node_and_conn(nodes, words)?;
+    Some(WorldEvent::Groups(node, conn))
+}
+
+fn read_timer(nodes: u8, words: &[&[u8]]) -> Option<WorldEvent>
+    ensures event { result ≡ option_map (λ n. Timer n) (node_alone nodes (texts words.now)) }
+    ensures within { IfSome result (λ event. node_in event ≤ nodes) }
+{
+    let node = read_node_alone(nodes, words)?;
+    Some(WorldEvent::Timer(node))
+}
+
+fn read_deliver(nodes: u8, words: &[&[u8]]) -> Option<WorldEvent>
+    ensures event { result ≡ option_map (λ n. Deliver n) (node_alone nodes (texts words.now)) }
+    ensures within { IfSome result (λ event. node_in event ≤ nodes) }
+{
+    let node = read_node_alone(nodes, words)?;
+    Some(WorldEvent::Deliver(node))
+}
+
+/// The event that the words after a command's first word say.
+fn read_event(
+    alloc: Global,
+    nodes: u8,
+    word: &[u8],
+    arguments: &[&[u8]],
+) -> Result<Option<WorldEvent>, Refusal>
+    ensures event { IfOk result (λ found. found ≡ event_of nodes word.now (texts arguments.now)) }
+    ensures within { IfOk result (λ found. IfSome found (λ event. node_in event ≤ nodes)) }
+    ensures memory { IsOkUnless result Refusal.Memory }
+{
+    if is(word, b"connect".as_slice()) {
+        Ok(read_connect(nodes, arguments))
+    } else if is(word, b"call".as_slice()) {
+        read_submit(alloc, nodes, arguments)
+    } else if is(word, b"disconnect".as_slice()) {
+        Ok(read_disconnect(nodes, arguments))
+    } else if is(word, b"frame".as_slice()) {
+        Ok(read_frame(nodes, arguments))
+    } else if is(word, b"timer".as_slice()) {
+        Ok(read_timer(nodes, arguments))
+    } else if is(word, b"deliver".as_slice()) {
+        Ok(read_deliver(nodes, arguments))
+    } else if is(word, b"take".as_slice()) {
+        Ok(read_take(nodes, arguments))
+    } else if is(word, b"list".as_slice()) {
+        read_list(alloc, nodes, arguments)
+    } else if is(word, b"groups".as_slice()) {
+        Ok(read_groups(nodes, arguments))
+    } else {
+        Ok(None)
+    }
+}
+
+fn read_show(words: &[&[u8]]) -> Option<Look>
+    ensures { result ≡ show_of (texts words.now) }
+{
+    match words {
+        [number] => {
+            let number = read_number(0, u64::MAX, number)?;
+            Some(Look::Show(number))
+        }
+        _ => None,
+    }
+}
+
+fn read_rules(alloc: Global, nodes: u8, words: &[&[u8]]) -> Result<Option<Look>, Refusal>
+    ensures look { IfOk result (λ found. found ≡ rules_of nodes (texts words.now)) }
+    ensures within { IfOk result (λ found. IfSome found (λ look. LooksWithin nodes look)) }
+    ensures memory { IsOkUnless result Refusal.Memory }
+{
+    match words {
+        [node, group] => {
+            let Some(node) = read_node(nodes, node) else {
+                return Ok(None);
+            };
+            let group = Name::from_slice(alloc, group)?;
+            Ok(Some(Look::Rules(node, group)))
+        }
+        _ => Ok(None),
+    }
+}
+
+fn read_audit(nodes: u8, words: &[&[u8]]) -> Option<Look>
+    ensures look { result ≡ option_map (λ n. Audit n) (node_alone nodes (texts words.now)) }
+    ensures within { IfSome result (λ look. LooksWithin nodes look) }
+{
+    let node = read_node_alone(nodes, words)?;
+    Some(Look::Audit(node))
+}
+
+fn read_safe(nodes: u8, words: &[&[u8]]) -> Option<Look>
+    ensures look { result ≡ option_map (λ n. Safe n) (node_alone nodes (texts words.now)) }
+    ensures within { IfSome result (λ look. LooksWithin nodes look) }
+{
+    let node = read_node_alone(nodes, words)?;
+    Some(Look::Safe(node))
+}
+
+/// What the words after the first word of a command that only looks are after.
+fn read_look(
+    alloc: Global,
+    nodes: u8,
+    word: &[u8],
+    arguments: &[&[u8]],
+) -> Result<Option<Look>, Refusal>
+    ensures look { IfOk result (λ found. found ≡ look_of nodes word.now (texts arguments.now)) }
+    ensures within { IfOk result (λ found. IfSome found (λ look. LooksWithin nodes look)) }
+    ensures memory { IsOkUnless result Refusal.Memory }
+{
+    if is(word, b"show".as_slice()) {
+        Ok(read_show(arguments))
+    } else if is(word, b"audit".as_slice()) {
+        Ok(read_audit(nodes, arguments))
+    } else if is(word, b"rules".as_slice()) {
+        read_rules(alloc, nodes, arguments)
+    } else if is(word, b"safe".as_slice()) {
+        Ok(read_safe(nodes, arguments))
+    } else {
+        Ok(None)
+    }
+}
+
+/// The command of a line's words.
+fn read_command(alloc: Global, nodes: u8, words: &[&[u8]]) -> Result<Option<Command>, Refusal>
+    ensures command { IfOk result (λ found. found ≡ command_of nodes (texts words.now)) }
+    ensures within { IfOk result (λ found. IfSome found (λ command. IsWithin nodes command)) }
+    ensures memory { IsOkUnless result Refusal.Memory }
+{
+    match words {
+        [] => Ok(None),
+        [word, arguments @ ..] => {
+            if let Some(event) = read_event(alloc, nodes, word, arguments)? {
+                return Ok(Some(Command::Act(event)));
+            }
+            match read_look(alloc, nodes, word, arguments)? {
+                None => Ok(None),
+                Some(look) => Ok(Some(Command::Look(look))),
+            }
+        }
+    }
+}
+
+/// The command of a line, in a ring of so many nodes, if it is one.
+#[tactic(auto, using(crate::proofs::Lengths::command_of_first))]
+pub fn command_in_line(alloc: Global, nodes: u8, line: &[u8]) -> Result<Option<Command>, Refusal>
+    ensures command { IfOk result (λ found. found ≡ command_of nodes (words_of line.now)) }
+    ensures within { IfOk result (λ found. IfSome found (λ command. IsWithin nodes command)) }
+    ensures memory { IsOkUnless result Refusal.Memory }
+{
+    let words = first_words(alloc, WORDS, line)?;
+    read_command(alloc, nodes, words.as_slice())
+}
