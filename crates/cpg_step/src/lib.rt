@@ -12,6 +12,8 @@ mod printing;
 mod reading;
 mod running;
 mod scripts;
+#[cfg(test)]
+mod tests;
 
 pub use commands::{Command, Look};
 pub use cpg_script::Fault;
