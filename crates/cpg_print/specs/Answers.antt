@@ -6,10 +6,7 @@ use Rattle.cpg_cred.specs.Shown.{refusal_text}
 use Rattle.cpg_record.specs.declared.events.Event.{Event}
 use Rattle.cpg_script.specs.Words.{listed}
 use Rattle.cpg_print.specs.Events.{event_line}
-
--- NODE/PID of a node and a pid
-abbrev pub process_text : ℕ × ℕ → List ℕ
-process_text process = decimal process.0 ++ codes "/" ++ decimal process.1
+use Rattle.cpg_print.specs.Records.{process_text}
 
 -- members L
 abbrev pub members_line : List (ℕ × ℕ) → List ℕ

@@ -8,8 +8,12 @@ use Rattle.cpg_print.specs.Entries.{entry_text}
 use Rattle.cpg_print.specs.Verdicts.{verdict_text}
 
 -- NODE/PID
+abbrev pub process_text : ℕ × ℕ → List ℕ
+process_text process = decimal process.0 ++ codes "/" ++ decimal process.1
+
+-- NODE/PID of a member
 abbrev pub member_text : Member → List ℕ
-member_text member = decimal member.node ++ codes "/" ++ decimal member.pid
+member_text member = process_text (member.node, member.pid)
 
 -- L, a list of members
 abbrev pub members_text : List Member → List ℕ

@@ -4,9 +4,11 @@ ghost use Rattle.std.specs.Prelude.{◌≡◌, ◌++◌, codes, OnOk, IsOkUnless
 ghost use Rattle.std.specs.List.{flat_map};
 ghost use Rattle.std.specs.Option.{option_copied};
 ghost use Rattle.cpg_script.specs.Words.{listed};
-ghost use Rattle.cpg_print.specs.Answers.{process_text, members_line, groups_line, took_line, safe_line, refused_line};
+ghost use Rattle.cpg_print.specs.Records.{process_text};
+ghost use Rattle.cpg_print.specs.Answers.{members_line, groups_line, took_line, safe_line, refused_line};
 
 use crate::events::put_event;
+use crate::records::put_process;
 use cpg_cred::{NodeId, Refusal};
 use cpg_entry::Name;
 use cpg_record::Event;
@@ -46,15 +48,6 @@ fn put_more_processes(line: &mut Vec<u8>, processes: &[(NodeId, u32)]) -> Result
         put_process(line, *process)?;
     }
     Ok(())
-}
-
-fn put_process(line: &mut Vec<u8>, process: (NodeId, u32)) -> Result<(), Refusal>
-    ensures ok { OnOk result (line.new.items ≡ line.old.items ++ process_text process) }
-    ensures memory { IsOkUnless result Refusal.Memory }
-{
-    push_number(line, u64::from(process.0.get()))?;
-    put(line, "/")?;
-    push_number(line, u64::from(process.1))
 }
 
 /// Puts the line of the groups' names at the line's end.

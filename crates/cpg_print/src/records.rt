@@ -3,11 +3,11 @@
 ghost use Rattle.std.specs.Prelude.{◌≡◌, ◌++◌, codes, OnOk, IsOkUnless};
 ghost use Rattle.std.specs.Option.{option_copied};
 ghost use Rattle.std.specs.List.{flat_map};
-ghost use Rattle.cpg_print.specs.Records.{member_text, members_text, group_text, outcome_text, audit_line, count_line};
+ghost use Rattle.cpg_print.specs.Records.{process_text, member_text, members_text, group_text, outcome_text, audit_line, count_line};
 
 use crate::entries::put_entry;
 use crate::verdicts::put_verdict;
-use cpg_cred::Refusal;
+use cpg_cred::{NodeId, Refusal};
 use cpg_entry::Name;
 use cpg_record::{Member, Record};
 use cpg_script::{put, put_bytes};
@@ -75,14 +75,22 @@ fn put_more_members(line: &mut Vec<u8>, members: &[Member]) -> Result<(), Refusa
     Ok(())
 }
 
-/// Puts NODE/PID at the line's end.
+/// Puts NODE/PID of a member at the line's end.
 pub fn put_member(line: &mut Vec<u8>, member: Member) -> Result<(), Refusal>
     ensures ok { OnOk result (line.new.items ≡ line.old.items ++ member_text member) }
     ensures memory { IsOkUnless result Refusal.Memory }
 {
-    push_number(line, u64::from(member.node.get()))?;
+    put_process(line, (member.node, member.pid))
+}
+
+/// Puts NODE/PID at the line's end.
+pub fn put_process(line: &mut Vec<u8>, process: (NodeId, u32)) -> Result<(), Refusal>
+    ensures ok { OnOk result (line.new.items ≡ line.old.items ++ process_text process) }
+    ensures memory { IsOkUnless result Refusal.Memory }
+{
+    push_number(line, u64::from(process.0.get()))?;
     put(line, "/")?;
-    push_number(line, u64::from(member.pid))
+    push_number(line, u64::from(process.1))
 }
 
 /// Puts the count of records at the line's end.

@@ -57,13 +57,14 @@ fn put_conditions(line: &mut Vec<u8>, who: Who) -> Result<(), Refusal>
     ensures ok { OnOk result (line.new.items ≡ line.old.items ++ conditions_text who) }
     ensures memory { IsOkUnless result Refusal.Memory }
 {
-    let node = number_of(who.node);
+    let node = node_number(who.node);
     put_condition(line, false, "uid:", who.uid)?;
     put_condition(line, who.uid.is_some(), "gid:", who.gid)?;
     put_condition(line, who.uid.is_some() || who.gid.is_some(), "node:", node)
 }
 
-fn number_of(node: Option<NodeId>) -> Option<u32>
+/// The number of a node that is there.
+pub fn node_number(node: Option<NodeId>) -> Option<u32>
     ensures { result ≡ node }
 {
     match node {

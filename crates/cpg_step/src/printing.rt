@@ -5,10 +5,11 @@ ghost use Rattle.std.specs.List.{concat, flat_map};
 ghost use Rattle.cpg_script.specs.Words.{listed};
 ghost use Rattle.cpg_step.specs.Lines.{number_or_none, delivered_line, reply_line, answer_line, packet_line, token_line, frame_line, rule_line, table_lines};
 
-use cpg_cred::{NodeId, Refusal};
+use cpg_cred::Refusal;
 use cpg_entry::{Frame, Packet, Token};
 use cpg_print::{
-    put_entry, put_groups_line, put_members_line, put_refused_line, put_rule, put_took_line,
+    node_number, put_entry, put_groups_line, put_members_line, put_refused_line, put_rule,
+    put_took_line,
 };
 use cpg_rules::Rule;
 use cpg_script::put;
@@ -101,19 +102,10 @@ fn put_token(line: &mut Vec<u8>, token: &Token) -> Result<(), Refusal>
     put(line, " aru ")?;
     push_number(line, u64::from(token.aru))?;
     put(line, " id ")?;
-    put_number_or_none(line, number_of(token.aru_id))?;
+    put_number_or_none(line, node_number(token.aru_id))?;
     put(line, " rtr ")?;
     put_places(line, token.rtr.as_slice())?;
     put(line, "\n")
-}
-
-fn number_of(node: Option<NodeId>) -> Option<u32>
-    ensures { result ≡ node }
-{
-    match node {
-        None => None,
-        Some(node) => Some(u32::from(node.get())),
-    }
 }
 
 fn put_places(line: &mut Vec<u8>, places: &[u32]) -> Result<(), Refusal>

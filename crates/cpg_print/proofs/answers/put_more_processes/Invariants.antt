@@ -1,6 +1,6 @@
 use Rattle.std.proofs.Common.{◌≡◌, ◌++◌, take, codes}
 use Rattle.std.specs.List.{flat_map}
-use Rattle.cpg_print.specs.Answers.{process_text}
+use Rattle.cpg_print.specs.Records.{process_text}
 use Rattle.cpg_print.proofs.answers.put_more_processes.Given as goal
 
 abbrev pub invariant-loop-process : goal.invariant-loop-process
