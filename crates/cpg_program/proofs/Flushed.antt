@@ -1,5 +1,5 @@
 -- a flush changes nothing of what is written
-use Rattle.std.proofs.Common.{◌≡◌, ℕ, List, Bool, true, false, Option, Some, None, Result, Ok, Err, inl, inr, sym, subst}
+use Rattle.std.proofs.Common.{◌≡◌, ℕ, List, Bool, true, false, Option, Some, None, Result, Ok, Err, [], ◌∷◌, map, inl, inr, sym, subst}
 use Rattle.std.specs.Prelude.{OnOk, IfErr, IfSome}
 use Rattle.std.specs.List.{concat}
 use Rattle.std.specs.Io.KnownBytes.{Keeps}
@@ -13,9 +13,18 @@ use Rattle.cpg_script.specs.Written.{LeavesLines, WritesLate}
 use Rattle.cpg_accept.specs.Accepting as accept
 use Rattle.cpg_console.specs.Judging as judge
 use Rattle.cpg_console.specs.Scripts.{entries_of_script}
+use Rattle.cpg_world_laws.specs.Worlds.{WorldValue, new_world}
+use Rattle.cpg_ring.specs.declared.settings.Settings.{Settings}
+use Rattle.cpg_cred.specs.Listed.{Listed}
+use Rattle.cpg_step.specs.declared.commands.Command.{Command}
+use Rattle.cpg_step.specs.Running as step
+use Rattle.cpg_step.specs.Scripts.{commands_of_script}
+use Rattle.cpg_program.specs.declared.failures.Failure.{Failure}
+use Rattle.cpg_program.specs.declared.failures.Failure.TheVariants as failure
 use Rattle.cpg_program.specs.declared.runs.Run.{Run}
-use Rattle.cpg_program.specs.declared.runs.Run.TheVariants.{Judge, Accept}
-use Rattle.cpg_program.specs.Runs.{Prints, Runs, fault_of, fault_told}
+use Rattle.cpg_program.specs.declared.runs.Run.TheVariants.{Judge, Accept, Step}
+use Rattle.cpg_program.specs.Words.{list_of_words}
+use Rattle.cpg_program.specs.Runs.{FailsLate, Prints, Runs, Steps, StepsUpTo, failure_of, failure_told}
 
 front_kept : (a b c : Option (List ℕ)) (text : List ℕ) → AppendsFront a b text → Keeps b c → AppendsFront a c text
 front_kept a b c text f k = record { front = f.front; rest = f.rest; whole = f.whole; written = Appends-kept a b c f.front f.written k }
@@ -63,29 +72,98 @@ ends_kept script fault a b c h k = elim h [
   ]
 ]
 
+left_kept : (refused : Refusal) (w : WorldValue) (met : Command) (a b c : Option (List ℕ)) (world : WorldValue)
+    → step.LeavesOf refused w met a b world → Keeps b c → step.LeavesOf refused w met a c world
+left_kept refusal.Memory w met a b c world h k = (Keeps-trans a b c h.0 k, h.1)
+left_kept refusal.Write w met a b c world h k = record {
+  answers = h.answers;
+  replies = h.replies;
+  world_after = h.world_after;
+  written = front_kept a b c (concat (step.lines_of w (met ∷ []) h.answers)) h.written k;
+}
+left_kept _ w met a b c world h k = h
+
+stopped_kept : (refused : Refusal) (w : WorldValue) (commands : List Command) (a b c : Option (List ℕ)) (world : WorldValue)
+    → step.IsStopped refused w commands a b world → Keeps b c → step.IsStopped refused w commands a c world
+stopped_kept refused w commands a b c world h k = record {
+  before = h.before;
+  met = h.met;
+  later = h.later;
+  whole = h.whole;
+  between = h.between;
+  told = h.told;
+  done = h.done;
+  left = left_kept refused h.between h.met h.told b c world h.left k;
+}
+
+untouched_kept : (w : WorldValue) (a b c : Option (List ℕ)) (world : WorldValue) → step.IsUntouched w a b world → Keeps b c → step.IsUntouched w a c world
+untouched_kept w a b c world h k = (Keeps-trans a b c h.0 k, h.1)
+
+run_kept : (commands : Result (List Command) ℕ) (w : WorldValue) (a b c : Option (List ℕ)) (world : WorldValue)
+    → step.IsRun commands w a b world → Keeps b c → step.IsRun commands w a c world
+run_kept (Ok commands) w a b c world h k = record {
+  answers = h.answers;
+  replies = h.replies;
+  world_after = h.world_after;
+  written = Appends-kept a b c (concat (step.lines_of w commands h.answers)) h.written k;
+}
+run_kept (Err line) w a b c world h k = h
+
+part_kept : (commands : Result (List Command) ℕ) (refused : Refusal) (w : WorldValue) (a b c : Option (List ℕ)) (world : WorldValue)
+    → step.Leaves commands refused w a b world → Keeps b c → step.Leaves commands refused w a c world
+part_kept (Err bad) (refusal.BadCommand line) w a b c world h k = (h.0, untouched_kept w a b c world h.1 k)
+part_kept (Err bad) refusal.Memory w a b c world h k = untouched_kept w a b c world h k
+part_kept (Err bad) refusal.Read w a b c world h k = untouched_kept w a b c world h k
+part_kept (Ok commands) refusal.Read w a b c world h k = untouched_kept w a b c world h k
+part_kept (Ok commands) refusal.Memory w a b c world h k = elim h [
+  | inl none ↦ inl (untouched_kept w a b c world none k)
+  | inr some ↦ inr (stopped_kept refusal.Memory w commands a b c world some k)
+]
+part_kept (Ok commands) refusal.Write w a b c world h k = stopped_kept refusal.Write w commands a b c world h k
+part_kept (Ok commands) _ w a b c world h k = h
+part_kept (Err bad) _ w a b c world h k = h
+
+up_to_kept : (s : Settings) (list : Listed) (script : List ℕ) (refused : Refusal) (a b c : Option (List ℕ))
+    → StepsUpTo s list script refused a b → Keeps b c → StepsUpTo s list script refused a c
+up_to_kept s list script refusal.Range a b c h k = (h.0, Keeps-trans a b c h.1 k)
+up_to_kept s list script refused a b c h k = (h.0, part_kept (commands_of_script s.nodes script) refused (new_world s list) a b c h.0 h.1 k)
+
+steps_kept : (s : Settings) (list : Option Listed) (script : List ℕ) (end : Option Failure) (a b c : Option (List ℕ))
+    → Steps s list script end a b → Keeps b c → Steps s list script end a c
+steps_kept s None script end a b c h k = (h.0, Keeps-trans a b c h.1 k)
+steps_kept s (Some list) script None a b c h k = (h.0, h.1, run_kept (commands_of_script s.nodes script) (new_world s list) a b c h.1 h.2 k)
+steps_kept s (Some list) script (Some (failure.Fault fault)) a b c h k = (h.0, up_to_kept s list script fault.refusal a b c h.1 k)
+steps_kept s (Some list) script (Some failure.BadWord) a b c h k = h
+
 -- what was printed stays
-prints_kept : (run : Run) (script : List ℕ) (fault : Option Fault) (a b c : Option (List ℕ)) → Prints run script fault a b → Keeps b c → Prints run script fault a c
+prints_kept : (run : Run) (script : List ℕ) (end : Option Failure) (a b c : Option (List ℕ)) → Prints run script end a b → Keeps b c → Prints run script end a c
 prints_kept Judge script None a b c h k = (h.0, judged_kept (entries_of_script script) a b c h.1 k)
-prints_kept Judge script (Some fault) a b c h k = (h.0, leaves_kept (entries_of_script script) fault.refusal a b c h.1 k)
+prints_kept Judge script (Some (failure.Fault fault)) a b c h k = (h.0, leaves_kept (entries_of_script script) fault.refusal a b c h.1 k)
+prints_kept Judge script (Some failure.BadWord) a b c h k = h
 prints_kept Accept script None a b c h k = (h.0, accepted_kept (accept.admitted_by script) a b c h.1 k)
-prints_kept Accept script (Some fault) a b c h k = ends_kept script fault a b c h k
+prints_kept Accept script (Some (failure.Fault fault)) a b c h k = ends_kept script fault a b c h k
+prints_kept Accept script (Some failure.BadWord) a b c h k = h
+prints_kept (Step settings words) script end a b c h k = steps_kept settings (list_of_words (map (λ word. word.now) words.now)) script end a b c h k
 
 -- what was printed and is told, after the flush
-pub printed : (known : Option (List ℕ)) (run : Run) (done : Result (Unit {0}) Fault) (flushed : Bool) (fault : Option Fault) (a b c : Option (List ℕ))
-    → fault ≡ fault_told flushed (fault_of done)
-    → OnOk done (IfSome known (λ script. Prints run script None a b)) → IfErr done (λ fault. IfSome known (λ script. Prints run script (Some fault) a b)) → Keeps b c
-    → IfSome known (λ script. Runs run script flushed fault a c)
-printed None run done flushed fault a b c e h f k = tt
-printed (Some script) run (Ok done) flushed fault a b c e h f k = record { first = None; prints = prints_kept run script None a b c h k; tells = e }
-printed (Some script) run (Err first) flushed fault a b c e h f k = record { first = Some first; prints = prints_kept run script (Some first) a b c f k; tells = e }
+pub printed : (known : Option (List ℕ)) (run : Run) (done : Result (Unit {0}) Failure) (flushed : Bool) (end : Option Failure) (a b c : Option (List ℕ))
+    → end ≡ failure_told flushed (failure_of done)
+    → OnOk done (IfSome known (λ script. Prints run script None a b)) → IfErr done (λ end. IfSome known (λ script. Prints run script (Some end) a b)) → Keeps b c
+    → IfSome known (λ script. Runs run script flushed end a c)
+printed None run done flushed end a b c e h f k = tt
+printed (Some script) run (Ok done) flushed end a b c e h f k = record { first = None; prints = prints_kept run script None a b c h k; tells = e }
+printed (Some script) run (Err first) flushed end a b c e h f k = record { first = Some first; prints = prints_kept run script (Some first) a b c f k; tells = e }
 
-told_late : (done : Result (Unit {0}) Fault) (flushed : Bool) (a b c : Option (List ℕ))
-    → IfErr done (λ fault. WritesLate fault.refusal a b) → Keeps b c → IfSome (fault_told flushed (fault_of done)) (λ fault. WritesLate fault.refusal a c)
-told_late done false a b c h k = tt
+told_late : (done : Result (Unit {0}) Failure) (flushed : Bool) (a b c : Option (List ℕ))
+    → IfErr done (λ end. FailsLate end a b) → Keeps b c → IfSome (failure_told flushed (failure_of done)) (λ end. FailsLate end a c)
+told_late (Err failure.BadWord) false a b c h k = Keeps-trans a b c h k
+told_late (Err failure.BadWord) true a b c h k = Keeps-trans a b c h k
+told_late (Err (failure.Fault fault)) false a b c h k = tt
+told_late (Err (failure.Fault fault)) true a b c h k = late_kept fault.refusal a b c h k
+told_late (Ok done) false a b c h k = tt
 told_late (Ok done) true a b c h k = tt
-told_late (Err fault) true a b c h k = late_kept fault.refusal a b c h k
 
-pub printed_late : (done : Result (Unit {0}) Fault) (flushed : Bool) (fault : Option Fault) (a b c : Option (List ℕ)) → fault ≡ fault_told flushed (fault_of done)
-    → IfErr done (λ fault. WritesLate fault.refusal a b) → Keeps b c → IfSome fault (λ fault. WritesLate fault.refusal a c)
-printed_late done flushed fault a b c e h k =
-    subst (λ (told : Option Fault). IfSome told (λ fault. WritesLate fault.refusal a c)) (sym e) (told_late done flushed a b c h k)
+pub printed_late : (done : Result (Unit {0}) Failure) (flushed : Bool) (end : Option Failure) (a b c : Option (List ℕ)) → end ≡ failure_told flushed (failure_of done)
+    → IfErr done (λ end. FailsLate end a b) → Keeps b c → IfSome end (λ end. FailsLate end a c)
+printed_late done flushed end a b c e h k =
+    subst (λ (told : Option Failure). IfSome told (λ end. FailsLate end a c)) (sym e) (told_late done flushed a b c h k)

@@ -1,2 +1,4 @@
+pub mod Accepting
 pub mod Flushed
 pub mod Fronts
+pub mod Started

@@ -1,2 +1,4 @@
 pub mod Runs
+pub mod Starting
 pub mod Telling
+pub mod Words

@@ -4,10 +4,15 @@
 //! output and to standard error, and the status (`specs/Runs.antt`).
 #![tactic(auto)]
 
+mod failures;
 mod runs;
+mod stepping;
 mod telling;
 #[cfg(test)]
 mod tests;
+mod words;
 
+pub use failures::Failure;
 pub use runs::{Ended, Run, perform};
-pub use telling::tell_fault;
+pub use telling::{tell_failure, tell_fault};
+pub use words::read_list;

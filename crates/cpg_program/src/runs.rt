@@ -3,37 +3,42 @@
 //! Standard output is buffered, and what was gathered is handed on also after a fault. Proved: what is
 //! written to standard output and to standard error, and the status, whatever the streams do.
 
-ghost use Rattle.std.specs.Prelude.{◌≡◌, [], false, None, Some, OnOk, IfErr, IfSome, IsTrue};
+ghost use Rattle.std.specs.Prelude.{◌≡◌, ◌⊎◌, ◌↔◌, [], false, None, Some, map, OnOk, IfErr, IfSome, IsTrue};
 ghost use Rattle.std.specs.Io.Buffered.{writer_buffer, writer_contents};
 ghost use Rattle.std.specs.Io.KnownBytes.{Appends, Keeps};
 ghost use Rattle.cpg_text.specs.Streams.{AppendsFront};
-ghost use Rattle.cpg_script.specs.Written.{WritesLate};
-ghost use Rattle.cpg_program.specs.Runs.{fault_of, fault_told, status_after, Prints, Runs};
 ghost use Rattle.cpg_accept.specs.Accepting.{whole_fault};
+ghost use Rattle.cpg_program.specs.Runs.{failure_of, failure_told, status_after, FailsLate, Prints, Runs};
 ghost use Rattle.cpg_program.specs.Telling.{error_text};
 
-use crate::telling::tell_fault;
+use crate::failures::Failure;
+use crate::stepping::step_script;
+use crate::telling::tell_failure;
 use cpg_accept::accept_script;
 use cpg_console::judge_script;
 use cpg_cred::Refusal;
+use cpg_ring::Settings;
 use cpg_script::Fault;
 use std::alloc::Global;
 use std::io::{BufWriter, Read, Write};
 
 /// What the program is asked for.
-#[derive(Debug, Clone, Copy, PartialEq, Eq)]
-pub enum Run {
+#[derive(Debug, Clone, Copy)]
+pub enum Run<'a> {
     /// `cpgring judge`: a script of agreed entries is judged.
     Judge,
     /// `cpgring accept`: the asks of a script are answered by its names and conf texts.
     Accept,
+    /// `cpgring step`: a script of commands is run over a new world of those settings, whose nodes let in
+    /// whom the words let in.
+    Step(Settings, &'a [&'a str]),
 }
 
 /// How a run ended.
 #[derive(Debug, Drop)]
 pub struct Ended {
     /// Why it ended early; none where it did all that it was asked for.
-    pub fault: Option<Fault>,
+    pub failure: Option<Failure>,
     /// Whether all that was written of the script's text is handed on to standard output.
     pub flushed: bool,
     /// Whether what there is to tell stands on standard error.
@@ -41,60 +46,63 @@ pub struct Ended {
 }
 
 impl Ended {
-    /// The exit status: 0, and after a fault 1.
+    /// The exit status: 0; after a fault 1; and 2 where a word of the command line is wrong.
     pub fn status(&self) -> u8
-        ensures { result ≡ status_after (self.now).fault }
+        ensures { result ≡ status_after (self.now).failure }
     {
-        match &self.fault {
+        match &self.failure {
             None => 0,
-            Some(_) => 1,
+            Some(Failure::Fault(_)) => 1,
+            Some(Failure::BadWord) => 2,
         }
     }
 }
 
 /// Runs the subcommand over the streams.
 ///
-/// What was gathered is handed on also after a fault; where that fails, the fault is `Write`. The fault is told
-/// on standard error, as far as memory and the stream allow; where there is none, nothing is.
+/// What was gathered is handed on also after a fault; where that fails, the fault is `Write`. Why a run ended
+/// early is told on standard error, as far as memory and the stream allow; where there is nothing to tell,
+/// nothing is.
 pub fn perform<R: Read, W: Write + Drop, E: Write>(
     alloc: Global,
-    run: Run,
+    run: Run<'_>,
     reader: &mut R,
     writer: &mut BufWriter<W>,
     errors: &mut E,
 ) -> Ended
     ensures output { IfSome (R.remaining reader.old) (λ script.
-        Runs run script result.flushed result.fault (writer_contents W.contents writer.old) (writer_contents W.contents writer.new)) }
+        Runs run.entry script result.flushed result.failure (writer_contents W.contents writer.old) (writer_contents W.contents writer.new)) }
 
-    // Nothing is written before the script was read and checked, even where the reader tells no bytes.
-    ensures late { IfSome result.fault (λ fault. WritesLate fault.refusal (writer_contents W.contents writer.old) (writer_contents W.contents writer.new)) }
+    // Nothing is written before the words were found right and the script was read and checked, even where the
+    // reader tells no bytes.
+    ensures late { IfSome result.failure (λ failure. FailsLate failure (writer_contents W.contents writer.old) (writer_contents W.contents writer.new)) }
 
     // What was gathered is handed on; where it is not, that is a fault.
     ensures flushed { IsTrue result.flushed → writer_buffer writer.new ≡ [] }
-    ensures unflushed { result.flushed ≡ false → result.fault ≡ Some (whole_fault Refusal.Write) }
+    ensures unflushed { result.flushed ≡ false → (result.failure ≡ Some (Failure.Fault (whole_fault Refusal.Write))) ⊎ (result.failure ≡ Some Failure.BadWord) }
 
-    // The fault's line, or a front of it where it could not be written whole; nothing where there is no fault.
-    ensures told { IsTrue result.told → Appends (E.contents errors.old) (E.contents errors.new) (error_text result.fault) }
-    ensures untold { AppendsFront (E.contents errors.old) (E.contents errors.new) (error_text result.fault) }
+    // The failure's line, or a front of it where it could not be written whole; nothing where there is none.
+    ensures told { IsTrue result.told → Appends (E.contents errors.old) (E.contents errors.new) (error_text result.failure) }
+    ensures untold { AppendsFront (E.contents errors.old) (E.contents errors.new) (error_text result.failure) }
 {
-    let (fault, flushed) = run_flushed(alloc, run, reader, writer);
-    let told = tell(alloc, errors, &fault);
+    let (failure, flushed) = run_flushed(alloc, run, reader, writer);
+    let told = tell(alloc, errors, &failure);
     Ended {
-        fault,
+        failure,
         flushed,
         told,
     }
 }
 
-/// Tells the fault, if there is one, and says whether that was done.
+/// Tells the failure, if there is one, and says whether that was done.
 #[tactic(auto, using(crate::proofs::Fronts::none_of, crate::proofs::Fronts::all_of))]
-fn tell<E: Write>(alloc: Global, errors: &mut E, fault: &Option<Fault>) -> bool
-    ensures told { IsTrue result → Appends (E.contents errors.old) (E.contents errors.new) (error_text fault.now) }
-    ensures untold { AppendsFront (E.contents errors.old) (E.contents errors.new) (error_text fault.now) }
+fn tell<E: Write>(alloc: Global, errors: &mut E, failure: &Option<Failure>) -> bool
+    ensures told { IsTrue result → Appends (E.contents errors.old) (E.contents errors.new) (error_text failure.now) }
+    ensures untold { AppendsFront (E.contents errors.old) (E.contents errors.new) (error_text failure.now) }
 {
-    match fault {
+    match failure {
         None => true,
-        Some(fault) => tell_fault(alloc, errors, fault).is_ok(),
+        Some(failure) => tell_failure(alloc, errors, failure).is_ok(),
     }
 }
 
@@ -109,53 +117,53 @@ fn hand_on<W: Write + Drop>(writer: &mut BufWriter<W>) -> bool
     }
 }
 
-/// Runs the subcommand and flushes. The fault, and whether all that was written is handed on.
-#[tactic(auto, using(crate::proofs::Flushed::printed, crate::proofs::Flushed::printed_late))]
+/// Runs the subcommand and flushes. The failure, and whether all that was written is handed on.
 fn run_flushed<R: Read, W: Write + Drop>(
     alloc: Global,
-    run: Run,
+    run: Run<'_>,
     reader: &mut R,
     writer: &mut BufWriter<W>,
-) -> (Option<Fault>, bool)
+) -> (Option<Failure>, bool)
     ensures output { IfSome (R.remaining reader.old) (λ script.
-        Runs run script result.1 result.0 (writer_contents W.contents writer.old) (writer_contents W.contents writer.new)) }
-    ensures late { IfSome result.0 (λ fault. WritesLate fault.refusal (writer_contents W.contents writer.old) (writer_contents W.contents writer.new)) }
+        Runs run.entry script result.1 result.0 (writer_contents W.contents writer.old) (writer_contents W.contents writer.new)) }
+    ensures late { IfSome result.0 (λ failure. FailsLate failure (writer_contents W.contents writer.old) (writer_contents W.contents writer.new)) }
     ensures flushed { IsTrue result.1 → writer_buffer writer.new ≡ [] }
-    ensures unflushed { result.1 ≡ false → result.0 ≡ Some (whole_fault Refusal.Write) }
+    ensures unflushed { result.1 ≡ false → (result.0 ≡ Some (Failure.Fault (whole_fault Refusal.Write))) ⊎ (result.0 ≡ Some Failure.BadWord) }
 {
     let done = run_script(alloc, run, reader, writer);
     let flushed = hand_on(writer);
-    (fault_after(done, flushed), flushed)
+    (failure_after(done, flushed), flushed)
 }
 
-/// The script's fault, but one of writing where the flush after it failed.
-fn fault_after(done: Result<(), Fault>, flushed: bool) -> Option<Fault>
-    ensures { result ≡ fault_told flushed (fault_of done) }
+/// The script's failure, but one of writing where the flush after it failed.
+fn failure_after(done: Result<(), Failure>, flushed: bool) -> Option<Failure>
+    ensures { result ≡ failure_told flushed (failure_of done) }
 {
-    if !flushed {
-        return Some(Fault::from(Refusal::Write));
-    }
     match done {
+        Err(Failure::BadWord) => Some(Failure::BadWord),
+        _ if !flushed => Some(Failure::from(Refusal::Write)),
+        Err(failure) => Some(failure),
         Ok(()) => None,
-        Err(fault) => Some(fault),
     }
 }
 
 /// Runs the script by the subcommand's rule.
 fn run_script<R: Read, W: Write>(
     alloc: Global,
-    run: Run,
+    run: Run<'_>,
     reader: &mut R,
     writer: &mut W,
-) -> Result<(), Fault>
+) -> Result<(), Failure>
     ensures ok { OnOk result (IfSome (R.remaining reader.old) (λ script.
-        Prints run script None (W.contents writer.old) (W.contents writer.new))) }
-    ensures err { IfErr result (λ fault. IfSome (R.remaining reader.old) (λ script.
-        Prints run script (Some fault) (W.contents writer.old) (W.contents writer.new))) }
-    ensures late { IfErr result (λ fault. WritesLate fault.refusal (W.contents writer.old) (W.contents writer.new)) }
+        Prints run.entry script None (W.contents writer.old) (W.contents writer.new))) }
+    ensures err { IfErr result (λ failure. IfSome (R.remaining reader.old) (λ script.
+        Prints run.entry script (Some failure) (W.contents writer.old) (W.contents writer.new))) }
+    ensures late { IfErr result (λ failure. FailsLate failure (W.contents writer.old) (W.contents writer.new)) }
 {
     match run {
-        Run::Judge => judge_script(alloc, reader, writer),
-        Run::Accept => accept_script(alloc, reader, writer),
+        Run::Judge => judge_script(alloc, reader, writer)?,
+        Run::Accept => accept_script(alloc, reader, writer)?,
+        Run::Step(settings, words) => step_script(alloc, settings, words, reader, writer)?,
     }
+    Ok(())
 }

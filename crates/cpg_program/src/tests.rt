@@ -1,6 +1,7 @@
 //! Runs over streams that tell their bytes, and streams that fail.
 
 use crate::{Run, perform};
+use cpg_ring::Settings;
 use std::alloc::Global;
 use std::io::{self, BufWriter, Error, ErrorKind, Write};
 use std::process::Abort;
@@ -35,7 +36,7 @@ impl Write for Short {
 fn expect(
     rt: &impl Abort,
     alloc: Global,
-    run: Run,
+    run: Run<'_>,
     script: &str,
     room: usize,
     printed: &str,
@@ -57,6 +58,22 @@ fn expect(
     assert_eq!(rt; ended.status(), status);
     Ok(())
 }
+
+/// Two nodes, few places.
+const SMALL: Settings = Settings {
+    ring: 1,
+    nodes: 2,
+    places: 9,
+    hops: 9,
+};
+
+/// A node too many.
+const LARGE: Settings = Settings {
+    ring: 1,
+    nodes: 9,
+    places: 9,
+    hops: 9,
+};
 
 #[test]
 fn runs_write_to_their_streams(rt: HostRuntime) -> Result<(), Fail> {
@@ -98,6 +115,38 @@ fn runs_write_to_their_streams(rt: HostRuntime) -> Result<(), Fail> {
     ];
     for (run, script, room, printed, told, status) in rows {
         expect(&rt, rt.alloc(), run, script, room, printed, told, status)?;
+    }
+    Ok(())
+}
+
+#[test]
+fn steps_write_to_their_streams(rt: HostRuntime) -> Result<(), Fail> {
+    let script = "connect 1 40 7 9\nconnect 2 50 9 8\nframe 1 2\n";
+    let printed = "connected 1\nrefused 2 Access\nrefused 16 NoFrame\n";
+    let one = ["uid:7"];
+    let other = ["gid:9", "uid:007"];
+    let wrong = ["uid:7", "uid:-7"];
+    let rows: [(Run<'_>, &str, &str, &str, u8); 5] = [
+        (Run::Step(SMALL, &one), script, printed, "", 0),
+        (Run::Step(SMALL, &other), script, printed, "", 0),
+        (
+            Run::Step(SMALL, &one),
+            "timer 1\njump",
+            "",
+            "cpgring: 41 BadCommand 2\n",
+            1,
+        ),
+        (
+            Run::Step(LARGE, &wrong),
+            "jump",
+            "",
+            "cpgring: bad accept word\n",
+            2,
+        ),
+        (Run::Step(LARGE, &one), "jump", "", "cpgring: 37 Range\n", 1),
+    ];
+    for (run, script, printed, told, status) in rows {
+        expect(&rt, rt.alloc(), run, script, 99, printed, told, status)?;
     }
     Ok(())
 }

@@ -1,19 +1,45 @@
 -- what the command line asks for, and what is said of one that asks for nothing that can be run
-use Rattle.std.specs.Prelude.{◌≡◌, ◌⊎◌, ℕ, List, codes, Option, Some, None, if◌then◌else◌}
-use Rattle.std.specs.Str.{bytes_eq}
+use Rattle.std.specs.Prelude.{◌≡◌, ◌⊎◌, ℕ, List, [], codes, map, Option, Some, None}
 use Rattle.std.specs.Io.KnownBytes.{Keeps}
+use Rattle.std.specs.Str.Parse.{digits_value, without_leading_plus}
+use Rattle.clap.specs.declared.parser.matches.Found.{Found}
+use Rattle.clap.specs.declared.parser.matches.MatchedArg.{MatchedArg}
+use Rattle.clap.specs.Words.{matched_of, one_text, raw_values}
 use Rattle.clap.specs.declared.error.kind.ErrorKind.{ErrorKind}
 use Rattle.clap.specs.declared.error.kind.ErrorKind.TheVariants.{DisplayHelp, DisplayVersion, OutOfMemory}
 use Rattle.cpg_program.specs.declared.runs.Run.{Run}
-use Rattle.cpg_program.specs.declared.runs.Run.TheVariants.{Judge, Accept}
+use Rattle.cpg_program.specs.declared.runs.Run.TheVariants.{Judge, Accept, Step}
 
--- the run that a subcommand's name asks for
-abbrev pub run_named : Option (List ℕ) → Option Run
-run_named None = None
-run_named (Some name) =
-    if bytes_eq name (codes "judge") then Some Judge
-    else if bytes_eq name (codes "accept") then Some Accept
-    else None
+-- the name of the subcommand of a run
+abbrev pub name_of : Run → List ℕ
+name_of Judge = codes "judge"
+name_of Accept = codes "accept"
+name_of (Step settings words) = codes "step"
+
+-- the number is what the option's text writes, in ten digits
+abbrev pub IsGiven : Found → List ℕ → ℕ → Type 0
+IsGiven found name number = (text : List ℕ) → one_text found name ≡ Some text → number ≡ digits_value 10 (without_leading_plus text)
+
+-- the settings are those that the options give
+pub record AreSettingsGiven (found : Found) (settings : Settings) : Type 0 where
+  pub ring : IsGiven found (codes "ring") settings.ring
+  pub nodes : IsGiven found (codes "nodes") settings.nodes
+  pub places : IsGiven found (codes "places") settings.places
+  pub hops : IsGiven found (codes "hops") settings.hops
+
+-- the texts of an argument, if it was used
+abbrev pub texts_of : Option MatchedArg → List (List ℕ)
+texts_of None = []
+texts_of (Some argument) = raw_values argument
+
+-- the words that let users and groups in, as they were given
+abbrev pub words_given : Found → List (List ℕ)
+words_given found = texts_of (matched_of found (codes "accept"))
+
+-- the run has the settings and the words that were given
+abbrev pub IsStepGiven : Found → Run → Type 0
+IsStepGiven found (Step settings words) = AreSettingsGiven found settings × (map (λ word. word.now) words.now ≡ words_given found)
+IsStepGiven found _ = ⊥
 
 -- the exit status of what is said: 0 for help and the version, 1 where memory was refused or where what was
 -- asked for could not be written, and else 2, a fault of the command line

@@ -1,17 +1,18 @@
 //! What the command line asks for, and what is said of one that asks for nothing that can be run.
 //!
-//! Proved: which subcommand is which run, and the exit status of what is said.
+//! Proved: which subcommand is which run, its settings and words, and the exit status of what is said.
 
-ghost use Rattle.std.specs.Prelude.{◌≡◌};
-ghost use Rattle.clap.specs.Words.{subcommand_name_of};
+ghost use Rattle.std.specs.Prelude.{◌≡◌, Some, None, codes, map, IfSome, IsSome};
+ghost use Rattle.clap.specs.Words.{found_of, subcommand_name_of};
 ghost use Rattle.clap.specs.Values.{kind_of};
-ghost use Rattle.cpgring.specs.Asking.{run_named, IsStatusOf, Says};
+ghost use Rattle.cpgring.specs.Asking.{name_of, words_given, AreSettingsGiven, IsStepGiven, IsStatusOf, Says};
 
-use crate::commands::build_command;
+use crate::commands::{ACCEPT, HOPS, NODES, PLACES, RING, build_command};
 use clap::error::ErrorKind;
 use clap::{ArgMatches, Error};
 use cpg_cred::Refusal;
 use cpg_program::{Run, tell_fault};
+use cpg_ring::Settings;
 use cpg_script::Fault;
 use cpg_text::write_whole;
 use std::alloc::{AllocError, Global};
@@ -31,11 +32,15 @@ pub fn read_words<R: Env + Alloc<A = Global>>(rt: &R) -> Result<Vec<String>, Err
     }
 }
 
-/// The run that the words ask for. The first word is the program's name.
-pub fn read_run<S: AsStr>(alloc: Global, words: &[S]) -> Result<Run, Error> {
+/// What clap found in the words. The first word is the program's name.
+pub fn match_words<'a, S: AsStr>(alloc: Global, words: &'a [S]) -> Result<ArgMatches<'a>, Error> {
     let mut command = build_command(alloc)?;
-    let matches = command.try_get_matches_from_mut(words)?;
-    match run_of(&matches) {
+    command.try_get_matches_from_mut(words)
+}
+
+/// The run that was asked for.
+pub fn read_run<'a>(alloc: Global, matches: &'a ArgMatches<'_>) -> Result<Run<'a>, Error> {
+    match run_of(matches) {
         Some(run) => Ok(run),
         None => Err(build_command(alloc)?.error(
             ErrorKind::MissingSubcommand,
@@ -45,16 +50,49 @@ pub fn read_run<S: AsStr>(alloc: Global, words: &[S]) -> Result<Run, Error> {
 }
 
 /// The run that the subcommand asks for, where it is one.
-fn run_of(matches: &ArgMatches<'_>) -> Option<Run>
-    ensures { result ≡ run_named (subcommand_name_of matches.now) }
+fn run_of<'a>(matches: &'a ArgMatches<'_>) -> Option<Run<'a>>
+    ensures named { IfSome result (λ run. subcommand_name_of matches.now ≡ Some (name_of run)) }
+    ensures judge { subcommand_name_of matches.now ≡ Some (codes "judge") → IsSome result }
+    ensures accept { subcommand_name_of matches.now ≡ Some (codes "accept") → IsSome result }
 {
-    let name = matches.subcommand_name()?;
+    let (name, given) = matches.subcommand()?;
     if name == "judge" {
         Some(Run::Judge)
     } else if name == "accept" {
         Some(Run::Accept)
+    } else if name == "step" {
+        step_of(given)
     } else {
         None
+    }
+}
+
+/// The run of a script of commands with the settings and the words that are given.
+fn step_of<'a>(given: &'a ArgMatches<'_>) -> Option<Run<'a>>
+    ensures { IfSome result (IsStepGiven (found_of given.now)) }
+{
+    Some(Run::Step(settings_of(given)?, words_of(given)))
+}
+
+/// The settings that the options give, where each is a number.
+fn settings_of(given: &ArgMatches<'_>) -> Option<Settings>
+    ensures { IfSome result (AreSettingsGiven (found_of given.now)) }
+{
+    Some(Settings {
+        ring: given.get_one::<u32>(RING)?,
+        nodes: given.get_one::<u8>(NODES)?,
+        places: given.get_one::<u32>(PLACES)?,
+        hops: given.get_one::<u64>(HOPS)?,
+    })
+}
+
+/// The words that let users and groups in, in their order.
+fn words_of<'a>(given: &'a ArgMatches<'_>) -> &'a [&'a str]
+    ensures { map (λ word. word.now) result.now ≡ words_given (found_of given.now) }
+{
+    match given.get_strs(ACCEPT) {
+        Some(words) => words,
+        None => &[],
     }
 }
 

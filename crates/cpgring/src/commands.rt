@@ -2,12 +2,26 @@
 
 use crate::help::{
     ABOUT, ACCEPT_ABOUT, ACCEPT_HELP, ACCEPT_MORE, EXITS, JUDGE_ABOUT, JUDGE_HELP, JUDGE_MORE,
+    STEP_ABOUT, STEP_HELP, STEP_MORE,
 };
-use clap::Command;
+use clap::{Arg, ArgAction, Command, value_parser};
+use cpg_cred::MOST_NODES;
+use cpg_entry::{MOST_HOPS, MOST_PLACES};
 use std::alloc::{AllocError, Global};
 
 /// The version of the program.
 const VERSION: &str = "0.1.0";
+
+/// The options that set a ring up, and the words that let users and groups in.
+pub const RING: &str = "ring";
+
+pub const NODES: &str = "nodes";
+
+pub const PLACES: &str = "places";
+
+pub const HOPS: &str = "hops";
+
+pub const ACCEPT: &str = "accept";
 
 /// The command line of the program.
 pub fn build_command<'a>(alloc: Global) -> Result<Command<'a>, AllocError> {
@@ -18,7 +32,8 @@ pub fn build_command<'a>(alloc: Global) -> Result<Command<'a>, AllocError> {
         .subcommand_required(true)
         .arg_required_else_help(true)
         .subcommand(judge_command(alloc))?
-        .subcommand(accept_command(alloc))
+        .subcommand(accept_command(alloc))?
+        .subcommand(step_command(alloc)?)
 }
 
 /// The subcommand `judge`, which has no arguments.
@@ -35,4 +50,62 @@ fn accept_command<'a>(alloc: Global) -> Command<'a> {
         .about(ACCEPT_ABOUT)
         .long_about(ACCEPT_HELP)
         .after_long_help(ACCEPT_MORE)
+}
+
+/// The subcommand `step`: a ring is set up, and a script of commands run over it.
+fn step_command<'a>(alloc: Global) -> Result<Command<'a>, AllocError> {
+    with_ring(
+        alloc,
+        Command::new(alloc, "step")
+            .about(STEP_ABOUT)
+            .long_about(STEP_HELP)
+            .after_long_help(STEP_MORE),
+    )
+}
+
+/// The command with the options that set a ring up, and the words that let users and groups in.
+fn with_ring<'a>(alloc: Global, command: Command<'a>) -> Result<Command<'a>, AllocError> {
+    command
+        .arg(option(
+            alloc,
+            RING,
+            "1",
+            "The ring's number, which its frames carry, 0 to 4294967295",
+        )
+        .value_parser(value_parser!(u32)))?
+        .arg(option(alloc, NODES, "2", "How many nodes there are, 1 to 8").value_parser(
+            value_parser!(u8).range(1..=i64::from(MOST_NODES)),
+        ))?
+        .arg(option(
+            alloc,
+            PLACES,
+            "4096",
+            "How many places there are, 1 to 1048576",
+        )
+        .value_parser(value_parser!(u32).range(1..=i64::from(MOST_PLACES))))?
+        .arg(option(
+            alloc,
+            HOPS,
+            "4611686018427387904",
+            "How many hops the token makes, 1 to 4611686018427387904 (2^62)",
+        )
+        .value_parser(value_parser!(u64).range(1..=MOST_HOPS as i64)))?
+        .arg(
+            Arg::new(alloc, ACCEPT)
+                .value_name("ACCEPT")
+                .action(ArgAction::Append)
+                .help(
+                    "Whom the nodes let in beside uid 0 and gid 0: uid:N or gid:N, each N 0 to 4294967295",
+                ),
+        )
+}
+
+/// An option of that name that takes a number.
+fn option<'a>(alloc: Global, name: &'a str, usual: &'a str, help: &'a str) -> Arg<'a> {
+    Arg::new(alloc, name)
+        .long(name)
+        .value_name("N")
+        .action(ArgAction::Set)
+        .default_value(usual)
+        .help(help)
 }

@@ -133,3 +133,83 @@ or conf part is told with the part's number and the line in the part, both from 
 is no ask, and one that may not stand before the first part, is `cpgring: 41 BadCommand LINE`, with the
 script's line. The others are `cpgring: 42 Read`, also where the input is too long, `cpgring: 43 Write` and
 `cpgring: 1 Memory`.";
+
+pub const STEP_ABOUT: &str = "Runs commands from standard input over a ring of nodes";
+
+pub const STEP_HELP: &str = "\
+Sets up a ring of nodes that has sent its first token and nothing else, and runs commands from standard
+input over it, one after the other. Nothing happens but by a command, so any loss, repeat and order of
+frames can be played: a frame that no command brings is lost, and one may be brought any number of times.
+Each line is one command. These act:
+
+  connect NODE PID UID GID                   a process asks the node to be let in
+  call NODE CONN CALL                        a connection hands in a call, which waits for the token
+  disconnect NODE CONN                       a connection ends
+  frame NODE K                               the K-th frame that was ever sent reaches the node
+  timer NODE                                 the node sends its last token again, if it sent one
+  deliver NODE                               the node judges and delivers the next place, if it holds it
+  take NODE CONN                             a connection takes the next event of its inbox
+  list NODE CONN GROUP                       a connection asks for a group's members
+  groups NODE CONN                           a connection asks for the groups that it may list
+
+and these only look:
+
+  show K                                     the K-th frame that was ever sent; frame 1 is the first token
+  audit NODE                                 what the node delivered, with the verdicts
+  rules NODE GROUP                           a group's rules as the node has them
+  safe NODE                                  the place up to which the node knows that all nodes hold all
+
+NODE is 1 to the number of nodes; CONN the connection's number at its node, 1 to 65535; PID, UID and GID are
+0 to 4294967295; K is 0 to 18446744073709551615. CALL is one of join GROUP, leave, send TEXT, insert GROUP
+POS EFFECT RIGHT WHO, and remove GROUP ID, as `cpgring judge --help` has them.
+
+Space, tab and CR at both ends of a line are trimmed. Empty lines and lines that begin with # are ignored,
+but count as lines. The input has at most 16777216 bytes (16 MiB).";
+
+pub const STEP_MORE: &str = "\
+Printed is for each command, after it is done: connected CONN, admitted, closed, sent COUNT (of frames, by a
+frame that was brought or a timer), delivered PLACE or delivered none, the event as `cpgring judge` prints
+it or none, members MEMBERS, groups and their names; for show a frame, as in the example, or data PLACE
+NODE.CONN PID UID GID CALL; for audit the lines of `cpgring judge` and records COUNT; for rules ID EFFECT
+RIGHT WHO of each and rules COUNT; and safe PLACE. A command that is refused prints the refusal, as in
+`refused 10 Stale`, and the script goes on:
+
+  2 Access           nobody lets the credentials in
+  3 NoConnection     the node has no open connection of that number
+  4 BadName          a group's name is not 1 to 128 printing ASCII characters
+  5 TooLong          a message has more than 8192 bytes
+  6 QueueFull        256 calls wait at the node
+  7 ConnectionsFull  the node has given out its 65535 numbers
+  9 NotMine          the token's hop is for another node
+  10 Stale           that hop or a later one was accepted
+  12 Held            the node has that place
+  13 FarAhead        the place is more than 64 past what the node delivered
+  15 RingEnd         the token's last hop is used
+  16 NoFrame         so many frames were not sent
+  21 Denied rule ID  a rule denies the listing
+
+Example: frame 2, the data of place 1, never reaches node 2. The token that node 2 sends on (frame 5) asks
+for place 1 in rtr, node 1 sends it again (frame 6), and node 2 delivers both places in their order.
+  $ printf '%s\\n' 'connect 1 40 7 100' 'call 1 1 join db' 'call 1 1 send hi' 'frame 1 1' 'frame 2 3' \\
+      'deliver 2' 'frame 2 4' 'show 5' 'frame 1 5' 'frame 2 6' 'deliver 2' 'deliver 2' 'audit 2' |
+    cpgring step uid:7
+  connected 1
+  admitted
+  admitted
+  sent 3
+  sent 0
+  delivered none
+  sent 1
+  token hop 2 seq 2 aru 0 id 2 rtr 1
+  sent 2
+  sent 0
+  delivered 1
+  delivered 2
+  1 1.1 40 7 100 join db -> allowed default group db members 1/40
+  2 1.1 40 7 100 send hi -> allowed default group db members 1/40
+  records 2
+
+Exit status: 0 done; 1 a fault, told on standard error; 2 a fault of the command line, `cpgring: bad accept
+word` among them. The faults are `cpgring: 41 BadCommand LINE`, the first line that is no command, before
+which nothing is done or printed; `cpgring: 42 Read`, also where the input is too long; `cpgring: 43 Write`;
+and `cpgring: 1 Memory`, which ends the script at the command that met it.";

@@ -10,7 +10,7 @@ mod help;
 #[cfg(test)]
 mod tests;
 
-use asking::{explain, read_run, read_words};
+use asking::{explain, match_words, read_run, read_words};
 use clap::Error;
 use cpg_program::perform;
 use std::alloc::AllocError;
@@ -29,7 +29,8 @@ fn main(rt: HostRuntime) -> ExitCode {
 fn start(rt: &HostRuntime) -> Result<u8, Error> {
     let alloc = rt.alloc();
     let words = read_words(rt)?;
-    let run = read_run(alloc, words.as_slice())?;
+    let matches = match_words(alloc, words.as_slice())?;
+    let run = read_run(alloc, &matches)?;
     let mut writer = BufWriter::new(alloc, rt.stdout()).map_err(|_| AllocError)?;
     let ended = perform(alloc, run, &mut rt.stdin(), &mut writer, &mut rt.stderr());
     Ok(ended.status())

@@ -1,0 +1,67 @@
+//! `cpgring step`: a new world, and the script that is run over it.
+//!
+//! Proved: the words of the command line come first, then the settings, then the script; and what is written.
+
+ghost use Rattle.std.specs.Prelude.{◌≡◌, Some, None, map, OnOk, IfOk, IfErr, IfSome};
+ghost use Rattle.cpg_world_laws.specs.Worlds.{new_world};
+ghost use Rattle.cpg_program.specs.Runs.{FailsLate, Steps};
+ghost use Rattle.cpg_program.specs.Starting.{IsStarted, IsNotStarted};
+ghost use Rattle.cpg_program.specs.Words.{list_of_words};
+
+use crate::failures::Failure;
+use crate::words::read_list;
+use cpg_cred::AcceptList;
+use cpg_ring::Settings;
+use cpg_step::run_script;
+use cpg_world::World;
+use std::alloc::Global;
+use std::io::{Read, Write};
+
+/// Runs the script over a new world of those settings, whose nodes let in whom the words let in.
+///
+/// A wrong word comes first, then settings out of their ranges, then the faults of the script.
+#[tactic(auto, using(crate::proofs::Started::none_stepped, crate::proofs::Started::none_late, crate::proofs::Started::all_stepped, crate::proofs::Started::part_stepped, crate::proofs::Started::part_late))]
+pub fn step_script<R: Read, W: Write>(
+    alloc: Global,
+    settings: Settings,
+    words: &[&str],
+    reader: &mut R,
+    writer: &mut W,
+) -> Result<(), Failure>
+    ensures ok { OnOk result (IfSome (R.remaining reader.old) (λ script.
+        Steps settings (list_of_words (map (λ word. word.now) words.now)) script None (W.contents writer.old) (W.contents writer.new))) }
+    ensures err { IfErr result (λ failure. IfSome (R.remaining reader.old) (λ script.
+        Steps settings (list_of_words (map (λ word. word.now) words.now)) script (Some failure) (W.contents writer.old) (W.contents writer.new))) }
+    ensures late { IfErr result (λ failure. FailsLate failure (W.contents writer.old) (W.contents writer.new)) }
+{
+    match world_by(alloc, settings, words) {
+        Err(failure) => Err(failure),
+        Ok(mut world) => match run_script(alloc, reader, writer, &mut world) {
+            Err(fault) => Err(Failure::from(fault)),
+            Ok(()) => Ok(()),
+        },
+    }
+}
+
+/// A new world of those settings, whose nodes let in whom the words let in.
+fn world_by(alloc: Global, settings: Settings, words: &[&str]) -> Result<World, Failure>
+    ensures ok { IfOk result (λ world. IsStarted settings (list_of_words (map (λ word. word.now) words.now)) world) }
+    ensures err { IfErr result (λ failure. IsNotStarted settings (list_of_words (map (λ word. word.now) words.now)) failure) }
+{
+    match read_list(alloc, words) {
+        Err(refusal) => Err(Failure::from(refusal)),
+        Ok(None) => Err(Failure::BadWord),
+        Ok(Some(list)) => world_with(alloc, settings, &list),
+    }
+}
+
+/// A new world of those settings and that list.
+fn world_with(alloc: Global, settings: Settings, list: &AcceptList) -> Result<World, Failure>
+    ensures ok { IfOk result (λ world. world ≡ new_world settings list.now) }
+    ensures err { IfErr result (λ failure. IsNotStarted settings (Some list.now) failure) }
+{
+    match World::new(alloc, settings, list) {
+        Ok(world) => Ok(world),
+        Err(refusal) => Err(Failure::from(refusal)),
+    }
+}

@@ -1,0 +1,77 @@
+//! The words of a command line that let users and groups in: `uid:7`, `gid:100`.
+//!
+//! The form is this project's own. Proved: which words these are, and the list that they give.
+
+ghost use Rattle.std.specs.Prelude.{◌≡◌, false, None, Some, map, All, IsTrue, IsSome, OnOk, IfOk, IfErr, IsOkUnless};
+ghost use Rattle.std.specs.List.{fold, list_all};
+ghost use Rattle.cpg_program.specs.Words.{is_accept_word, number_named, and_word, with_word, list_of_words};
+
+use cpg_cred::{AcceptList, Refusal};
+use cpg_script::{read_u32, strip_name};
+use std::alloc::Global;
+
+/// The list of the words of a command line, in their order; none where one of them is neither `uid:N` nor
+/// `gid:N`, N a number of 32 bits.
+///
+/// A wrong word is found before memory is asked for.
+#[tactic(auto, using(crate::proofs::Accepting::none_unless_all, crate::proofs::Accepting::each_of_all, crate::proofs::Accepting::some_where_all))]
+pub fn read_list(alloc: Global, words: &[&str]) -> Result<Option<AcceptList>, Refusal>
+    ensures ok { IfOk result (λ list. list ≡ list_of_words (map (λ word. word.now) words.now)) }
+    ensures memory { IsOkUnless result Refusal.Memory }
+    ensures wrong { IfErr result (λ refusal. IsSome (list_of_words (map (λ word. word.now) words.now))) }
+{
+    if !are_accept_words(words) {
+        return Ok(None);
+    }
+    let mut list = AcceptList::new(alloc);
+    add_words(&mut list, words)?;
+    Ok(Some(list))
+}
+
+/// Adds what the words let in, in their order.
+fn add_words(list: &mut AcceptList, words: &[&str]) -> Result<(), Refusal>
+    requires { All (λ word. IsTrue (is_accept_word word.now)) words.now }
+    ensures ok { OnOk result (fold and_word (Some list.old) (map (λ word. word.now) words.now) ≡ Some list.new) }
+    ensures memory { IsOkUnless result Refusal.Memory }
+{
+    for word in words {
+        add_word(list, word.as_bytes())?;
+    }
+    Ok(())
+}
+
+/// Whether each word lets a user or a group in.
+fn are_accept_words(words: &[&str]) -> bool
+    ensures { result ≡ list_all (λ word. is_accept_word word.now) words.now }
+{
+    words.iter().all(|word| lets_in(word.as_bytes()))
+}
+
+/// Whether the word lets a user or a group in.
+fn lets_in(word: &[u8]) -> bool
+    ensures { result ≡ is_accept_word word.now }
+{
+    number_after(b"uid:", word).is_some() || number_after(b"gid:", word).is_some()
+}
+
+/// Adds what the word lets in, where it is such a word.
+fn add_word(list: &mut AcceptList, word: &[u8]) -> Result<(), Refusal>
+    requires { IsTrue (is_accept_word word.now) }
+    ensures ok { OnOk result (with_word list.old word.now ≡ Some list.new) }
+    ensures memory { IsOkUnless result Refusal.Memory }
+{
+    if let Some(uid) = number_after(b"uid:", word) {
+        return list.add_uid(uid);
+    }
+    match number_after(b"gid:", word) {
+        Some(gid) => list.add_gid(gid),
+        None => Ok(()),
+    }
+}
+
+/// The number of 32 bits that follows the name, where the word is both.
+fn number_after(name: &[u8], word: &[u8]) -> Option<u32>
+    ensures { result ≡ number_named name.now word.now }
+{
+    read_u32(0, u32::MAX, strip_name(name, word)?)
+}
