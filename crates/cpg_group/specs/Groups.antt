@@ -1,16 +1,12 @@
 -- which groups an asker is shown
-use Rattle.std.specs.Prelude.{ℕ, Bool, true, false, ◌&&◌, List, [], ◌∷◌, Option, Some, None, if◌then◌else◌}
-use Rattle.std.specs.List.{filter_map}
+use Rattle.std.specs.Prelude.{ℕ, Bool, true, false, ◌&&◌, List, [], ◌∷◌}
 use Rattle.cpg_rules.specs.declared.decisions.Decision.{Decision}
 use Rattle.cpg_rules.specs.declared.decisions.Decision.TheVariants as decision
 use Rattle.cpg_rules.specs.declared.rules.Asker.{Asker}
-use Rattle.cpg_entry.specs.declared.calls.Call.TheVariants.{Join}
-use Rattle.cpg_entry.specs.declared.calls.Op.{Op}
-use Rattle.cpg_entry.specs.declared.calls.Op.TheVariants.{Act}
 use Rattle.cpg_record.specs.declared.memberships.Member.{Member}
 use Rattle.cpg_record.specs.declared.records.Record.{Record}
 use Rattle.cpg_record.specs.Listings.{list_decision}
-use Rattle.cpg_record.specs.Membership.{is_allowed, members}
+use Rattle.cpg_record.specs.Membership.{members}
 
 -- there is a member
 abbrev pub has_members : List Member → Bool

@@ -17,6 +17,7 @@ use cpg_entry::{Entry, Name};
 use cpg_record::{ConnId, Events, Record};
 use cpg_rules::{Asker, Table};
 use std::alloc::Global;
+use std::fmt;
 use std::marker::Model;
 
 /// The entries judged so far, in order, each with its record. Contracts see it as the list of entries.
@@ -25,6 +26,12 @@ pub struct Policy {
     records: Vec<Record>,
     groups: Groups,
     seats: Seats,
+}
+
+impl fmt::Debug for Policy {
+    fn fmt<W: fmt::Write>(&self, f: &mut fmt::Formatter<W>) -> fmt::Result {
+        f.debug_list().slice(self.records.as_slice()).finish()
+    }
 }
 
 impl Model for Policy {

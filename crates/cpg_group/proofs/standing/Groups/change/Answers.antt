@@ -1,8 +1,6 @@
-use Rattle.std.proofs.Common.{◌≡◌, bytes_eq, List, true, None, ap, sym, subst, ◌∙◌}
+use Rattle.std.proofs.Common.{bytes_eq, ap, sym, subst, ◌∙◌}
 use Rattle.std.specs.Prelude.{is_some}
 use Rattle.std.specs.Map.{lookup, set_value}
-use Rattle.cpg_record.specs.declared.memberships.Member.{Member}
-use Rattle.cpg_record.specs.RuleTables.{edited_by}
 use Rattle.cpg_record.specs.Steps.{CanEditBy}
 use Rattle.cpg_group.specs.declared.standing.Group.{Group}
 use Rattle.cpg_group.specs.Standing.{Kept, named, or_none, kept_group}

@@ -1,8 +1,8 @@
-use Rattle.std.proofs.Common.{◌≡◌, bytes_eq, Bool, true, false, List, ℕ, [], ◌∷◌, ◌++◌, None, ap, sym, ◌∙◌, subst}
+use Rattle.std.proofs.Common.{◌≡◌, bytes_eq, false, List, ℕ, [], ◌∷◌, ◌++◌, None, ap, ◌∙◌}
 use Rattle.std.specs.Prelude.{is_some}
 use Rattle.std.specs.Map.{lookup}
 use Rattle.indexmap.proofs.CallerLemmas.{insert_entry-new}
-use Rattle.cpg_group.specs.Standing.{Kept, named, no_group, or_none, kept_group, HasGroup}
+use Rattle.cpg_group.specs.Standing.{Kept, named, no_group, kept_group}
 use Rattle.cpg_group.proofs.Kept.{found_alike, none_of, group_made, group_there, made_named}
 use Rattle.cpg_group.proofs.standing.Groups.make.Goals as goal
 

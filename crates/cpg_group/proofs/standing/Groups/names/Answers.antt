@@ -1,4 +1,4 @@
-use Rattle.std.proofs.Common.{◌≡◌, map, ap, ◌∙◌}
+use Rattle.std.proofs.Common.{map, ap, ◌∙◌}
 use Rattle.cpg_group.specs.Standing.{names_of}
 use Rattle.cpg_group.proofs.Kept.{keys_named, take_past}
 use Rattle.cpg_group.proofs.standing.Groups.names.Goals as goal

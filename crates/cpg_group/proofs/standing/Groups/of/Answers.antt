@@ -1,4 +1,4 @@
-use Rattle.std.proofs.Common.{◌≡◌, bytes_eq, ap, sym, ◌∙◌}
+use Rattle.std.proofs.Common.{bytes_eq, ap, ◌∙◌}
 use Rattle.std.specs.Map.{lookup}
 use Rattle.cpg_group.specs.Standing.{or_none}
 use Rattle.cpg_group.proofs.Kept.{found_alike}
