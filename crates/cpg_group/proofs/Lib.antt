@@ -2,3 +2,5 @@ mod Passed
 mod Shown
 mod Kept
 mod Applying
+mod Stops
+mod Latest

@@ -5,12 +5,14 @@
 //! entries that it has seen.
 #![tactic(auto)]
 
-mod history;
 mod judging;
 mod listing;
+mod nexts;
+mod places;
 mod policies;
-mod tables;
+mod standing;
 mod telling;
+mod trails;
 mod verifying;
 
 pub use cpg_record::{

@@ -1,39 +1,68 @@
 //! The judged entries, and what they come to.
 
-ghost use Rattle.std.specs.Prelude.{◌≡◌, ◌≢◌, ◌<◌, ◌≤◌, ◌++◌, ◌∷◌, [], length, OnOk, OnErr, IfOk, IfErr, MatchOption, IsOkUnless};
+ghost use Rattle.std.specs.Prelude.{List, ℕ, ◌≡◌, ◌≢◌, ◌<◌, ◌≤◌, ◌++◌, ◌∷◌, [], length, OnOk, OnErr, IfOk, IfErr, MatchOption, IsOkUnless};
+ghost use Rattle.cpg_record.specs.declared.connections.ConnId.{ConnId};
+ghost use Rattle.cpg_record.specs.Connections.{conn_of};
 ghost use Rattle.cpg_record.specs.Events.{events};
 ghost use Rattle.cpg_record.specs.Judging.{judged, most_places, record_of, IsNext};
 ghost use Rattle.cpg_record.specs.Listings.{Answers, AreGroups, listing};
+ghost use Rattle.cpg_record.specs.Nexts.{IsNextTold, TellsNoMore};
 ghost use Rattle.cpg_record.specs.RuleTables.{rules_of};
+ghost use Rattle.cpg_group.specs.Standing.{kept_group, group_past, CanTake};
+ghost use Rattle.cpg_group.specs.Trails.{kept_trail, HasRoom};
 
 use crate::listing::{self, Names, Processes};
-use crate::tables::Tables;
-use crate::{judging, telling};
+use crate::standing::Groups;
+use crate::trails::{Trails, stop_of};
+use crate::{judging, nexts, telling};
 use cpg_cred::{Refusal, Refused};
 use cpg_entry::Entry;
 use cpg_record::{ConnId, Events, Record};
 use cpg_rules::{Asker, Table};
 use std::alloc::Global;
+use std::fmt;
 use std::marker::Model;
 
 /// The entries judged so far, in order, each with its record. Contracts see it as the list of entries.
-#[derive(Debug, Drop)]
+#[derive(Drop)]
 pub struct Policy {
     records: Vec<Record>,
-    tables: Tables,
+    groups: Groups,
+    trails: Trails,
+}
+
+impl fmt::Debug for Policy {
+    fn fmt<W: fmt::Write>(&self, f: &mut fmt::Formatter<W>) -> fmt::Result {
+        f.debug_list().slice(self.records.as_slice()).finish()
+    }
 }
 
 impl Model for Policy {
     ghost use Rattle.std.specs.Prelude.{List};
     ghost use Rattle.cpg_entry.specs.declared.entries.Entry.{Entry};
     ghost use Rattle.cpg_record.specs.Judging.{entries_of, AreRecords};
-    ghost use Rattle.cpg_group.specs.Tables.{AreCurrent};
+    ghost use Rattle.cpg_group.specs.Standing.{AreStanding};
+    ghost use Rattle.cpg_group.specs.Trails.{AreTrails};
 
     ghost Value = { List Entry };
 
     ghost view = { λ policy. entries_of policy.records.items };
 
-    ghost invariant = { λ policy. AreRecords policy.records.items × AreCurrent policy.tables policy.records.items };
+    ghost invariant = { λ policy. AreRecords policy.records.items × AreStanding policy.groups policy.records.items × AreTrails policy.trails.kept.entries policy.records.items };
+}
+
+/// Makes room on the trail of the record's connection, and brings the groups past the record: the growths
+/// that an `apply` needs. A refusal changes no group, and no call changes a trail.
+fn grow(groups: &mut Groups, trails: &mut Trails, place: u32, next: &Record) -> Result<(), Refusal>
+    requires { (g : List ℕ) → CanTake g (kept_group groups.old g) (place, next.now) }
+    ensures ok { OnOk result ((g : List ℕ) → kept_group groups.new g ≡ group_past g (kept_group groups.old g) (place, next.now)) }
+    ensures err { OnErr result ((g : List ℕ) → kept_group groups.new g ≡ kept_group groups.old g) }
+    ensures trails { (c : ConnId) → kept_trail trails.new.kept.entries c ≡ kept_trail trails.old.kept.entries c }
+    ensures room { OnOk result (HasRoom trails.new.kept.entries (conn_of next.now.entry)) }
+    ensures memory { IsOkUnless result Refusal.Memory }
+{
+    trails.make_room(&ConnId::of(&next.entry))?;
+    groups.take_in(place, next)
 }
 
 impl Policy {
@@ -43,7 +72,8 @@ impl Policy {
     {
         Policy {
             records: Vec::new(alloc),
-            tables: Tables::new(alloc),
+            groups: Groups::new(alloc),
+            trails: Trails::new(alloc),
         }
     }
 
@@ -56,7 +86,8 @@ impl Policy {
         judging::judge(
             *self.records.allocator(),
             self.records.as_slice(),
-            &self.tables,
+            &self.groups,
+            self.trails.of(&ConnId::of(entry)),
             entry,
         )
     }
@@ -76,8 +107,11 @@ impl Policy {
             });
         }
         let place = self.records.len() as u32 + 1;
-        match self.tables.take_in(place, &next) {
+        match grow(&mut self.groups, &mut self.trails, place, &next) {
             Ok(()) => {
+                let conn = ConnId::of(&next.entry);
+                let stop = stop_of(self.records.as_slice(), self.trails.of(&conn), place, &next);
+                self.trails.push(&conn, stop);
                 self.records.push_reserved(next);
                 Ok(())
             }
@@ -112,7 +146,7 @@ impl Policy {
         listing::list_members(
             *self.records.allocator(),
             self.records.as_slice(),
-            self.tables.of(group),
+            self.groups.of(group),
             group,
             &asker,
         )
@@ -126,7 +160,7 @@ impl Policy {
         listing::list_groups(
             *self.records.allocator(),
             self.records.as_slice(),
-            &self.tables,
+            &self.groups,
             &asker,
         )
     }
@@ -135,7 +169,7 @@ impl Policy {
     pub fn table(&self, group: &[u8]) -> Option<&Table>
         ensures { MatchOption result (rules_of (judged self.now) group.now ≡ []) (λ table. (table.now ≡ rules_of (judged self.now) group.now) × (table.now ≢ [])) }
     {
-        let table = self.tables.of(group);
+        let table = self.groups.of(group).table();
         if table.is_empty() { None } else { Some(table) }
     }
 
@@ -148,8 +182,23 @@ impl Policy {
         telling::collect_events(
             *self.records.allocator(),
             self.records.as_slice(),
+            &self.groups,
+            self.trails.of(&conn),
             place,
             &conn,
+        )
+    }
+    /// The least judged place above `after` that tells the connection anything, if there is one. Takes no
+    /// memory, and searches by halving.
+    pub fn next_event(&self, after: u32, conn: ConnId) -> Option<u32>
+        ensures { MatchOption result (TellsNoMore (judged self.now) after conn) (IsNextTold (judged self.now) after conn) }
+    {
+        nexts::find_next(
+            self.records.as_slice(),
+            &self.groups,
+            self.trails.of(&conn),
+            &conn,
+            after as usize,
         )
     }
 }

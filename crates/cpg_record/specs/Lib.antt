@@ -5,9 +5,11 @@ pub mod Judging
 pub mod Laws
 pub mod Listings
 pub mod Membership
+pub mod Nexts
 pub mod Places
 pub mod Reasons
 pub mod Receiving
 pub mod RuleTables
 pub mod Steps
 pub mod Verdicts
+pub mod Shared

@@ -1,0 +1,73 @@
+-- how the groups stand, as it is kept beside the records
+use Rattle.std.specs.Prelude.{ℕ, ◌≡◌, true, ◌&&◌, List, [], ◌∷◌, ◌++◌, map, Option, Some, None, is_some, if◌then◌else◌}
+use Rattle.std.specs.Map.{lookup}
+use Rattle.std.specs.Str.{bytes_eq}
+use Rattle.std.specs.declared.vec.Vec.{Vec}
+use Rattle.cpg_rules.specs.Tables.{Rules}
+use Rattle.cpg_record.specs.declared.memberships.Member.{Member}
+use Rattle.cpg_record.specs.declared.records.Record.{Record}
+use Rattle.cpg_record.specs.Membership.{is_allowed, is_named, members}
+use Rattle.cpg_record.specs.Nexts.{acts_in}
+use Rattle.cpg_record.specs.Places.{places_of}
+use Rattle.cpg_record.specs.RuleTables.{edited_by, rules_of}
+use Rattle.cpg_record.specs.Steps.{CanEditBy}
+
+-- a group: its table, its members, and the places of the allowed entries that are of it
+pub record GroupValue : Type 0 where
+  pub table : Rules
+  pub members : List Member
+  pub places : List ℕ
+
+-- names with their groups
+abbrev pub Kept : Type 0
+Kept = List (List ℕ × GroupValue)
+
+-- the names of entries, beside their groups
+abbrev pub named : {Z : Type 0} → List (Vec ℕ Z × GroupValue) → Kept
+named entries = map (λ entry. (entry.0.items, entry.1)) entries
+
+-- the names that are kept
+abbrev pub names_of : Kept → List (List ℕ)
+names_of kept = map (λ pair. pair.0) kept
+
+-- a group without rules, members and places
+abbrev pub no_group : GroupValue
+no_group = record { table = []; members = []; places = [] }
+
+-- the group that is found, or none
+abbrev pub or_none : Option GroupValue → GroupValue
+or_none None = no_group
+or_none (Some group) = group
+
+-- the first group that is kept for a name
+abbrev pub kept_group : Kept → List ℕ → GroupValue
+kept_group kept g = or_none (lookup (bytes_eq g) kept)
+
+-- a group is kept for the name
+abbrev pub HasGroup : Kept → List ℕ → Type 0
+HasGroup kept g = is_some (lookup (bytes_eq g) kept) ≡ true
+
+-- the members of the list that is there, and nobody where there is none
+abbrev pub listed : Option (List Member) → List Member
+listed None = []
+listed (Some list) = list
+
+-- the group as it stands after the records
+abbrev pub standing : List Record → List ℕ → GroupValue
+standing records g = record { table = rules_of records g; members = members records g; places = places_of (acts_in g) records }
+
+-- the kept groups are those that the records make
+abbrev pub AreStanding : Kept → List Record → Type 0
+AreStanding kept records = (g : List ℕ) → kept_group kept g ≡ standing records g
+
+-- a group after its allowed record at that place: its members are the record's, and it has the place
+abbrev pub changed : ℕ → Record → GroupValue → GroupValue
+changed place r group = record { table = edited_by place r.entry.op group.table; members = r.members; places = group.places ++ place ∷ [] }
+
+-- a group after the record: an allowed record changes its group, and no other
+abbrev pub group_past : List ℕ → GroupValue → ℕ × Record → GroupValue
+group_past g group p = if is_allowed p.1.verdict && is_named p.1.group g then changed p.0 p.1 group else group
+
+-- where the record changes the group, its table can take the edit
+abbrev pub CanTake : List ℕ → GroupValue → ℕ × Record → Type 0
+CanTake g group p = is_allowed p.1.verdict ≡ true → is_named p.1.group g ≡ true → CanEditBy group.table p.0 p.1.entry.op

@@ -1,0 +1,200 @@
+//! How the groups stand, kept beside the records: each one's table, members and places.
+
+ghost use Rattle.std.specs.Prelude.{◌≡◌, List, ℕ, true, is_some, if◌then◌else◌, OnOk, OnErr, IfOk, IsOkUnless};
+ghost use Rattle.std.specs.Str.{bytes_eq};
+ghost use Rattle.cpg_record.specs.RuleTables.{edited_by};
+ghost use Rattle.cpg_record.specs.Steps.{CanEditBy};
+ghost use Rattle.cpg_group.specs.Standing.{kept_group, names_of, changed, group_past, no_group, CanTake, HasGroup};
+
+use cpg_cred::Refusal;
+use cpg_entry::{Call, Name, Op};
+use cpg_record::{Members, Record};
+use cpg_rules::Table;
+use indexmap::IndexMap;
+use std::alloc::Global;
+use std::marker::Model;
+
+/// Brings a table past an allowed op at that place.
+fn edit(table: &mut Table, place: u32, op: &Op) -> Result<(), Refusal>
+    requires { CanEditBy table.old place op.now }
+    ensures ok { OnOk result (table.new ≡ edited_by place op.now table.old) }
+    ensures err { OnErr result (table.new ≡ table.old) }
+    ensures memory { IsOkUnless result Refusal.Memory }
+{
+    match op {
+        Op::Act(Call::Insert(_, index, rule)) => table.insert(usize::from(*index), place, *rule),
+        Op::Act(Call::Remove(_, id)) => {
+            let _ = table.remove(*id);
+            Ok(())
+        }
+        _ => Ok(()),
+    }
+}
+
+/// A group as it stands: its table, its members in the order of their joins, and the ascending places of
+/// the allowed entries that are of it. Contracts see it as these three.
+#[derive(Debug, Drop)]
+pub(crate) struct Group {
+    table: Table,
+    members: Members,
+    places: Vec<u32>,
+}
+
+impl Model for Group {
+    ghost use Rattle.cpg_group.specs.Standing.{GroupValue};
+
+    ghost Value = { GroupValue };
+
+    ghost view = { λ group. record { table = group.table; members = group.members; places = group.places.items } };
+}
+
+impl Group {
+    /// A group without rules, members and places.
+    fn new(alloc: Global) -> Group
+        ensures { result ≡ no_group }
+    {
+        Group {
+            table: Table::new(alloc),
+            members: Members::new(alloc),
+            places: Vec::new(alloc),
+        }
+    }
+
+    /// Its table.
+    pub(crate) fn table(&self) -> &Table
+        ensures { result.now ≡ self.now.table }
+    {
+        &self.table
+    }
+
+    /// Its members.
+    pub(crate) fn members(&self) -> &Members
+        ensures { result.now ≡ self.now.members }
+    {
+        &self.members
+    }
+
+    /// The places of the allowed entries that are of it.
+    pub(crate) fn places(&self) -> &[u32]
+        ensures { result.now ≡ self.now.places }
+    {
+        self.places.as_slice()
+    }
+
+    /// Brings the group past its allowed record at that place. A refusal changes nothing.
+    fn take_in(&mut self, alloc: Global, place: u32, past: &Record) -> Result<(), Refusal>
+        requires { CanEditBy self.old.table place past.now.entry.op }
+        ensures ok { OnOk result (self.new ≡ changed place past.now self.old) }
+        ensures err { OnErr result (self.new ≡ self.old) }
+        ensures memory { IsOkUnless result Refusal.Memory }
+    {
+        let members = past.members.copy(alloc)?;
+        self.places.reserve(1)?;
+        edit(&mut self.table, place, &past.entry.op)?;
+        self.places.push_reserved(place);
+        self.members = members;
+        Ok(())
+    }
+}
+
+/// The groups as they stand. Contracts see it as the list of names with groups; a group that is not there
+/// has no rules, members and places.
+#[derive(Drop)]
+pub(crate) struct Groups {
+    kept: IndexMap<Vec<u8>, Group>,
+    none: Group,
+}
+
+impl Model for Groups {
+    ghost use Rattle.std.specs.Prelude.{◌≡◌};
+    ghost use Rattle.cpg_group.specs.Standing.{Kept, named, no_group};
+
+    ghost Value = { Kept };
+
+    ghost view = { λ groups. named groups.kept.entries };
+
+    ghost invariant = { λ groups. groups.none ≡ no_group };
+}
+
+impl Groups {
+    /// No groups.
+    pub(crate) fn new(alloc: Global) -> Groups
+        ensures { (g : List ℕ) → kept_group result g ≡ no_group }
+    {
+        Groups {
+            kept: IndexMap::new(alloc),
+            none: Group::new(alloc),
+        }
+    }
+
+    /// The group of that name.
+    pub(crate) fn of(&self, name: &[u8]) -> &Group
+        ensures { result.now ≡ kept_group self.now name.now }
+    {
+        match self.kept.get(name) {
+            Some(group) => group,
+            None => &self.none,
+        }
+    }
+
+    /// The names of the groups that are kept.
+    pub(crate) fn names(&self, alloc: Global) -> Result<Vec<Name>, Refusal>
+        ensures ok { IfOk result (λ names. names.items ≡ names_of self.now) }
+        ensures memory { IsOkUnless result Refusal.Memory }
+    {
+        let mut names = Vec::new(alloc);
+        for name in self.kept.keys().as_slice() {
+            names.push(Name::from_slice(alloc, name.as_slice())?)?;
+        }
+        Ok(names)
+    }
+
+    /// Makes a place for the group of that name, which changes no group.
+    fn make(&mut self, name: &[u8]) -> Result<(), Refusal>
+        ensures same { (g : List ℕ) → kept_group self.new g ≡ kept_group self.old g }
+        ensures ok { OnOk result (HasGroup self.new name.now) }
+        ensures memory { IsOkUnless result Refusal.Memory }
+    {
+        if self.kept.contains_key(name) {
+            return Ok(());
+        }
+        let alloc = *self.kept.allocator();
+        let key = Vec::from_slice(alloc, name)?;
+        self.kept.insert(key, Group::new(alloc))?;
+        Ok(())
+    }
+
+    /// Brings the group of that name, which has a place, past its allowed record.
+    fn change(&mut self, name: &[u8], place: u32, past: &Record) -> Result<(), Refusal>
+        requires there { HasGroup self.old name.now }
+        requires can { CanEditBy (kept_group self.old name.now).table place past.now.entry.op }
+        ensures ok { OnOk result ((g : List ℕ) → kept_group self.new g ≡ (if bytes_eq name.now g then changed place past.now (kept_group self.old g) else kept_group self.old g)) }
+        ensures err { OnErr result ((g : List ℕ) → kept_group self.new g ≡ kept_group self.old g) }
+        ensures memory { IsOkUnless result Refusal.Memory }
+    {
+        let alloc = *self.kept.allocator();
+        match self.kept.get_mut(name) {
+            None => Ok(()),
+            Some(group) => group.take_in(alloc, place, past),
+        }
+    }
+
+    /// Brings the groups past the record of that place. A refusal changes no group.
+    pub(crate) fn take_in(&mut self, place: u32, past: &Record) -> Result<(), Refusal>
+        requires { (g : List ℕ) → CanTake g (kept_group self.old g) (place, past.now) }
+        ensures ok { OnOk result ((g : List ℕ) → kept_group self.new g ≡ group_past g (kept_group self.old g) (place, past.now)) }
+        ensures err { OnErr result ((g : List ℕ) → kept_group self.new g ≡ kept_group self.old g) }
+        ensures memory { IsOkUnless result Refusal.Memory }
+    {
+        if !past.verdict.is_allowed() {
+            return Ok(());
+        }
+        match &past.group {
+            None => Ok(()),
+            Some(name) => {
+                self.make(name.as_slice())?;
+                self.change(name.as_slice(), place, past)
+            }
+        }
+    }
+}
