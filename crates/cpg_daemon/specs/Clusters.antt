@@ -3,7 +3,8 @@ use Rattle.std.specs.Prelude.{ℕ, ◌≡◌}
 use Rattle.cpg_cred.specs.Listed.{Listed}
 use Rattle.cpg_cred.specs.declared.refusals.Refusal.{Refusal}
 use Rattle.cpg_cred.specs.declared.refusals.Refusal.TheVariants.{Memory, Range}
-use Rattle.cpg_ring.specs.States.{Settings, IsSettings}
+use Rattle.cpg_ring.specs.States.{IsSettings}
+use Rattle.cpg_ring.specs.declared.settings.Settings.{Settings}
 
 -- Running nodes: how many there are, and the list that they accept by.
 pub record ClusterValue : Type 0 where

@@ -5,19 +5,16 @@
 //! stations and links a cluster leaves. That threads run at once, and that their turns move frames, is tested.
 #![tactic(auto)]
 
-mod clusters;
 mod gates;
 mod lines;
+mod making;
 mod running;
 mod sessions;
+mod stopping;
 mod turns;
 
-pub use clusters::{Cluster, Ends};
 pub use cpg_link::{LinkRx, LinkTx, MOST_FRAMES, close, link};
 pub use cpg_station::{BoardName, Station};
 pub use gates::{Fate, Gate, PassAll};
 pub use running::Running;
 pub use sessions::Session;
-
-#[cfg(test)]
-mod tests;

@@ -59,7 +59,26 @@ fn put_copy<R: Wait>(rt: &R, sender: &mut LinkTx, frame: &Bytes) {
     }
 }
 
+impl Incoming {
+    /// The end of a new link.
+    pub fn new(from: NodeId, to: NodeId, link: LinkRx) -> Incoming {
+        Incoming {
+            way: Way { from, to },
+            link,
+        }
+    }
+}
+
 impl Outgoing {
+    /// The end of a new link.
+    pub fn new(from: NodeId, to: NodeId, link: LinkTx) -> Outgoing {
+        Outgoing {
+            way: Way { from, to },
+            index: 0,
+            link,
+        }
+    }
+
     /// Sends the frame, as the gate has it.
     pub fn send<G: Gate, R: Wait>(&mut self, rt: &R, gate: &G, frame: &Bytes) {
         self.index = self.index.saturating_add(1);

@@ -75,4 +75,50 @@ impl<B: BoardName, G> Running<B, G> {
             station.lock(rt).halt();
         }
     }
+
+    /// Whether the node is halted.
+    pub(crate) fn is_halted<R: Wait>(&self, rt: &R, node: NodeId) -> bool
+        requires { node ≤ self.now.nodes }
+    {
+        self.station(node).lock(rt).is_halted()
+    }
+
+    /// The node hears a frame. Gives what it is answered with.
+    pub(crate) fn frame<R: Wait>(
+        &self,
+        rt: &R,
+        node: NodeId,
+        bytes: &[u8],
+    ) -> Result<Vec<Bytes>, Refusal>
+        requires { node ≤ self.now.nodes }
+    {
+        self.station(node).lock(rt).frame(bytes)
+    }
+
+    /// Whether the node delivers a place.
+    pub(crate) fn deliver<R: Wait>(&self, rt: &R, node: NodeId) -> bool
+        requires { node ≤ self.now.nodes }
+    {
+        match self.station(node).lock(rt).deliver(&self.board) {
+            Ok(place) => place.is_some(),
+            Err(_) => false,
+        }
+    }
+
+    /// The node's last token sent, if there is one, and a copy could be made.
+    pub(crate) fn timer<R: Wait>(&self, rt: &R, node: NodeId) -> Option<Bytes>
+        requires { node ≤ self.now.nodes }
+    {
+        self.station(node).lock(rt).timer().unwrap_or(None)
+    }
+
+    /// The node to which this one sends the token.
+    pub(crate) fn next(&self, node: NodeId) -> NodeId {
+        let number = if node.get() < self.nodes {
+            node.get() + 1
+        } else {
+            1
+        };
+        NodeId::new(number).unwrap_or(node)
+    }
 }

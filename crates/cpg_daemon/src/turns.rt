@@ -1,5 +1,7 @@
 //! What a node's thread does: turn after turn, until its station is halted.
 
+ghost use Rattle.std.specs.Prelude.{◌≡◌, ◌≤◌, vec_len};
+
 use crate::gates::Gate;
 use crate::lines::{Incoming, Lines, Outgoing};
 use crate::running::Running;
@@ -15,6 +17,7 @@ const IDLE_TURNS: u32 = 64;
 
 /// How many idle turns in a row a thread lets pass at once, and how many with a yield, before it sleeps.
 const SPINS: u32 = 8;
+
 const YIELDS: u32 = 32;
 
 /// For how long a thread sleeps between idle turns, in microseconds.
@@ -65,7 +68,9 @@ impl<B: BoardName, G: Gate> Running<B, G> {
         node: NodeId,
         incoming: &mut Incoming,
         outgoing: &mut [Outgoing],
-    ) -> bool {
+    ) -> bool
+        requires { node ≤ self.now.nodes }
+    {
         let Some(frame) = incoming.link.take(rt) else {
             return false;
         };
@@ -82,7 +87,9 @@ impl<B: BoardName, G: Gate> Running<B, G> {
         node: NodeId,
         incoming: &mut [Incoming],
         outgoing: &mut [Outgoing],
-    ) -> bool {
+    ) -> bool
+        requires { node ≤ self.now.nodes }
+    {
         let mut heard = false;
         for end in incoming.iter_mut() {
             if self.hear(rt, node, end, outgoing) {
@@ -93,7 +100,9 @@ impl<B: BoardName, G: Gate> Running<B, G> {
     }
 
     /// Delivers what the node can. Whether it delivered any.
-    fn deliver_all<R: Wait>(&self, rt: &R, node: NodeId) -> bool {
+    fn deliver_all<R: Wait>(&self, rt: &R, node: NodeId) -> bool
+        requires { node ≤ self.now.nodes }
+    {
         let mut delivered = false;
         for _ in rt.forever() {
             if !self.deliver(rt, node) {
@@ -105,7 +114,9 @@ impl<B: BoardName, G: Gate> Running<B, G> {
     }
 
     /// Sends the node's last token again.
-    fn send_again<R: Wait>(&self, rt: &R, node: NodeId, outgoing: &mut [Outgoing]) {
+    fn send_again<R: Wait>(&self, rt: &R, node: NodeId, outgoing: &mut [Outgoing])
+        requires { node ≤ self.now.nodes }
+    {
         if let Some(token) = self.timer(rt, node) {
             send_token(rt, &self.gate, self.next(node), &token, outgoing);
         }
@@ -118,14 +129,19 @@ impl<B: BoardName, G: Gate> Running<B, G> {
         node: NodeId,
         incoming: &mut [Incoming],
         outgoing: &mut [Outgoing],
-    ) -> bool {
+    ) -> bool
+        requires { node ≤ self.now.nodes }
+    {
         let heard = self.hear_each(rt, node, incoming, outgoing);
         let delivered = self.deliver_all(rt, node);
         !heard && !delivered
     }
 
     /// A node's thread. It gives back its ends of links.
-    pub(crate) fn run<R: Wait + Clock>(&self, rt: &R, node: NodeId, mut lines: Lines) -> Lines {
+    pub(crate) fn run<R: Wait + Clock>(&self, rt: &R, node: NodeId, mut lines: Lines) -> Lines
+        requires { node ≤ self.now.nodes }
+        ensures { (vec_len result.outgoing ≡ vec_len lines.outgoing) × (vec_len result.incoming ≡ vec_len lines.incoming) }
+    {
         let mut turn = 1u64;
         let mut idle = 0u32;
         for _ in rt.forever() {
@@ -137,7 +153,12 @@ impl<B: BoardName, G: Gate> Running<B, G> {
                 continue;
             }
             turn = turn.saturating_add(1);
-            if self.turn(rt, node, lines.incoming.as_mut_slice(), lines.outgoing.as_mut_slice()) {
+            if self.turn(
+                rt,
+                node,
+                lines.incoming.as_mut_slice(),
+                lines.outgoing.as_mut_slice(),
+            ) {
                 idle = self.rest(rt, node, idle, lines.outgoing.as_mut_slice());
             } else {
                 idle = 0;
@@ -147,7 +168,15 @@ impl<B: BoardName, G: Gate> Running<B, G> {
     }
 
     /// After an idle turn, which followed so many others. How many there are then.
-    fn rest<R: Wait + Clock>(&self, rt: &R, node: NodeId, idle: u32, outgoing: &mut [Outgoing]) -> u32 {
+    fn rest<R: Wait + Clock>(
+        &self,
+        rt: &R,
+        node: NodeId,
+        idle: u32,
+        outgoing: &mut [Outgoing],
+    ) -> u32
+        requires { node ≤ self.now.nodes }
+    {
         let idle = idle.saturating_add(1);
         if idle >= IDLE_TURNS {
             self.send_again(rt, node, outgoing);
