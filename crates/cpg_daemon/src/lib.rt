@@ -5,6 +5,8 @@
 //! stations and links a cluster leaves. That threads run at once, and that their turns move frames, is tested.
 #![tactic(auto)]
 
+mod beginning;
+mod clusters;
 mod gates;
 mod lines;
 mod making;
@@ -13,6 +15,7 @@ mod sessions;
 mod stopping;
 mod turns;
 
+pub use clusters::{Cluster, Ends};
 pub use cpg_link::{LinkRx, LinkTx, MOST_FRAMES, close, link};
 pub use cpg_station::{BoardName, Station};
 pub use gates::{Fate, Gate, PassAll};

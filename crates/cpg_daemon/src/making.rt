@@ -5,6 +5,7 @@ ghost use Rattle.cpg_ring.specs.States.{IsSettings};
 ghost use Rattle.cpg_daemon.specs.Links.{peers_of};
 
 use crate::lines::{Incoming, Lines, Outgoing, ROOM};
+use crate::stopping::Room;
 use bytes::Bytes;
 use cpg_board::Board;
 use cpg_cred::{AcceptList, NodeId, Refusal, Refused};
@@ -12,7 +13,7 @@ use cpg_link::link;
 use cpg_node::{Node, Settings};
 use cpg_station::{BoardName, Station};
 use std::alloc::Global;
-use std::sync::Wait;
+use std::sync::{Mutex, Wait};
 
 /// The refusal alone.
 fn refusal_in(refused: Refused<AcceptList>) -> Refusal
@@ -60,6 +61,26 @@ pub(crate) fn new_stations<B: BoardName>(
         stations.push(new_station(alloc, settings, before + 1, board, list)?)?;
     }
     Ok(stations)
+}
+
+/// A lock for each node, in their order, with a new station in it.
+pub(crate) fn new_locks<B: BoardName>(
+    alloc: Global,
+    settings: Settings,
+    board: &Board,
+    list: &AcceptList,
+) -> Result<Vec<Mutex<Station<B>>>, Refusal>
+    requires settings { IsSettings settings }
+    requires board { board.now ≡ B.cells }
+    ensures ok { IfOk result (λ locks. vec_len locks ≡ settings.nodes) }
+    ensures memory { IsOkUnless result Refusal.Memory }
+{
+    let mut locks = Vec::new(alloc);
+    for before in 0..settings.nodes {
+        let station = new_station(alloc, settings, before + 1, board, list)?;
+        locks.push(Mutex::new(station))?;
+    }
+    Ok(locks)
 }
 
 /// How many links go out of a node, and into it.
@@ -135,14 +156,15 @@ pub(crate) fn new_links(alloc: Global, nodes: u8, peers: u8) -> Result<Lines, Re
     Ok(lines)
 }
 
-/// The last token that the last station has sent: the first token, where all are new.
-pub(crate) fn first_token<B: BoardName>(
-    stations: &mut [Station<B>],
+/// The last token that the last node has sent: the first token, where all are new.
+pub(crate) fn first_token<B: BoardName, R: Wait>(
+    rt: &R,
+    locks: &Vec<Mutex<Station<B>>>,
 ) -> Result<Option<Bytes>, Refusal>
     ensures { IsOkUnless result Refusal.Memory }
 {
-    match stations.last_mut() {
-        Some(station) => station.timer(),
+    match locks.last() {
+        Some(lock) => lock.lock(rt).timer(),
         None => Ok(None),
     }
 }
@@ -161,4 +183,30 @@ pub(crate) fn put_first<R: Wait>(
             }
         }
     }
+}
+
+/// Room for what a cluster of so many nodes leaves.
+pub(crate) fn new_room<B: BoardName>(
+    alloc: Global,
+    settings: Settings,
+    board: &Board,
+) -> Result<Room<B>, Refusal>
+    requires settings { IsSettings settings }
+    requires board { board.now ≡ B.cells }
+    ensures ok { IfOk result (λ room. room.nodes ≡ settings.nodes) }
+    ensures memory { IsOkUnless result Refusal.Memory }
+{
+    let nodes = settings.nodes;
+    let ends = usize::from(nodes) * usize::from(peers(nodes));
+    let none = AcceptList::new(alloc);
+    Ok(Room {
+        nodes,
+        spares: new_stations(alloc, settings, board, &none)?,
+        stations: Vec::with_capacity(alloc, usize::from(nodes))?,
+        ends: Lines {
+            outgoing: Vec::with_capacity(alloc, ends)?,
+            incoming: Vec::with_capacity(alloc, ends)?,
+        },
+        links: Vec::with_capacity(alloc, ends)?,
+    })
 }

@@ -1,6 +1,7 @@
 //! What a cluster leaves once its threads have ended.
 
 ghost use Rattle.std.specs.Prelude.{◌≡◌, ◌≤◌, ◌+◌, ◌*◌, All, IfSome, MatchOption, vec_len, vec_capacity};
+ghost use Rattle.cpg_daemon.specs.Links.{links_of, peers_of};
 
 use crate::lines::{Incoming, Lines, Outgoing};
 use cpg_link::{LinkRx, LinkTx};
@@ -21,13 +22,20 @@ impl Promise<Lines> for SoMany {
 /// A node's thread, which gives back its ends of links.
 pub(crate) type Thread = PromisedHandle<Lines, SoMany>;
 
-/// Room for what a cluster leaves, and a station to leave in each lock.
+/// Room for what a cluster of so many nodes leaves, and a station to leave in each lock.
 #[derive(Drop)]
 pub(crate) struct Room<B: BoardName> {
+    pub nodes: u8,
     pub spares: Vec<Station<B>>,
     pub stations: Vec<Station<B>>,
     pub ends: Lines,
     pub links: Vec<(LinkTx, LinkRx)>,
+    ghost some: { 1 ≤ nodes },
+    ghost spared: { vec_len spares ≡ nodes },
+    ghost empty: { (vec_len stations ≡ 0) × (vec_len ends.outgoing ≡ 0) × (vec_len ends.incoming ≡ 0) × (vec_len links ≡ 0) },
+    ghost for_stations: { nodes ≤ vec_capacity stations },
+    ghost for_ends: { (links_of nodes ≤ vec_capacity ends.outgoing) × (links_of nodes ≤ vec_capacity ends.incoming) },
+    ghost for_links: { links_of nodes ≤ vec_capacity links },
 }
 
 /// Puts the items of a list behind those of another, which has room for them.
