@@ -1,4 +1,3 @@
-pub mod Delivering
-pub mod Laws
-pub mod Serving
-pub mod Stations
+pub mod Clusters
+pub mod Links
+pub mod Sessions

@@ -1,18 +1,23 @@
-//! Nodes that share a board of records: what lies under a node's lock.
+//! Nodes in threads of their own, with links between them, and the sessions that ask them.
 //!
-//! Judging is `cpg_node`'s and the board `cpg_board`'s; that each node settles its judgements on one board
-//! before it takes them as delivered is this project's own. Proved: whatever is called on a `Station`, its
-//! seat is of the board that its type names, and begins with the node's records, with at most one more; what
-//! is delivered stands on the board.
+//! That a node runs in a thread, and what a turn does, is this project's own. Proved: what a session is
+//! answered, over the records that its seat knows, whatever the threads do; who is given a session; how many
+//! stations and links a cluster leaves. That threads run at once, and that their turns move frames, is tested.
 #![tactic(auto)]
 
-pub mod laws;
-mod naming;
-mod standing;
-mod stations;
+mod beginning;
+mod clusters;
+mod gates;
+mod lines;
+mod making;
+mod running;
+mod sessions;
+mod stopping;
+mod turns;
 
-pub use naming::BoardName;
-pub use stations::Station;
-
-#[cfg(test)]
-mod tests;
+pub use clusters::{Cluster, Ends};
+pub use cpg_link::{LinkRx, LinkTx, MOST_FRAMES, close, link};
+pub use cpg_station::{BoardName, Station};
+pub use gates::{Fate, Gate, PassAll};
+pub use running::Running;
+pub use sessions::Session;

@@ -1,5 +1,0 @@
-use Rattle.cpg_daemon.proofs.Inboxes.{inboxes_keep_their_items}
-use Rattle.cpg_daemon.proofs.laws.inboxes_keep_their_items.Goals as goal
-
-pub returns : goal.returns
-returns c = inboxes_keep_their_items

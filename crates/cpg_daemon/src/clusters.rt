@@ -1,0 +1,217 @@
+//! A cluster: running nodes with their threads, from start to stop.
+
+ghost use Rattle.std.specs.Prelude.{◌≡◌, ◌≤◌, ◌*◌, All, IfOk, IfErr, IsOkUnless, vec_len};
+ghost use Rattle.std.specs.Arc.{arc_value};
+ghost use Rattle.cpg_daemon.specs.Clusters.{IsUnstarted};
+ghost use Rattle.cpg_daemon.specs.Links.{peers_of, links_of};
+
+use crate::beginning::begin_all;
+use crate::gates::Gate;
+use crate::lines::Lines;
+use crate::making::{first_token, new_links, new_locks, new_room, peers, put_first};
+use crate::running::Running;
+use crate::stopping::{Room, Thread, gather, pair, take_out};
+use cpg_board::Board;
+use cpg_cred::{AcceptList, Refusal};
+use cpg_link::{LinkRx, LinkTx};
+use cpg_node::Settings;
+use cpg_ring::are_settings;
+use cpg_station::{BoardName, Station};
+use std::alloc::Global;
+use std::marker::Model;
+use std::ops::Deref;
+use std::sync::{Arc, Mutex, Wait};
+use std::thread::Threads;
+use std::time::Clock;
+
+/// Nodes in threads of their own. It lends the running nodes, whose calls are those of sessions. Contracts see
+/// it as these.
+#[derive(Drop)]
+pub struct Cluster<B: BoardName, G> {
+    running: Arc<Running<B, G>, Global>,
+    threads: Vec<Thread>,
+    room: Room<B>,
+}
+
+impl<B: BoardName, G> Model for Cluster<B, G> {
+    ghost use Rattle.std.specs.Prelude.{◌≡◌, All, vec_len};
+    ghost use Rattle.std.specs.Arc.{arc_value};
+    ghost use Rattle.cpg_daemon.specs.Clusters.{ClusterValue};
+    ghost use Rattle.cpg_daemon.specs.Links.{peers_of};
+
+    ghost Value = { ClusterValue };
+
+    ghost view = { λ cluster. arc_value cluster.running };
+
+    ghost invariant = { λ cluster. (cluster.room.nodes ≡ (arc_value cluster.running).nodes) × (vec_len cluster.threads ≡ (arc_value cluster.running).nodes) × All (λ thread. thread.promise.0 ≡ peers_of cluster.room.nodes) cluster.threads.items };
+}
+
+impl<B: BoardName, G> Deref for Cluster<B, G> {
+    type Target = Running<B, G>;
+
+    ghost use Rattle.std.specs.Prelude.{◌≡◌};
+
+    ghost deref_gives = { λ cluster running. running ≡ cluster };
+
+    fn deref(&self) -> &Running<B, G> {
+        &self.running
+    }
+}
+
+/// What a stopped cluster leaves: each node's station, in their order, and the two ends of each link.
+#[derive(Drop)]
+pub struct Ends<B: BoardName> {
+    pub stations: Vec<Station<B>>,
+    pub links: Vec<(LinkTx, LinkRx)>,
+}
+
+/// Running nodes with those stations.
+fn new_running<B: BoardName, G>(
+    alloc: Global,
+    board: Board,
+    list: AcceptList,
+    stations: Vec<Mutex<Station<B>>>,
+    nodes: u8,
+    gate: G,
+) -> Result<Arc<Running<B, G>, Global>, Refusal>
+where
+    G: Drop,
+    requires board { board ≡ B.cells }
+    requires nodes { vec_len stations ≡ nodes }
+    ensures ok { IfOk result (λ running. arc_value running ≡ record { nodes = nodes; list = list }) }
+    ensures memory { IsOkUnless result Refusal.Memory }
+{
+    Ok(Arc::new(
+        alloc,
+        Running {
+            board,
+            list,
+            nodes,
+            stations,
+            gate,
+        },
+    )?)
+}
+
+/// What running nodes leave, once they are halted.
+#[tactic(auto, using(crate::proofs::Counting::fits_fewer))]
+fn leave<B: BoardName, G, R: Threads + Wait>(
+    rt: &R,
+    running: &Running<B, G>,
+    threads: Vec<Thread>,
+    room: Room<B>,
+) -> Ends<B>
+    requires room { room.nodes ≡ running.now.nodes }
+    requires few { vec_len threads ≤ running.now.nodes }
+    requires threads { All (λ thread. thread.promise.0 ≡ peers_of room.nodes) threads.items }
+    ensures stations { vec_len result.stations ≡ running.now.nodes }
+    ensures links { vec_len result.links ≡ vec_len threads * peers_of running.now.nodes }
+{
+    let Room {
+        nodes,
+        spares,
+        stations,
+        ends,
+        links,
+    } = room;
+    let ends = gather(rt, threads, ends, usize::from(peers(nodes)));
+    Ends {
+        stations: take_out(rt, &running.stations, spares, stations),
+        links: pair(ends, links),
+    }
+}
+
+/// A cluster of these.
+fn cluster_of<B: BoardName, G>(
+    running: Arc<Running<B, G>, Global>,
+    threads: Vec<Thread>,
+    room: Room<B>,
+) -> Cluster<B, G>
+    requires room { room.nodes ≡ (arc_value running).nodes }
+    requires count { vec_len threads ≡ (arc_value running).nodes }
+    requires threads { All (λ thread. thread.promise.0 ≡ peers_of room.nodes) threads.items }
+    ensures { result ≡ arc_value running }
+{
+    Cluster {
+        running,
+        threads,
+        room,
+    }
+}
+
+/// Begins the threads of running nodes. Where one is refused, those that began are halted and joined.
+fn begin<B, G, R>(
+    rt: R,
+    alloc: Global,
+    running: Arc<Running<B, G>, Global>,
+    lines: Lines,
+    room: Room<B>,
+) -> Result<Cluster<B, G>, Refusal>
+where
+    B: BoardName + Send + Sync + 'static,
+    G: Gate + Send + Sync + Drop + 'static,
+    R: Threads + Wait + Clock + Copy + Send + 'static,
+    requires nodes { room.nodes ≡ (arc_value running).nodes }
+    requires lines { (vec_len lines.outgoing ≡ links_of room.nodes) × (vec_len lines.incoming ≡ links_of room.nodes) }
+    ensures ok { IfOk result (λ cluster. cluster ≡ arc_value running) }
+    ensures memory { IsOkUnless result Refusal.Memory }
+{
+    let nodes = room.nodes;
+    let mut threads = Vec::with_capacity(alloc, usize::from(nodes))?;
+    let each = usize::from(peers(nodes));
+    if begin_all(rt, &running, nodes, each, lines, &mut threads).is_err() {
+        running.halt(&rt);
+        drop(leave(&rt, &running, threads, room));
+        return Err(Refusal::Memory);
+    }
+    Ok(cluster_of(running, threads, room))
+}
+
+impl<B, G> Cluster<B, G>
+where
+    B: BoardName + Send + Sync + 'static,
+    G: Gate + Send + Sync + Drop + 'static,
+{
+    /// Starts a thread for each node, with a link of 64 frames for each ordered pair of different nodes, or
+    /// one from node 1 to itself where it is the only one, and the first token on its way to node 1. Each
+    /// node accepts by a list of the same users and groups. Refused with Range where a setting is out of its
+    /// range; with Memory, also where a thread is not given.
+    pub fn start<R: Threads + Wait + Clock + Copy + Send + 'static>(
+        rt: R,
+        alloc: Global,
+        settings: Settings,
+        board: Board,
+        list: &AcceptList,
+        gate: G,
+    ) -> Result<Cluster<B, G>, Refusal>
+        requires { board ≡ B.cells }
+        ensures ok { IfOk result (λ cluster. cluster ≡ record { nodes = settings.nodes; list = list.now }) }
+        ensures err { IfErr result (IsUnstarted settings) }
+    {
+        if !are_settings(&settings) {
+            return Err(Refusal::Range);
+        }
+        let nodes = settings.nodes;
+        let room = new_room(alloc, settings, &board)?;
+        let locks = new_locks(alloc, settings, &board, list)?;
+        let mut lines = new_links(alloc, nodes, peers(nodes))?;
+        let token = first_token(&rt, &locks)?;
+        put_first(&rt, nodes, token, lines.outgoing.as_mut_slice());
+        let running = new_running(alloc, board, list.copy(alloc)?, locks, nodes, gate)?;
+        begin(rt, alloc, running, lines, room)
+    }
+
+    /// Halts the nodes, waits for their threads to end, and gives what they leave. It takes no memory.
+    pub fn stop<R: Threads + Wait>(self, rt: &R) -> Ends<B>
+        ensures stations { vec_len result.stations ≡ self.nodes }
+        ensures links { vec_len result.links ≡ links_of self.nodes }
+    {
+        self.halt(rt);
+        let Cluster {
+            running,
+            threads,
+            room,
+        } = self;
+        leave(rt, &running, threads, room)
+    }
+}

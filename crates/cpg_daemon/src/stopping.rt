@@ -1,0 +1,147 @@
+//! What a cluster leaves once its threads have ended.
+
+ghost use Rattle.std.specs.Prelude.{◌≡◌, ◌≤◌, ◌+◌, ◌*◌, All, IfSome, MatchOption, vec_len, vec_capacity};
+ghost use Rattle.cpg_daemon.specs.Links.{links_of, peers_of};
+
+use crate::lines::{Incoming, Lines, Outgoing};
+use cpg_link::{LinkRx, LinkTx};
+use cpg_station::{BoardName, Station};
+use std::sync::{Mutex, Wait};
+use std::thread::{Promise, PromisedHandle, Threads};
+
+/// That a thread gives back so many ends of each kind.
+#[derive(Clone, Copy)]
+pub(crate) struct SoMany(pub usize);
+
+impl Promise<Lines> for SoMany {
+    ghost use Rattle.std.specs.Prelude.{◌≡◌, vec_len};
+
+    ghost kept_by = { λ promise lines. (vec_len lines.outgoing ≡ promise.0) × (vec_len lines.incoming ≡ promise.0) };
+}
+
+/// A node's thread, which gives back its ends of links.
+pub(crate) type Thread = PromisedHandle<Lines, SoMany>;
+
+/// Room for what a cluster of so many nodes leaves, and a station to leave in each lock.
+#[derive(Drop)]
+pub(crate) struct Room<B: BoardName> {
+    pub nodes: u8,
+    pub spares: Vec<Station<B>>,
+    pub stations: Vec<Station<B>>,
+    pub ends: Lines,
+    pub links: Vec<(LinkTx, LinkRx)>,
+    ghost some: { 1 ≤ nodes },
+    ghost spared: { vec_len spares ≡ nodes },
+    ghost empty: { (vec_len stations ≡ 0) × (vec_len ends.outgoing ≡ 0) × (vec_len ends.incoming ≡ 0) × (vec_len links ≡ 0) },
+    ghost for_stations: { nodes ≤ vec_capacity stations },
+    ghost for_ends: { (links_of nodes ≤ vec_capacity ends.outgoing) × (links_of nodes ≤ vec_capacity ends.incoming) },
+    ghost for_links: { links_of nodes ≤ vec_capacity links },
+}
+
+/// Puts the items of a list behind those of another, which has room for them.
+fn append<T: Drop>(list: &mut Vec<T>, mut more: Vec<T>)
+    requires { vec_len list.old + vec_len more ≤ vec_capacity list.old }
+    ensures { (vec_len list.new ≡ vec_len list.old + vec_len more) × (vec_capacity list.new ≡ vec_capacity list.old) }
+{
+    for _ in 0..more.len() {
+        if let Some(item) = more.pop() {
+            list.push_reserved(item);
+        }
+    }
+}
+
+/// Puts a thread's ends of links behind those of others.
+fn take_in(ends: &mut Lines, more: Lines)
+    requires room { (vec_len ends.old.outgoing + vec_len more.outgoing ≤ vec_capacity ends.old.outgoing) × (vec_len ends.old.incoming + vec_len more.incoming ≤ vec_capacity ends.old.incoming) }
+    ensures count { (vec_len ends.new.outgoing ≡ vec_len ends.old.outgoing + vec_len more.outgoing) × (vec_len ends.new.incoming ≡ vec_len ends.old.incoming + vec_len more.incoming) }
+    ensures room { (vec_capacity ends.new.outgoing ≡ vec_capacity ends.old.outgoing) × (vec_capacity ends.new.incoming ≡ vec_capacity ends.old.incoming) }
+{
+    let Lines { outgoing, incoming } = more;
+    append(&mut ends.outgoing, outgoing);
+    append(&mut ends.incoming, incoming);
+}
+
+/// The last of the threads, if there is one.
+fn next_thread(threads: &mut Vec<Thread>, peers: usize) -> Option<Thread>
+    requires { All (λ thread. thread.promise.0 ≡ peers) threads.old.items }
+    ensures all { All (λ thread. thread.promise.0 ≡ peers) threads.new.items }
+    ensures some { IfSome result (λ thread. thread.promise.0 ≡ peers) }
+    ensures count { MatchOption result (vec_len threads.old ≡ 0) (λ _. vec_len threads.old ≡ vec_len threads.new + 1) }
+{
+    threads.pop()
+}
+
+/// Joins the threads, and gathers their ends of links.
+#[tactic(auto, using(crate::proofs::Counting::room_for_more, crate::proofs::Counting::one_more))]
+pub(crate) fn gather<R: Threads>(
+    rt: &R,
+    mut threads: Vec<Thread>,
+    mut ends: Lines,
+    peers: usize,
+) -> Lines
+    requires threads { All (λ thread. thread.promise.0 ≡ peers) threads.items }
+    requires empty { (vec_len ends.outgoing ≡ 0) × (vec_len ends.incoming ≡ 0) }
+    requires room { (vec_len threads * peers ≤ vec_capacity ends.outgoing) × (vec_len threads * peers ≤ vec_capacity ends.incoming) }
+    ensures { (vec_len result.outgoing ≡ vec_len threads * peers) × (vec_len result.incoming ≡ vec_len threads * peers) }
+{
+    for _ in 0..threads.len() {
+        if let Some(thread) = next_thread(&mut threads, peers) {
+            take_in(&mut ends, thread.join(rt));
+        }
+    }
+    ends
+}
+
+fn sender_of(end: Outgoing) -> LinkTx {
+    end.link
+}
+
+fn receiver_of(end: Incoming) -> LinkRx {
+    end.link
+}
+
+/// The two ends of each link, in the order of the nodes that the links come from, and then of those that they
+/// go to.
+pub(crate) fn pair(mut ends: Lines, mut links: Vec<(LinkTx, LinkRx)>) -> Vec<(LinkTx, LinkRx)>
+    requires same { vec_len ends.outgoing ≡ vec_len ends.incoming }
+    requires room { (vec_len links ≡ 0) × (vec_len ends.outgoing ≤ vec_capacity links) }
+    ensures { vec_len result ≡ vec_len ends.outgoing }
+{
+    ends.outgoing
+        .sort_unstable_by_key(|end| end.way.by_source());
+    ends.incoming
+        .sort_unstable_by_key(|end| end.way.by_source());
+    let Lines {
+        mut outgoing,
+        mut incoming,
+    } = ends;
+    for _ in 0..outgoing.len() {
+        if let Some(sender) = outgoing.pop() {
+            if let Some(receiver) = incoming.pop() {
+                links.push_reserved((sender_of(sender), receiver_of(receiver)));
+            }
+        }
+    }
+    links.as_mut_slice().reverse();
+    links
+}
+
+/// Takes the station out of each lock, and leaves a spare one there.
+pub(crate) fn take_out<B: BoardName, R: Wait>(
+    rt: &R,
+    locks: &Vec<Mutex<Station<B>>>,
+    mut spares: Vec<Station<B>>,
+    mut stations: Vec<Station<B>>,
+) -> Vec<Station<B>>
+    requires count { vec_len locks.now ≡ vec_len spares }
+    requires room { (vec_len stations ≡ 0) × (vec_len spares ≤ vec_capacity stations) }
+    ensures { vec_len result ≡ vec_len spares }
+{
+    for node in 0..locks.len() {
+        if let Some(spare) = spares.pop() {
+            let mut guard = locks[node].lock(rt);
+            stations.push_reserved(std::mem::replace(&mut *guard, spare));
+        }
+    }
+    stations
+}

@@ -1,0 +1,54 @@
+-- The rule of a link, and what its ends are seen as.
+use Rattle.std.specs.Prelude.{ℕ, ◌≡◌, ◌≤◌, Bool, true, List, ◌++◌}
+use mathlib.Core.Option.{some}
+use lib.ListN.{get_elem?}
+use Rattle.atomic_table.specs.Seated.{TableId}
+use Rattle.crossbeam_queue.specs.Passes.{Pass, view}
+use Rattle.cpg_cred.specs.declared.refusals.Refusal.{Refusal}
+use Rattle.cpg_cred.specs.declared.refusals.Refusal.TheVariants.{Memory, Range}
+use Rattle.cpg_link.specs.declared.ends.TheConstants.{MOST_FRAMES}
+use Rattle.cpg_link.specs.declared.passes.Known.{Known}
+
+-- a frame is its bytes
+abbrev pub Frame : Type 0
+Frame = List ℕ
+
+-- An end of a link: which link it is, and the frames that were put there, or taken.
+pub record LinkEnd : Type 0 where
+  pub link : TableId
+  pub frames : List Frame
+
+-- the two are ends of one link
+abbrev pub AreEnds : LinkEnd → LinkEnd → Type 0
+AreEnds sender receiver = sender.link ≡ receiver.link
+
+-- the most frames that a link may have room for
+abbrev pub most_frames : ℕ
+most_frames = MOST_FRAMES
+
+-- a link may have room for so many frames
+abbrev pub HasLink : ℕ → Type 0
+HasLink capacity = (1 ≤ capacity) × (capacity ≤ most_frames)
+
+-- why a link with room for so many isn't made
+abbrev pub IsNoLink : ℕ → Refusal → Type 0
+IsNoLink capacity Range = ¬ HasLink capacity
+IsNoLink capacity Memory = HasLink capacity
+IsNoLink capacity _ = ⊥
+
+-- what a pass of the queue knows
+abbrev pub told : Pass Frame Known → Known
+told pass = view pass
+
+-- a pass that may put, or take, and knows that these were put and those taken
+abbrev pub known : Bool → Bool → List Frame → List Frame → Known
+known puts takes put taken = record { puts = puts; takes = takes; put = put; taken = taken }
+
+-- where the pass may put, it is the sender's and knows what was put; where it may take, it is the receiver's and knows what was taken
+abbrev pub Fits : ℕ → ℕ → List Frame → List Frame → ℕ → Known → Type 0
+Fits sender receiver put taken pass v = (v.puts ≡ true → (pass ≡ sender) × (v.put ≡ put)) × (v.takes ≡ true → (pass ≡ receiver) × (v.taken ≡ taken))
+
+-- What was put is what was taken, followed by what stands in the queue. One pass at most may put, and it knows what was put; one at most may take, and it knows what was taken.
+abbrev pub Carries : List Frame → List Known → Type 0
+Carries items views = (sender : ℕ) × (receiver : ℕ) × (put : List Frame) × (taken : List Frame) × (put ≡ taken ++ items)
+    × ((pass : ℕ) (v : Known) → get_elem? views pass ≡ some v → Fits sender receiver put taken pass v)

@@ -1,0 +1,94 @@
+//! The rule of a link's queue, and what its two passes know.
+
+use bytes::Bytes;
+use crossbeam_queue::protocol::{Join, Lesson, Outcome, Protocol, Split};
+use std::collections::LinkedList;
+
+/// What a pass of the queue may do, what it has put and what it has taken. No value of it is made.
+pub struct Known {
+    pub puts: bool,
+    pub takes: bool,
+    pub put: LinkedList<Bytes>,
+    pub taken: LinkedList<Bytes>,
+}
+
+/// What was put is what was taken, followed by what stands in the queue.
+pub struct InOrder;
+
+impl Protocol<Bytes, Known> for InOrder {
+    ghost use Rattle.std.specs.Prelude.{true, []};
+    ghost use Rattle.cpg_link.specs.Links.{known, Carries};
+
+    ghost holds = { Carries };
+
+    ghost first = { known true true [] [] };
+}
+
+/// The one pass that may do both becomes two, or two become one.
+pub struct Ends;
+
+impl Split<Known> for Ends {
+    ghost use Rattle.std.specs.Prelude.{true, false, []};
+    ghost use Rattle.cpg_link.specs.Links.{known};
+
+    ghost left = { λ whole. known true false whole.put [] };
+
+    ghost right = { λ whole. known false true [] whole.taken };
+}
+
+impl Join<Known> for Ends {
+    ghost use Rattle.std.specs.Prelude.{true, false, []};
+    ghost use Rattle.cpg_link.specs.Links.{known};
+
+    ghost both = { λ sender receiver. known true true sender.put receiver.taken };
+
+    ghost spent = { known false false [] [] };
+}
+
+/// A frame is put.
+pub struct Puts;
+
+impl Outcome<Bytes, Known> for Puts {
+    ghost use Rattle.std.specs.Prelude.{◌≡◌, ◌∷◌, ◌++◌, []};
+    ghost use Rattle.cpg_link.specs.Links.{known};
+
+    ghost then = { λ before frame after. after ≡ known before.puts before.takes (before.put ++ frame ∷ []) before.taken };
+}
+
+impl Lesson<Bytes, Known> for Puts {
+    ghost use Rattle.std.specs.Prelude.{⊤};
+
+    ghost fact = { λ knows items. ⊤ };
+}
+
+/// A frame is taken.
+pub struct Takes;
+
+impl Outcome<Bytes, Known> for Takes {
+    ghost use Rattle.std.specs.Prelude.{◌≡◌, ◌∷◌, ◌++◌, []};
+    ghost use Rattle.cpg_link.specs.Links.{known};
+
+    ghost then = { λ before frame after. after ≡ known before.puts before.takes before.put (before.taken ++ frame ∷ []) };
+}
+
+impl Lesson<Bytes, Known> for Takes {
+    ghost use Rattle.std.specs.Prelude.{⊤};
+
+    ghost fact = { λ knows items. ⊤ };
+}
+
+/// A frame is taken by the pass that may do both, which knows what stands in the queue.
+pub struct Empties;
+
+impl Outcome<Bytes, Known> for Empties {
+    ghost use Rattle.std.specs.Prelude.{◌≡◌, ◌∷◌, ◌++◌, []};
+    ghost use Rattle.cpg_link.specs.Links.{known};
+
+    ghost then = { λ before frame after. after ≡ known before.puts before.takes before.put (before.taken ++ frame ∷ []) };
+}
+
+impl Lesson<Bytes, Known> for Empties {
+    ghost use Rattle.std.specs.Prelude.{◌≡◌, ◌++◌};
+
+    ghost fact = { λ knows items. knows.put ≡ knows.taken ++ items };
+}

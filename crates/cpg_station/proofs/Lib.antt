@@ -1,0 +1,4 @@
+pub mod Admitting
+pub mod Inboxes
+pub mod Sessions
+pub mod Steps

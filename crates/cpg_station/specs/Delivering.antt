@@ -1,0 +1,45 @@
+-- What a station's delivery does.
+use Rattle.std.specs.Prelude.{ℕ, ◌≡◌, ◌≢◌, suc, true, List, length, Option, Some}
+use Rattle.cpg_cred.specs.declared.refusals.Refusal.{Refusal}
+use Rattle.cpg_cred.specs.declared.refusals.Refusal.TheVariants.{Memory, BoardFull, Differs}
+use Rattle.cpg_record.specs.declared.records.Record.{Record}
+use Rattle.cpg_record.specs.Places.{record_at}
+use Rattle.cpg_node.specs.Calls.{next_record, delivered}
+use Rattle.cpg_board.specs.Seats.{SeatValue, records_of}
+use Rattle.cpg_station.specs.Stations.{StationValue, audit_of}
+
+-- the place that the node delivers next
+abbrev pub next_place : StationValue → ℕ
+next_place s = suc (length (audit_of s.node))
+
+-- a record that is another than the wanted one
+abbrev pub IsAnother : Option Record → Record → Type 0
+IsAnother found wanted = (standing : Record) × (found ≡ Some standing) × (standing ≢ wanted)
+
+-- the seat has another record at the next place than the node's judgement of it
+abbrev pub FindsAnother : StationValue → Type 0
+FindsAnother s = (wanted : Record) × (next_record s.node ≡ Some wanted) × IsAnother (record_at (records_of s.seat) (next_place s)) wanted
+
+-- A place is delivered: the judgement of the node's next entry is the record that the seat has there, and
+-- the node is one place further.
+pub record Delivers (place : ℕ) (old new : StationValue) : Type 0 where
+  pub next : place ≡ next_place old
+  pub stands : next_record old.node ≡ record_at (records_of new.seat) place
+  pub node : new.node ≡ delivered old.node
+  pub halted : new.halted ≡ old.halted
+
+-- Nothing is delivered, and the node is as it was. Memory: the seat may know one record more. BoardFull: all
+-- is as it was, and the seat knows every cell. Differs: another record stands at the place, and halted is set.
+abbrev pub DeliverRefuses : List ℕ → StationValue → Refusal → StationValue → Type 0
+DeliverRefuses cells old Memory new = (new.node ≡ old.node) × (new.halted ≡ old.halted)
+DeliverRefuses cells old BoardFull new = (new ≡ old) × (length old.seat ≡ length cells)
+DeliverRefuses cells old Differs new = (new.node ≡ old.node) × (new.halted ≡ true) × FindsAnother new
+DeliverRefuses cells old _ new = ⊥
+
+-- Why a judgement does not come to stand at the place, and what that leaves of the seat. Memory: it is as it
+-- was. BoardFull: so too, and it knows every cell. Differs: it knows another record there.
+abbrev pub StandsNot : List ℕ → SeatValue → ℕ → Record → Refusal → SeatValue → Type 0
+StandsNot board before place wanted Memory after = after ≡ before
+StandsNot board before place wanted BoardFull after = (after ≡ before) × (length before ≡ length board)
+StandsNot board before place wanted Differs after = IsAnother (record_at (records_of after) place) wanted
+StandsNot board before place wanted _ after = ⊥

@@ -1,0 +1,5 @@
+pub mod Admitting
+pub mod Delivering
+pub mod Laws
+pub mod Serving
+pub mod Stations
