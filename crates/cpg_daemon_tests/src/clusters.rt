@@ -1,0 +1,130 @@
+//! Clusters on the gate that passes everything.
+
+ghost use Rattle.std.specs.Prelude.{◌≡◌, ◌≤◌};
+
+use crate::sharing::{MOST_ASKS, ROOT, node_of, refusal_in, settings_of};
+use cpg_board::Board;
+use cpg_cred::{AcceptList, NodeId, Refusal};
+use cpg_daemon::{BoardName, Cluster, Ends, PassAll, Running};
+use cpg_entry::Call;
+use cpg_node::Settings;
+use std::alloc::Global;
+use std::marker::Brand;
+use std::sync::Wait;
+use std::test::Fail;
+use std::thread;
+use std::thread::Threads;
+use std::time::Clock;
+
+/// A process of the root user at the node submits a leave.
+fn leave<B: BoardName, R: Wait>(
+    rt: &R,
+    running: &Running<B, PassAll>,
+    node: NodeId,
+) -> Result<Option<Refusal>, Refusal>
+    requires { node ≤ running.now.nodes }
+{
+    let mut session = running.connect(rt, node, 40, ROOT)?;
+    let refusal = refusal_in(running.submit(rt, &mut session, Call::Leave));
+    drop(session);
+    Ok(refusal)
+}
+
+/// Whether the node's safe mark gets to place 1.
+fn gets_safe<B: BoardName, R: Wait>(rt: &R, running: &Running<B, PassAll>, node: NodeId) -> bool
+    requires { node ≤ running.now.nodes }
+{
+    for _ in 0..MOST_ASKS {
+        if running.safe(rt, node) == 1 {
+            return true;
+        }
+        thread::yield_now();
+    }
+    false
+}
+
+/// Whether a process leaves, in no group, and then all nodes hold place 1.
+fn leaves_and_gets_safe<B: BoardName, R: Wait>(
+    rt: &R,
+    running: &Running<B, PassAll>,
+    node: NodeId,
+) -> bool
+    requires { node ≤ running.now.nodes }
+{
+    leave(rt, running, node) == Ok(None) && gets_safe(rt, running, node)
+}
+
+/// How many stations and links the cluster leaves.
+fn counts_of<B: BoardName>(ends: Ends<B>) -> (usize, usize) {
+    (ends.stations.len(), ends.links.len())
+}
+
+/// Whether a cluster of one node gets safe, and leaves one station and one link.
+fn one_goes<B, R>(rt: R, alloc: Global, board: Board) -> Result<bool, Refusal>
+where
+    B: BoardName + Send + Sync + 'static,
+    R: Threads + Wait + Clock + Copy + Send + 'static,
+    requires { board ≡ B.cells }
+{
+    let node = node_of(1)?;
+    let list = AcceptList::new(alloc);
+    let cluster = Cluster::<B, PassAll>::start(rt, alloc, settings_of(1), board, &list, PassAll)?;
+    let safe = cluster.nodes() == 1 && leaves_and_gets_safe(&rt, &cluster, node);
+    Ok(counts_of(cluster.stop(&rt)) == (1, 1) && safe)
+}
+
+#[test]
+fn a_cluster_of_one_gets_safe(rt: HostRuntime) -> Result<(), Fail> {
+    let board = Board::new(rt.alloc(), 4_096)?;
+    let alloc = rt.alloc();
+    assert!(rt; one_goes::<Brand, HostRuntime>(rt, alloc, board) == Ok(true));
+    Ok(())
+}
+
+/// What refuses to start a cluster of those settings, if anything does.
+fn refusal_of<B, R>(rt: R, alloc: Global, board: Board, settings: Settings) -> Option<Refusal>
+where
+    B: BoardName + Send + Sync + 'static,
+    R: Threads + Wait + Clock + Copy + Send + 'static,
+    requires { board ≡ B.cells }
+{
+    let list = AcceptList::new(alloc);
+    match Cluster::<B, PassAll>::start(rt, alloc, settings, board, &list, PassAll) {
+        Ok(cluster) => {
+            drop(cluster.stop(&rt));
+            None
+        }
+        Err(refusal) => Some(refusal),
+    }
+}
+
+/// Settings of which one is out of its range.
+fn bad_settings() -> [Settings; 6] {
+    let good = settings_of(2);
+    [
+        Settings { nodes: 0, ..good },
+        Settings { nodes: 9, ..good },
+        Settings { places: 0, ..good },
+        Settings {
+            places: 1_048_577,
+            ..good
+        },
+        Settings { hops: 0, ..good },
+        Settings {
+            hops: (1 << 62) + 1,
+            ..good
+        },
+    ]
+}
+
+#[test]
+fn settings_have_ranges(rt: HostRuntime) -> Result<(), Fail> {
+    for settings in bad_settings() {
+        let board = Board::new(rt.alloc(), 10)?;
+        let alloc = rt.alloc();
+        assert!(rt;
+            refusal_of::<Brand, HostRuntime>(rt, alloc, board, settings) == Some(Refusal::Range)
+        );
+    }
+    Ok(())
+}

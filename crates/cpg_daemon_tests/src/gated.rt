@@ -1,0 +1,275 @@
+//! Clusters whose turns a gate holds.
+
+ghost use Rattle.std.specs.Prelude.{◌≡◌, ◌≤◌, IfOk};
+
+use crate::sharing::{Told, ask, join, list_of_seven, next_told, node_of, refusal_in, settings_of};
+use cpg_board::Board;
+use cpg_cred::{By, Cred, NodeId, Refusal};
+use cpg_daemon::{BoardName, Cluster, Ends, Fate, Gate, Running, Session, Station};
+use cpg_entry::Call;
+use cpg_record::Verdict;
+use std::alloc::Global;
+use std::marker::Brand;
+use std::sync::atomic::{AtomicBool, Ordering};
+use std::sync::{Arc, Wait};
+use std::test::Fail;
+use std::thread;
+use std::thread::Threads;
+use std::time::Clock;
+
+/// How often a node looks for the other at most.
+const MOST_LOOKS: u32 = 100_000_000;
+
+/// What two nodes mark as they go.
+#[derive(Drop)]
+struct Marks {
+    first: AtomicBool,
+    second: AtomicBool,
+    failed: AtomicBool,
+}
+
+fn new_marks(alloc: Global) -> Result<Arc<Marks, Global>, Refusal> {
+    Ok(Arc::new(
+        alloc,
+        Marks {
+            first: AtomicBool::new(false),
+            second: AtomicBool::new(false),
+            failed: AtomicBool::new(false),
+        },
+    )?)
+}
+
+/// Whether that was marked within so many looks.
+fn is_seen(mark: &AtomicBool) -> bool {
+    for _ in 0..MOST_LOOKS {
+        if mark.load(Ordering::SeqCst) {
+            return true;
+        }
+    }
+    false
+}
+
+/// The gate whose first turn of node 1 begins once that of node 2 was asked for, and the other way round.
+#[derive(Drop)]
+struct Meeting {
+    marks: Arc<Marks, Global>,
+}
+
+impl Gate for Meeting {
+    fn fate(&self, _from: NodeId, _to: NodeId, _index: u64) -> Fate {
+        Fate::Pass
+    }
+
+    fn may_turn(&self, node: NodeId, turn: u64) -> bool {
+        if turn > 1 {
+            return true;
+        }
+        let (mine, other) = if node.get() == 1 {
+            (&self.marks.first, &self.marks.second)
+        } else {
+            (&self.marks.second, &self.marks.first)
+        };
+        mine.store(true, Ordering::SeqCst);
+        if !is_seen(other) {
+            self.marks.failed.store(true, Ordering::SeqCst);
+        }
+        true
+    }
+}
+
+/// Whether the two nodes of a cluster meet.
+fn two_meet<B, R>(rt: R, alloc: Global, board: Board) -> Result<bool, Refusal>
+where
+    B: BoardName + Send + Sync + 'static,
+    R: Threads + Wait + Clock + Copy + Send + 'static,
+    requires { board ≡ B.cells }
+{
+    let marks = new_marks(alloc)?;
+    let gate = Meeting {
+        marks: Arc::try_clone(&marks)?,
+    };
+    let list = list_of_seven(alloc)?;
+    let cluster = Cluster::<B, Meeting>::start(rt, alloc, settings_of(2), board, &list, gate)?;
+    let met = is_seen(&marks.first) && is_seen(&marks.second);
+    drop(cluster.stop(&rt));
+    Ok(met && !marks.failed.load(Ordering::SeqCst))
+}
+
+#[test]
+fn two_nodes_run_at_once(rt: HostRuntime) -> Result<(), Fail> {
+    let board = Board::new(rt.alloc(), 10)?;
+    let alloc = rt.alloc();
+    assert!(rt; two_meet::<Brand, HostRuntime>(rt, alloc, board) == Ok(true));
+    Ok(())
+}
+
+/// The gate that holds node 2, and node 1 until it is opened.
+#[derive(Drop)]
+struct Holding {
+    open: Arc<AtomicBool, Global>,
+}
+
+impl Gate for Holding {
+    fn fate(&self, _from: NodeId, _to: NodeId, _index: u64) -> Fate {
+        Fate::Pass
+    }
+
+    fn may_turn(&self, node: NodeId, _turn: u64) -> bool {
+        node.get() == 1 && self.open.load(Ordering::SeqCst)
+    }
+}
+
+/// A session of user 7 at the node.
+fn connect<B: BoardName, R: Wait>(
+    rt: &R,
+    running: &Running<B, Holding>,
+    node: NodeId,
+) -> Result<Session<B>, Refusal>
+    requires { node ≤ running.now.nodes }
+    ensures { IfOk result (λ session. session.who.id.node ≡ node) }
+{
+    running.connect(rt, node, 40, Cred { uid: 7, gid: 100 })
+}
+
+/// Whether the session joins `db`, and then, the gate being open, is allowed at place 1.
+fn joins<B: BoardName, R: Wait>(
+    rt: &R,
+    alloc: Global,
+    running: &Running<B, Holding>,
+    session: &mut Session<B>,
+    open: &AtomicBool,
+) -> Result<bool, Refusal>
+    requires { session.old.who.id.node ≤ running.now.nodes }
+    ensures { session.new.who.id.node ≡ session.old.who.id.node }
+{
+    let refusal = refusal_in(running.submit(rt, session, join(alloc)?));
+    open.store(true, Ordering::SeqCst);
+    let told = next_told(rt, running, session);
+    Ok(refusal == None && told == Told::Verdict(1, Verdict::Allowed(By::Default)))
+}
+
+/// Whether that refuses all that the session asks for.
+fn is_refused<B: BoardName, R: Wait>(
+    rt: &R,
+    running: &Running<B, Holding>,
+    session: &mut Session<B>,
+    why: Refusal,
+) -> bool
+    requires { session.old.who.id.node ≤ running.now.nodes }
+    ensures { session.new.who.id.node ≡ session.old.who.id.node }
+{
+    let lists = running.list(rt, session, b"db").err() == Some(why);
+    let groups = running.groups(rt, session).err() == Some(why);
+    lists && groups && ask(rt, running, session) == Told::Refused(why)
+}
+
+/// Whether a session that was told more than its node has delivered is refused as Behind.
+fn is_behind<B: BoardName, R: Wait>(
+    rt: &R,
+    running: &Running<B, Holding>,
+    ahead: &Session<B>,
+    session: &mut Session<B>,
+) -> bool
+    requires { session.old.who.id.node ≤ running.now.nodes }
+    ensures { session.new.who.id.node ≡ session.old.who.id.node }
+{
+    running.tell(session, ahead.seat()).is_ok()
+        && is_refused(rt, running, session, Refusal::Behind(0))
+}
+
+/// Whether closing the session is answered with Stopped.
+fn closes_stopped<B: BoardName, R: Wait>(
+    rt: &R,
+    running: &Running<B, Holding>,
+    session: Session<B>,
+) -> bool
+    requires { session.who.id.node ≤ running.now.nodes }
+{
+    match running.close(rt, session) {
+        Ok(()) => false,
+        Err(refused) => refused.refusal == Refusal::Stopped,
+    }
+}
+
+/// Whether all calls are answered with Stopped.
+fn is_stopped<B: BoardName, R: Wait>(
+    rt: &R,
+    running: &Running<B, Holding>,
+    node: NodeId,
+    mut session: Session<B>,
+) -> bool
+    requires node { node ≤ running.now.nodes }
+    requires session { session.who.id.node ≤ running.now.nodes }
+{
+    running.halt(rt);
+    let connects = connect(rt, running, node).err() == Some(Refusal::Stopped);
+    let submits = refusal_in(running.submit(rt, &mut session, Call::Leave))
+        == Some(Refusal::Stopped);
+    let asks = is_refused(rt, running, &mut session, Refusal::Stopped);
+    connects && submits && asks && closes_stopped(rt, running, session)
+}
+
+/// Whether a session ahead of its node is refused, and then all are.
+fn refuses<B: BoardName, R: Wait>(
+    rt: &R,
+    alloc: Global,
+    running: &Running<B, Holding>,
+    nodes: (NodeId, NodeId),
+    open: &AtomicBool,
+) -> Result<bool, Refusal>
+    requires { (nodes.0 ≤ running.now.nodes) × (nodes.1 ≤ running.now.nodes) }
+{
+    let mut one = connect(rt, running, nodes.0)?;
+    let mut two = connect(rt, running, nodes.1)?;
+    let joined = joins(rt, alloc, running, &mut one, open)?;
+    let behind = is_behind(rt, running, &one, &mut two);
+    drop(two);
+    Ok(joined && behind && is_stopped(rt, running, nodes.0, one))
+}
+
+/// The number of the node whose station it is, by its first connection.
+fn number_of<B: BoardName>(station: &Station<B>) -> Option<u8> {
+    match station.connection(1) {
+        Some(who) => Some(who.id.node.get()),
+        None => None,
+    }
+}
+
+/// Whether two nodes left their stations, node 1's first, and two links.
+fn are_left<B: BoardName>(ends: &Ends<B>) -> bool {
+    match ends.stations.as_slice() {
+        [one, two] => number_of(one) == Some(1)
+            && number_of(two) == Some(2)
+            && ends.links.len() == 2,
+        _ => false,
+    }
+}
+
+/// Whether a cluster whose node 2 is held does so.
+fn held_goes<B, R>(rt: R, alloc: Global, board: Board) -> Result<bool, Refusal>
+where
+    B: BoardName + Send + Sync + 'static,
+    R: Threads + Wait + Clock + Copy + Send + 'static,
+    requires { board ≡ B.cells }
+{
+    let nodes = (node_of(1)?, node_of(2)?);
+    let open = Arc::new(alloc, AtomicBool::new(false))?;
+    let gate = Holding {
+        open: Arc::try_clone(&open)?,
+    };
+    let list = list_of_seven(alloc)?;
+    let cluster = Cluster::<B, Holding>::start(rt, alloc, settings_of(2), board, &list, gate)?;
+    let refused = refuses(&rt, alloc, &cluster, nodes, &open);
+    let ends = cluster.stop(&rt);
+    let left = are_left(&ends);
+    drop(ends);
+    Ok(refused == Ok(true) && left)
+}
+
+#[test]
+fn a_held_node_is_behind(rt: HostRuntime) -> Result<(), Fail> {
+    let board = Board::new(rt.alloc(), 100)?;
+    let alloc = rt.alloc();
+    assert!(rt; held_goes::<Brand, HostRuntime>(rt, alloc, board) == Ok(true));
+    Ok(())
+}

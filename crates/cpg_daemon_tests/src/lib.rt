@@ -1,0 +1,15 @@
+//! Tests of a cluster, with its threads: what sessions are told, what a stopped cluster answers, that two nodes
+//! run at once, settings out of their ranges. Nothing here is used by the other crates.
+#![tactic(auto)]
+
+#[cfg(test)]
+mod clusters;
+#[cfg(test)]
+mod gated;
+#[cfg(test)]
+mod sharing;
+#[cfg(test)]
+mod threads;
+
+/// The crate has tests alone; a library has to have an item.
+pub const TESTS_ALONE: bool = true;

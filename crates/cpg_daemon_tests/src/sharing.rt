@@ -1,0 +1,115 @@
+//! What the tests of a cluster share.
+
+ghost use Rattle.std.specs.Prelude.{◌≡◌, ◌≤◌};
+
+use cpg_cred::{AcceptList, Cred, NodeId, Refusal, Refused};
+use cpg_daemon::{BoardName, Gate, Running, Session};
+use cpg_entry::{Call, Name};
+use cpg_node::{Event, Settings};
+use cpg_record::Verdict;
+use std::alloc::Global;
+use std::sync::Wait;
+use std::thread;
+
+/// How often a call that may come too early is made at most.
+pub const MOST_ASKS: u32 = 1_000_000;
+
+/// The root user.
+pub const ROOT: Cred = Cred { uid: 0, gid: 0 };
+
+/// Settings of ring 1 with so many nodes.
+pub fn settings_of(nodes: u8) -> Settings {
+    Settings {
+        ring: 1,
+        nodes,
+        places: 4_096,
+        hops: 1 << 62,
+    }
+}
+
+/// The node of that number, or a refusal.
+pub fn node_of(number: u8) -> Result<NodeId, Refusal> {
+    NodeId::new(number).ok_or(Refusal::Range)
+}
+
+/// A list of user 7.
+pub fn list_of_seven(alloc: Global) -> Result<AcceptList, Refusal> {
+    let mut list = AcceptList::new(alloc);
+    match list.add_uid(7) {
+        Ok(()) => Ok(list),
+        Err(refusal) => {
+            drop(list);
+            Err(refusal)
+        }
+    }
+}
+
+/// A call to join `db`.
+pub fn join(alloc: Global) -> Result<Call, Refusal> {
+    Ok(Call::Join(Name::from_slice(alloc, b"db")?))
+}
+
+/// What refuses a call, if anything does.
+pub fn refusal_in(answer: Result<(), Refused<Call>>) -> Option<Refusal> {
+    match answer {
+        Ok(()) => None,
+        Err(refused) => Some(refused.refusal),
+    }
+}
+
+/// The place and verdict that the event tells, where it tells one.
+fn verdict_in(event: &Event) -> Option<(u32, Verdict)> {
+    match event {
+        Event::Verdict { place, verdict } => Some((*place, *verdict)),
+        _ => None,
+    }
+}
+
+/// What one ask for the next event gives.
+#[derive(Debug, Clone, Copy, PartialEq, Eq)]
+pub enum Told {
+    /// A verdict of the session's own entry.
+    Verdict(u32, Verdict),
+    /// Another event.
+    Other,
+    /// None yet.
+    Nothing,
+    Refused(Refusal),
+}
+
+/// The session asks for its next event once.
+pub fn ask<B: BoardName, G: Gate, R: Wait>(
+    rt: &R,
+    running: &Running<B, G>,
+    session: &mut Session<B>,
+) -> Told
+    requires { session.old.who.id.node ≤ running.now.nodes }
+    ensures { session.new.who.id.node ≡ session.old.who.id.node }
+{
+    match running.take(rt, session) {
+        Ok(None) => Told::Nothing,
+        Ok(Some(event)) => match verdict_in(&event) {
+            Some((place, verdict)) => Told::Verdict(place, verdict),
+            None => Told::Other,
+        },
+        Err(refusal) => Told::Refused(refusal),
+    }
+}
+
+/// What the session is told next, which asks again after None or Behind.
+pub fn next_told<B: BoardName, G: Gate, R: Wait>(
+    rt: &R,
+    running: &Running<B, G>,
+    session: &mut Session<B>,
+) -> Told
+    requires { session.old.who.id.node ≤ running.now.nodes }
+    ensures { session.new.who.id.node ≡ session.old.who.id.node }
+{
+    for _ in 0..MOST_ASKS {
+        match ask(rt, running, session) {
+            Told::Nothing | Told::Refused(Refusal::Behind(_)) => thread::yield_now(),
+            told => return told,
+        }
+    }
+    Told::Nothing
+}

@@ -1,0 +1,317 @@
+//! Three client threads at a cluster of three nodes.
+
+ghost use Rattle.std.specs.Prelude.{◌≡◌, ◌≤◌, IfOk, vec_len};
+ghost use Rattle.cpg_board.specs.Seats.{IsSeatOf};
+
+use crate::sharing::{ROOT, Told, next_told, node_of, refusal_in, settings_of};
+use cpg_board::{Board, Seat};
+use cpg_cred::{AcceptList, NodeId, Refusal};
+use cpg_daemon::{BoardName, Cluster, Ends, PassAll, Running, Session, Station};
+use cpg_entry::{Call, Name, Op};
+use cpg_group::verify;
+use cpg_record::{Reason, Record, Verdict};
+use std::alloc::Global;
+use std::marker::Brand;
+use std::sync::Wait;
+use std::test::Fail;
+use std::thread;
+use std::thread::Threads;
+use std::time::Clock;
+
+/// A call to remove that rule of `db`.
+fn remove(alloc: Global, id: u32) -> Result<Call, Refusal> {
+    Ok(Call::Remove(Name::from_slice(alloc, b"db")?, id))
+}
+
+/// Whether the removal is put among those that wait.
+fn submits<B: BoardName, R: Wait>(
+    rt: &R,
+    alloc: Global,
+    running: &Running<B, PassAll>,
+    session: &mut Session<B>,
+    id: u32,
+) -> bool
+    requires { session.old.who.id.node ≤ running.now.nodes }
+    ensures { session.new ≡ session.old }
+{
+    match remove(alloc, id) {
+        Ok(call) => refusal_in(running.submit(rt, session, call)) == None,
+        Err(_) => false,
+    }
+}
+
+/// Whether ten removals are put among those that wait.
+fn submits_ten<B: BoardName, R: Wait>(
+    rt: &R,
+    alloc: Global,
+    running: &Running<B, PassAll>,
+    session: &mut Session<B>,
+    batch: u8,
+) -> bool
+    requires { session.old.who.id.node ≤ running.now.nodes }
+    ensures { session.new ≡ session.old }
+{
+    for step in 0u8..10 {
+        let id = u32::from(batch) * 10 + u32::from(step) + 1;
+        if !submits(rt, alloc, running, session, id) {
+            return false;
+        }
+    }
+    true
+}
+
+/// Whether the session is told next that its removal is denied, since no rule has that number.
+fn takes_denial<B: BoardName, R: Wait>(
+    rt: &R,
+    running: &Running<B, PassAll>,
+    session: &mut Session<B>,
+) -> bool
+    requires { session.old.who.id.node ≤ running.now.nodes }
+    ensures { session.new.who.id.node ≡ session.old.who.id.node }
+{
+    matches!(
+        next_told(rt, running, session),
+        Told::Verdict(_, Verdict::Denied(Reason::Absent))
+    )
+}
+
+/// Whether it is told so ten times.
+fn takes_ten<B: BoardName, R: Wait>(
+    rt: &R,
+    running: &Running<B, PassAll>,
+    session: &mut Session<B>,
+) -> bool
+    requires { session.old.who.id.node ≤ running.now.nodes }
+    ensures { session.new.who.id.node ≡ session.old.who.id.node }
+{
+    for _ in 0u8..10 {
+        if !takes_denial(rt, running, session) {
+            return false;
+        }
+    }
+    true
+}
+
+/// Whether a hundred removals are denied, ten at a time.
+fn goes<B: BoardName, R: Wait>(
+    rt: &R,
+    alloc: Global,
+    running: &Running<B, PassAll>,
+    session: &mut Session<B>,
+) -> bool
+    requires { session.old.who.id.node ≤ running.now.nodes }
+{
+    for batch in 0u8..10 {
+        if !submits_ten(rt, alloc, running, session, batch) {
+            return false;
+        }
+        if !takes_ten(rt, running, session) {
+            return false;
+        }
+    }
+    true
+}
+
+/// The session of a process of the root user at the node, once it was denied a hundred removals.
+fn serve<B: BoardName, R: Wait>(
+    rt: &R,
+    alloc: Global,
+    running: &Running<B, PassAll>,
+    node: NodeId,
+) -> Option<Session<B>>
+    requires { node ≤ running.now.nodes }
+{
+    match running.connect(rt, node, u32::from(node.get()), ROOT) {
+        Ok(mut session) => {
+            if goes(rt, alloc, running, &mut session) {
+                Some(session)
+            } else {
+                drop(session);
+                None
+            }
+        }
+        Err(_) => None,
+    }
+}
+
+/// Such a session at the node of that number.
+fn client<B: BoardName, R: Wait>(
+    rt: &R,
+    alloc: Global,
+    running: &Running<B, PassAll>,
+    number: u8,
+) -> Option<Session<B>>
+    requires { number ≤ running.now.nodes }
+{
+    match NodeId::new(number) {
+        Some(node) => serve(rt, alloc, running, node),
+        None => None,
+    }
+}
+
+/// Such sessions at nodes 2 and 3, in two threads.
+fn two_clients<B: BoardName + Send + Sync, R: Threads + Wait + Sync>(
+    rt: &R,
+    alloc: Global,
+    running: &Running<B, PassAll>,
+) -> (Option<Session<B>>, Option<Session<B>>)
+    requires { 3 ≤ running.now.nodes }
+{
+    thread::join(
+        rt,
+        || client(rt, alloc, running, 2),
+        || client(rt, alloc, running, 3),
+    )
+}
+
+/// Such sessions at the three nodes, in three threads.
+fn three_clients<B: BoardName + Send + Sync, R: Threads + Wait + Sync>(
+    rt: &R,
+    alloc: Global,
+    running: &Running<B, PassAll>,
+) -> (Option<Session<B>>, (Option<Session<B>>, Option<Session<B>>))
+    requires { 3 ≤ running.now.nodes }
+{
+    thread::join(
+        rt,
+        || client(rt, alloc, running, 1),
+        || two_clients(rt, alloc, running),
+    )
+}
+
+/// The auditor's seat catches up with a session's.
+fn catch_up<B: BoardName>(
+    running: &Running<B, PassAll>,
+    seat: &mut Seat,
+    session: &Session<B>,
+) -> bool
+    requires { IsSeatOf B.cells seat.old }
+    ensures { IsSeatOf B.cells seat.new }
+{
+    running.board().catch_up(seat, session.seat()).is_ok()
+}
+
+/// Copies of all records that the seat knows.
+fn copies_of(alloc: Global, board: &Board, seat: &Seat) -> Result<Vec<Record>, Refusal>
+    requires { IsSeatOf board.now seat.now }
+{
+    let mut copies = Vec::new(alloc);
+    for index in 0..seat.len() {
+        if index < 1_000_000 {
+            copies.push(board.known(seat, index as u32 + 1).copy(alloc)?)?;
+        }
+    }
+    Ok(copies)
+}
+
+/// What an auditor knows that caught up with the three sessions.
+fn audited<B: BoardName>(
+    alloc: Global,
+    running: &Running<B, PassAll>,
+    one: &Session<B>,
+    two: &Session<B>,
+    three: &Session<B>,
+) -> Result<Vec<Record>, Refusal> {
+    let mut seat = running.auditor();
+    let caught = catch_up(running, &mut seat, one)
+        && catch_up(running, &mut seat, two)
+        && catch_up(running, &mut seat, three);
+    let copies = copies_of(alloc, running.board(), &seat);
+    drop(seat);
+    if caught { copies } else { Err(Refusal::Memory) }
+}
+
+/// What the sessions of three clients saw, once all have gone.
+fn seen_by_three<B: BoardName + Send + Sync, R: Threads + Wait + Sync>(
+    rt: &R,
+    alloc: Global,
+    running: &Running<B, PassAll>,
+) -> Result<Vec<Record>, Refusal>
+    requires { 3 ≤ running.now.nodes }
+{
+    match three_clients(rt, alloc, running) {
+        (Some(one), (Some(two), Some(three))) => audited(alloc, running, &one, &two, &three),
+        _ => Err(Refusal::Stopped),
+    }
+}
+
+/// Whether the record is of the removal of that rule.
+fn is_removal(past: &Record, id: u32) -> bool {
+    match &past.entry.op {
+        Op::Act(Call::Remove(group, rule)) => *rule == id && group.as_slice() == b"db".as_slice(),
+        _ => false,
+    }
+}
+
+/// Whether the node's removals are among the records, in order, and no others of it.
+fn are_in_order(records: &[Record], number: u8) -> bool {
+    let mut next = 1u32;
+    for past in records {
+        if past.entry.node.get() == number {
+            if !is_removal(past, next) {
+                return false;
+            }
+            next = next.saturating_add(1);
+        }
+    }
+    next == 101
+}
+
+/// Whether these are 300 records, a hundred of each node in order, and judged as they have to be.
+fn are_sound(alloc: Global, records: &[Record]) -> bool {
+    records.len() == 300
+        && are_in_order(records, 1)
+        && are_in_order(records, 2)
+        && are_in_order(records, 3)
+        && verify(alloc, records) == Ok(true)
+}
+
+/// Whether the audit begins the records.
+fn begins(audit: &[Record], records: &[Record]) -> bool {
+    audit.len() <= records.len()
+        && audit
+            .iter()
+            .zip(records.iter())
+            .all(|(mine, theirs)| mine.equals(theirs))
+}
+
+/// Whether three stations are left, whose audits begin the records.
+fn are_left<B: BoardName>(ends: &Ends<B>, records: &[Record]) -> bool {
+    match ends.stations.as_slice() {
+        [one, two, three] => {
+            begins(one.audit(), records)
+                && begins(two.audit(), records)
+                && begins(three.audit(), records)
+                && ends.links.len() == 6
+        }
+        _ => false,
+    }
+}
+
+/// Whether a cluster of three nodes serves three clients so.
+fn three_go<B, R>(rt: R, alloc: Global, board: Board) -> Result<bool, Refusal>
+where
+    B: BoardName + Send + Sync + 'static,
+    R: Threads + Wait + Clock + Copy + Send + Sync + 'static,
+    requires { board ≡ B.cells }
+{
+    let list = AcceptList::new(alloc);
+    let cluster = Cluster::<B, PassAll>::start(rt, alloc, settings_of(3), board, &list, PassAll)?;
+    let seen = seen_by_three(&rt, alloc, &cluster);
+    let ends = cluster.stop(&rt);
+    let right = match &seen {
+        Ok(records) => are_sound(alloc, records.as_slice()) && are_left(&ends, records.as_slice()),
+        Err(_) => false,
+    };
+    drop(ends);
+    drop(seen);
+    Ok(right)
+}
+
+#[test]
+fn three_threads_are_served(rt: HostRuntime) -> Result<(), Fail> {
+    let board = Board::new(rt.alloc(), 4_096)?;
+    let alloc = rt.alloc();
+    assert!(rt; three_go::<Brand, HostRuntime>(rt, alloc, board) == Ok(true));
+    Ok(())
+}
