@@ -1,16 +1,27 @@
 -- The record of one entry more keeps records judged and tables current.
-use Rattle.std.proofs.Common.{◌≡◌, ℕ, ◌+◌, ◌<◌, ◌≤◌, List, [], ◌∷◌, ◌++◌, length, take, get_or, All, sym, ap, subst, ◌∙◌, arith}
+use Rattle.std.proofs.Common.{◌≡◌, ℕ, ◌+◌, ◌<◌, ◌≤◌, Bool, true, false, ◌&&◌, cond, List, [], ◌∷◌, ◌++◌, length, take, get_or, All, refl, sym, ap, subst, ◌∙◌, arith, Option, Some, None}
 use Rattle.std.specs.List.{fold, enumerate_from}
 use Rattle.std.proofs.lemmas.List.{map-append, take_more}
 use Rattle.std.proofs.lemmas.List.Sums.{fold_push}
 use Rattle.cpg_rules.specs.Tables.{Rules}
+use Rattle.std.proofs.lemmas.Slice.Eq.{bytes_eq-Decides}
+use Rattle.cpg_entry.specs.declared.calls.Call.TheVariants.{Join, Leave, Send, Insert, Remove}
+use Rattle.cpg_entry.specs.declared.calls.Op.{Op}
+use Rattle.cpg_entry.specs.declared.calls.Op.TheVariants.{Act, Gone}
+use Rattle.cpg_entry.specs.declared.entries.Entry.{Entry}
+use Rattle.cpg_record.specs.declared.connections.ConnId.{ConnId}
+use Rattle.cpg_record.specs.declared.memberships.Member.{Member}
 use Rattle.cpg_record.specs.declared.records.Record.{Record}
-use Rattle.cpg_record.specs.Judging.{judged, with_judgement, record_of, entries_of, AreJudged}
-use Rattle.cpg_record.specs.RuleTables.{edited, rules_of}
-use Rattle.cpg_record.specs.Steps.{CanEdit}
-use Rattle.cpg_record.proofs.Growing.{rules_of_push}
+use Rattle.cpg_record.specs.Judging.{judged, with_judgement, record_of, entry_group, entries_of, AreJudged}
+use Rattle.cpg_record.specs.Membership.{is_allowed, is_named, members}
+use Rattle.cpg_record.specs.RuleTables.{edited, edited_by, named, rules_of}
+use Rattle.cpg_record.specs.Steps.{CanEditBy, group_after, members_by}
+use Rattle.cpg_record.proofs.Elsewhere.{elsewhere_of, lists_members}
+use Rattle.cpg_record.proofs.Growing.{group_of_push, members_push, rules_of_push}
+use Rattle.cpg_record.proofs.Once.{OneEach, one_from}
 use Rattle.cpg_record.proofs.Judging.{can_edit, ids_edited, Each-judged}
-use Rattle.cpg_group.specs.Tables.{Kept, kept_table, AreCurrent}
+use Rattle.cpg_group.specs.declared.standing.Group.{Group}
+use Rattle.cpg_group.specs.Standing.{Kept, KeptSeats, kept_group, kept_seat, changed, group_past, standing, AreSeated, AreStanding, CanTake}
 
 -- ---- judged records
 
@@ -39,22 +50,102 @@ ids_low rs g =
     let low = ids_from g [] 0 rs (λ k d h. absurd (omega arith)) in
     λ k d h. omega (arith, low k d h)
 
--- ---- tables
+-- ---- what is kept
 
--- the next record can edit the current tables
-pub can_take : (kept : Kept) (rs : List Record) (r : Record) (place : ℕ) → AreCurrent kept rs → place ≡ length rs + 1 → r ≡ record_of rs r.entry →
-    (g : List ℕ) → CanEdit g (kept_table kept g) (place, r)
-can_take kept rs r place current is judgement g =
-    let P : Rules → Type 0 = λ (rules : Rules). CanEdit g rules (place, r) in
-    subst P (sym (current g)) (can_edit rs r g place judgement (λ k d h same. absurd (omega (arith, ids_low rs g k d h))))
+-- judged records have one seat for each connection at most
+pub one_each : (rs : List Record) → AreJudged rs → OneEach rs
+one_each rs are = subst OneEach (sym are) (one_from [] (entries_of rs) (λ c. omega arith))
 
-pub AreCurrent-push : (old new : Kept) (rs : List Record) (r : Record) (place : ℕ) → AreCurrent old rs → place ≡ length rs + 1 →
-    ((g : List ℕ) → kept_table new g ≡ edited g (kept_table old g) (place, r)) → AreCurrent new (rs ++ r ∷ [])
-AreCurrent-push old new rs r place current is taken g =
+group_said : (o : Option (List ℕ)) (g : List ℕ) → is_named o g ≡ true → o ≡ Some g
+group_said None g h = absurd (cc)
+group_said (Some h) g is = ap Some ((bytes_eq-Decides h g).0 is)
+
+can_take_by : (rs : List Record) (e : Entry) (op : Op) (g : List ℕ) (place : ℕ) → is_named (entry_group rs e op) g ≡ true →
+    (is_named (named op) g ≡ true → CanEditBy (rules_of rs g) place op) → CanEditBy (rules_of rs g) place op
+can_take_by rs e (Act (Insert h at rule)) g place here can = can here
+can_take_by rs e (Act (Join h)) g place here can = tt
+can_take_by rs e (Act Leave) g place here can = tt
+can_take_by rs e (Act (Send m)) g place here can = tt
+can_take_by rs e (Act (Remove h id)) g place here can = tt
+can_take_by rs e Gone g place here can = tt
+
+-- the next record can edit the table of its group as it is kept
+pub can_take : (kept : Kept) (rs : List Record) (r : Record) (place : ℕ) → AreStanding kept rs → place ≡ length rs + 1 → r ≡ record_of rs r.entry →
+    (g : List ℕ) → CanTake g (kept_group kept g) (place, r)
+can_take kept rs r place current is judgement g allowed here =
+    let P : Group → Type 0 = λ (group : Group). CanEditBy group.table place r.entry.op in
+    let said : is_named (entry_group rs r.entry r.entry.op) g ≡ true = ap (λ (q : Record). is_named q.group g) (sym judgement) ∙ here in
+    subst P (sym (current g))
+    (can_take_by rs r.entry r.entry.op g place said
+    (λ named_is. can_edit rs r g place judgement (λ k d h same. absurd (omega (arith, ids_low rs g k d h))) allowed named_is))
+
+-- an edit of the group that an op names is one of the entry's group
+edit_same : (rs : List Record) (e : Entry) (op : Op) (g : List ℕ) (place : ℕ) (rules : Rules) (n : Bool) → is_named (entry_group rs e op) g ≡ n →
+    cond (is_named (named op) g) (edited_by place op rules) rules ≡ cond n (edited_by place op rules) rules
+edit_same rs e (Act (Insert h at rule)) g place rules n is = ap (λ (b : Bool). cond b (edited_by place (Act (Insert h at rule)) rules) rules) is
+edit_same rs e (Act (Remove h id)) g place rules n is = ap (λ (b : Bool). cond b (edited_by place (Act (Remove h id)) rules) rules) is
+edit_same rs e (Act (Join h)) g place rules n is = ap (λ (b : Bool). cond b rules rules) is
+edit_same rs e (Act Leave) g place rules true is = refl
+edit_same rs e (Act Leave) g place rules false is = refl
+edit_same rs e (Act (Send m)) g place rules true is = refl
+edit_same rs e (Act (Send m)) g place rules false is = refl
+edit_same rs e Gone g place rules true is = refl
+edit_same rs e Gone g place rules false is = refl
+
+abbrev group_with : Rules → List Member → Group
+group_with t ms = record { table = t; members = ms }
+
+same_parts : (t u : Rules) (ms ns : List Member) → t ≡ u → ms ≡ ns → group_with t ms ≡ group_with u ns
+same_parts t u ms ns p q = λ i. group_with (p i) (q i)
+
+-- the members that the record lists are those of its group
+listed_there : (rs : List Record) (r : Record) (g : List ℕ) → r ≡ record_of rs r.entry → is_named r.group g ≡ true → r.members ≡ members (rs ++ r ∷ []) g
+listed_there rs r g judgement here =
+    let said : (record_of rs r.entry).group ≡ Some g = group_said (record_of rs r.entry).group g (ap (λ (q : Record). is_named q.group g) (sym judgement) ∙ here) in
+    ap (λ (q : Record). q.members) judgement ∙ lists_members rs r.entry g said
+    ∙ ap (λ (q : Record). members (rs ++ q ∷ []) g) (sym judgement)
+
+unchanged_there : (rs : List Record) (r : Record) (g : List ℕ) → OneEach rs → r ≡ record_of rs r.entry → is_named r.group g ≡ false → members rs g ≡ members (rs ++ r ∷ []) g
+unchanged_there rs r g one judgement other =
+    sym (elsewhere_of rs r.entry g one (ap (λ (q : Record). is_named q.group g) (sym judgement) ∙ other))
+    ∙ ap (λ (q : Record). members (rs ++ q ∷ []) g) (sym judgement)
+
+-- what the groups come to after one record more
+standing_past : (rs : List Record) (r : Record) (g : List ℕ) (place : ℕ) (b n : Bool) → is_allowed r.verdict ≡ b → is_named r.group g ≡ n → OneEach rs →
+    place ≡ 1 + length rs → r ≡ record_of rs r.entry → cond (b && n) (changed place r (standing rs g)) (standing rs g) ≡ standing (rs ++ r ∷ []) g
+standing_past rs r g place false n allowed here one is judgement =
+    same_parts (rules_of rs g) (rules_of (rs ++ r ∷ []) g) (members rs g) (members (rs ++ r ∷ []) g)
+    (sym (rules_of_push rs r g ∙ ap (λ (v : Bool). cond (v && is_named (named r.entry.op) g) (edited_by (1 + length rs) r.entry.op (rules_of rs g)) (rules_of rs g)) allowed))
+    (sym (members_push rs r g ∙ ap (λ (v : Bool). cond v (members_by r.entry r.entry.op g (members rs g)) (members rs g)) allowed))
+standing_past rs r g place true true allowed here one is judgement =
+    same_parts (edited_by place r.entry.op (rules_of rs g)) (rules_of (rs ++ r ∷ []) g) r.members (members (rs ++ r ∷ []) g)
+    (sym (table_past rs r g place true allowed here is judgement)) (listed_there rs r g judgement here)
+  where
+    table_past : (rs : List Record) (r : Record) (g : List ℕ) (place : ℕ) (n : Bool) → is_allowed r.verdict ≡ true → is_named r.group g ≡ n → place ≡ 1 + length rs → r ≡ record_of rs r.entry →
+        rules_of (rs ++ r ∷ []) g ≡ cond n (edited_by place r.entry.op (rules_of rs g)) (rules_of rs g)
+    table_past rs r g place n allowed here is judgement =
+        rules_of_push rs r g
+        ∙ ap (λ (v : Bool). cond (v && is_named (named r.entry.op) g) (edited_by (1 + length rs) r.entry.op (rules_of rs g)) (rules_of rs g)) allowed
+        ∙ ap (λ (k : ℕ). cond (is_named (named r.entry.op) g) (edited_by k r.entry.op (rules_of rs g)) (rules_of rs g)) (sym is)
+        ∙ edit_same rs r.entry r.entry.op g place (rules_of rs g) n (ap (λ (q : Record). is_named q.group g) (sym judgement) ∙ here)
+standing_past rs r g place true false allowed here one is judgement =
+    same_parts (rules_of rs g) (rules_of (rs ++ r ∷ []) g) (members rs g) (members (rs ++ r ∷ []) g)
+    (sym (rules_of_push rs r g
+    ∙ ap (λ (v : Bool). cond (v && is_named (named r.entry.op) g) (edited_by (1 + length rs) r.entry.op (rules_of rs g)) (rules_of rs g)) allowed
+    ∙ edit_same rs r.entry r.entry.op g (1 + length rs) (rules_of rs g) false (ap (λ (q : Record). is_named q.group g) (sym judgement) ∙ here)))
+    (unchanged_there rs r g one judgement here)
+
+pub AreStanding-push : (old new : Kept) (rs : List Record) (r : Record) (place : ℕ) → AreStanding old rs → AreJudged rs → place ≡ length rs + 1 → r ≡ record_of rs r.entry →
+    ((g : List ℕ) → kept_group new g ≡ group_past g (kept_group old g) (place, r)) → AreStanding new (rs ++ r ∷ [])
+AreStanding-push old new rs r place current are is judgement taken g =
     taken g
-    ∙ ap (λ (rules : Rules). edited g rules (place, r)) (current g)
-    ∙ ap (λ n. edited g (rules_of rs g) (n, r)) (is ∙ omega arith)
-    ∙ sym (rules_of_push rs r g)
+    ∙ ap (λ (group : Group). group_past g group (place, r)) (current g)
+    ∙ standing_past rs r g place (is_allowed r.verdict) (is_named r.group g) refl refl (one_each rs are) (is ∙ omega arith) judgement
+
+pub AreSeated-push : (old new : KeptSeats) (rs : List Record) (r : Record) → AreSeated old rs →
+    ((c : ConnId) → kept_seat new c ≡ group_after r c (kept_seat old c)) → AreSeated new (rs ++ r ∷ [])
+AreSeated-push old new rs r current taken c =
+    taken c ∙ ap (group_after r c) (current c) ∙ sym (group_of_push rs r c)
 
 -- ---- a whole list, record by record
 

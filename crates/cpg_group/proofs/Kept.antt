@@ -1,202 +1,206 @@
--- What one edit of the kept tables does to each group's table.
-use Rattle.std.proofs.Common.{◌≡◌, ℕ, ◌+◌, ◌<◌, ◌≤◌, zero, suc, Bool, true, false, not, ◌||◌, cond, ltb, List, [], ◌∷◌, ◌++◌, length, get_or, set, refl, sym, ap, subst, ◌∙◌, arith, Option, Some, None}
-use Rattle.std.specs.Prelude.{position}
-use Rattle.std.proofs.Math.Seq.{take-nil, drop-nil}
-use Rattle.std.specs.Str.{bytes_eq}
-use Rattle.std.specs.List.{insert, list_any, prefix_len, slice_get}
-use Rattle.std.proofs.lemmas.Bool.{ltb-false}
-use Rattle.std.proofs.lemmas.List.Quantifiers.{position-Some}
-use Rattle.std.proofs.lemmas.Slice.Eq.{bytes_eq-Decides}
+-- What a value that is set, or a key that is new, does to what is found in a map.
+use Rattle.std.proofs.Math.Seq.{take-nil}
+use Rattle.std.proofs.Common.{◌≡◌, ◌≤◌, zero, suc, length, take, arith, ℕ, nat_eq, Bool, true, false, cond, List, [], ◌∷◌, ◌++◌, map, refl, sym, ap, subst, ◌∙◌, Option, Some, None}
+use Rattle.std.specs.Prelude.{◌↔◌, is_some, Result, Ok, Err, OnOk, OnErr}
+use Rattle.std.specs.Map.{keys_of}
 use Rattle.cpg_rules.specs.Tables.{Rules}
-use Rattle.cpg_rules.specs.declared.rules.Rule.{Rule}
-use Rattle.cpg_entry.specs.declared.calls.Call.{Call}
-use Rattle.cpg_entry.specs.declared.calls.Call.TheVariants.{Insert}
-use Rattle.cpg_entry.specs.declared.calls.Op.TheVariants.{Act}
-use Rattle.cpg_record.specs.Membership.{is_named}
-use Rattle.cpg_record.specs.RuleTables.{named}
-use Rattle.cpg_record.specs.Steps.{CanEditBy, CanInsert}
-use Rattle.cpg_group.specs.Tables.{Kept, kept_table, is_table_of, ChangesTable, EditsSlot}
+use Rattle.cpg_record.specs.declared.memberships.Member.{Member}
+use Rattle.cpg_record.specs.declared.records.Record.{Record}
+use Rattle.std.specs.Cmp.Lexicographic.{pointwise}
+use Rattle.std.specs.Map.{lookup, set_value}
+use Rattle.std.specs.Str.{bytes_eq}
+use Rattle.std.specs.declared.vec.Vec.{Vec}
+use Rattle.std.proofs.lemmas.List.{map-append}
+use Rattle.cpg_group.specs.declared.standing.Group.{Group}
+use Rattle.cpg_record.specs.declared.connections.ConnId.{ConnId}
+use Rattle.cpg_record.specs.Connections.{is_conn}
+use Rattle.cpg_record.proofs.Growing.{is_conn-true}
+use Rattle.cpg_record.proofs.Seats.{is_conn-itself}
+use Rattle.std.proofs.lemmas.Slice.Eq.{bytes_eq-Decides}
+use Rattle.cpg_group.specs.Standing.{Kept, KeptSeats, named, or_none, or_no_seat, no_group, kept_group, kept_seat, changed, names_of}
 
--- two names that are one are equal to the same
-same_test : (g n h : List ℕ) → bytes_eq n g ≡ true → bytes_eq n h ≡ bytes_eq g h
-same_test g n h is = ap (λ (x : List ℕ). bytes_eq x h) ((bytes_eq-Decides n g).0 is)
+module _ {K X : Type 0} (eq : K → K → Bool) (decides : (x y : K) → (eq x y ≡ true) ↔ (x ≡ y)) where
+  -- the value that is set at a key that is there is found for it, and nothing else changes
+  pub lookup-set : (es : List (K × X)) (k : K) (w : X) (q : K) → is_some (lookup (eq k) es) ≡ true →
+      lookup (eq q) (set_value (eq k) es w) ≡ cond (eq k q) (Some w) (lookup (eq q) es)
+  lookup-set [] k w q there = absurd (cc)
+  lookup-set (e ∷ es) k w q there = by_case (eq k e.0) (eq q e.0) (eq k q) refl refl refl (lookup-set es k w q) there
+    where
+      by_case : (a b c : Bool) → eq k e.0 ≡ a → eq q e.0 ≡ b → eq k q ≡ c →
+          (is_some (lookup (eq k) es) ≡ true → lookup (eq q) (set_value (eq k) es w) ≡ cond (eq k q) (Some w) (lookup (eq q) es)) →
+          is_some (cond a (Some e.1) (lookup (eq k) es)) ≡ true →
+          lookup (eq q) (cond a ((e.0, w) ∷ es) (e ∷ set_value (eq k) es w)) ≡ cond c (Some w) (cond b (Some e.1) (lookup (eq q) es))
+      by_case true true true ka qa kq others h = ap (λ (x : Bool). cond x (Some w) (lookup (eq q) es)) qa
+      by_case true true false ka qa kq others h =
+          let t : eq k q ≡ true = (decides k q).1 ((decides k e.0).0 ka ∙ sym ((decides q e.0).0 qa)) in
+          absurd (cc)
+      by_case true false true ka qa kq others h =
+          let t : eq q e.0 ≡ true = (decides q e.0).1 (sym ((decides k q).0 kq) ∙ (decides k e.0).0 ka) in
+          absurd (cc)
+      by_case true false false ka qa kq others h = ap (λ (x : Bool). cond x (Some w) (lookup (eq q) es)) qa
+      by_case false true true ka qa kq others h =
+          let t : eq k e.0 ≡ true = (decides k e.0).1 ((decides k q).0 kq ∙ (decides q e.0).0 qa) in
+          absurd (cc)
+      by_case false true false ka qa kq others h = ap (λ (x : Bool). cond x (Some e.1) (lookup (eq q) (set_value (eq k) es w))) qa
+      by_case false false true ka qa kq others h =
+          ap (λ (x : Bool). cond x (Some e.1) (lookup (eq q) (set_value (eq k) es w))) qa ∙ others h ∙ ap (λ (x : Bool). cond x (Some w) (lookup (eq q) es)) kq
+      by_case false false false ka qa kq others h =
+          ap (λ (x : Bool). cond x (Some e.1) (lookup (eq q) (set_value (eq k) es w))) qa ∙ others h ∙ ap (λ (x : Bool). cond x (Some w) (lookup (eq q) es)) kq
 
--- a name that isn't g is passed over for g, and where it is h, g isn't h
-pass_over : (g n h : List ℕ) (b : Bool) (t x later : Rules) → bytes_eq n g ≡ false → bytes_eq n h ≡ b →
-    cond b x (cond (bytes_eq g h) t later) ≡ cond (bytes_eq g h) t (cond b x later)
-pass_over g n h false t x later other is = refl
-pass_over g n h true t x later other is = apart (bytes_eq g h) refl
+  -- a new key at the end is found with its value, and nothing else changes
+  pub lookup-push : (es : List (K × X)) (k : K) (w : X) (q : K) → lookup (eq k) es ≡ None →
+      lookup (eq q) (es ++ (k, w) ∷ []) ≡ cond (eq k q) (Some w) (lookup (eq q) es)
+  lookup-push [] k w q none = by_case (eq k q) (eq q k) refl refl
+    where
+      by_case : (a b : Bool) → eq k q ≡ a → eq q k ≡ b → cond b (Some w) None ≡ cond a (Some w) None
+      by_case true true x y = refl
+      by_case false false x y = refl
+      by_case true false x y =
+          let t : eq q k ≡ true = (decides q k).1 (sym ((decides k q).0 x)) in
+          absurd (cc)
+      by_case false true x y =
+          let t : eq k q ≡ true = (decides k q).1 (sym ((decides q k).0 y)) in
+          absurd (cc)
+  lookup-push (e ∷ es) k w q none = by_case (eq k e.0) (eq q e.0) (eq k q) refl refl refl (lookup-push es k w q) none
+    where
+      by_case : (a b c : Bool) → eq k e.0 ≡ a → eq q e.0 ≡ b → eq k q ≡ c →
+          (lookup (eq k) es ≡ None → lookup (eq q) (es ++ (k, w) ∷ []) ≡ cond (eq k q) (Some w) (lookup (eq q) es)) →
+          cond a (Some e.1) (lookup (eq k) es) ≡ None →
+          cond b (Some e.1) (lookup (eq q) (es ++ (k, w) ∷ [])) ≡ cond c (Some w) (cond b (Some e.1) (lookup (eq q) es))
+      by_case true b c ka qa kq others h = absurd (cc)
+      by_case false true true ka qa kq others h =
+          let t : eq k e.0 ≡ true = (decides k e.0).1 ((decides k q).0 kq ∙ (decides q e.0).0 qa) in
+          absurd (cc)
+      by_case false true false ka qa kq others h = refl
+      by_case false false true ka qa kq others h = others h ∙ ap (λ (x : Bool). cond x (Some w) (lookup (eq q) es)) kq
+      by_case false false false ka qa kq others h = others h ∙ ap (λ (x : Bool). cond x (Some w) (lookup (eq q) es)) kq
+
+-- ---- groups by names
+
+-- a group is found among the entries as among the names
+pub found_alike : {Z : Type 0} (name : List ℕ) (entries : List (Vec ℕ Z × Group)) →
+    lookup (λ key. pointwise nat_eq name key.items) entries ≡ lookup (bytes_eq name) (named entries)
+found_alike name [] = refl
+found_alike name (entry ∷ entries) = ap (cond (bytes_eq name entry.0.items) (Some entry.1)) (found_alike name entries)
+
+-- and is set there as here
+pub set_alike : {Z : Type 0} (name : List ℕ) (entries : List (Vec ℕ Z × Group)) (w : Group) →
+    named (set_value (λ key. pointwise nat_eq name key.items) entries w) ≡ set_value (bytes_eq name) (named entries) w
+set_alike name [] w = refl
+set_alike {Z} name (entry ∷ entries) w = by_case (bytes_eq name entry.0.items) (set_alike name entries w)
   where
-    apart : (c : Bool) → bytes_eq g h ≡ c → x ≡ cond c t x
-    apart false at = refl
-    apart true at =
-        let one : n ≡ h = (bytes_eq-Decides n h).0 is in
-        let two : g ≡ h = (bytes_eq-Decides g h).0 at in
-        let both : bytes_eq n g ≡ true = (bytes_eq-Decides n g).1 (one ∙ sym two) in
+    by_case : (b : Bool) → named (set_value (λ key. pointwise nat_eq name key.items) entries w) ≡ set_value (bytes_eq name) (named entries) w →
+        named (cond b ((entry.0, w) ∷ entries) (entry ∷ set_value (λ key. pointwise nat_eq name key.items) entries w))
+        ≡ cond b ((entry.0.items, w) ∷ named entries) ((entry.0.items, entry.1) ∷ set_value (bytes_eq name) (named entries) w)
+    by_case true rest = refl
+    by_case false rest = ap (λ (kept : Kept). (entry.0.items, entry.1) ∷ kept) rest
+
+-- a place that was made is an empty group at the end
+pub named-push : {Z : Type 0} (entries : List (Vec ℕ Z × Group)) (key : Vec ℕ Z) (group : Group) → named (entries ++ (key, group) ∷ []) ≡ named entries ++ (key.items, group) ∷ []
+named-push entries key group = map-append _ entries ((key, group) ∷ [])
+
+-- what is not there is none
+pub none_of : {X : Type 0} (o : Option X) → is_some o ≡ false → o ≡ None
+none_of None h = refl
+none_of (Some x) h = absurd (cc)
+
+pub made_named : {Z : Type 0} (entries : List (Vec ℕ Z × Group)) (kept : Kept) (name : List ℕ) (key : Vec ℕ Z) (group : Group) →
+    named entries ≡ kept → key.items ≡ name → group ≡ no_group → named (entries ++ (key, group) ∷ []) ≡ kept ++ (name, no_group) ∷ []
+made_named entries kept name key group same spelled empty =
+    named-push entries key group
+    ∙ ap (λ (front : Kept). front ++ (key.items, group) ∷ []) same
+    ∙ ap (λ (bytes : List ℕ). kept ++ (bytes, group) ∷ []) spelled
+    ∙ ap (λ (g : Group). kept ++ (name, g) ∷ []) empty
+
+-- which changes no group
+pub group_made : (kept : Kept) (name g : List ℕ) → lookup (bytes_eq name) kept ≡ None → kept_group (kept ++ (name, no_group) ∷ []) g ≡ kept_group kept g
+group_made kept name g none =
+    ap or_none (lookup-push bytes_eq bytes_eq-Decides kept name no_group g none) ∙ by_case (bytes_eq name g) refl
+  where
+    by_case : (b : Bool) → bytes_eq name g ≡ b → or_none (cond b (Some no_group) (lookup (bytes_eq g) kept)) ≡ or_none (lookup (bytes_eq g) kept)
+    by_case false is = refl
+    by_case true is = sym (ap or_none (ap (λ (n : List ℕ). lookup (bytes_eq n) kept) (sym ((bytes_eq-Decides name g).0 is)) ∙ none))
+
+pub group_there : (kept : Kept) (name : List ℕ) → lookup (bytes_eq name) kept ≡ None → is_some (lookup (bytes_eq name) (kept ++ (name, no_group) ∷ [])) ≡ true
+group_there kept name none =
+    ap is_some (lookup-push bytes_eq bytes_eq-Decides kept name no_group name none)
+    ∙ ap (λ (b : Bool). is_some (cond b (Some no_group) (lookup (bytes_eq name) kept))) ((bytes_eq-Decides name name).1 refl)
+
+-- a group that is there and set
+pub group_set : (kept : Kept) (name : List ℕ) (w : Group) (g : List ℕ) → is_some (lookup (bytes_eq name) kept) ≡ true →
+    kept_group (set_value (bytes_eq name) kept w) g ≡ cond (bytes_eq name g) w (kept_group kept g)
+group_set kept name w g there =
+    ap or_none (lookup-set bytes_eq bytes_eq-Decides kept name w g there) ∙ by_case (bytes_eq name g)
+  where
+    by_case : (b : Bool) → or_none (cond b (Some w) (lookup (bytes_eq g) kept)) ≡ cond b w (or_none (lookup (bytes_eq g) kept))
+    by_case true = refl
+    by_case false = refl
+
+-- a set group is its name's
+pub group_changed : (kept : Kept) (name g : List ℕ) (x w : Group) (place : ℕ) (r : Record) → x ≡ kept_group kept name → w ≡ changed place r x →
+    cond (bytes_eq name g) w (kept_group kept g) ≡ cond (bytes_eq name g) (changed place r (kept_group kept g)) (kept_group kept g)
+group_changed kept name g x w place r found is = by_case (bytes_eq name g) refl
+  where
+    by_case : (b : Bool) → bytes_eq name g ≡ b → cond b w (kept_group kept g) ≡ cond b (changed place r (kept_group kept g)) (kept_group kept g)
+    by_case false at = refl
+    by_case true at = is ∙ ap (changed place r) (found ∙ ap (kept_group kept) ((bytes_eq-Decides name g).0 at))
+
+pub same_group : (kept : Kept) (name g : List ℕ) (w : Group) → w ≡ kept_group kept name → cond (bytes_eq name g) w (kept_group kept g) ≡ kept_group kept g
+same_group kept name g w is = by_case (bytes_eq name g) refl
+  where
+    by_case : (b : Bool) → bytes_eq name g ≡ b → cond b w (kept_group kept g) ≡ kept_group kept g
+    by_case false at = refl
+    by_case true at = is ∙ ap (kept_group kept) ((bytes_eq-Decides name g).0 at)
+
+abbrev pub group_with : Rules → List Member → Group
+group_with t ms = record { table = t; members = ms }
+
+-- what holds after success, or after a refusal, as it follows from what does
+pub on_ok : {X E : Type 0} (r : Result X E) {P Q : Type 0} → (P → Q) → OnOk r P → OnOk r Q
+on_ok (Ok x) f p = f p
+on_ok (Err e) f p = tt
+
+pub on_err : {X E : Type 0} (r : Result X E) {P Q : Type 0} → (P → Q) → OnErr r P → OnErr r Q
+on_err (Ok x) f p = tt
+on_err (Err e) f p = f p
+
+-- a front that is long enough is all
+pub take_past : {X : Type 0} (n : ℕ) (xs : List X) → length xs ≤ n → take n xs ≡ xs
+take_past n [] h = take-nil n
+take_past zero (x ∷ xs) h = absurd (omega arith)
+take_past {X} (suc n) (x ∷ xs) h = ap (λ (rest : List X). x ∷ rest) (take_past n xs (omega arith))
+
+-- the names of keys are the names of groups
+pub keys_named : {Z : Type 0} (entries : List (Vec ℕ Z × Group)) → map (λ key. key.items) (keys_of entries) ≡ names_of (named entries)
+keys_named [] = refl
+keys_named (entry ∷ entries) = ap (λ (names : List (List ℕ)). entry.0.items ∷ names) (keys_named entries)
+
+-- ---- seats by connections
+
+pub is_conn-Decides : (a b : ConnId) → (is_conn a b ≡ true) ↔ (a ≡ b)
+is_conn-Decides a b = (is_conn-true a b, (λ same. subst (λ (c : ConnId). is_conn a c ≡ true) same (is_conn-itself a)))
+
+-- a seat that is made changes no connection's group
+pub seat_made : (kept : KeptSeats) (conn q : ConnId) → lookup (is_conn conn) kept ≡ None → kept_seat (kept ++ (conn, None) ∷ []) q ≡ kept_seat kept q
+seat_made kept conn q none =
+    ap or_no_seat (lookup-push is_conn is_conn-Decides kept conn None q none) ∙ by_case (is_conn conn q) refl
+  where
+    by_case : (b : Bool) → is_conn conn q ≡ b → or_no_seat (cond b (Some None) (lookup (is_conn q) kept)) ≡ or_no_seat (lookup (is_conn q) kept)
+    by_case false is = refl
+    by_case true is = sym (ap or_no_seat (ap (λ (c : ConnId). lookup (is_conn c) kept) (sym (is_conn-true conn q is)) ∙ none))
+
+-- a seat that is there and set
+pub seat_set : (kept : KeptSeats) (conn : ConnId) (w : Option (List ℕ)) (q : ConnId) → is_some (lookup (is_conn conn) kept) ≡ true →
+    kept_seat (set_value (is_conn conn) kept w) q ≡ cond (is_conn q conn) w (kept_seat kept q)
+seat_set kept conn w q there =
+    ap or_no_seat (lookup-set is_conn is_conn-Decides kept conn w q there) ∙ by_case (is_conn conn q) (is_conn q conn) refl refl
+  where
+    by_case : (a b : Bool) → is_conn conn q ≡ a → is_conn q conn ≡ b → or_no_seat (cond a (Some w) (lookup (is_conn q) kept)) ≡ cond b w (or_no_seat (lookup (is_conn q) kept))
+    by_case true true x y = refl
+    by_case false false x y = refl
+    by_case true false x y =
+        let t : is_conn q conn ≡ true = (is_conn-Decides q conn).1 (sym ((is_conn-Decides conn q).0 x)) in
         absurd (cc)
-
--- the table in the first slot of a name changes, and no other
-pub kept_table-set : (kept : Kept) (g : List ℕ) (i : ℕ) (name : List ℕ) (rules t : Rules) → slice_get kept i ≡ Some (name, rules) →
-    bytes_eq name g ≡ true → ((k : ℕ) → k < i → is_table_of g (get_or kept k (name, rules)) ≡ false) →
-    (h : List ℕ) → kept_table (set kept i (name, t)) h ≡ cond (bytes_eq g h) t (kept_table kept h)
-kept_table-set [] g i name rules t at is earlier h = absurd (cc)
-kept_table-set (p ∷ ps) g zero name rules t at is earlier h = first (bytes_eq g h) refl
-  where
-    first : (b : Bool) → bytes_eq g h ≡ b → cond (bytes_eq name h) t (kept_table ps h) ≡ cond b t (cond (bytes_eq p.0 h) p.1 (kept_table ps h))
-    first true same = ap (λ b. cond b t (kept_table ps h)) (same_test g name h is ∙ same)
-    first false same =
-        let p_is : p ≡ (name, rules) = cc in
-        let not_h : bytes_eq name h ≡ false = same_test g name h is ∙ same in
-        ap (λ b. cond b t (kept_table ps h)) not_h
-        ∙ sym (ap (λ (q : List ℕ × Rules). cond (bytes_eq q.0 h) q.1 (kept_table ps h)) p_is ∙ ap (λ b. cond b rules (kept_table ps h)) not_h)
-kept_table-set (p ∷ ps) g (suc i) name rules t at is earlier h =
-    ap (λ (later : Rules). cond (bytes_eq p.0 h) p.1 later) (kept_table-set ps g i name rules t at is (λ k below. earlier (suc k) (omega arith)) h)
-    ∙ pass_over g p.0 h (bytes_eq p.0 h) t p.1 (kept_table ps h) (earlier 0 (omega arith)) refl
-
--- the table in the first slot of a name is the name's
-pub kept_table-at : (kept : Kept) (g : List ℕ) (i : ℕ) (name : List ℕ) (rules : Rules) → slice_get kept i ≡ Some (name, rules) →
-    bytes_eq name g ≡ true → ((k : ℕ) → k < i → is_table_of g (get_or kept k (name, rules)) ≡ false) → kept_table kept g ≡ rules
-kept_table-at [] g i name rules at is earlier = absurd (cc)
-kept_table-at (p ∷ ps) g zero name rules at is earlier =
-    let p_is : p ≡ (name, rules) = cc in
-    ap (λ (q : List ℕ × Rules). cond (bytes_eq q.0 g) q.1 (kept_table ps g)) p_is ∙ ap (λ b. cond b rules (kept_table ps g)) is
-kept_table-at (p ∷ ps) g (suc i) name rules at is earlier =
-    ap (λ b. cond b p.1 (kept_table ps g)) (earlier 0 (omega arith))
-    ∙ kept_table-at ps g i name rules at is (λ k below. earlier (suc k) (omega arith))
-
--- a slot and what stands in it
-pub record Slot (kept : Kept) (g : List ℕ) (i : ℕ) : Type 0 where
-  pub within : i < length kept
-  pub name : List ℕ
-  pub rules : Rules
-  pub stands : slice_get kept i ≡ Some (name, rules)
-  pub named : bytes_eq name g ≡ true
-  pub first : (k : ℕ) → k < i → is_table_of g (get_or kept k (name, rules)) ≡ false
-
-slice_get_or : (kept : Kept) (i : ℕ) (d : List ℕ × Rules) → i < length kept → slice_get kept i ≡ Some (get_or kept i d)
-slice_get_or [] i d h = absurd (omega arith)
-slice_get_or (p ∷ ps) zero d h = refl
-slice_get_or (p ∷ ps) (suc i) d h = slice_get_or ps i d (omega arith)
-
-get_or_same : (kept : Kept) (k : ℕ) (d e : List ℕ × Rules) → k < length kept → get_or kept k d ≡ get_or kept k e
-get_or_same [] k d e h = absurd (omega arith)
-get_or_same (p ∷ ps) zero d e h = refl
-get_or_same (p ∷ ps) (suc k) d e h = get_or_same ps k d e (omega arith)
-
--- what `position` finds is the first slot of the name
-pub slot_at : (kept : Kept) (g : List ℕ) (i : ℕ) → position (is_table_of g) kept ≡ Some i → Slot kept g i
-slot_at kept g i is =
-    let d : List ℕ × Rules = ([], []) in
-    let found = position-Some (is_table_of g) kept i ([], []) is in
-    let there : List ℕ × Rules = get_or kept i ([], []) in
-    record {
-      within = found.0;
-      name = (get_or kept i ([], [])).0;
-      rules = (get_or kept i ([], [])).1;
-      stands = slice_get_or kept i ([], []) found.0;
-      named = found.1;
-      first = λ k below. ap (is_table_of g) (get_or_same kept k (get_or kept i ([], [])) ([], []) (omega arith)) ∙ found.2 k below;
-    }
-
--- where `position` finds nothing, no pair has the name
-none_at : (kept : Kept) (g : List ℕ) → length kept ≤ prefix_len (λ pair. not (is_table_of g pair)) kept → list_any (is_table_of g) kept ≡ false
-none_at [] g h = refl
-none_at (p ∷ ps) g h = by_case (is_table_of g p) (none_at ps g) h
-  where
-    by_case : (b : Bool) → (length ps ≤ prefix_len (λ pair. not (is_table_of g pair)) ps → list_any (is_table_of g) ps ≡ false) →
-        suc (length ps) ≤ cond (not b) (1 + prefix_len (λ pair. not (is_table_of g pair)) ps) 0 → (b || list_any (is_table_of g) ps) ≡ false
-    by_case true later k = absurd (omega arith)
-    by_case false later k = later (omega arith)
-
-pub no_slot : (kept : Kept) (g : List ℕ) → position (is_table_of g) kept ≡ None → list_any (is_table_of g) kept ≡ false
-no_slot kept g is = by_case (ltb (prefix_len (λ pair. not (is_table_of g pair)) kept) (length kept)) refl is
-  where
-    by_case : (b : Bool) → ltb (prefix_len (λ pair. not (is_table_of g pair)) kept) (length kept) ≡ b →
-        cond b (Some (prefix_len (λ pair. not (is_table_of g pair)) kept)) None ≡ None → list_any (is_table_of g) kept ≡ false
-    by_case true at k = absurd (cc)
-    by_case false at k = none_at kept g (ltb-false _ _ at)
-
--- a name that is nowhere has the empty table
-pub kept_table-none : (kept : Kept) (g : List ℕ) → list_any (is_table_of g) kept ≡ false → kept_table kept g ≡ []
-kept_table-none [] g h = refl
-kept_table-none (p ∷ ps) g h = by_case (bytes_eq p.0 g) (kept_table-none ps g) h
-  where
-    by_case : (b : Bool) → (list_any (is_table_of g) ps ≡ false → kept_table ps g ≡ []) → (b || list_any (is_table_of g) ps) ≡ false → cond b p.1 (kept_table ps g) ≡ []
-    by_case true later k = absurd (cc)
-    by_case false later k = later k
-
--- a new name at the end has its table, and the others theirs
-pub kept_table-push : (kept : Kept) (g : List ℕ) (t : Rules) → list_any (is_table_of g) kept ≡ false → (h : List ℕ) →
-    kept_table (kept ++ (g, t) ∷ []) h ≡ cond (bytes_eq g h) t (kept_table kept h)
-kept_table-push [] g t none h = refl
-kept_table-push (p ∷ ps) g t none h = by_case (bytes_eq p.0 g) refl (λ k. kept_table-push ps g t k h) none
-  where
-    by_case : (b : Bool) → bytes_eq p.0 g ≡ b → (list_any (is_table_of g) ps ≡ false → kept_table (ps ++ (g, t) ∷ []) h ≡ cond (bytes_eq g h) t (kept_table ps h)) →
-        (b || list_any (is_table_of g) ps) ≡ false →
-        cond (bytes_eq p.0 h) p.1 (kept_table (ps ++ (g, t) ∷ []) h) ≡ cond (bytes_eq g h) t (cond (bytes_eq p.0 h) p.1 (kept_table ps h))
-    by_case true at later k = absurd (cc)
-    by_case false at later k =
-        ap (λ (rest : Rules). cond (bytes_eq p.0 h) p.1 rest) (later k) ∙ pass_over g p.0 h (bytes_eq p.0 h) t p.1 (kept_table ps h) at refl
-
--- ---- edits as the code makes them
-
--- a change that is said at the slot is the change of the name
-at_name : (change : Rules → Rules) (g h : List ℕ) (rules x : Rules) (b : Bool) → bytes_eq g h ≡ b → (g ≡ h → x ≡ rules) →
-    cond b (change rules) x ≡ cond b (change x) x
-at_name change g h rules x true is same = ap change (sym (same ((bytes_eq-Decides g h).0 is)))
-at_name change g h rules x false is same = refl
-
--- an edit in the first slot of a name changes its table
-pub changes-slot : (change : Rules → Rules) (g : List ℕ) (old new : Kept) (i : ℕ) → position (is_table_of g) old ≡ Some i →
-    EditsSlot change i old new → ChangesTable change g old new
-changes-slot change g old new i is edit h =
-    let s = slot_at old g i is in
-    ap (λ (k : Kept). kept_table k h) (edit s.name s.rules s.stands)
-    ∙ kept_table-set old g i s.name s.rules (change s.rules) s.stands s.named s.first h
-    ∙ at_name change g h s.rules (kept_table old h) (bytes_eq g h) refl
-    (λ same. ap (kept_table old) (sym same) ∙ kept_table-at old g i s.name s.rules s.stands s.named s.first)
-
--- a name that was nowhere comes with the change of the empty table
-pub changes-push : (change : Rules → Rules) (g : List ℕ) (old : Kept) (t : Rules) → position (is_table_of g) old ≡ None → change [] ≡ t →
-    ChangesTable change g old (old ++ (g, t) ∷ [])
-changes-push change g old t is made h =
-    kept_table-push old g t (no_slot old g is) h
-    ∙ ap (λ (x : Rules). cond (bytes_eq g h) x (kept_table old h)) (sym made)
-    ∙ at_name change g h [] (kept_table old h) (bytes_eq g h) refl
-    (λ same. ap (kept_table old) (sym same) ∙ kept_table-none old g (no_slot old g is))
-
--- where a name is nowhere, and the empty table stays empty, nothing has to change
-pub changes-none : (change : Rules → Rules) (g : List ℕ) (old : Kept) → position (is_table_of g) old ≡ None → change [] ≡ [] → ChangesTable change g old old
-changes-none change g old is made h = stays (bytes_eq g h) refl
-  where
-    stays : (b : Bool) → bytes_eq g h ≡ b → kept_table old h ≡ cond b (change (kept_table old h)) (kept_table old h)
-    stays false at = refl
-    stays true at =
-        let empty : kept_table old h ≡ [] = ap (kept_table old) (sym ((bytes_eq-Decides g h).0 at)) ∙ kept_table-none old g (no_slot old g is) in
-        empty ∙ sym (ap change empty ∙ made)
-
--- what the name's table can take, the table in its first slot can
-pub can_insert-slot : (g : List ℕ) (old : Kept) (i index id : ℕ) → position (is_table_of g) old ≡ Some i → CanInsert (kept_table old g) index id →
-    (name : List ℕ) (rules : Rules) → slice_get old i ≡ Some (name, rules) → CanInsert rules index id
-can_insert-slot g old i index id is can name rules stands =
-    let s = slot_at old g i is in
-    let table : Option (List ℕ × Rules) → Rules = λ o. elim o [ None ↦ [] | Some pair ↦ pair.1 ] in
-    let same : s.rules ≡ rules = ap table (sym s.stands ∙ stands) in
-    let P : Rules → Type 0 = λ (x : Rules). CanInsert x index id in
-    subst P (kept_table-at old g i s.name s.rules s.stands s.named s.first ∙ same) can
-
--- the first rule of a table
-pub insert-first : (index : ℕ) (entry : ℕ × Rule) → insert [] index entry ≡ entry ∷ []
-insert-first index entry = rw (take-nil, drop-nil) refl
-
--- ---- calls that edit
-
--- an insert that can edit its group's table finds that it can
-pub insert_can : (old kept : Kept) (place : ℕ) (call : Call) (g : List ℕ) (index : ℕ) (rule : Rule) → kept ≡ old →
-    ((h : List ℕ) → is_named (named (Act call)) h ≡ true → CanEditBy (kept_table old h) place (Act call)) → call ≡ Insert g index rule →
-    CanInsert (kept_table kept g) index place
-insert_can old kept place call g index rule same can is =
-    let named_is : is_named (named (Act call)) g ≡ true = ap (λ (x : Call). is_named (named (Act x)) g) is ∙ (bytes_eq-Decides g g).1 refl in
-    let P : Call → Type 0 = λ (x : Call). CanEditBy (kept_table old g) place (Act x) in
-    let Q : Kept → Type 0 = λ (k : Kept). CanInsert (kept_table k g) index place in
-    subst Q (sym same) (subst P is (can g named_is))
+    by_case false true x y =
+        let t : is_conn conn q ≡ true = (is_conn-Decides conn q).1 (sym ((is_conn-Decides q conn).0 y)) in
+        absurd (cc)

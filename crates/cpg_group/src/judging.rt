@@ -1,16 +1,14 @@
-//! The judgement of one entry over the records before it.
+//! The judgement of one entry over the records before it, by the groups and seats that they come to.
 
 ghost use Rattle.std.specs.Prelude.{◌≡◌, ◌++◌, ◌∷◌, [], IfOk, IsOkUnless};
 ghost use Rattle.std.specs.Option.{option_copied};
 ghost use Rattle.cpg_record.specs.Connections.{conn_of};
 ghost use Rattle.cpg_record.specs.Judging.{entry_group, record_of};
 ghost use Rattle.cpg_record.specs.Membership.{group_of, members_in};
-ghost use Rattle.cpg_record.specs.RuleTables.{rules_of};
 ghost use Rattle.cpg_record.specs.Verdicts.{edit_decision, join_verdict, leave_verdict, send_verdict, insert_verdict, remove_verdict, verdict};
-ghost use Rattle.cpg_group.specs.Tables.{kept_table, AreCurrent};
+ghost use Rattle.cpg_group.specs.Standing.{standing, AreSeated, AreStanding};
 
-use crate::history::{collect_members, find_group};
-use crate::tables::Tables;
+use crate::standing::{Group, Groups, Seats};
 use cpg_cred::{By, Refusal};
 use cpg_entry::{Call, Entry, Name, Op};
 use cpg_record::{ConnId, MOST_MEMBERS, Members, Reason, Record, Verdict};
@@ -19,29 +17,27 @@ use std::alloc::Global;
 
 /// A join: the right, then Joined, Twice and Full.
 fn judge_join(
-    alloc: Global,
     records: &[Record],
-    rules: &Table,
+    group: &Group,
+    seat: Option<&Name>,
     entry: &Entry,
-    group: &[u8],
-) -> Result<Verdict, Refusal>
-    requires { rules.now ≡ rules_of records.now group.now }
-    ensures ok { IfOk result (λ v. v ≡ join_verdict records.now entry.now group.now) }
-    ensures memory { IsOkUnless result Refusal.Memory }
+    name: &[u8],
+) -> Verdict
+    requires group { group.now ≡ standing records.now name.now }
+    requires seat { option_copied seat ≡ group_of records.now (conn_of entry.now) }
+    ensures { result ≡ join_verdict records.now entry.now name.now }
 {
-    match rules.decide(Right::Join, entry.asker()) {
-        Decision::Denied(by) => Ok(Verdict::Denied(Reason::of(by))),
+    match group.table.decide(Right::Join, entry.asker()) {
+        Decision::Denied(by) => Verdict::Denied(Reason::of(by)),
         Decision::Allowed(by) => {
-            if find_group(records, &ConnId::of(entry)).is_some() {
-                return Ok(Verdict::Denied(Reason::Joined));
-            }
-            let members = collect_members(alloc, records, group)?;
-            if members.has_process(entry) {
-                Ok(Verdict::Denied(Reason::Twice))
-            } else if members.len() >= MOST_MEMBERS {
-                Ok(Verdict::Denied(Reason::Full))
+            if seat.is_some() {
+                Verdict::Denied(Reason::Joined)
+            } else if group.members.has_process(entry) {
+                Verdict::Denied(Reason::Twice)
+            } else if group.members.len() >= MOST_MEMBERS {
+                Verdict::Denied(Reason::Full)
             } else {
-                Ok(Verdict::Allowed(by))
+                Verdict::Allowed(by)
             }
         }
     }
@@ -58,14 +54,15 @@ fn judge_leave(group: Option<&Name>) -> Verdict
 }
 
 /// A send: Closed where the connection is in no group, then the right in its group.
-fn judge_send(records: &[Record], tables: &Tables, entry: &Entry) -> Verdict
-    requires { AreCurrent tables.now records.now }
-    ensures { result ≡ send_verdict records.now entry.now (group_of records.now (conn_of entry.now)) }
+fn judge_send(records: &[Record], groups: &Groups, seat: Option<&Name>, entry: &Entry) -> Verdict
+    requires { AreStanding groups.now records.now }
+    ensures { result ≡ send_verdict records.now entry.now (option_copied seat.entry) }
 {
-    match find_group(records, &ConnId::of(entry)) {
+    match seat {
         None => Verdict::Denied(Reason::Closed),
-        Some(group) => match tables
+        Some(group) => match groups
             .of(group.as_slice())
+            .table
             .decide(Right::Send, entry.asker())
         {
             Decision::Denied(by) => Verdict::Denied(Reason::of(by)),
@@ -119,43 +116,44 @@ fn judge_remove(rules: &Table, entry: &Entry, id: u32) -> Verdict
     }
 }
 
-/// The verdict on an entry.
+/// The verdict on an entry whose connection is in that group.
 fn judge_entry(
-    alloc: Global,
     records: &[Record],
-    tables: &Tables,
+    groups: &Groups,
+    seat: Option<&Name>,
     entry: &Entry,
-) -> Result<Verdict, Refusal>
-    requires { AreCurrent tables.now records.now }
-    ensures ok { IfOk result (λ v. v ≡ verdict records.now entry.now) }
-    ensures memory { IsOkUnless result Refusal.Memory }
+) -> Verdict
+    requires groups { AreStanding groups.now records.now }
+    requires seat { option_copied seat ≡ group_of records.now (conn_of entry.now) }
+    ensures { result ≡ verdict records.now entry.now }
 {
     match &entry.op {
         Op::Act(Call::Join(group)) => {
             let name = group.as_slice();
-            judge_join(alloc, records, tables.of(name), entry, name)
+            judge_join(records, groups.of(name), seat, entry, name)
         }
-        Op::Act(Call::Leave) => Ok(judge_leave(find_group(records, &ConnId::of(entry)))),
-        Op::Act(Call::Send(_)) => Ok(judge_send(records, tables, entry)),
+        Op::Act(Call::Leave) => judge_leave(seat),
+        Op::Act(Call::Send(_)) => judge_send(records, groups, seat, entry),
         Op::Act(Call::Insert(group, index, _)) => {
-            Ok(judge_insert(tables.of(group.as_slice()), entry, *index))
+            judge_insert(&groups.of(group.as_slice()).table, entry, *index)
         }
         Op::Act(Call::Remove(group, id)) => {
-            Ok(judge_remove(tables.of(group.as_slice()), entry, *id))
+            judge_remove(&groups.of(group.as_slice()).table, entry, *id)
         }
-        Op::Gone => Ok(Verdict::Allowed(By::Free)),
+        Op::Gone => Verdict::Allowed(By::Free),
     }
 }
 
 /// The group that the entry names, else the one that its connection is in.
-fn find_entry_group<'a>(records: &'a [Record], entry: &'a Entry) -> Option<&'a Name>
+fn find_entry_group<'a>(records: &[Record], seat: Option<&'a Name>, entry: &'a Entry) -> Option<&'a Name>
+    requires { option_copied seat ≡ group_of records.now (conn_of entry.now) }
     ensures { option_copied result ≡ entry_group records.now entry.now entry.now.op }
 {
     match &entry.op {
         Op::Act(Call::Join(group)) => Some(group),
         Op::Act(Call::Insert(group, _, _)) => Some(group),
         Op::Act(Call::Remove(group, _)) => Some(group),
-        _ => find_group(records, &ConnId::of(entry)),
+        _ => seat,
     }
 }
 
@@ -164,15 +162,17 @@ fn find_entry_group<'a>(records: &'a [Record], entry: &'a Entry) -> Option<&'a N
 fn collect_members_with(
     alloc: Global,
     records: &[Record],
+    groups: &Groups,
     next: &Record,
 ) -> Result<Members, Refusal>
+    requires { AreStanding groups.now records.now }
     ensures ok { IfOk result (λ list. list ≡ members_in (records.now ++ next.now ∷ []) next.now.group) }
     ensures memory { IsOkUnless result Refusal.Memory }
 {
     match &next.group {
         None => Ok(Members::new(alloc)),
         Some(group) => {
-            let mut list = collect_members(alloc, records, group.as_slice())?;
+            let mut list = groups.of(group.as_slice()).members.copy(alloc)?;
             list.take_in(next, group.as_slice())?;
             Ok(list)
         }
@@ -183,15 +183,18 @@ fn collect_members_with(
 pub(crate) fn judge(
     alloc: Global,
     records: &[Record],
-    tables: &Tables,
+    groups: &Groups,
+    seats: &Seats,
     entry: &Entry,
 ) -> Result<Record, Refusal>
-    requires { AreCurrent tables.now records.now }
+    requires groups { AreStanding groups.now records.now }
+    requires seats { AreSeated seats.now records.now }
     ensures ok { IfOk result (λ next. next ≡ record_of records.now entry.now) }
     ensures memory { IsOkUnless result Refusal.Memory }
 {
-    let verdict = judge_entry(alloc, records, tables, entry)?;
-    let group = match find_entry_group(records, entry) {
+    let seat = seats.of(&ConnId::of(entry));
+    let verdict = judge_entry(records, groups, seat, entry);
+    let group = match find_entry_group(records, seat, entry) {
         Some(group) => Some(group.copy(alloc)?),
         None => None,
     };
@@ -202,6 +205,6 @@ pub(crate) fn judge(
         verdict,
         members: Members::new(alloc),
     };
-    next.members = collect_members_with(alloc, records, &next)?;
+    next.members = collect_members_with(alloc, records, groups, &next)?;
     Ok(next)
 }

@@ -9,7 +9,7 @@ mod history;
 mod judging;
 mod listing;
 mod policies;
-mod tables;
+mod standing;
 mod telling;
 mod verifying;
 

@@ -4,15 +4,14 @@ ghost use Rattle.std.specs.Prelude.{◌≡◌, filter, IfOk, IsOkUnless};
 ghost use Rattle.std.specs.Option.{option_copied};
 ghost use Rattle.cpg_record.specs.Listings.{Answers, AreGroups, listing, processes};
 ghost use Rattle.cpg_record.specs.RuleTables.{rules_of};
-ghost use Rattle.cpg_group.specs.Groups.{joined_group, joined_groups, is_shown};
-ghost use Rattle.cpg_group.specs.Tables.{AreCurrent};
+ghost use Rattle.cpg_group.specs.Groups.{is_shown};
+ghost use Rattle.cpg_group.specs.Standing.{names_of, standing, AreStanding};
 
-use crate::history::collect_members;
-use crate::tables::Tables;
+use crate::standing::{Group, Groups};
 use cpg_cred::{NodeId, Refusal};
-use cpg_entry::{Call, Name, Op};
+use cpg_entry::Name;
 use cpg_record::{Members, Record};
-use cpg_rules::{Asker, Decision, Right, Table};
+use cpg_rules::{Asker, Decision, Right};
 use std::alloc::Global;
 use std::marker::Model;
 
@@ -79,67 +78,27 @@ impl Names {
 pub(crate) fn list_members(
     alloc: Global,
     records: &[Record],
-    rules: &Table,
-    group: &[u8],
+    group: &Group,
+    name: &[u8],
     asker: &Asker,
 ) -> Result<Processes, Refusal>
-    requires { rules.now ≡ rules_of records.now group.now }
-    ensures { Answers (listing records.now asker.now group.now) result }
+    requires { group.now ≡ standing records.now name.now }
+    ensures { Answers (listing records.now asker.now name.now) result }
 {
-    match rules.decide(Right::List, *asker) {
+    match group.table.decide(Right::List, *asker) {
         Decision::Denied(by) => Err(Refusal::Denied(by)),
-        Decision::Allowed(_) => {
-            let members = collect_members(alloc, records, group)?;
-            Processes::of(alloc, &members)
-        }
+        Decision::Allowed(_) => Processes::of(alloc, &group.members),
     }
-}
-
-/// The group that the record joins, if it is an allowed join.
-fn group_joined(past: &Record) -> Option<&Name>
-    ensures { option_copied result ≡ joined_group past.now }
-{
-    if !past.verdict.is_allowed() {
-        return None;
-    }
-    match &past.entry.op {
-        Op::Act(Call::Join(group)) => Some(group),
-        _ => None,
-    }
-}
-
-/// The groups that were joined, once for each join.
-fn collect_joined(alloc: Global, records: &[Record]) -> Result<Vec<Name>, Refusal>
-    ensures ok { IfOk result (λ names. names.items ≡ joined_groups records.now) }
-    ensures memory { IsOkUnless result Refusal.Memory }
-{
-    let mut names = Vec::new(alloc);
-    for past in records {
-        if let Some(group) = group_joined(past) {
-            names.push(group.copy(alloc)?)?;
-        }
-    }
-    Ok(names)
 }
 
 /// Whether the asker may list the group, and it has members.
-fn shows_group(
-    alloc: Global,
-    records: &[Record],
-    rules: &Table,
-    group: &[u8],
-    asker: &Asker,
-) -> Result<bool, Refusal>
-    requires { rules.now ≡ rules_of records.now group.now }
-    ensures ok { IfOk result (λ shown. shown ≡ is_shown records.now asker.now group.now) }
-    ensures memory { IsOkUnless result Refusal.Memory }
+fn shows_group(records: &[Record], group: &Group, name: &[u8], asker: &Asker) -> bool
+    requires { group.now ≡ standing records.now name.now }
+    ensures { result ≡ is_shown records.now asker.now name.now }
 {
-    match rules.decide(Right::List, *asker) {
-        Decision::Denied(_) => Ok(false),
-        Decision::Allowed(_) => {
-            let members = collect_members(alloc, records, group)?;
-            Ok(!members.as_slice().is_empty())
-        }
+    match group.table.decide(Right::List, *asker) {
+        Decision::Denied(_) => false,
+        Decision::Allowed(_) => !group.members.as_slice().is_empty(),
     }
 }
 
@@ -147,18 +106,18 @@ fn shows_group(
 fn keep_shown(
     alloc: Global,
     records: &[Record],
-    tables: &Tables,
+    groups: &Groups,
     names: Vec<Name>,
     asker: &Asker,
 ) -> Result<Vec<Name>, Refusal>
-    requires { AreCurrent tables.now records.now }
+    requires { AreStanding groups.now records.now }
     ensures ok { IfOk result (λ kept. kept.items ≡ filter (is_shown records.now asker.now) names.items) }
     ensures memory { IsOkUnless result Refusal.Memory }
 {
     let mut kept = Vec::new(alloc);
     for name in names {
         let group = name.as_slice();
-        if shows_group(alloc, records, tables.of(group), group, asker)? {
+        if shows_group(records, groups.of(group), group, asker) {
             kept.push(name)?;
         }
     }
@@ -169,16 +128,16 @@ fn keep_shown(
 pub(crate) fn list_groups(
     alloc: Global,
     records: &[Record],
-    tables: &Tables,
+    groups: &Groups,
     asker: &Asker,
 ) -> Result<Names, Refusal>
-    requires { AreCurrent tables.now records.now }
+    requires { AreStanding groups.now records.now }
     ensures ok { IfOk result (λ names. AreGroups records.now asker.now names) }
     ensures memory { IsOkUnless result Refusal.Memory }
 {
-    let mut joined = collect_joined(alloc, records)?;
-    joined.sort()?;
-    joined.dedup();
-    let names = keep_shown(alloc, records, tables, joined, asker)?;
+    let mut kept = groups.names(alloc)?;
+    kept.sort()?;
+    kept.dedup();
+    let names = keep_shown(alloc, records, groups, kept, asker)?;
     Ok(Names { names })
 }

@@ -1,39 +1,73 @@
 //! The judged entries, and what they come to.
 
-ghost use Rattle.std.specs.Prelude.{◌≡◌, ◌≢◌, ◌<◌, ◌≤◌, ◌++◌, ◌∷◌, [], length, OnOk, OnErr, IfOk, IfErr, MatchOption, IsOkUnless};
+ghost use Rattle.std.specs.Prelude.{List, ℕ, ◌≡◌, ◌≢◌, ◌<◌, ◌≤◌, ◌++◌, ◌∷◌, [], length, OnOk, OnErr, IfOk, IfErr, MatchOption, IsOkUnless};
+ghost use Rattle.cpg_record.specs.declared.connections.ConnId.{ConnId};
+ghost use Rattle.cpg_record.specs.Connections.{conn_of};
 ghost use Rattle.cpg_record.specs.Events.{events};
 ghost use Rattle.cpg_record.specs.Judging.{judged, most_places, record_of, IsNext};
 ghost use Rattle.cpg_record.specs.Listings.{Answers, AreGroups, listing};
 ghost use Rattle.cpg_record.specs.RuleTables.{rules_of};
+ghost use Rattle.cpg_group.specs.Standing.{kept_group, kept_seat, group_past, joined_name, CanTake, HasSeat};
 
 use crate::listing::{self, Names, Processes};
-use crate::tables::Tables;
+use crate::standing::{Groups, Seats, copy_joined};
 use crate::{judging, telling};
 use cpg_cred::{Refusal, Refused};
-use cpg_entry::Entry;
+use cpg_entry::{Entry, Name};
 use cpg_record::{ConnId, Events, Record};
 use cpg_rules::{Asker, Table};
 use std::alloc::Global;
+use std::fmt;
 use std::marker::Model;
 
 /// The entries judged so far, in order, each with its record. Contracts see it as the list of entries.
-#[derive(Debug, Drop)]
+#[derive(Drop)]
 pub struct Policy {
     records: Vec<Record>,
-    tables: Tables,
+    groups: Groups,
+    seats: Seats,
+}
+
+impl fmt::Debug for Policy {
+    fn fmt<W: fmt::Write>(&self, f: &mut fmt::Formatter<W>) -> fmt::Result {
+        f.debug_list().slice(self.records.as_slice()).finish()
+    }
 }
 
 impl Model for Policy {
     ghost use Rattle.std.specs.Prelude.{List};
     ghost use Rattle.cpg_entry.specs.declared.entries.Entry.{Entry};
     ghost use Rattle.cpg_record.specs.Judging.{entries_of, AreRecords};
-    ghost use Rattle.cpg_group.specs.Tables.{AreCurrent};
+    ghost use Rattle.cpg_group.specs.Standing.{AreSeated, AreStanding};
 
     ghost Value = { List Entry };
 
     ghost view = { λ policy. entries_of policy.records.items };
 
-    ghost invariant = { λ policy. AreRecords policy.records.items × AreCurrent policy.tables policy.records.items };
+    ghost invariant = { λ policy. AreRecords policy.records.items × AreStanding policy.groups policy.records.items × AreSeated policy.seats policy.records.items };
+}
+
+/// Makes room for the seat of the record's connection, and brings the groups past the record: the growths
+/// that an `apply` needs. A refusal changes no group, and no call changes a connection's group.
+fn grow(
+    alloc: Global,
+    groups: &mut Groups,
+    seats: &mut Seats,
+    place: u32,
+    next: &Record,
+) -> Result<Option<Name>, Refusal>
+    requires { (g : List ℕ) → CanTake g (kept_group groups.old g) (place, next.now) }
+    ensures ok { OnOk result ((g : List ℕ) → kept_group groups.new g ≡ group_past g (kept_group groups.old g) (place, next.now)) }
+    ensures err { OnErr result ((g : List ℕ) → kept_group groups.new g ≡ kept_group groups.old g) }
+    ensures seats { (c : ConnId) → kept_seat seats.new c ≡ kept_seat seats.old c }
+    ensures there { OnOk result (HasSeat seats.new (conn_of next.now.entry)) }
+    ensures joined { IfOk result (λ name. name ≡ joined_name next.now) }
+    ensures memory { IsOkUnless result Refusal.Memory }
+{
+    seats.make(&ConnId::of(&next.entry))?;
+    let joined = copy_joined(alloc, next)?;
+    groups.take_in(place, next)?;
+    Ok(joined)
 }
 
 impl Policy {
@@ -43,7 +77,8 @@ impl Policy {
     {
         Policy {
             records: Vec::new(alloc),
-            tables: Tables::new(alloc),
+            groups: Groups::new(alloc),
+            seats: Seats::new(alloc),
         }
     }
 
@@ -56,7 +91,8 @@ impl Policy {
         judging::judge(
             *self.records.allocator(),
             self.records.as_slice(),
-            &self.tables,
+            &self.groups,
+            &self.seats,
             entry,
         )
     }
@@ -76,8 +112,10 @@ impl Policy {
             });
         }
         let place = self.records.len() as u32 + 1;
-        match self.tables.take_in(place, &next) {
-            Ok(()) => {
+        let alloc = *self.records.allocator();
+        match grow(alloc, &mut self.groups, &mut self.seats, place, &next) {
+            Ok(joined) => {
+                self.seats.take_in(&next, joined);
                 self.records.push_reserved(next);
                 Ok(())
             }
@@ -112,7 +150,7 @@ impl Policy {
         listing::list_members(
             *self.records.allocator(),
             self.records.as_slice(),
-            self.tables.of(group),
+            self.groups.of(group),
             group,
             &asker,
         )
@@ -126,7 +164,7 @@ impl Policy {
         listing::list_groups(
             *self.records.allocator(),
             self.records.as_slice(),
-            &self.tables,
+            &self.groups,
             &asker,
         )
     }
@@ -135,7 +173,7 @@ impl Policy {
     pub fn table(&self, group: &[u8]) -> Option<&Table>
         ensures { MatchOption result (rules_of (judged self.now) group.now ≡ []) (λ table. (table.now ≡ rules_of (judged self.now) group.now) × (table.now ≢ [])) }
     {
-        let table = self.tables.of(group);
+        let table = &self.groups.of(group).table;
         if table.is_empty() { None } else { Some(table) }
     }
 

@@ -11,3 +11,4 @@ pub mod Receiving
 pub mod RuleTables
 pub mod Steps
 pub mod Verdicts
+pub mod Shared

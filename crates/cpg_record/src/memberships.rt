@@ -1,6 +1,7 @@
 //! The members of groups.
 
-ghost use Rattle.std.specs.Prelude.{◌≡◌, ◌↔◌, IsTrue, [], length, OnOk, OnErr, IfOk, IsOkUnless};
+ghost use Rattle.std.specs.Prelude.{◌≡◌, ◌↔◌, ◌++◌, ◌∷◌, IsTrue, [], length, OnOk, OnErr, IfOk, IsOkUnless};
+ghost use Rattle.std.specs.Arc.{arc_slice_items};
 ghost use Rattle.cpg_record.specs.Connections.{conn_in, member_of};
 ghost use Rattle.cpg_record.specs.Steps.{members_after, without};
 ghost use Rattle.cpg_record.specs.Verdicts.{has_process};
@@ -10,7 +11,9 @@ use crate::records::Record;
 use cpg_cred::{NodeId, Refusal};
 use cpg_entry::{Call, Entry, Op};
 use std::alloc::Global;
+use std::fmt;
 use std::marker::Model;
+use std::sync::ArcSlice;
 
 /// A member of a group: a connection with its process.
 #[derive(Debug, Clone, Copy, PartialEq, Eq)]
@@ -43,19 +46,27 @@ impl Member {
     }
 }
 
-/// Members of a group, in the order of their joins. Contracts see it as their list.
-#[derive(Debug, Drop)]
+/// Members of a group, in the order of their joins. Contracts see it as their list. Copies share it.
+#[derive(Drop)]
 pub struct Members {
-    members: Vec<Member>,
+    alloc: Global,
+    list: Option<ArcSlice<Member>>,
 }
 
 impl Model for Members {
     ghost use Rattle.std.specs.Prelude.{List};
     ghost use Rattle.cpg_record.specs.declared.memberships.Member.{Member};
+    ghost use Rattle.cpg_record.specs.Shared.{shared};
 
     ghost Value = { List Member };
 
-    ghost view = { λ members. members.members.items };
+    ghost view = { λ members. shared members.list };
+}
+
+impl fmt::Debug for Members {
+    fn fmt<W: fmt::Write>(&self, f: &mut fmt::Formatter<W>) -> fmt::Result {
+        f.debug_list().slice(self.as_slice()).finish()
+    }
 }
 
 impl Members {
@@ -63,9 +74,7 @@ impl Members {
     pub fn new(alloc: Global) -> Members
         ensures { result ≡ [] }
     {
-        Members {
-            members: Vec::new(alloc),
-        }
+        Members { alloc, list: None }
     }
 
     /// Those members.
@@ -73,8 +82,10 @@ impl Members {
         ensures ok { IfOk result (λ copy. copy ≡ members.now) }
         ensures memory { IsOkUnless result Refusal.Memory }
     {
+        let list = ArcSlice::from_slice(alloc, members)?;
         Ok(Members {
-            members: Vec::from_slice(alloc, members)?,
+            alloc,
+            list: Some(list),
         })
     }
 
@@ -83,28 +94,37 @@ impl Members {
         ensures ok { IfOk result (λ copy. copy ≡ self.now) }
         ensures memory { IsOkUnless result Refusal.Memory }
     {
-        Members::from_slice(alloc, self.as_slice())
+        match &self.list {
+            None => Ok(Members::new(alloc)),
+            Some(list) => Ok(Members {
+                alloc,
+                list: Some(list.clone()?),
+            }),
+        }
     }
 
     /// The members.
     pub fn as_slice(&self) -> &[Member]
         ensures { result.now ≡ self.now }
     {
-        self.members.as_slice()
+        match &self.list {
+            None => &[],
+            Some(list) => list.as_slice(),
+        }
     }
 
     /// How many there are.
     pub fn len(&self) -> usize
         ensures { result ≡ length self.now }
     {
-        self.members.len()
+        self.as_slice().len()
     }
 
     /// Whether the lists are the same.
     pub fn equals(&self, other: &Members) -> bool
         ensures { IsTrue result ↔ (self.now ≡ other.now) }
     {
-        self.members.as_slice() == other.members.as_slice()
+        self.as_slice() == other.as_slice()
     }
 
     /// Whether the entry's process is among them.
@@ -113,7 +133,7 @@ impl Members {
     {
         let node = entry.node;
         let pid = entry.pid;
-        self.members
+        self.as_slice()
             .iter()
             .any(|member| member.node == node && member.pid == pid)
     }
@@ -130,22 +150,45 @@ impl Members {
         match &past.entry.op {
             Op::Act(Call::Join(name)) => {
                 if name.is(group) {
-                    self.members.push(Member::of(&past.entry))?;
+                    let list = with_member(self.alloc, self.as_slice(), Member::of(&past.entry))?;
+                    self.list = Some(list);
                 }
                 Ok(())
             }
             Op::Act(Call::Leave) | Op::Gone => {
-                self.remove(&ConnId::of(&past.entry));
+                let list = without_conn(self.alloc, self.as_slice(), &ConnId::of(&past.entry))?;
+                self.list = Some(list);
                 Ok(())
             }
             _ => Ok(()),
         }
     }
+}
 
-    /// Takes a connection out, and keeps the order of the others.
-    fn remove(&mut self, conn: &ConnId)
-        ensures { self.new ≡ without conn.now self.old }
-    {
-        self.members.retain(|member| !member.conn_id().is(conn));
-    }
+/// The members with one more, last.
+fn with_member(
+    alloc: Global,
+    members: &[Member],
+    member: Member,
+) -> Result<ArcSlice<Member>, Refusal>
+    ensures ok { IfOk result (λ list. arc_slice_items list ≡ members.now ++ member ∷ []) }
+    ensures memory { IsOkUnless result Refusal.Memory }
+{
+    let mut list = Vec::from_slice(alloc, members)?;
+    list.push(member)?;
+    Ok(ArcSlice::from_vec(list)?)
+}
+
+/// The members that are not that connection, in their order.
+fn without_conn(
+    alloc: Global,
+    members: &[Member],
+    conn: &ConnId,
+) -> Result<ArcSlice<Member>, Refusal>
+    ensures ok { IfOk result (λ list. arc_slice_items list ≡ without conn.now members.now) }
+    ensures memory { IsOkUnless result Refusal.Memory }
+{
+    let mut list = Vec::from_slice(alloc, members)?;
+    list.retain(|member| !member.conn_id().is(conn));
+    Ok(ArcSlice::from_vec(list)?)
 }

@@ -4,5 +4,4 @@ use Rattle.std.proofs.lemmas.Slice.Eq.{slice_eq-Decides}
 use Rattle.cpg_record.proofs.memberships.Members.equals.Goals as goal
 
 pub returns : goal.returns
-returns c = rw (← c.self.view_is, ← c.other.view_is, ← c.as_slice.ensures.value, ← c.as_slice-2.ensures.value)
-    (slice_eq-Decides (λ a b. search rules) _ _ _ c.eq.ensures)
+returns c = rw (← c.as_slice.ensures, ← c.as_slice-2.ensures) (slice_eq-Decides (λ a b. search rules) _ _ _ c.eq.ensures)

@@ -1,0 +1,10 @@
+use Rattle.std.proofs.Common.{map, ap, ◌∙◌}
+use Rattle.cpg_group.specs.Standing.{names_of}
+use Rattle.cpg_group.proofs.Kept.{keys_named, take_past}
+use Rattle.cpg_group.proofs.standing.Groups.names.Goals as goal
+
+pub returns-clause-ok : goal.returns-clause-ok
+returns-clause-ok c =
+    c.loop-name.invariant
+    ∙ ap (map (λ key. key.items)) (take_past c.loop-name.name-index c.as_slice-name-items.result.now c.loop-name-test.false ∙ c.as_slice-name-items.ensures ∙ c.keys.ensures.rest)
+    ∙ keys_named c.self.inside.kept.entries ∙ ap names_of c.self.view_is
