@@ -1,5 +1,6 @@
 pub mod Bounded
 pub mod Changed
+pub mod Cuts
 pub mod Denials
 pub mod Elsewhere
 pub mod Growing
@@ -10,6 +11,8 @@ pub mod Reasoned
 pub mod Seats
 pub mod Told
 pub mod Why
+pub mod Nexts
+pub mod Positions
 pub mod Once
 pub mod Ordered
 pub mod Placing

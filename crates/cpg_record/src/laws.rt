@@ -2,6 +2,7 @@
 
 ghost use Rattle.cpg_record.specs.Bounds.{JudgedWithinBounds};
 ghost use Rattle.cpg_record.specs.Laws.{SeatsAreMemberships, GroupIsMembership, MembersAfterOneMore, RulesAfterOneMore, DenialChangesNothing, PrefixesAreJudgedAlike, EachEntryIsJudged, EachIsJudgedByThoseBefore, RecordsListTheirMembers, OthersKeepMembers, MembersAreIn, OneSeatEach, OnceInAGroup};
+ghost use Rattle.cpg_record.specs.Nexts.{TellsExactly, GroupsStay, MembersStay, NextIsAtTheCut};
 ghost use Rattle.cpg_record.specs.Receiving.{InboxesOnlyGrow, PlacesTellAtMostTwo, ToldInOrder, ReceivesExactly, HearsChangesExactly, HearsEditsExactly, HearsVerdictsExactly};
 ghost use Rattle.cpg_record.specs.Reasons.{DeniedListingsNameTheirRule, VerdictsNameWhatDecided};
 
@@ -124,4 +125,26 @@ pub fn verdicts_name_what_decided()
 /// Each event is told once: they come by place, and a place's verdict comes before its news.
 pub fn told_in_order()
     ensures { ToldInOrder }
+{}
+
+/// A place tells a connection something exactly where the connection made its entry, or the entry is allowed
+/// with the group that the connection is in before it.
+pub fn tells_exactly()
+    ensures { TellsExactly }
+{}
+
+/// A connection's group stays as long as the connection makes no entry.
+pub fn groups_stay()
+    ensures { GroupsStay }
+{}
+
+/// A group's members stay as long as no allowed entry is of it.
+pub fn members_stay()
+    ensures { MembersStay }
+{}
+
+/// Where a search for a place cuts the ascending list of the places of records that pass a test, the next of
+/// them stands.
+pub fn next_is_at_the_cut()
+    ensures { NextIsAtTheCut }
 {}
