@@ -9,19 +9,22 @@ use Rattle.cpg_entry.specs.declared.calls.Call.TheVariants.{Join, Leave, Send, I
 use Rattle.cpg_entry.specs.declared.calls.Op.{Op}
 use Rattle.cpg_entry.specs.declared.calls.Op.TheVariants.{Act, Gone}
 use Rattle.cpg_entry.specs.declared.entries.Entry.{Entry}
-use Rattle.cpg_record.specs.declared.connections.ConnId.{ConnId}
 use Rattle.cpg_record.specs.declared.memberships.Member.{Member}
 use Rattle.cpg_record.specs.declared.records.Record.{Record}
 use Rattle.cpg_record.specs.Judging.{judged, with_judgement, record_of, entry_group, entries_of, AreJudged}
 use Rattle.cpg_record.specs.Membership.{is_allowed, is_named, members}
 use Rattle.cpg_record.specs.RuleTables.{edited, edited_by, named, rules_of}
-use Rattle.cpg_record.specs.Steps.{CanEditBy, group_after, members_by}
+use Rattle.cpg_record.specs.Steps.{CanEditBy, members_by}
 use Rattle.cpg_record.proofs.Elsewhere.{elsewhere_of, lists_members}
-use Rattle.cpg_record.proofs.Growing.{group_of_push, members_push, rules_of_push}
+use Rattle.cpg_record.proofs.Growing.{members_push, rules_of_push}
+use Rattle.cpg_record.specs.Nexts.{acts_in}
+use Rattle.cpg_record.specs.Places.{places_of}
 use Rattle.cpg_record.proofs.Once.{OneEach, one_from}
+use Rattle.cpg_record.proofs.Positions.{places_from-push}
+use Rattle.std.proofs.lemmas.List.{append-nil}
 use Rattle.cpg_record.proofs.Judging.{can_edit, ids_edited, Each-judged}
-use Rattle.cpg_group.specs.declared.standing.Group.{Group}
-use Rattle.cpg_group.specs.Standing.{Kept, KeptSeats, kept_group, kept_seat, changed, group_past, standing, AreSeated, AreStanding, CanTake}
+use Rattle.cpg_group.specs.Standing.{GroupValue}
+use Rattle.cpg_group.specs.Standing.{Kept, kept_group, changed, group_past, standing, AreStanding, CanTake}
 
 -- ---- judged records
 
@@ -73,7 +76,7 @@ can_take_by rs e Gone g place here can = tt
 pub can_take : (kept : Kept) (rs : List Record) (r : Record) (place : ℕ) → AreStanding kept rs → place ≡ length rs + 1 → r ≡ record_of rs r.entry →
     (g : List ℕ) → CanTake g (kept_group kept g) (place, r)
 can_take kept rs r place current is judgement g allowed here =
-    let P : Group → Type 0 = λ (group : Group). CanEditBy group.table place r.entry.op in
+    let P : GroupValue → Type 0 = λ (group : GroupValue). CanEditBy group.table place r.entry.op in
     let said : is_named (entry_group rs r.entry r.entry.op) g ≡ true = ap (λ (q : Record). is_named q.group g) (sym judgement) ∙ here in
     subst P (sym (current g))
     (can_take_by rs r.entry r.entry.op g place said
@@ -92,11 +95,11 @@ edit_same rs e (Act (Send m)) g place rules false is = refl
 edit_same rs e Gone g place rules true is = refl
 edit_same rs e Gone g place rules false is = refl
 
-abbrev group_with : Rules → List Member → Group
-group_with t ms = record { table = t; members = ms }
+abbrev group_with : Rules → List Member → List ℕ → GroupValue
+group_with t ms ps = record { table = t; members = ms; places = ps }
 
-same_parts : (t u : Rules) (ms ns : List Member) → t ≡ u → ms ≡ ns → group_with t ms ≡ group_with u ns
-same_parts t u ms ns p q = λ i. group_with (p i) (q i)
+same_parts : (t u : Rules) (ms ns : List Member) (ps qs : List ℕ) → t ≡ u → ms ≡ ns → ps ≡ qs → group_with t ms ps ≡ group_with u ns qs
+same_parts t u ms ns ps qs p q s = λ i. group_with (p i) (q i) (s i)
 
 -- the members that the record lists are those of its group
 listed_there : (rs : List Record) (r : Record) (g : List ℕ) → r ≡ record_of rs r.entry → is_named r.group g ≡ true → r.members ≡ members (rs ++ r ∷ []) g
@@ -110,16 +113,31 @@ unchanged_there rs r g one judgement other =
     sym (elsewhere_of rs r.entry g one (ap (λ (q : Record). is_named q.group g) (sym judgement) ∙ other))
     ∙ ap (λ (q : Record). members (rs ++ q ∷ []) g) (sym judgement)
 
+-- its places
+places_past : (rs : List Record) (r : Record) (g : List ℕ) (place : ℕ) (b n : Bool) → is_allowed r.verdict ≡ b → is_named r.group g ≡ n → place ≡ 1 + length rs →
+    cond (b && n) (places_of (acts_in g) rs ++ place ∷ []) (places_of (acts_in g) rs) ≡ places_of (acts_in g) (rs ++ r ∷ [])
+places_past rs r g place b n allowed here is =
+    sym (places_from-push (acts_in g) 1 rs r
+    ∙ ap (λ (v : Bool). places_of (acts_in g) rs ++ cond (v && is_named r.group g) ((1 + length rs) ∷ []) []) allowed
+    ∙ ap (λ (v : Bool). places_of (acts_in g) rs ++ cond (b && v) ((1 + length rs) ∷ []) []) here
+    ∙ by_case (b && n))
+  where
+    by_case : (t : Bool) → places_of (acts_in g) rs ++ cond t ((1 + length rs) ∷ []) [] ≡ cond t (places_of (acts_in g) rs ++ place ∷ []) (places_of (acts_in g) rs)
+    by_case true = ap (λ (k : ℕ). places_of (acts_in g) rs ++ k ∷ []) (sym is)
+    by_case false = append-nil (places_of (acts_in g) rs)
+
 -- what the groups come to after one record more
 standing_past : (rs : List Record) (r : Record) (g : List ℕ) (place : ℕ) (b n : Bool) → is_allowed r.verdict ≡ b → is_named r.group g ≡ n → OneEach rs →
     place ≡ 1 + length rs → r ≡ record_of rs r.entry → cond (b && n) (changed place r (standing rs g)) (standing rs g) ≡ standing (rs ++ r ∷ []) g
 standing_past rs r g place false n allowed here one is judgement =
-    same_parts (rules_of rs g) (rules_of (rs ++ r ∷ []) g) (members rs g) (members (rs ++ r ∷ []) g)
+    same_parts (rules_of rs g) (rules_of (rs ++ r ∷ []) g) (members rs g) (members (rs ++ r ∷ []) g) (places_of (acts_in g) rs) (places_of (acts_in g) (rs ++ r ∷ []))
     (sym (rules_of_push rs r g ∙ ap (λ (v : Bool). cond (v && is_named (named r.entry.op) g) (edited_by (1 + length rs) r.entry.op (rules_of rs g)) (rules_of rs g)) allowed))
     (sym (members_push rs r g ∙ ap (λ (v : Bool). cond v (members_by r.entry r.entry.op g (members rs g)) (members rs g)) allowed))
+    (places_past rs r g place false n allowed here is)
 standing_past rs r g place true true allowed here one is judgement =
     same_parts (edited_by place r.entry.op (rules_of rs g)) (rules_of (rs ++ r ∷ []) g) r.members (members (rs ++ r ∷ []) g)
-    (sym (table_past rs r g place true allowed here is judgement)) (listed_there rs r g judgement here)
+    (places_of (acts_in g) rs ++ place ∷ []) (places_of (acts_in g) (rs ++ r ∷ []))
+    (sym (table_past rs r g place true allowed here is judgement)) (listed_there rs r g judgement here) (places_past rs r g place true true allowed here is)
   where
     table_past : (rs : List Record) (r : Record) (g : List ℕ) (place : ℕ) (n : Bool) → is_allowed r.verdict ≡ true → is_named r.group g ≡ n → place ≡ 1 + length rs → r ≡ record_of rs r.entry →
         rules_of (rs ++ r ∷ []) g ≡ cond n (edited_by place r.entry.op (rules_of rs g)) (rules_of rs g)
@@ -129,23 +147,18 @@ standing_past rs r g place true true allowed here one is judgement =
         ∙ ap (λ (k : ℕ). cond (is_named (named r.entry.op) g) (edited_by k r.entry.op (rules_of rs g)) (rules_of rs g)) (sym is)
         ∙ edit_same rs r.entry r.entry.op g place (rules_of rs g) n (ap (λ (q : Record). is_named q.group g) (sym judgement) ∙ here)
 standing_past rs r g place true false allowed here one is judgement =
-    same_parts (rules_of rs g) (rules_of (rs ++ r ∷ []) g) (members rs g) (members (rs ++ r ∷ []) g)
+    same_parts (rules_of rs g) (rules_of (rs ++ r ∷ []) g) (members rs g) (members (rs ++ r ∷ []) g) (places_of (acts_in g) rs) (places_of (acts_in g) (rs ++ r ∷ []))
     (sym (rules_of_push rs r g
     ∙ ap (λ (v : Bool). cond (v && is_named (named r.entry.op) g) (edited_by (1 + length rs) r.entry.op (rules_of rs g)) (rules_of rs g)) allowed
     ∙ edit_same rs r.entry r.entry.op g (1 + length rs) (rules_of rs g) false (ap (λ (q : Record). is_named q.group g) (sym judgement) ∙ here)))
-    (unchanged_there rs r g one judgement here)
+    (unchanged_there rs r g one judgement here) (places_past rs r g place true false allowed here is)
 
 pub AreStanding-push : (old new : Kept) (rs : List Record) (r : Record) (place : ℕ) → AreStanding old rs → AreJudged rs → place ≡ length rs + 1 → r ≡ record_of rs r.entry →
     ((g : List ℕ) → kept_group new g ≡ group_past g (kept_group old g) (place, r)) → AreStanding new (rs ++ r ∷ [])
 AreStanding-push old new rs r place current are is judgement taken g =
     taken g
-    ∙ ap (λ (group : Group). group_past g group (place, r)) (current g)
+    ∙ ap (λ (group : GroupValue). group_past g group (place, r)) (current g)
     ∙ standing_past rs r g place (is_allowed r.verdict) (is_named r.group g) refl refl (one_each rs are) (is ∙ omega arith) judgement
-
-pub AreSeated-push : (old new : KeptSeats) (rs : List Record) (r : Record) → AreSeated old rs →
-    ((c : ConnId) → kept_seat new c ≡ group_after r c (kept_seat old c)) → AreSeated new (rs ++ r ∷ [])
-AreSeated-push old new rs r current taken c =
-    taken c ∙ ap (group_after r c) (current c) ∙ sym (group_of_push rs r c)
 
 -- ---- a whole list, record by record
 

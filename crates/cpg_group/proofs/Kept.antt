@@ -1,23 +1,17 @@
 -- What a value that is set, or a key that is new, does to what is found in a map.
 use Rattle.std.proofs.Math.Seq.{take-nil}
-use Rattle.std.proofs.Common.{◌≡◌, ◌≤◌, zero, suc, length, take, arith, ℕ, nat_eq, Bool, true, false, cond, List, [], ◌∷◌, ◌++◌, map, refl, sym, ap, subst, ◌∙◌, Option, Some, None}
+use Rattle.std.proofs.Common.{◌≡◌, ◌≤◌, zero, suc, length, take, arith, ℕ, nat_eq, Bool, true, false, cond, List, [], ◌∷◌, ◌++◌, map, refl, sym, ap, ◌∙◌, Option, Some, None}
 use Rattle.std.specs.Prelude.{◌↔◌, is_some, Result, Ok, Err, OnOk, OnErr}
 use Rattle.std.specs.Map.{keys_of}
-use Rattle.cpg_rules.specs.Tables.{Rules}
-use Rattle.cpg_record.specs.declared.memberships.Member.{Member}
 use Rattle.cpg_record.specs.declared.records.Record.{Record}
 use Rattle.std.specs.Cmp.Lexicographic.{pointwise}
 use Rattle.std.specs.Map.{lookup, set_value}
 use Rattle.std.specs.Str.{bytes_eq}
 use Rattle.std.specs.declared.vec.Vec.{Vec}
 use Rattle.std.proofs.lemmas.List.{map-append}
-use Rattle.cpg_group.specs.declared.standing.Group.{Group}
-use Rattle.cpg_record.specs.declared.connections.ConnId.{ConnId}
-use Rattle.cpg_record.specs.Connections.{is_conn}
-use Rattle.cpg_record.proofs.Growing.{is_conn-true}
-use Rattle.cpg_record.proofs.Seats.{is_conn-itself}
+use Rattle.cpg_group.specs.Standing.{GroupValue}
 use Rattle.std.proofs.lemmas.Slice.Eq.{bytes_eq-Decides}
-use Rattle.cpg_group.specs.Standing.{Kept, KeptSeats, named, or_none, or_no_seat, no_group, kept_group, kept_seat, changed, names_of}
+use Rattle.cpg_group.specs.Standing.{Kept, named, or_none, no_group, kept_group, changed, names_of}
 
 module _ {K X : Type 0} (eq : K → K → Bool) (decides : (x y : K) → (eq x y ≡ true) ↔ (x ≡ y)) where
   -- the value that is set at a key that is there is found for it, and nothing else changes
@@ -78,13 +72,13 @@ module _ {K X : Type 0} (eq : K → K → Bool) (decides : (x y : K) → (eq x y
 -- ---- groups by names
 
 -- a group is found among the entries as among the names
-pub found_alike : {Z : Type 0} (name : List ℕ) (entries : List (Vec ℕ Z × Group)) →
+pub found_alike : {Z : Type 0} (name : List ℕ) (entries : List (Vec ℕ Z × GroupValue)) →
     lookup (λ key. pointwise nat_eq name key.items) entries ≡ lookup (bytes_eq name) (named entries)
 found_alike name [] = refl
 found_alike name (entry ∷ entries) = ap (cond (bytes_eq name entry.0.items) (Some entry.1)) (found_alike name entries)
 
 -- and is set there as here
-pub set_alike : {Z : Type 0} (name : List ℕ) (entries : List (Vec ℕ Z × Group)) (w : Group) →
+pub set_alike : {Z : Type 0} (name : List ℕ) (entries : List (Vec ℕ Z × GroupValue)) (w : GroupValue) →
     named (set_value (λ key. pointwise nat_eq name key.items) entries w) ≡ set_value (bytes_eq name) (named entries) w
 set_alike name [] w = refl
 set_alike {Z} name (entry ∷ entries) w = by_case (bytes_eq name entry.0.items) (set_alike name entries w)
@@ -96,7 +90,7 @@ set_alike {Z} name (entry ∷ entries) w = by_case (bytes_eq name entry.0.items)
     by_case false rest = ap (λ (kept : Kept). (entry.0.items, entry.1) ∷ kept) rest
 
 -- a place that was made is an empty group at the end
-pub named-push : {Z : Type 0} (entries : List (Vec ℕ Z × Group)) (key : Vec ℕ Z) (group : Group) → named (entries ++ (key, group) ∷ []) ≡ named entries ++ (key.items, group) ∷ []
+pub named-push : {Z : Type 0} (entries : List (Vec ℕ Z × GroupValue)) (key : Vec ℕ Z) (group : GroupValue) → named (entries ++ (key, group) ∷ []) ≡ named entries ++ (key.items, group) ∷ []
 named-push entries key group = map-append _ entries ((key, group) ∷ [])
 
 -- what is not there is none
@@ -104,13 +98,13 @@ pub none_of : {X : Type 0} (o : Option X) → is_some o ≡ false → o ≡ None
 none_of None h = refl
 none_of (Some x) h = absurd (cc)
 
-pub made_named : {Z : Type 0} (entries : List (Vec ℕ Z × Group)) (kept : Kept) (name : List ℕ) (key : Vec ℕ Z) (group : Group) →
+pub made_named : {Z : Type 0} (entries : List (Vec ℕ Z × GroupValue)) (kept : Kept) (name : List ℕ) (key : Vec ℕ Z) (group : GroupValue) →
     named entries ≡ kept → key.items ≡ name → group ≡ no_group → named (entries ++ (key, group) ∷ []) ≡ kept ++ (name, no_group) ∷ []
 made_named entries kept name key group same spelled empty =
     named-push entries key group
     ∙ ap (λ (front : Kept). front ++ (key.items, group) ∷ []) same
     ∙ ap (λ (bytes : List ℕ). kept ++ (bytes, group) ∷ []) spelled
-    ∙ ap (λ (g : Group). kept ++ (name, g) ∷ []) empty
+    ∙ ap (λ (g : GroupValue). kept ++ (name, g) ∷ []) empty
 
 -- which changes no group
 pub group_made : (kept : Kept) (name g : List ℕ) → lookup (bytes_eq name) kept ≡ None → kept_group (kept ++ (name, no_group) ∷ []) g ≡ kept_group kept g
@@ -127,7 +121,7 @@ group_there kept name none =
     ∙ ap (λ (b : Bool). is_some (cond b (Some no_group) (lookup (bytes_eq name) kept))) ((bytes_eq-Decides name name).1 refl)
 
 -- a group that is there and set
-pub group_set : (kept : Kept) (name : List ℕ) (w : Group) (g : List ℕ) → is_some (lookup (bytes_eq name) kept) ≡ true →
+pub group_set : (kept : Kept) (name : List ℕ) (w : GroupValue) (g : List ℕ) → is_some (lookup (bytes_eq name) kept) ≡ true →
     kept_group (set_value (bytes_eq name) kept w) g ≡ cond (bytes_eq name g) w (kept_group kept g)
 group_set kept name w g there =
     ap or_none (lookup-set bytes_eq bytes_eq-Decides kept name w g there) ∙ by_case (bytes_eq name g)
@@ -137,7 +131,7 @@ group_set kept name w g there =
     by_case false = refl
 
 -- a set group is its name's
-pub group_changed : (kept : Kept) (name g : List ℕ) (x w : Group) (place : ℕ) (r : Record) → x ≡ kept_group kept name → w ≡ changed place r x →
+pub group_changed : (kept : Kept) (name g : List ℕ) (x w : GroupValue) (place : ℕ) (r : Record) → x ≡ kept_group kept name → w ≡ changed place r x →
     cond (bytes_eq name g) w (kept_group kept g) ≡ cond (bytes_eq name g) (changed place r (kept_group kept g)) (kept_group kept g)
 group_changed kept name g x w place r found is = by_case (bytes_eq name g) refl
   where
@@ -145,20 +139,21 @@ group_changed kept name g x w place r found is = by_case (bytes_eq name g) refl
     by_case false at = refl
     by_case true at = is ∙ ap (changed place r) (found ∙ ap (kept_group kept) ((bytes_eq-Decides name g).0 at))
 
-pub same_group : (kept : Kept) (name g : List ℕ) (w : Group) → w ≡ kept_group kept name → cond (bytes_eq name g) w (kept_group kept g) ≡ kept_group kept g
+pub same_group : (kept : Kept) (name g : List ℕ) (w : GroupValue) → w ≡ kept_group kept name → cond (bytes_eq name g) w (kept_group kept g) ≡ kept_group kept g
 same_group kept name g w is = by_case (bytes_eq name g) refl
   where
     by_case : (b : Bool) → bytes_eq name g ≡ b → cond b w (kept_group kept g) ≡ kept_group kept g
     by_case false at = refl
     by_case true at = is ∙ ap (kept_group kept) ((bytes_eq-Decides name g).0 at)
 
-abbrev pub group_with : Rules → List Member → Group
-group_with t ms = record { table = t; members = ms }
-
 -- what holds after success, or after a refusal, as it follows from what does
 pub on_ok : {X E : Type 0} (r : Result X E) {P Q : Type 0} → (P → Q) → OnOk r P → OnOk r Q
 on_ok (Ok x) f p = f p
 on_ok (Err e) f p = tt
+
+pub always_ok : {X E : Type 0} (r : Result X E) {P : Type 0} → P → OnOk r P
+always_ok (Ok x) p = p
+always_ok (Err e) p = tt
 
 pub on_err : {X E : Type 0} (r : Result X E) {P Q : Type 0} → (P → Q) → OnErr r P → OnErr r Q
 on_err (Ok x) f p = tt
@@ -171,36 +166,6 @@ take_past zero (x ∷ xs) h = absurd (omega arith)
 take_past {X} (suc n) (x ∷ xs) h = ap (λ (rest : List X). x ∷ rest) (take_past n xs (omega arith))
 
 -- the names of keys are the names of groups
-pub keys_named : {Z : Type 0} (entries : List (Vec ℕ Z × Group)) → map (λ key. key.items) (keys_of entries) ≡ names_of (named entries)
+pub keys_named : {Z : Type 0} (entries : List (Vec ℕ Z × GroupValue)) → map (λ key. key.items) (keys_of entries) ≡ names_of (named entries)
 keys_named [] = refl
 keys_named (entry ∷ entries) = ap (λ (names : List (List ℕ)). entry.0.items ∷ names) (keys_named entries)
-
--- ---- seats by connections
-
-pub is_conn-Decides : (a b : ConnId) → (is_conn a b ≡ true) ↔ (a ≡ b)
-is_conn-Decides a b = (is_conn-true a b, (λ same. subst (λ (c : ConnId). is_conn a c ≡ true) same (is_conn-itself a)))
-
--- a seat that is made changes no connection's group
-pub seat_made : (kept : KeptSeats) (conn q : ConnId) → lookup (is_conn conn) kept ≡ None → kept_seat (kept ++ (conn, None) ∷ []) q ≡ kept_seat kept q
-seat_made kept conn q none =
-    ap or_no_seat (lookup-push is_conn is_conn-Decides kept conn None q none) ∙ by_case (is_conn conn q) refl
-  where
-    by_case : (b : Bool) → is_conn conn q ≡ b → or_no_seat (cond b (Some None) (lookup (is_conn q) kept)) ≡ or_no_seat (lookup (is_conn q) kept)
-    by_case false is = refl
-    by_case true is = sym (ap or_no_seat (ap (λ (c : ConnId). lookup (is_conn c) kept) (sym (is_conn-true conn q is)) ∙ none))
-
--- a seat that is there and set
-pub seat_set : (kept : KeptSeats) (conn : ConnId) (w : Option (List ℕ)) (q : ConnId) → is_some (lookup (is_conn conn) kept) ≡ true →
-    kept_seat (set_value (is_conn conn) kept w) q ≡ cond (is_conn q conn) w (kept_seat kept q)
-seat_set kept conn w q there =
-    ap or_no_seat (lookup-set is_conn is_conn-Decides kept conn w q there) ∙ by_case (is_conn conn q) (is_conn q conn) refl refl
-  where
-    by_case : (a b : Bool) → is_conn conn q ≡ a → is_conn q conn ≡ b → or_no_seat (cond a (Some w) (lookup (is_conn q) kept)) ≡ cond b w (or_no_seat (lookup (is_conn q) kept))
-    by_case true true x y = refl
-    by_case false false x y = refl
-    by_case true false x y =
-        let t : is_conn q conn ≡ true = (is_conn-Decides q conn).1 (sym ((is_conn-Decides conn q).0 x)) in
-        absurd (cc)
-    by_case false true x y =
-        let t : is_conn conn q ≡ true = (is_conn-Decides conn q).1 (sym ((is_conn-Decides q conn).0 y)) in
-        absurd (cc)

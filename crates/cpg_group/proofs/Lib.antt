@@ -2,3 +2,4 @@ mod Passed
 mod Shown
 mod Kept
 mod Applying
+mod Stops

@@ -26,7 +26,7 @@ use Rattle.cpg_record.specs.Membership.{members}
 use Rattle.cpg_record.proofs.Kept.{Contains-behind, Contains-filter, Contains-from_filter}
 use Rattle.std.specs.Prelude.{is_some}
 use Rattle.std.specs.Map.{lookup}
-use Rattle.cpg_group.specs.declared.standing.Group.{Group}
+use Rattle.cpg_group.specs.Standing.{GroupValue}
 use Rattle.cpg_group.specs.Groups.{allows, has_members, is_shown}
 use Rattle.cpg_group.specs.Standing.{Kept, names_of, or_none, AreStanding}
 
@@ -55,10 +55,10 @@ found_named (pair ∷ kept) g h = by_case (bytes_eq g pair.0) refl (found_named 
 members_named : (kept : Kept) (rs : List Record) (g : List ℕ) → AreStanding kept rs → members rs g ≢ [] → Contains (names_of kept) g
 members_named kept rs g current some = by_case (lookup (bytes_eq g) kept) refl
   where
-    by_case : (o : Option Group) → lookup (bytes_eq g) kept ≡ o → Contains (names_of kept) g
+    by_case : (o : Option GroupValue) → lookup (bytes_eq g) kept ≡ o → Contains (names_of kept) g
     by_case (Some group) is = found_named kept g (ap is_some is)
     by_case None is =
-        let none : members rs g ≡ [] = ap (λ (group : Group). group.members) (sym (current g) ∙ ap or_none is) in
+        let none : members rs g ≡ [] = ap (λ (group : GroupValue). group.members) (sym (current g) ∙ ap or_none is) in
         absurd (some none)
 
 -- ---- what is shown

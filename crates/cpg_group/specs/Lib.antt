@@ -1,2 +1,3 @@
-pub mod Standing
 pub mod Groups
+pub mod Standing
+pub mod Trails

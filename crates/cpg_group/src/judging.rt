@@ -1,4 +1,4 @@
-//! The judgement of one entry over the records before it, by the groups and seats that they come to.
+//! The judgement of one entry over the records before it, by the groups and the trail that they come to.
 
 ghost use Rattle.std.specs.Prelude.{◌≡◌, ◌++◌, ◌∷◌, [], IfOk, IsOkUnless};
 ghost use Rattle.std.specs.Option.{option_copied};
@@ -6,12 +6,14 @@ ghost use Rattle.cpg_record.specs.Connections.{conn_of};
 ghost use Rattle.cpg_record.specs.Judging.{entry_group, record_of};
 ghost use Rattle.cpg_record.specs.Membership.{group_of, members_in};
 ghost use Rattle.cpg_record.specs.Verdicts.{edit_decision, join_verdict, leave_verdict, send_verdict, insert_verdict, remove_verdict, verdict};
-ghost use Rattle.cpg_group.specs.Standing.{standing, AreSeated, AreStanding};
+ghost use Rattle.cpg_group.specs.Standing.{standing, AreStanding};
+ghost use Rattle.cpg_group.specs.Trails.{IsTrail};
 
-use crate::standing::{Group, Groups, Seats};
+use crate::standing::{Group, Groups};
+use crate::trails::{Stop, find_group};
 use cpg_cred::{By, Refusal};
 use cpg_entry::{Call, Entry, Name, Op};
-use cpg_record::{ConnId, MOST_MEMBERS, Members, Reason, Record, Verdict};
+use cpg_record::{MOST_MEMBERS, Members, Reason, Record, Verdict};
 use cpg_rules::{Decision, MOST_RULES, Right, Table};
 use std::alloc::Global;
 
@@ -27,14 +29,14 @@ fn judge_join(
     requires seat { option_copied seat ≡ group_of records.now (conn_of entry.now) }
     ensures { result ≡ join_verdict records.now entry.now name.now }
 {
-    match group.table.decide(Right::Join, entry.asker()) {
+    match group.table().decide(Right::Join, entry.asker()) {
         Decision::Denied(by) => Verdict::Denied(Reason::of(by)),
         Decision::Allowed(by) => {
             if seat.is_some() {
                 Verdict::Denied(Reason::Joined)
-            } else if group.members.has_process(entry) {
+            } else if group.members().has_process(entry) {
                 Verdict::Denied(Reason::Twice)
-            } else if group.members.len() >= MOST_MEMBERS {
+            } else if group.members().len() >= MOST_MEMBERS {
                 Verdict::Denied(Reason::Full)
             } else {
                 Verdict::Allowed(by)
@@ -62,7 +64,7 @@ fn judge_send(records: &[Record], groups: &Groups, seat: Option<&Name>, entry: &
         None => Verdict::Denied(Reason::Closed),
         Some(group) => match groups
             .of(group.as_slice())
-            .table
+            .table()
             .decide(Right::Send, entry.asker())
         {
             Decision::Denied(by) => Verdict::Denied(Reason::of(by)),
@@ -117,12 +119,7 @@ fn judge_remove(rules: &Table, entry: &Entry, id: u32) -> Verdict
 }
 
 /// The verdict on an entry whose connection is in that group.
-fn judge_entry(
-    records: &[Record],
-    groups: &Groups,
-    seat: Option<&Name>,
-    entry: &Entry,
-) -> Verdict
+fn judge_entry(records: &[Record], groups: &Groups, seat: Option<&Name>, entry: &Entry) -> Verdict
     requires groups { AreStanding groups.now records.now }
     requires seat { option_copied seat ≡ group_of records.now (conn_of entry.now) }
     ensures { result ≡ verdict records.now entry.now }
@@ -135,17 +132,21 @@ fn judge_entry(
         Op::Act(Call::Leave) => judge_leave(seat),
         Op::Act(Call::Send(_)) => judge_send(records, groups, seat, entry),
         Op::Act(Call::Insert(group, index, _)) => {
-            judge_insert(&groups.of(group.as_slice()).table, entry, *index)
+            judge_insert(groups.of(group.as_slice()).table(), entry, *index)
         }
         Op::Act(Call::Remove(group, id)) => {
-            judge_remove(&groups.of(group.as_slice()).table, entry, *id)
+            judge_remove(groups.of(group.as_slice()).table(), entry, *id)
         }
         Op::Gone => Verdict::Allowed(By::Free),
     }
 }
 
 /// The group that the entry names, else the one that its connection is in.
-fn find_entry_group<'a>(records: &[Record], seat: Option<&'a Name>, entry: &'a Entry) -> Option<&'a Name>
+fn find_entry_group<'a>(
+    records: &[Record],
+    seat: Option<&'a Name>,
+    entry: &'a Entry,
+) -> Option<&'a Name>
     requires { option_copied seat ≡ group_of records.now (conn_of entry.now) }
     ensures { option_copied result ≡ entry_group records.now entry.now entry.now.op }
 {
@@ -172,7 +173,7 @@ fn collect_members_with(
     match &next.group {
         None => Ok(Members::new(alloc)),
         Some(group) => {
-            let mut list = groups.of(group.as_slice()).members.copy(alloc)?;
+            let mut list = groups.of(group.as_slice()).members().copy(alloc)?;
             list.take_in(next, group.as_slice())?;
             Ok(list)
         }
@@ -184,15 +185,15 @@ pub(crate) fn judge(
     alloc: Global,
     records: &[Record],
     groups: &Groups,
-    seats: &Seats,
+    trail: &[Stop],
     entry: &Entry,
 ) -> Result<Record, Refusal>
     requires groups { AreStanding groups.now records.now }
-    requires seats { AreSeated seats.now records.now }
+    requires trail { IsTrail records.now (conn_of entry.now) trail.now }
     ensures ok { IfOk result (λ next. next ≡ record_of records.now entry.now) }
     ensures memory { IsOkUnless result Refusal.Memory }
 {
-    let seat = seats.of(&ConnId::of(entry));
+    let seat = find_group(records, trail, records.len());
     let verdict = judge_entry(records, groups, seat, entry);
     let group = match find_entry_group(records, seat, entry) {
         Some(group) => Some(group.copy(alloc)?),

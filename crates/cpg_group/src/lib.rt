@@ -8,9 +8,11 @@
 mod history;
 mod judging;
 mod listing;
+mod nexts;
 mod policies;
 mod standing;
 mod telling;
+mod trails;
 mod verifying;
 
 pub use cpg_record::{

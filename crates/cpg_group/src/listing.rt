@@ -85,9 +85,9 @@ pub(crate) fn list_members(
     requires { group.now ≡ standing records.now name.now }
     ensures { Answers (listing records.now asker.now name.now) result }
 {
-    match group.table.decide(Right::List, *asker) {
+    match group.table().decide(Right::List, *asker) {
         Decision::Denied(by) => Err(Refusal::Denied(by)),
-        Decision::Allowed(_) => Processes::of(alloc, &group.members),
+        Decision::Allowed(_) => Processes::of(alloc, group.members()),
     }
 }
 
@@ -96,9 +96,9 @@ fn shows_group(records: &[Record], group: &Group, name: &[u8], asker: &Asker) ->
     requires { group.now ≡ standing records.now name.now }
     ensures { result ≡ is_shown records.now asker.now name.now }
 {
-    match group.table.decide(Right::List, *asker) {
+    match group.table().decide(Right::List, *asker) {
         Decision::Denied(_) => false,
-        Decision::Allowed(_) => !group.members.as_slice().is_empty(),
+        Decision::Allowed(_) => !group.members().as_slice().is_empty(),
     }
 }
 

@@ -6,14 +6,17 @@ ghost use Rattle.cpg_record.specs.Connections.{conn_of};
 ghost use Rattle.cpg_record.specs.Events.{events};
 ghost use Rattle.cpg_record.specs.Judging.{judged, most_places, record_of, IsNext};
 ghost use Rattle.cpg_record.specs.Listings.{Answers, AreGroups, listing};
+ghost use Rattle.cpg_record.specs.Nexts.{IsNextTold, TellsNoMore};
 ghost use Rattle.cpg_record.specs.RuleTables.{rules_of};
-ghost use Rattle.cpg_group.specs.Standing.{kept_group, kept_seat, group_past, joined_name, CanTake, HasSeat};
+ghost use Rattle.cpg_group.specs.Standing.{kept_group, group_past, CanTake};
+ghost use Rattle.cpg_group.specs.Trails.{kept_trail, HasRoom};
 
 use crate::listing::{self, Names, Processes};
-use crate::standing::{Groups, Seats, copy_joined};
-use crate::{judging, telling};
+use crate::standing::Groups;
+use crate::trails::{Trails, stop_of};
+use crate::{judging, nexts, telling};
 use cpg_cred::{Refusal, Refused};
-use cpg_entry::{Entry, Name};
+use cpg_entry::Entry;
 use cpg_record::{ConnId, Events, Record};
 use cpg_rules::{Asker, Table};
 use std::alloc::Global;
@@ -25,7 +28,7 @@ use std::marker::Model;
 pub struct Policy {
     records: Vec<Record>,
     groups: Groups,
-    seats: Seats,
+    trails: Trails,
 }
 
 impl fmt::Debug for Policy {
@@ -38,36 +41,28 @@ impl Model for Policy {
     ghost use Rattle.std.specs.Prelude.{List};
     ghost use Rattle.cpg_entry.specs.declared.entries.Entry.{Entry};
     ghost use Rattle.cpg_record.specs.Judging.{entries_of, AreRecords};
-    ghost use Rattle.cpg_group.specs.Standing.{AreSeated, AreStanding};
+    ghost use Rattle.cpg_group.specs.Standing.{AreStanding};
+    ghost use Rattle.cpg_group.specs.Trails.{AreTrails};
 
     ghost Value = { List Entry };
 
     ghost view = { λ policy. entries_of policy.records.items };
 
-    ghost invariant = { λ policy. AreRecords policy.records.items × AreStanding policy.groups policy.records.items × AreSeated policy.seats policy.records.items };
+    ghost invariant = { λ policy. AreRecords policy.records.items × AreStanding policy.groups policy.records.items × AreTrails policy.trails.kept.entries policy.records.items };
 }
 
-/// Makes room for the seat of the record's connection, and brings the groups past the record: the growths
-/// that an `apply` needs. A refusal changes no group, and no call changes a connection's group.
-fn grow(
-    alloc: Global,
-    groups: &mut Groups,
-    seats: &mut Seats,
-    place: u32,
-    next: &Record,
-) -> Result<Option<Name>, Refusal>
+/// Makes room on the trail of the record's connection, and brings the groups past the record: the growths
+/// that an `apply` needs. A refusal changes no group, and no call changes a trail.
+fn grow(groups: &mut Groups, trails: &mut Trails, place: u32, next: &Record) -> Result<(), Refusal>
     requires { (g : List ℕ) → CanTake g (kept_group groups.old g) (place, next.now) }
     ensures ok { OnOk result ((g : List ℕ) → kept_group groups.new g ≡ group_past g (kept_group groups.old g) (place, next.now)) }
     ensures err { OnErr result ((g : List ℕ) → kept_group groups.new g ≡ kept_group groups.old g) }
-    ensures seats { (c : ConnId) → kept_seat seats.new c ≡ kept_seat seats.old c }
-    ensures there { OnOk result (HasSeat seats.new (conn_of next.now.entry)) }
-    ensures joined { IfOk result (λ name. name ≡ joined_name next.now) }
+    ensures trails { (c : ConnId) → kept_trail trails.new.kept.entries c ≡ kept_trail trails.old.kept.entries c }
+    ensures room { OnOk result (HasRoom trails.new.kept.entries (conn_of next.now.entry)) }
     ensures memory { IsOkUnless result Refusal.Memory }
 {
-    seats.make(&ConnId::of(&next.entry))?;
-    let joined = copy_joined(alloc, next)?;
-    groups.take_in(place, next)?;
-    Ok(joined)
+    trails.make_room(&ConnId::of(&next.entry))?;
+    groups.take_in(place, next)
 }
 
 impl Policy {
@@ -78,7 +73,7 @@ impl Policy {
         Policy {
             records: Vec::new(alloc),
             groups: Groups::new(alloc),
-            seats: Seats::new(alloc),
+            trails: Trails::new(alloc),
         }
     }
 
@@ -92,7 +87,7 @@ impl Policy {
             *self.records.allocator(),
             self.records.as_slice(),
             &self.groups,
-            &self.seats,
+            self.trails.of(&ConnId::of(entry)),
             entry,
         )
     }
@@ -112,10 +107,11 @@ impl Policy {
             });
         }
         let place = self.records.len() as u32 + 1;
-        let alloc = *self.records.allocator();
-        match grow(alloc, &mut self.groups, &mut self.seats, place, &next) {
-            Ok(joined) => {
-                self.seats.take_in(&next, joined);
+        match grow(&mut self.groups, &mut self.trails, place, &next) {
+            Ok(()) => {
+                let conn = ConnId::of(&next.entry);
+                let stop = stop_of(self.records.as_slice(), self.trails.of(&conn), place, &next);
+                self.trails.push(&conn, stop);
                 self.records.push_reserved(next);
                 Ok(())
             }
@@ -173,7 +169,7 @@ impl Policy {
     pub fn table(&self, group: &[u8]) -> Option<&Table>
         ensures { MatchOption result (rules_of (judged self.now) group.now ≡ []) (λ table. (table.now ≡ rules_of (judged self.now) group.now) × (table.now ≢ [])) }
     {
-        let table = &self.groups.of(group).table;
+        let table = self.groups.of(group).table();
         if table.is_empty() { None } else { Some(table) }
     }
 
@@ -188,6 +184,19 @@ impl Policy {
             self.records.as_slice(),
             place,
             &conn,
+        )
+    }
+    /// The least judged place above `after` that tells the connection anything, if there is one. Takes no
+    /// memory, and searches by halving.
+    pub fn next_event(&self, after: u32, conn: ConnId) -> Option<u32>
+        ensures { MatchOption result (TellsNoMore (judged self.now) after conn) (IsNextTold (judged self.now) after conn) }
+    {
+        nexts::find_next(
+            self.records.as_slice(),
+            &self.groups,
+            self.trails.of(&conn),
+            &conn,
+            after as usize,
         )
     }
 }

@@ -1,42 +1,87 @@
-//! How the groups and the connections stand, kept beside the records.
+//! How the groups stand, kept beside the records: each one's table, members and places.
 
-ghost use Rattle.std.specs.Prelude.{◌≡◌, [], List, ℕ, true, is_some, if◌then◌else◌, option_map, OnOk, OnErr, IfOk, IsOkUnless};
-ghost use Rattle.std.specs.Map.{lookup};
-ghost use Rattle.std.specs.Option.{option_copied};
+ghost use Rattle.std.specs.Prelude.{◌≡◌, List, ℕ, true, is_some, if◌then◌else◌, OnOk, OnErr, IfOk, IsOkUnless};
 ghost use Rattle.std.specs.Str.{bytes_eq};
-ghost use Rattle.cpg_record.specs.declared.connections.ConnId.{ConnId};
-ghost use Rattle.cpg_record.specs.Connections.{is_conn, conn_of};
 ghost use Rattle.cpg_record.specs.RuleTables.{edited_by};
-ghost use Rattle.cpg_record.specs.Steps.{CanEditBy, group_after};
-ghost use Rattle.cpg_group.specs.Standing.{kept_group, kept_seat, names_of, changed, group_past, joined_name, no_group, CanTake, HasGroup, HasSeat};
+ghost use Rattle.cpg_record.specs.Steps.{CanEditBy};
+ghost use Rattle.cpg_group.specs.Standing.{kept_group, names_of, changed, group_past, no_group, CanTake, HasGroup};
 
 use cpg_cred::Refusal;
 use cpg_entry::{Call, Name, Op};
-use cpg_record::{ConnId, Members, Record};
+use cpg_record::{Members, Record};
 use cpg_rules::Table;
 use indexmap::IndexMap;
 use std::alloc::Global;
 use std::marker::Model;
 
-/// A group as it stands: its table, and its members in the order of their joins.
+/// Brings a table past an allowed op at that place.
+fn edit(table: &mut Table, place: u32, op: &Op) -> Result<(), Refusal>
+    requires { CanEditBy table.old place op.now }
+    ensures ok { OnOk result (table.new ≡ edited_by place op.now table.old) }
+    ensures err { OnErr result (table.new ≡ table.old) }
+    ensures memory { IsOkUnless result Refusal.Memory }
+{
+    match op {
+        Op::Act(Call::Insert(_, index, rule)) => table.insert(usize::from(*index), place, *rule),
+        Op::Act(Call::Remove(_, id)) => {
+            let _ = table.remove(*id);
+            Ok(())
+        }
+        _ => Ok(()),
+    }
+}
+
+/// A group as it stands: its table, its members in the order of their joins, and the ascending places of
+/// the allowed entries that are of it. Contracts see it as these three.
 #[derive(Debug, Drop)]
 pub(crate) struct Group {
-    pub table: Table,
-    pub members: Members,
+    table: Table,
+    members: Members,
+    places: Vec<u32>,
+}
+
+impl Model for Group {
+    ghost use Rattle.cpg_group.specs.Standing.{GroupValue};
+
+    ghost Value = { GroupValue };
+
+    ghost view = { λ group. record { table = group.table; members = group.members; places = group.places.items } };
 }
 
 impl Group {
-    /// A group without rules and members.
+    /// A group without rules, members and places.
     fn new(alloc: Global) -> Group
         ensures { result ≡ no_group }
     {
         Group {
             table: Table::new(alloc),
             members: Members::new(alloc),
+            places: Vec::new(alloc),
         }
     }
 
-    /// Brings the group past its allowed record at that place.
+    /// Its table.
+    pub(crate) fn table(&self) -> &Table
+        ensures { result.now ≡ self.now.table }
+    {
+        &self.table
+    }
+
+    /// Its members.
+    pub(crate) fn members(&self) -> &Members
+        ensures { result.now ≡ self.now.members }
+    {
+        &self.members
+    }
+
+    /// The places of the allowed entries that are of it.
+    pub(crate) fn places(&self) -> &[u32]
+        ensures { result.now ≡ self.now.places }
+    {
+        self.places.as_slice()
+    }
+
+    /// Brings the group past its allowed record at that place. A refusal changes nothing.
     fn take_in(&mut self, alloc: Global, place: u32, past: &Record) -> Result<(), Refusal>
         requires { CanEditBy self.old.table place past.now.entry.op }
         ensures ok { OnOk result (self.new ≡ changed place past.now self.old) }
@@ -44,33 +89,16 @@ impl Group {
         ensures memory { IsOkUnless result Refusal.Memory }
     {
         let members = past.members.copy(alloc)?;
-        self.edit(place, &past.entry.op)?;
+        self.places.reserve(1)?;
+        edit(&mut self.table, place, &past.entry.op)?;
+        self.places.push_reserved(place);
         self.members = members;
         Ok(())
-    }
-
-    /// Brings the table past an allowed op at that place.
-    fn edit(&mut self, place: u32, op: &Op) -> Result<(), Refusal>
-        requires { CanEditBy self.old.table place op.now }
-        ensures ok { OnOk result (self.new ≡ record { table = edited_by place op.now self.old.table; members = self.old.members }) }
-        ensures err { OnErr result (self.new ≡ self.old) }
-        ensures memory { IsOkUnless result Refusal.Memory }
-    {
-        match op {
-            Op::Act(Call::Insert(_, index, rule)) => {
-                self.table.insert(usize::from(*index), place, *rule)
-            }
-            Op::Act(Call::Remove(_, id)) => {
-                let _ = self.table.remove(*id);
-                Ok(())
-            }
-            _ => Ok(()),
-        }
     }
 }
 
 /// The groups as they stand. Contracts see it as the list of names with groups; a group that is not there
-/// has no rules and no members.
+/// has no rules, members and places.
 #[derive(Drop)]
 pub(crate) struct Groups {
     kept: IndexMap<Vec<u8>, Group>,
@@ -168,99 +196,5 @@ impl Groups {
                 self.change(name.as_slice(), place, past)
             }
         }
-    }
-}
-
-/// The group that each connection is in. Contracts see it as the list of connections with their groups.
-#[derive(Drop)]
-pub(crate) struct Seats {
-    kept: IndexMap<ConnId, Option<Name>>,
-}
-
-impl Model for Seats {
-    ghost use Rattle.cpg_group.specs.Standing.{KeptSeats};
-
-    ghost Value = { KeptSeats };
-
-    ghost view = { λ seats. seats.kept.entries };
-}
-
-impl Seats {
-    /// No connections.
-    pub(crate) fn new(alloc: Global) -> Seats
-        ensures { result ≡ [] }
-    {
-        Seats {
-            kept: IndexMap::new(alloc),
-        }
-    }
-
-    /// The group that the connection is in.
-    pub(crate) fn of(&self, conn: &ConnId) -> Option<&Name>
-        ensures { option_copied result ≡ kept_seat self.now conn.now }
-    {
-        match self.kept.get(conn) {
-            Some(group) => group.as_ref(),
-            None => None,
-        }
-    }
-
-    /// Makes a place for the connection, which changes no group of a connection.
-    pub(crate) fn make(&mut self, conn: &ConnId) -> Result<(), Refusal>
-        ensures same { (c : ConnId) → kept_seat self.new c ≡ kept_seat self.old c }
-        ensures ok { OnOk result (HasSeat self.new conn.now) }
-        ensures memory { IsOkUnless result Refusal.Memory }
-    {
-        if self.kept.contains_key(conn) {
-            return Ok(());
-        }
-        self.kept.insert(*conn, None)?;
-        Ok(())
-    }
-
-    /// Puts the connection, which has a place, into that group or out of its group.
-    fn set(&mut self, conn: &ConnId, group: Option<Name>)
-        requires { HasSeat self.old conn.now }
-        ensures { (c : ConnId) → kept_seat self.new c ≡ (if is_conn c conn.now then group else kept_seat self.old c) }
-    {
-        match self.kept.get_mut(conn) {
-            Some(seat) => *seat = group,
-            None => {}
-        }
-    }
-
-    /// Brings the connections past the record; `joined` is a copy of the name of the group that it joins.
-    pub(crate) fn take_in(&mut self, past: &Record, joined: Option<Name>)
-        requires there { HasSeat self.old (conn_of past.now.entry) }
-        requires copied { joined ≡ joined_name past.now }
-        ensures { (c : ConnId) → kept_seat self.new c ≡ group_after past.now c (kept_seat self.old c) }
-    {
-        if !past.verdict.is_allowed() {
-            return;
-        }
-        let conn = ConnId::of(&past.entry);
-        match &past.entry.op {
-            Op::Act(Call::Join(_)) => {
-                if self.of(&conn).is_none() {
-                    self.set(&conn, joined);
-                }
-            }
-            Op::Act(Call::Leave) | Op::Gone => self.set(&conn, None),
-            _ => {}
-        }
-    }
-}
-
-/// A copy of the name of the group that the record joins, if it is an allowed join.
-pub(crate) fn copy_joined(alloc: Global, past: &Record) -> Result<Option<Name>, Refusal>
-    ensures ok { IfOk result (λ name. name ≡ joined_name past.now) }
-    ensures memory { IsOkUnless result Refusal.Memory }
-{
-    if !past.verdict.is_allowed() {
-        return Ok(None);
-    }
-    match &past.entry.op {
-        Op::Act(Call::Join(group)) => Ok(Some(group.copy(alloc)?)),
-        _ => Ok(None),
     }
 }

@@ -49,7 +49,7 @@ module _ {X : Type 0} (f : X → ℕ) (xs : List X) (q : Record → Bool) (rs : 
 
   module _ (last k : ℕ) (cut : IsPartitionPoint (λ x. leb (f x) last ≡ true) (λ x. leb (f x) last ≡ false) xs k) where
     -- what stands below the cut is low, and what stands from it on is high
-    low_below : (i : ℕ) (x : X) → slice_get xs i ≡ Some x → i < k → f x ≤ last
+    pub low_below : (i : ℕ) (x : X) → slice_get xs i ≡ Some x → i < k → f x ≤ last
     low_below i x is h =
         let at : leb (f x) last ≡ true = ap (λ (y : X). leb (f y) last) (sym (get_or_from_slice_get xs i x x is)) ∙ cut.0 i x (omega arith) h in
         leb-true (f x) last at
@@ -168,7 +168,7 @@ map_itself : (o : Option ℕ) → option_map (λ (n : ℕ). n) o ≡ o
 map_itself None = refl
 map_itself (Some n) = refl
 
-all_themselves : (xs : List ℕ) → map (λ (n : ℕ). n) xs ≡ xs
+pub all_themselves : (xs : List ℕ) → map (λ (n : ℕ). n) xs ≡ xs
 all_themselves [] = refl
 all_themselves (n ∷ xs) = ap (λ (rest : List ℕ). n ∷ rest) (all_themselves xs)
 

@@ -1,0 +1,243 @@
+-- What the trails of connections tell, and what one record more does to them.
+use Rattle.std.proofs.Common.{◌≡◌, ℕ, zero, suc, ◌+◌, ◌≤◌, leb, Bool, true, false, ◌&&◌, cond, List, [], ◌∷◌, ◌++◌, length, take, get_or, All, Option, Some, None, refl, sym, ap, subst, ◌∙◌, arith}
+use Rattle.std.specs.Prelude.{◌↔◌, is_some, option_map}
+use Rattle.std.specs.List.{slice_get}
+use Rattle.std.specs.List.Sorted.{IsPartitionPoint}
+use Rattle.std.specs.Map.{lookup, set_value}
+use Rattle.std.specs.declared.vec.Vec.{Vec}
+use Rattle.std.proofs.lemmas.List.{append-nil, map-append, take-append-le}
+use Rattle.std.proofs.lemmas.List.Elements.{All-append, All-cons}
+use Rattle.std.proofs.lemmas.Option.{slice_get-map, slice_get-get_or, slice_get_within, get_or_from_slice_get}
+use Rattle.cpg_entry.specs.declared.calls.Call.TheVariants.{Join, Leave, Send, Insert, Remove}
+use Rattle.cpg_entry.specs.declared.calls.Op.{Op}
+use Rattle.cpg_entry.specs.declared.calls.Op.TheVariants.{Act, Gone}
+use Rattle.cpg_record.specs.declared.connections.ConnId.{ConnId}
+use Rattle.cpg_record.specs.declared.records.Record.{Record}
+use Rattle.cpg_record.specs.Connections.{conn_of, is_conn}
+use Rattle.cpg_record.specs.Membership.{group_of, is_allowed}
+use Rattle.cpg_record.specs.Nexts.{is_made_by}
+use Rattle.cpg_record.specs.Places.{places_of, record_at}
+use Rattle.cpg_record.specs.Steps.{group_after, group_by}
+use Rattle.cpg_record.proofs.Cuts.{low_below, quiet_since, quiet_from_start}
+use Rattle.cpg_record.proofs.Growing.{group_of_push, is_conn-true}
+use Rattle.cpg_record.proofs.Nexts.{groups_stay}
+use Rattle.cpg_record.proofs.Positions.{places_from-push, sound}
+use Rattle.cpg_record.proofs.Seats.{is_conn-itself}
+use Rattle.cpg_group.specs.declared.trails.Stop.{Stop}
+use Rattle.cpg_group.specs.Trails.{group_at, join_after, join_by, joined_by, joined_in, kept_trail, or_no_trail, AreTrails, IsTrail, KeptTrails, StandsBy}
+use Rattle.cpg_group.proofs.Kept.{lookup-push, lookup-set}
+
+abbrev pub place_of : Stop → ℕ
+place_of stop = stop.place
+
+-- ---- what a cut of a trail tells
+
+-- no own place up to the last: in no group
+pub join_none : (rs : List Record) (conn : ConnId) (trail : List Stop) (last k : ℕ) → IsTrail rs conn trail →
+    IsPartitionPoint (λ (stop : Stop). leb stop.place last ≡ true) (λ (stop : Stop). leb stop.place last ≡ false) trail k → k ≡ 0 →
+    group_at rs 0 ≡ group_of (take last rs) conn
+join_none rs conn trail last k are cut at =
+    sym (groups_stay rs conn 0 last (omega arith) (λ n r low high is. quiet_from_start place_of trail (is_made_by conn) rs are.0 last k cut at n r high is))
+
+-- else the join by which the last own place stands
+pub join_some : (rs : List Record) (conn : ConnId) (trail : List Stop) (last k i : ℕ) (stop : Stop) → IsTrail rs conn trail →
+    IsPartitionPoint (λ (stop : Stop). leb stop.place last ≡ true) (λ (stop : Stop). leb stop.place last ≡ false) trail k → k ≡ suc i → slice_get trail i ≡ Some stop →
+    (stop.join ≤ last) × (group_at rs stop.join ≡ group_of (take last rs) conn)
+join_some rs conn trail last k i stop are cut at stands =
+    let within = slice_get_within trail i stop stands in
+    let here : get_or trail i stop ≡ stop = get_or_from_slice_get trail i stop stop stands in
+    let by : StandsBy rs conn stop = subst (StandsBy rs conn) here (are.1 i stop within) in
+    let low : stop.place ≤ last = low_below place_of trail (is_made_by conn) rs are.0 last k cut i stop stands (omega arith) in (
+      omega (arith, by.0),
+      by.1 ∙ sym (groups_stay rs conn stop.place last low (λ n r above below is. quiet_since place_of trail (is_made_by conn) rs are.0 last k cut i stop at stands n r above below is)),
+    )
+
+-- ---- one record more
+
+record_kept : (rs : List Record) (r : Record) (place : ℕ) → place ≤ length rs → record_at (rs ++ r ∷ []) place ≡ record_at rs place
+record_kept rs r zero h = refl
+record_kept [] r (suc i) h = absurd (omega arith)
+record_kept (s ∷ rs) r (suc zero) h = refl
+record_kept (s ∷ rs) r (suc (suc i)) h = record_kept rs r (suc i) (omega arith)
+
+record_last : (rs : List Record) (r : Record) → record_at (rs ++ r ∷ []) (suc (length rs)) ≡ Some r
+record_last [] r = refl
+record_last (s ∷ rs) r = record_last rs r
+
+group_kept : (rs : List Record) (r : Record) (place : ℕ) → place ≤ length rs → group_at (rs ++ r ∷ []) place ≡ group_at rs place
+group_kept rs r place h = ap joined_in (record_kept rs r place h)
+
+all_taken : (rs : List Record) (r : Record) (place : ℕ) → place ≡ length rs + 1 → take place (rs ++ r ∷ []) ≡ rs ++ r ∷ []
+all_taken [] r zero h = absurd (omega arith)
+all_taken [] r (suc n) h =
+    let same : n ≡ 0 = omega arith in
+    ap (λ (k : ℕ). take (suc k) (r ∷ [])) same
+all_taken (s ∷ rs) r zero h = absurd (omega arith)
+all_taken (s ∷ rs) r (suc n) h = ap (λ (front : List Record). s ∷ front) (all_taken rs r n (omega arith))
+
+-- the group of the maker after its record
+after_own : (r : Record) (o : Option (List ℕ)) → group_after r (conn_of r.entry) o ≡ cond (is_allowed r.verdict) (group_by r.entry.op o) o
+after_own r o = ap (λ (b : Bool). cond (is_allowed r.verdict && b) (group_by r.entry.op o) o) (is_conn-itself (conn_of r.entry)) ∙ and_true (is_allowed r.verdict)
+  where
+    and_true : (v : Bool) → cond (v && true) (group_by r.entry.op o) o ≡ cond v (group_by r.entry.op o) o
+    and_true true = refl
+    and_true false = refl
+
+module _ (rs : List Record) (r : Record) (place : ℕ) (next : place ≡ length rs + 1) where
+  group_past : (join : ℕ) → group_at (rs ++ r ∷ []) join ≡ cond (is_allowed r.verdict) (group_by r.entry.op (group_of rs (conn_of r.entry))) (group_of rs (conn_of r.entry)) →
+      join ≤ place → StandsBy (rs ++ r ∷ []) (conn_of r.entry) (record { place = place; join = join })
+  group_past join is low = (
+    low,
+    is ∙ sym (after_own r (group_of rs (conn_of r.entry))) ∙ sym (group_of_push rs r (conn_of r.entry))
+        ∙ ap (λ (past : List Record). group_of past (conn_of r.entry)) (sym (all_taken rs r place next)),
+  )
+
+  module _ (join : ℕ) (low : join ≤ length rs) where
+    tells : (v : Bool) (op : Op) (o : Option (List ℕ)) → r.entry.op ≡ op → group_at rs join ≡ o →
+        group_at (rs ++ r ∷ []) (cond v (join_by op place o join) join) ≡ cond v (group_by op o) o
+    tells false op o is at = group_kept rs r join low ∙ at
+    tells true (Act (Join g)) None is at =
+        let last : place ≡ suc (length rs) = omega arith in
+        ap (group_at (rs ++ r ∷ [])) last ∙ ap joined_in (record_last rs r) ∙ ap joined_by is
+    tells true (Act (Join g)) (Some h) is at = group_kept rs r join low ∙ at
+    tells true (Act Leave) o is at = refl
+    tells true Gone o is at = refl
+    tells true (Act (Send m)) o is at = group_kept rs r join low ∙ at
+    tells true (Act (Insert h index rule)) o is at = group_kept rs r join low ∙ at
+    tells true (Act (Remove h id)) o is at = group_kept rs r join low ∙ at
+
+    early : (v : Bool) (op : Op) (o : Option (List ℕ)) → cond v (join_by op place o join) join ≤ place
+    early false op o = omega arith
+    early true (Act (Join g)) None = omega arith
+    early true (Act (Join g)) (Some h) = omega arith
+    early true (Act Leave) o = omega arith
+    early true Gone o = omega arith
+    early true (Act (Send m)) o = omega arith
+    early true (Act (Insert h index rule)) o = omega arith
+    early true (Act (Remove h id)) o = omega arith
+
+    -- the stop of the record stands by the join after it
+    pub stop_stands : group_at rs join ≡ group_of rs (conn_of r.entry) → StandsBy (rs ++ r ∷ []) (conn_of r.entry) (record { place = place; join = join_after r place (group_at rs join) join })
+    stop_stands by =
+        group_past (join_after r place (group_at rs join) join)
+        (tells (is_allowed r.verdict) r.entry.op (group_at rs join) refl refl
+        ∙ ap (λ (o : Option (List ℕ)). cond (is_allowed r.verdict) (group_by r.entry.op o) o) by)
+        (early (is_allowed r.verdict) r.entry.op (group_at rs join))
+
+-- a stop stands by its join over more records, too
+kept_by : (rs : List Record) (r : Record) (conn : ConnId) (stop : Stop) → stop.place ≤ length rs → StandsBy rs conn stop → StandsBy (rs ++ r ∷ []) conn stop
+kept_by rs r conn stop within by = (
+  by.0,
+  group_kept rs r stop.join (omega (arith, by.0)) ∙ by.1
+      ∙ ap (λ (past : List Record). group_of past conn) (sym (take-append-le stop.place rs (r ∷ []) within)),
+)
+
+stops_within : (rs : List Record) (conn : ConnId) (trail : List Stop) → IsTrail rs conn trail → All (λ (stop : Stop). stop.place ≤ length rs) trail
+stops_within rs conn trail are k d below =
+    let stop : Stop = get_or trail k d in
+    let stands : slice_get (places_of (is_made_by conn) rs) k ≡ Some (get_or trail k d).place =
+    ap (λ (ps : List ℕ). slice_get ps k) (sym are.0) ∙ slice_get-map place_of trail k ∙ ap (option_map place_of) (slice_get-get_or trail k d below) in
+    let there = sound (is_made_by conn) 1 rs k (get_or trail k d).place stands in
+    omega (arith, there.counted, slice_get_within rs there.index there.r there.stands)
+
+all_kept : (rs : List Record) (r : Record) (conn : ConnId) (trail : List Stop) → IsTrail rs conn trail → All (StandsBy (rs ++ r ∷ []) conn) trail
+all_kept rs r conn trail are k d below = kept_by rs r conn (get_or trail k d) (stops_within rs conn trail are k d below) (are.1 k d below)
+
+places_kept : (rs : List Record) (r : Record) (conn : ConnId) (made : Bool) → is_made_by conn r ≡ made →
+    places_of (is_made_by conn) (rs ++ r ∷ []) ≡ places_of (is_made_by conn) rs ++ cond made ((1 + length rs) ∷ []) []
+places_kept rs r conn made is =
+    places_from-push (is_made_by conn) 1 rs r ∙ ap (λ (b : Bool). places_of (is_made_by conn) rs ++ cond b ((1 + length rs) ∷ []) []) is
+
+-- the maker's trail with its stop, and every other as it was
+trail_past : (rs : List Record) (r : Record) (conn : ConnId) (stop : Stop) (trail : List Stop) (made : Bool) → is_conn conn (conn_of r.entry) ≡ made →
+    stop.place ≡ length rs + 1 → StandsBy (rs ++ r ∷ []) (conn_of r.entry) stop → IsTrail rs conn trail → IsTrail (rs ++ r ∷ []) conn (cond made (trail ++ stop ∷ []) trail)
+trail_past rs r conn stop trail false is at by are = (
+  are.0 ∙ sym (places_kept rs r conn false is ∙ append-nil (places_of (is_made_by conn) rs)),
+  all_kept rs r conn trail are,
+)
+trail_past rs r conn stop trail true is at by are =
+    let mine : StandsBy (rs ++ r ∷ []) conn stop = subst (λ (c : ConnId). StandsBy (rs ++ r ∷ []) c stop) (sym (is_conn-true conn (conn_of r.entry) is)) by in
+    let here : stop.place ≡ 1 + length rs = omega arith in (
+      map-append place_of trail (stop ∷ [])
+          ∙ ap (λ (ps : List ℕ). ps ++ stop.place ∷ []) are.0
+          ∙ ap (λ (n : ℕ). places_of (is_made_by conn) rs ++ n ∷ []) here
+          ∙ sym (places_kept rs r conn true is),
+      All-append (StandsBy (rs ++ r ∷ []) conn) trail (stop ∷ []) (all_kept rs r conn trail are) (All-cons (StandsBy (rs ++ r ∷ []) conn) stop [] mine (λ k d h. absurd (omega arith))),
+    )
+
+pub AreTrails-push : {Y Z : Type 0} (old : KeptTrails Y) (new : KeptTrails Z) (rs : List Record) (r : Record) (stop : Stop) → AreTrails old rs → stop.place ≡ length rs + 1 →
+    StandsBy (rs ++ r ∷ []) (conn_of r.entry) stop →
+    ((c : ConnId) → kept_trail new c ≡ cond (is_conn c (conn_of r.entry)) (kept_trail old c ++ stop ∷ []) (kept_trail old c)) → AreTrails new (rs ++ r ∷ [])
+AreTrails-push old new rs r stop are at by extends conn =
+    subst (IsTrail (rs ++ r ∷ []) conn) (sym (extends conn)) (trail_past rs r conn stop (kept_trail old conn) (is_conn conn (conn_of r.entry)) refl at by (are conn))
+
+-- ---- trails by connections
+
+pub is_conn-Decides : (a b : ConnId) → (is_conn a b ≡ true) ↔ (a ≡ b)
+is_conn-Decides a b = (is_conn-true a b, (λ same. subst (λ (c : ConnId). is_conn a c ≡ true) same (is_conn-itself a)))
+
+-- a trail that is made changes no connection's trail
+pub trail_made : {Z : Type 0} (kept : KeptTrails Z) (conn q : ConnId) (w : Vec Stop Z) → w.items ≡ [] → lookup (is_conn conn) kept ≡ None →
+    kept_trail (kept ++ (conn, w) ∷ []) q ≡ kept_trail kept q
+trail_made {Z} kept conn q w empty none =
+    ap or_no_trail (lookup-push is_conn is_conn-Decides kept conn w q none) ∙ by_case (is_conn conn q) refl
+  where
+    by_case : (b : Bool) → is_conn conn q ≡ b → or_no_trail (cond b (Some w) (lookup (is_conn q) kept)) ≡ or_no_trail (lookup (is_conn q) kept)
+    by_case false is = refl
+    by_case true is = empty ∙ sym (ap or_no_trail (ap (λ (c : ConnId). lookup (is_conn c) kept) (sym (is_conn-true conn q is)) ∙ none))
+
+pub trail_there : {Z : Type 0} (kept : KeptTrails Z) (conn : ConnId) (w : Vec Stop Z) → lookup (is_conn conn) kept ≡ None → is_some (lookup (is_conn conn) (kept ++ (conn, w) ∷ [])) ≡ true
+trail_there kept conn w none =
+    ap is_some (lookup-push is_conn is_conn-Decides kept conn w conn none)
+    ∙ ap (λ (b : Bool). is_some (cond b (Some w) (lookup (is_conn conn) kept))) (is_conn-itself conn)
+
+-- a trail that is there and set is found
+pub trail_found : {Z : Type 0} (kept : KeptTrails Z) (conn : ConnId) (w : Vec Stop Z) → is_some (lookup (is_conn conn) kept) ≡ true →
+    lookup (is_conn conn) (set_value (is_conn conn) kept w) ≡ Some w
+trail_found kept conn w there =
+    lookup-set is_conn is_conn-Decides kept conn w conn there
+    ∙ ap (λ (b : Bool). cond b (Some w) (lookup (is_conn conn) kept)) (is_conn-itself conn)
+
+flipped : (a b : ConnId) → is_conn a b ≡ is_conn b a
+flipped a b = by_case (is_conn a b) (is_conn b a) refl refl
+  where
+    by_case : (x y : Bool) → is_conn a b ≡ x → is_conn b a ≡ y → x ≡ y
+    by_case true true p q = refl
+    by_case false false p q = refl
+    by_case true false p q =
+        let t : is_conn b a ≡ true = (is_conn-Decides b a).1 (sym ((is_conn-Decides a b).0 p)) in
+        absurd (cc)
+    by_case false true p q =
+        let t : is_conn a b ≡ true = (is_conn-Decides a b).1 (sym ((is_conn-Decides b a).0 q)) in
+        absurd (cc)
+
+-- and every other stays
+pub trail_set : {Z : Type 0} (kept : KeptTrails Z) (conn q : ConnId) (w : Vec Stop Z) → is_some (lookup (is_conn conn) kept) ≡ true →
+    kept_trail (set_value (is_conn conn) kept w) q ≡ cond (is_conn q conn) w.items (kept_trail kept q)
+trail_set {Z} kept conn q w there =
+    ap or_no_trail (lookup-set is_conn is_conn-Decides kept conn w q there)
+    ∙ by_case (is_conn conn q)
+    ∙ ap (λ (b : Bool). cond b w.items (kept_trail kept q)) (flipped conn q)
+  where
+    by_case : (b : Bool) → or_no_trail (cond b (Some w) (lookup (is_conn q) kept)) ≡ cond b w.items (or_no_trail (lookup (is_conn q) kept))
+    by_case true = refl
+    by_case false = refl
+
+-- what is set to the items that were there changes no trail
+pub trail_same : {Z : Type 0} (kept : KeptTrails Z) (conn q : ConnId) (v w : Vec Stop Z) → lookup (is_conn conn) kept ≡ Some v → w.items ≡ v.items →
+    kept_trail (set_value (is_conn conn) kept w) q ≡ kept_trail kept q
+trail_same {Z} kept conn q v w there same = trail_set kept conn q w (ap is_some there) ∙ by_case (is_conn q conn) refl
+  where
+    by_case : (b : Bool) → is_conn q conn ≡ b → cond b w.items (kept_trail kept q) ≡ kept_trail kept q
+    by_case false is = refl
+    by_case true is = same ∙ sym (ap (λ (c : ConnId). kept_trail kept c) (is_conn-true q conn is) ∙ ap or_no_trail there)
+
+-- the trail that is set with a stop more
+pub trail_longer : {Z : Type 0} (kept : KeptTrails Z) (conn q : ConnId) (v w : Vec Stop Z) (stop : Stop) → lookup (is_conn conn) kept ≡ Some v → w.items ≡ v.items ++ stop ∷ [] →
+    kept_trail (set_value (is_conn conn) kept w) q ≡ cond (is_conn q conn) (kept_trail kept q ++ stop ∷ []) (kept_trail kept q)
+trail_longer {Z} kept conn q v w stop there longer = trail_set kept conn q w (ap is_some there) ∙ by_case (is_conn q conn) refl
+  where
+    by_case : (b : Bool) → is_conn q conn ≡ b → cond b w.items (kept_trail kept q) ≡ cond b (kept_trail kept q ++ stop ∷ []) (kept_trail kept q)
+    by_case false is = refl
+    by_case true is =
+        longer ∙ ap (λ (stops : List Stop). stops ++ stop ∷ []) (sym (ap (λ (c : ConnId). kept_trail kept c) (is_conn-true q conn is) ∙ ap or_no_trail there))

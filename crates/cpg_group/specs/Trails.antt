@@ -1,0 +1,81 @@
+-- the trails of connections, as they are kept beside the records: each one's own places, with its groups
+use Rattle.std.specs.Prelude.{ℕ, ◌≡◌, ◌<◌, ◌≤◌, true, List, [], ◌∷◌, ◌++◌, map, take, All, Option, Some, None, is_some, if◌then◌else◌}
+use Rattle.std.specs.Map.{lookup}
+use Rattle.std.specs.Vec.{vec_len, vec_capacity}
+use Rattle.std.specs.declared.vec.Vec.{Vec}
+use Rattle.cpg_entry.specs.declared.calls.Call.TheVariants.{Join, Leave}
+use Rattle.cpg_entry.specs.declared.calls.Op.{Op}
+use Rattle.cpg_entry.specs.declared.calls.Op.TheVariants.{Act, Gone}
+use Rattle.cpg_record.specs.declared.connections.ConnId.{ConnId}
+use Rattle.cpg_record.specs.declared.records.Record.{Record}
+use Rattle.cpg_record.specs.Connections.{is_conn}
+use Rattle.cpg_record.specs.Membership.{group_of, is_allowed}
+use Rattle.cpg_record.specs.Nexts.{is_made_by}
+use Rattle.cpg_record.specs.Places.{places_of, record_at}
+use Rattle.cpg_group.specs.declared.trails.Stop.{Stop}
+
+-- the group that an op joins
+abbrev pub joined_by : Op → Option (List ℕ)
+joined_by (Act (Join g)) = Some g
+joined_by _ = None
+
+-- the group that the record joins, if one is there and joins one
+abbrev pub joined_in : Option Record → Option (List ℕ)
+joined_in None = None
+joined_in (Some r) = joined_by r.entry.op
+
+-- the group that the record at the place joins, if it joins one
+abbrev pub group_at : List Record → ℕ → Option (List ℕ)
+group_at records place = joined_in (record_at records place)
+
+-- the place of a join that is no later than the stop, and gives the group that the connection is in after the stop
+abbrev pub StandsBy : List Record → ConnId → Stop → Type 0
+StandsBy records conn stop = (stop.join ≤ stop.place) × (group_at records stop.join ≡ group_of (take stop.place records) conn)
+
+-- the stops of a connection: its own places, each with the join that it stands by after it
+abbrev pub IsTrail : List Record → ConnId → List Stop → Type 0
+IsTrail records conn trail =
+    (map (λ stop. stop.place) trail ≡ places_of (is_made_by conn) records) × All (StandsBy records conn) trail
+
+-- the place of the join that a connection of that group stands by after its allowed op at the place, where it
+-- stood by that one before
+abbrev pub join_by : Op → ℕ → Option (List ℕ) → ℕ → ℕ
+join_by (Act (Join g)) place None standing = place
+join_by (Act (Join g)) place (Some h) standing = standing
+join_by (Act Leave) place group standing = 0
+join_by Gone place group standing = 0
+join_by _ place group standing = standing
+
+-- the same after its record: a denied entry changes nothing
+abbrev pub join_after : Record → ℕ → Option (List ℕ) → ℕ → ℕ
+join_after r place group standing = if is_allowed r.verdict then join_by r.entry.op place group standing else standing
+
+-- connections with their trails
+abbrev pub KeptTrails : Type 0 → Type 0
+KeptTrails Z = List (ConnId × Vec Stop Z)
+
+-- the stops of the trail that is found, and none where there is none
+abbrev pub or_no_trail : {Z : Type 0} → Option (Vec Stop Z) → List Stop
+or_no_trail None = []
+or_no_trail (Some trail) = trail.items
+
+-- the trail that is kept for a connection
+abbrev pub kept_trail : {Z : Type 0} → KeptTrails Z → ConnId → List Stop
+kept_trail kept conn = or_no_trail (lookup (is_conn conn) kept)
+
+-- a trail is kept for the connection
+abbrev pub HasTrail : {Z : Type 0} → KeptTrails Z → ConnId → Type 0
+HasTrail kept conn = is_some (lookup (is_conn conn) kept) ≡ true
+
+-- a trail with room for one stop more is kept for the connection
+abbrev pub HasRoom : {Z : Type 0} → KeptTrails Z → ConnId → Type 0
+HasRoom {Z} kept conn = (trail : Vec Stop Z) × (lookup (is_conn conn) kept ≡ Some trail) × (vec_len trail < vec_capacity trail)
+
+-- the connection's trail has the stop at its end, and every other is as it was
+abbrev pub Extends : {Z : Type 0} → KeptTrails Z → KeptTrails Z → ConnId → Stop → Type 0
+Extends old new conn stop =
+    (c : ConnId) → kept_trail new c ≡ (if is_conn c conn then kept_trail old c ++ stop ∷ [] else kept_trail old c)
+
+-- the kept trails are those that the records make
+abbrev pub AreTrails : {Z : Type 0} → KeptTrails Z → List Record → Type 0
+AreTrails kept records = (conn : ConnId) → IsTrail records conn (kept_trail kept conn)

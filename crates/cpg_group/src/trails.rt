@@ -1,0 +1,198 @@
+//! The trail of each connection, kept beside the records: the places of its own entries, and by which join
+//! it is in a group after each. Between two of them its group stays, so the trail tells its group at any place.
+
+ghost use Rattle.std.specs.Prelude.{◌≡◌, ◌+◌, ◌≤◌, ◌++◌, ◌∷◌, [], ℕ, List, map, take, length, nat_le, true, false, OnOk, IsOkUnless};
+ghost use Rattle.std.specs.List.Sorted.{IsNonDecreasingBy, IsPartitionPoint};
+ghost use Rattle.std.specs.Option.{option_copied};
+ghost use Rattle.cpg_record.specs.declared.connections.ConnId.{ConnId};
+ghost use Rattle.cpg_record.specs.declared.records.Record.{Record};
+ghost use Rattle.cpg_record.specs.Connections.{conn_of};
+ghost use Rattle.cpg_record.specs.Membership.{group_of};
+ghost use Rattle.cpg_record.specs.Nexts.{is_made_by};
+ghost use Rattle.cpg_record.specs.Places.{IsNextOf};
+ghost use Rattle.cpg_group.specs.Trails.{kept_trail, group_at, join_after, joined_by, Extends, HasRoom, HasTrail, IsTrail, StandsBy};
+
+use cpg_cred::Refusal;
+use cpg_entry::{Call, Name, Op};
+use cpg_record::{ConnId, Record};
+use indexmap::IndexMap;
+use std::alloc::Global;
+
+/// The place of a connection's own entry, and the place of the join by which the connection is in a group
+/// after it: 0 where it is in none.
+#[derive(Debug, Clone, Copy)]
+pub(crate) struct Stop {
+    place: u32,
+    join: u32,
+}
+
+/// How many stops stand at places up to the last one, by a binary search.
+fn count_upto(trail: &[Stop], last: usize) -> usize
+    ensures within { result ≤ length trail.now }
+    ensures cut { IsNonDecreasingBy (λ stop. stop.place) trail.now → IsPartitionPoint (λ stop. nat_le stop.place last ≡ true) (λ stop. nat_le stop.place last ≡ false) trail.now result }
+{
+    trail.partition_point(|stop| stop.place as usize <= last)
+}
+
+/// The place of the join by which the connection is in a group after the last place, 0 where it is in none.
+fn join_upto(trail: &[Stop], last: usize) -> u32
+    ensures early { (records : List Record) (conn : ConnId) → IsTrail records conn trail.now → result ≤ last }
+    ensures group { (records : List Record) (conn : ConnId) → IsTrail records conn trail.now → group_at records result ≡ group_of (take last records) conn }
+{
+    let passed = count_upto(trail, last);
+    if passed == 0 {
+        0
+    } else {
+        trail[passed - 1].join
+    }
+}
+
+/// The group that the record joins, if it joins one.
+fn group_joined(past: &Record) -> Option<&Name>
+    ensures { option_copied result ≡ joined_by past.now.entry.op }
+{
+    match &past.entry.op {
+        Op::Act(Call::Join(group)) => Some(group),
+        _ => None,
+    }
+}
+
+/// The group that the record at the place joins, if it joins one.
+fn find_joined(records: &[Record], place: u32) -> Option<&Name>
+    ensures { option_copied result ≡ group_at records.now place }
+{
+    if place == 0 {
+        return None;
+    }
+    match records.get(place as usize - 1) {
+        None => None,
+        Some(past) => group_joined(past),
+    }
+}
+
+/// The group that the connection of the trail is in after the last place.
+pub(crate) fn find_group<'a>(records: &'a [Record], trail: &[Stop], last: usize) -> Option<&'a Name>
+    ensures { (conn : ConnId) → IsTrail records.now conn trail.now → option_copied result ≡ group_of (take last records.now) conn }
+{
+    find_joined(records, join_upto(trail, last))
+}
+
+/// The next own place of the connection of the trail above the last one, by a binary search.
+pub(crate) fn next_own(trail: &[Stop], last: usize) -> Option<u32>
+    ensures { (records : List Record) (conn : ConnId) → IsTrail records conn trail.now → IsNextOf (is_made_by conn) records last result }
+{
+    let passed = count_upto(trail, last);
+    if passed < trail.len() {
+        Some(trail[passed].place)
+    } else {
+        None
+    }
+}
+
+/// The place of the join by which a connection of that group is in a group after its record at the place,
+/// where it stood by that one before.
+fn next_join(past: &Record, place: u32, group: Option<&Name>, standing: u32) -> u32
+    ensures { result ≡ join_after past.now place (option_copied group.entry) standing }
+{
+    if !past.verdict.is_allowed() {
+        return standing;
+    }
+    match &past.entry.op {
+        Op::Act(Call::Join(_)) => match group {
+            None => place,
+            Some(_) => standing,
+        },
+        Op::Act(Call::Leave) | Op::Gone => 0,
+        _ => standing,
+    }
+}
+
+/// The stop of the record that comes next, at that place, on the trail of its connection.
+pub(crate) fn stop_of(records: &[Record], trail: &[Stop], place: u32, next: &Record) -> Stop
+    requires next { place ≡ length records.now + 1 }
+    requires trail { IsTrail records.now (conn_of next.now.entry) trail.now }
+    ensures place { result.place ≡ place }
+    ensures join { StandsBy (records.now ++ next.now ∷ []) (conn_of next.now.entry) result }
+{
+    let standing = join_upto(trail, records.len());
+    let join = next_join(next, place, find_joined(records, standing), standing);
+    Stop { place, join }
+}
+
+/// The trails of all connections that made an entry.
+#[derive(Drop)]
+pub(crate) struct Trails {
+    kept: IndexMap<ConnId, Vec<Stop>>,
+}
+
+impl Trails {
+    /// No trails.
+    pub(crate) fn new(alloc: Global) -> Trails
+        ensures { (conn : ConnId) → kept_trail result.kept.entries conn ≡ [] }
+    {
+        Trails {
+            kept: IndexMap::new(alloc),
+        }
+    }
+
+    /// The trail of a connection.
+    pub(crate) fn of(&self, conn: &ConnId) -> &[Stop]
+        ensures { result.now ≡ kept_trail self.now.kept.entries conn.now }
+    {
+        match self.kept.get(conn) {
+            Some(trail) => trail.as_slice(),
+            None => &[],
+        }
+    }
+
+    /// Makes a trail for the connection, which changes no trail.
+    fn make(&mut self, conn: &ConnId) -> Result<(), Refusal>
+        ensures same { (c : ConnId) → kept_trail self.new.kept.entries c ≡ kept_trail self.old.kept.entries c }
+        ensures ok { OnOk result (HasTrail self.new.kept.entries conn.now) }
+        ensures memory { IsOkUnless result Refusal.Memory }
+    {
+        if self.kept.contains_key(conn) {
+            return Ok(());
+        }
+        let alloc = *self.kept.allocator();
+        self.kept.insert(*conn, Vec::new(alloc))?;
+        Ok(())
+    }
+
+    /// Makes room for one stop more on the trail of the connection, which changes no trail.
+    fn widen(&mut self, conn: &ConnId) -> Result<(), Refusal>
+        requires { HasTrail self.old.kept.entries conn.now }
+        ensures same { (c : ConnId) → kept_trail self.new.kept.entries c ≡ kept_trail self.old.kept.entries c }
+        ensures ok { OnOk result (HasRoom self.new.kept.entries conn.now) }
+        ensures memory { IsOkUnless result Refusal.Memory }
+    {
+        match self.kept.get_mut(conn) {
+            None => Ok(()),
+            Some(trail) => {
+                trail.reserve(1)?;
+                Ok(())
+            }
+        }
+    }
+
+    /// Makes all room that a stop more of the connection needs, which changes no trail.
+    pub(crate) fn make_room(&mut self, conn: &ConnId) -> Result<(), Refusal>
+        ensures same { (c : ConnId) → kept_trail self.new.kept.entries c ≡ kept_trail self.old.kept.entries c }
+        ensures ok { OnOk result (HasRoom self.new.kept.entries conn.now) }
+        ensures memory { IsOkUnless result Refusal.Memory }
+    {
+        self.make(conn)?;
+        self.widen(conn)
+    }
+
+    /// Puts the stop at the end of the connection's trail, which has room for it.
+    pub(crate) fn push(&mut self, conn: &ConnId, stop: Stop)
+        requires { HasRoom self.old.kept.entries conn.now }
+        ensures { Extends self.old.kept.entries self.new.kept.entries conn.now stop }
+    {
+        match self.kept.get_mut(conn) {
+            Some(trail) => trail.push_reserved(stop),
+            None => {}
+        }
+    }
+}
