@@ -3,3 +3,4 @@ mod Shown
 mod Kept
 mod Applying
 mod Stops
+mod Latest

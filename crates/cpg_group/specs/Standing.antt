@@ -47,6 +47,11 @@ kept_group kept g = or_none (lookup (bytes_eq g) kept)
 abbrev pub HasGroup : Kept → List ℕ → Type 0
 HasGroup kept g = is_some (lookup (bytes_eq g) kept) ≡ true
 
+-- the members of the list that is there, and nobody where there is none
+abbrev pub listed : Option (List Member) → List Member
+listed None = []
+listed (Some list) = list
+
 -- the group as it stands after the records
 abbrev pub standing : List Record → List ℕ → GroupValue
 standing records g = record { table = rules_of records g; members = members records g; places = places_of (acts_in g) records }

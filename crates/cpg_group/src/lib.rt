@@ -5,10 +5,10 @@
 //! entries that it has seen.
 #![tactic(auto)]
 
-mod history;
 mod judging;
 mod listing;
 mod nexts;
+mod places;
 mod policies;
 mod standing;
 mod telling;

@@ -2,14 +2,14 @@
 //! allowed entry of the group that it is in. One search of each list suffices, since it stays in its group up
 //! to its next own place.
 
-ghost use Rattle.std.specs.Prelude.{◌≡◌, List, Bool, MatchOption};
+ghost use Rattle.std.specs.Prelude.{◌≡◌, MatchOption};
 ghost use Rattle.std.specs.Option.{option_copied};
-ghost use Rattle.cpg_record.specs.declared.records.Record.{Record};
 ghost use Rattle.cpg_record.specs.Nexts.{reaches, IsNextTold, TellsNoMore};
-ghost use Rattle.cpg_record.specs.Places.{places_of, sooner, IsNextOf};
+ghost use Rattle.cpg_record.specs.Places.{sooner, IsNextOf};
 ghost use Rattle.cpg_group.specs.Standing.{AreStanding};
 ghost use Rattle.cpg_group.specs.Trails.{IsTrail};
 
+use crate::places::next_in;
 use crate::standing::Groups;
 use crate::trails::{Stop, find_group, next_own};
 use cpg_entry::Name;
@@ -29,18 +29,6 @@ fn sooner_of(place: Option<u32>, other: Option<u32>) -> Option<u32>
                 Some(other)
             }
         }
-    }
-}
-
-/// The first of the ascending places that is above the last one.
-fn next_in(places: &[u32], last: usize) -> Option<u32>
-    ensures { (test : Record → Bool) (records : List Record) → places.now ≡ places_of test records → IsNextOf test records last result }
-{
-    let passed = places.partition_point(|place| *place as usize <= last);
-    if passed < places.len() {
-        Some(places[passed])
-    } else {
-        None
     }
 }
 

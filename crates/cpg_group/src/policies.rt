@@ -182,6 +182,8 @@ impl Policy {
         telling::collect_events(
             *self.records.allocator(),
             self.records.as_slice(),
+            &self.groups,
+            self.trails.of(&conn),
             place,
             &conn,
         )

@@ -12,6 +12,7 @@ ghost use Rattle.cpg_record.specs.Nexts.{is_made_by};
 ghost use Rattle.cpg_record.specs.Places.{IsNextOf};
 ghost use Rattle.cpg_group.specs.Trails.{kept_trail, group_at, join_after, joined_by, Extends, HasRoom, HasTrail, IsTrail, StandsBy};
 
+use crate::places::find_record;
 use cpg_cred::Refusal;
 use cpg_entry::{Call, Name, Op};
 use cpg_record::{ConnId, Record};
@@ -61,10 +62,7 @@ fn group_joined(past: &Record) -> Option<&Name>
 fn find_joined(records: &[Record], place: u32) -> Option<&Name>
     ensures { option_copied result ≡ group_at records.now place }
 {
-    if place == 0 {
-        return None;
-    }
-    match records.get(place as usize - 1) {
+    match find_record(records, place) {
         None => None,
         Some(past) => group_joined(past),
     }
