@@ -13,7 +13,11 @@ mod listings;
 #[cfg(test)]
 mod lone_node;
 #[cfg(test)]
+mod next_places;
+#[cfg(test)]
 mod nodes;
+#[cfg(test)]
+mod ordering;
 #[cfg(test)]
 mod plain;
 #[cfg(test)]
