@@ -1,10 +1,9 @@
 -- The record of one entry more keeps records judged and tables current.
-use Rattle.std.proofs.Common.{◌≡◌, ℕ, ◌+◌, ◌<◌, ◌≤◌, Bool, true, false, ◌&&◌, cond, List, [], ◌∷◌, ◌++◌, length, take, get_or, All, refl, sym, ap, subst, ◌∙◌, arith, Option, Some, None}
+use Rattle.std.proofs.Common.{◌≡◌, ℕ, ◌+◌, ◌<◌, ◌≤◌, Bool, true, false, ◌&&◌, cond, List, [], ◌∷◌, ◌++◌, length, take, get_or, All, refl, sym, ap, subst, ◌∙◌, arith, Some}
 use Rattle.std.specs.List.{fold, enumerate_from}
 use Rattle.std.proofs.lemmas.List.{map-append, take_more}
 use Rattle.std.proofs.lemmas.List.Sums.{fold_push}
 use Rattle.cpg_rules.specs.Tables.{Rules}
-use Rattle.std.proofs.lemmas.Slice.Eq.{bytes_eq-Decides}
 use Rattle.cpg_entry.specs.declared.calls.Call.TheVariants.{Join, Leave, Send, Insert, Remove}
 use Rattle.cpg_entry.specs.declared.calls.Op.{Op}
 use Rattle.cpg_entry.specs.declared.calls.Op.TheVariants.{Act, Gone}
@@ -15,7 +14,7 @@ use Rattle.cpg_record.specs.Judging.{judged, with_judgement, record_of, entry_gr
 use Rattle.cpg_record.specs.Membership.{is_allowed, is_named, members}
 use Rattle.cpg_record.specs.RuleTables.{edited, edited_by, named, rules_of}
 use Rattle.cpg_record.specs.Steps.{CanEditBy, members_by}
-use Rattle.cpg_record.proofs.Elsewhere.{elsewhere_of, lists_members}
+use Rattle.cpg_record.proofs.Elsewhere.{elsewhere_of, lists_members, named_group}
 use Rattle.cpg_record.proofs.Growing.{members_push, rules_of_push}
 use Rattle.cpg_record.specs.Nexts.{acts_in}
 use Rattle.cpg_record.specs.Places.{places_of}
@@ -59,10 +58,6 @@ ids_low rs g =
 pub one_each : (rs : List Record) → AreJudged rs → OneEach rs
 one_each rs are = subst OneEach (sym are) (one_from [] (entries_of rs) (λ c. omega arith))
 
-group_said : (o : Option (List ℕ)) (g : List ℕ) → is_named o g ≡ true → o ≡ Some g
-group_said None g h = absurd (cc)
-group_said (Some h) g is = ap Some ((bytes_eq-Decides h g).0 is)
-
 can_take_by : (rs : List Record) (e : Entry) (op : Op) (g : List ℕ) (place : ℕ) → is_named (entry_group rs e op) g ≡ true →
     (is_named (named op) g ≡ true → CanEditBy (rules_of rs g) place op) → CanEditBy (rules_of rs g) place op
 can_take_by rs e (Act (Insert h at rule)) g place here can = can here
@@ -104,7 +99,7 @@ same_parts t u ms ns ps qs p q s = λ i. group_with (p i) (q i) (s i)
 -- the members that the record lists are those of its group
 listed_there : (rs : List Record) (r : Record) (g : List ℕ) → r ≡ record_of rs r.entry → is_named r.group g ≡ true → r.members ≡ members (rs ++ r ∷ []) g
 listed_there rs r g judgement here =
-    let said : (record_of rs r.entry).group ≡ Some g = group_said (record_of rs r.entry).group g (ap (λ (q : Record). is_named q.group g) (sym judgement) ∙ here) in
+    let said : (record_of rs r.entry).group ≡ Some g = (named_group (record_of rs r.entry).group g).0 (ap (λ (q : Record). is_named q.group g) (sym judgement) ∙ here) in
     ap (λ (q : Record). q.members) judgement ∙ lists_members rs r.entry g said
     ∙ ap (λ (q : Record). members (rs ++ q ∷ []) g) (sym judgement)
 
