@@ -1,6 +1,6 @@
 //! What the tests of a cluster share.
 
-ghost use Rattle.std.specs.Prelude.{◌≡◌, ◌≤◌};
+ghost use Rattle.std.specs.Prelude.{◌≡◌, ◌≤◌, IfOk};
 
 use cpg_cred::{AcceptList, Cred, NodeId, Refusal, Refused};
 use cpg_daemon::{BoardName, Gate, Running, Session};
@@ -18,7 +18,9 @@ pub const MOST_ASKS: u32 = 1_000_000;
 pub const ROOT: Cred = Cred { uid: 0, gid: 0 };
 
 /// Settings of ring 1 with so many nodes.
-pub fn settings_of(nodes: u8) -> Settings {
+pub fn settings_of(nodes: u8) -> Settings
+    ensures { result.nodes ≡ nodes }
+{
     Settings {
         ring: 1,
         nodes,
@@ -28,8 +30,13 @@ pub fn settings_of(nodes: u8) -> Settings {
 }
 
 /// The node of that number, or a refusal.
-pub fn node_of(number: u8) -> Result<NodeId, Refusal> {
-    NodeId::new(number).ok_or(Refusal::Range)
+pub fn node_of(number: u8) -> Result<NodeId, Refusal>
+    ensures { IfOk result (λ node. node ≡ number) }
+{
+    match NodeId::new(number) {
+        Some(node) => Ok(node),
+        None => Err(Refusal::Range),
+    }
 }
 
 /// A list of user 7.

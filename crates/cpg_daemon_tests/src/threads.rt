@@ -1,6 +1,7 @@
 //! Three client threads at a cluster of three nodes.
 
 ghost use Rattle.std.specs.Prelude.{◌≡◌, ◌≤◌, IfOk, vec_len};
+ghost use Rattle.std.specs.Thread.{IsSync};
 ghost use Rattle.cpg_board.specs.Seats.{IsSeatOf};
 
 use crate::sharing::{ROOT, Told, next_told, node_of, refusal_in, settings_of};
@@ -175,7 +176,9 @@ fn three_clients<B: BoardName + Send + Sync, R: Threads + Wait + Sync>(
     thread::join(
         rt,
         || client(rt, alloc, running, 1),
-        || two_clients(rt, alloc, running),
+        ||
+            requires { IsSync R.row × (3 ≤ running.now.nodes) }
+        { two_clients(rt, alloc, running) },
     )
 }
 
@@ -229,10 +232,17 @@ fn seen_by_three<B: BoardName + Send + Sync, R: Threads + Wait + Sync>(
 ) -> Result<Vec<Record>, Refusal>
     requires { 3 ≤ running.now.nodes }
 {
-    match three_clients(rt, alloc, running) {
-        (Some(one), (Some(two), Some(three))) => audited(alloc, running, &one, &two, &three),
-        _ => Err(Refusal::Stopped),
-    }
+    let (one, (two, three)) = three_clients(rt, alloc, running);
+    let Some(one) = one else {
+        return Err(Refusal::Stopped);
+    };
+    let Some(two) = two else {
+        return Err(Refusal::Stopped);
+    };
+    let Some(three) = three else {
+        return Err(Refusal::Stopped);
+    };
+    audited(alloc, running, &one, &two, &three)
 }
 
 /// Whether the record is of the removal of that rule.
