@@ -7,6 +7,7 @@ use Rattle.clap.specs.declared.parser.matches.MatchedArg.{MatchedArg}
 use Rattle.clap.specs.Words.{matched_of, one_text, raw_values}
 use Rattle.clap.specs.declared.error.kind.ErrorKind.{ErrorKind}
 use Rattle.clap.specs.declared.error.kind.ErrorKind.TheVariants.{DisplayHelp, DisplayVersion, OutOfMemory}
+use Rattle.cpg_ring.specs.declared.settings.Settings.{Settings}
 use Rattle.cpg_program.specs.declared.runs.Run.{Run}
 use Rattle.cpg_program.specs.declared.runs.Run.TheVariants.{Judge, Accept, Step}
 

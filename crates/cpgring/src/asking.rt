@@ -90,10 +90,7 @@ fn settings_of(given: &ArgMatches<'_>) -> Option<Settings>
 fn words_of<'a>(given: &'a ArgMatches<'_>) -> &'a [&'a str]
     ensures { map (λ word. word.now) result.now ≡ words_given (found_of given.now) }
 {
-    match given.get_strs(ACCEPT) {
-        Some(words) => words,
-        None => &[],
-    }
+    given.get_strs(ACCEPT).unwrap_or(&[])
 }
 
 /// Says why nothing is run, and returns the exit status: help and the version, which were asked for, on

@@ -1,17 +1,27 @@
 //! What command lines ask for, and what is said of the others.
 
-use crate::asking::{explain, read_run};
+use crate::asking::{explain, match_words, read_run};
+use clap::Error;
 use cpg_program::Run;
+use cpg_ring::Settings;
 use std::alloc::Global;
 use std::process::Abort;
+
+/// Why the words ask for no run, where they ask for none.
+fn why_none(alloc: Global, words: &[&str]) -> Option<Error> {
+    match match_words(alloc, words) {
+        Ok(matches) => read_run(alloc, &matches).err(),
+        Err(error) => Some(error),
+    }
+}
 
 /// Checks what is said of the words, by its front on either stream, and the exit status.
 fn expect(rt: &impl Abort, alloc: Global, words: &[&str], shown: &str, told: &str, status: u8) {
     let mut writer = Vec::new(alloc);
     let mut errors = Vec::new(alloc);
-    match read_run(alloc, words) {
-        Ok(_) => assert!(rt; false, "a run"),
-        Err(error) => {
+    match why_none(alloc, words) {
+        None => assert!(rt; false, "a run"),
+        Some(error) => {
             let said = explain(alloc, &error, &mut writer, &mut errors);
             assert_eq!(rt; said, status);
         }
@@ -26,8 +36,8 @@ fn expect(rt: &impl Abort, alloc: Global, words: &[&str], shown: &str, told: &st
 fn command_lines_are_answered(rt: HostRuntime) {
     let alloc = rt.alloc();
     let about = "Closed process groups";
-    assert!(rt; matches!(read_run(alloc, &["cpgring", "judge"]), Ok(Run::Judge)));
-    assert!(rt; matches!(read_run(alloc, &["cpgring", "accept"]), Ok(Run::Accept)));
+    assert!(rt; why_none(alloc, &["cpgring", "judge"]).is_none());
+    assert!(rt; why_none(alloc, &["cpgring", "accept"]).is_none());
     expect(
         &rt,
         alloc,
@@ -77,9 +87,68 @@ fn help_that_cannot_be_written_is_a_fault(rt: HostRuntime) {
     let alloc = rt.alloc();
     let mut room = [0u8; 4];
     let mut errors = Vec::new(alloc);
-    if let Err(error) = read_run(alloc, &["cpgring", "--help"]) {
+    if let Some(error) = why_none(alloc, &["cpgring", "--help"]) {
         let status = explain(alloc, &error, &mut room.as_mut_slice(), &mut errors);
         assert_eq!(rt; status, 1);
     }
     assert!(rt; errors.as_slice() == b"cpgring: 43 Write\n".as_slice());
+}
+
+/// Whether the words ask for a script of commands over a ring of those settings, and for those words.
+fn asks_to_step(alloc: Global, words: &[&str], settings: Settings, list: &[&str]) -> bool {
+    match match_words(alloc, words) {
+        Ok(matches) => match read_run(alloc, &matches) {
+            Ok(Run::Step(asked, given)) => asked == settings && given == list,
+            _ => false,
+        },
+        Err(_) => false,
+    }
+}
+
+#[test]
+fn settings_and_words_are_read(rt: HostRuntime) {
+    let usual = Settings {
+        ring: 1,
+        nodes: 2,
+        places: 4096,
+        hops: 4_611_686_018_427_387_904,
+    };
+    let other = Settings {
+        ring: 9,
+        nodes: 8,
+        places: 1,
+        hops: 7,
+    };
+    let long = [
+        "cpgring",
+        "step",
+        "gid:9",
+        "--nodes=8",
+        "--ring",
+        "9",
+        "uid:7",
+        "--places",
+        "1",
+        "--hops=7",
+    ];
+    assert!(rt; asks_to_step(rt.alloc(), &["cpgring", "step"], usual, &[]));
+    assert!(rt; asks_to_step(rt.alloc(), &long, other, &["gid:9", "uid:7"]));
+}
+
+#[test]
+fn settings_out_of_range_are_refused(rt: HostRuntime) {
+    let words = [
+        ["--nodes", "0"],
+        ["--nodes", "9"],
+        ["--places", "0"],
+        ["--places", "1048577"],
+        ["--hops", "0"],
+        ["--hops", "4611686018427387905"],
+        ["--ring", "4294967296"],
+    ];
+    for [option, value] in words {
+        let told = "error: invalid value";
+        let asked = ["cpgring", "step", "uid:x", option, value];
+        expect(&rt, rt.alloc(), &asked, "", told, 2);
+    }
 }
