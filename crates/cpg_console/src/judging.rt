@@ -4,9 +4,8 @@
 //! last the count and the inboxes. Proved: the bytes, after success and after each fault.
 
 ghost use Rattle.std.specs.Prelude.{◌≡◌, ◌+◌, ◌<◌, ◌≤◌, ◌∷◌, ◌++◌, [], None, length, OnOk, IfOk, IfErr, IfSome, IsOkUnless};
-ghost use Rattle.std.specs.List.{concat, list_any};
+ghost use Rattle.std.specs.List.{concat};
 ghost use Rattle.std.specs.Io.KnownBytes.{Appends};
-ghost use Rattle.cpg_record.specs.Connections.{is_conn};
 ghost use Rattle.cpg_record.specs.Judging.{judged, most_places, record_of, IsNext};
 ghost use Rattle.cpg_script.specs.Written.{LeavesLines, WritesLate};
 ghost use Rattle.cpg_print.specs.Records.{audit_lines};
@@ -23,6 +22,7 @@ use cpg_print::put_audit;
 use cpg_record::{ConnId, Record};
 use cpg_script::{Fault, write_line};
 use cpg_text::{MOST_BYTES, read_whole};
+use indexmap::IndexSet;
 use std::alloc::Global;
 use std::io::{Read, Write};
 
@@ -141,30 +141,22 @@ fn apply(policy: &mut Policy, next: Record) -> Result<(), Refusal>
 }
 
 /// The connections of the entries, each once, in the order of their first entries.
-fn list_conns(alloc: Global, entries: &[Entry]) -> Result<Vec<ConnId>, Refusal>
-    ensures ok { IfOk result (λ conns. conns.items ≡ conns_of entries.now) }
+fn list_conns(alloc: Global, entries: &[Entry]) -> Result<IndexSet<ConnId>, Refusal>
+    ensures ok { IfOk result (λ conns. conns.keys ≡ conns_of entries.now) }
     ensures memory { IsOkUnless result Refusal.Memory }
 {
-    let mut conns = Vec::new(alloc);
+    let mut conns = IndexSet::new(alloc);
     for entry in entries {
-        add_conn(&mut conns, &ConnId::of(entry))?;
+        add_conn(&mut conns, ConnId::of(entry))?;
     }
     Ok(conns)
 }
 
 /// Puts the connection last, if it is absent.
-fn add_conn(conns: &mut Vec<ConnId>, conn: &ConnId) -> Result<(), Refusal>
-    ensures ok { OnOk result (conns.new.items ≡ with_conn conns.old.items conn.now) }
+fn add_conn(conns: &mut IndexSet<ConnId>, conn: ConnId) -> Result<(), Refusal>
+    ensures ok { OnOk result (conns.new.keys ≡ with_conn conns.old.keys conn) }
     ensures memory { IsOkUnless result Refusal.Memory }
 {
-    if !has_conn(conns.as_slice(), conn) {
-        conns.push(*conn)?;
-    }
+    conns.insert(conn)?;
     Ok(())
-}
-
-fn has_conn(conns: &[ConnId], conn: &ConnId) -> bool
-    ensures { result ≡ list_any (is_conn conn.now) conns.now }
-{
-    conns.iter().any(|other| conn.is(other))
 }

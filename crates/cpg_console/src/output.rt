@@ -84,6 +84,7 @@ fn write_place<W: Write>(
     write_events(writer, line, events.as_slice())
 }
 
+/// Writes what the judged places tell the connection, from one place that tells it anything to the next.
 fn write_places<W: Write>(
     writer: &mut W,
     line: &mut Vec<u8>,
@@ -93,12 +94,13 @@ fn write_places<W: Write>(
     ensures ok { OnOk result (Appends (W.contents writer.old) (W.contents writer.new) (concat (map event_line (inbox (judged policy.now) conn.now)))) }
     ensures err { IfErr result (λ refusal. LeavesLines (map event_line (inbox (judged policy.now) conn.now)) refusal (W.contents writer.old) (W.contents writer.new)) }
 {
-    let count = policy.len() as u32;
-    for before in 0..count {
-        match write_place(writer, line, policy, before + 1, conn) {
+    let mut after = 0;
+    while let Some(place) = policy.next_event(after, *conn) {
+        match write_place(writer, line, policy, place, conn) {
             Ok(()) => {}
             Err(refusal) => return Err(refusal),
         }
+        after = place;
     }
     Ok(())
 }

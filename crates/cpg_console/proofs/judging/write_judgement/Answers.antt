@@ -56,7 +56,7 @@ returns-clause-ok g c =
     let counted = c.len.ensures.value ∙ ap length audited.0 in
     let line = subst (λ count. Appends (g.W.Write.contents c.judge_entries.new.writer) (g.W.Write.contents c.write_count.new.writer) (count_line count)) counted c.in_ok-write_count.ensures.ok in
     let head = lines_after _ _ _ (audit_lines (judged c.args.entries.now)) (count_line (length c.args.entries.now) ∷ []) audited.1 (text_of_line _ _ _ line) in
-    let each = c.as_slice.ensures.value ∙ c.in_ok-conns.ensures.ok in
+    let each = c.as_slice.ensures.keys ∙ c.in_ok-conns.ensures.ok in
     ok_after c.write_inboxes.result _ _ _ (judge_lines c.args.entries.now) (head_lines c.args.entries.now) (flat_map (inbox_lines (judged c.judge_entries.new.policy)) c.as_slice.result.now)
     (parted_at c.args.entries.now c.judge_entries.new.policy c.as_slice.result.now audited.0 each) head c.write_inboxes.ensures.ok
 
@@ -66,6 +66,6 @@ returns-clause-err g c =
     let counted = c.len.ensures.value ∙ ap length audited.0 in
     let line = subst (λ count. Appends (g.W.Write.contents c.judge_entries.new.writer) (g.W.Write.contents c.write_count.new.writer) (count_line count)) counted c.in_ok-write_count.ensures.ok in
     let head = lines_after _ _ _ (audit_lines (judged c.args.entries.now)) (count_line (length c.args.entries.now) ∷ []) audited.1 (text_of_line _ _ _ line) in
-    let each = c.as_slice.ensures.value ∙ c.in_ok-conns.ensures.ok in
+    let each = c.as_slice.ensures.keys ∙ c.in_ok-conns.ensures.ok in
     err_after c.write_inboxes.result _ _ _ (judge_lines c.args.entries.now) (head_lines c.args.entries.now) (flat_map (inbox_lines (judged c.judge_entries.new.policy)) c.as_slice.result.now)
     (parted_at c.args.entries.now c.judge_entries.new.policy c.as_slice.result.now audited.0 each) head c.write_inboxes.ensures.err
