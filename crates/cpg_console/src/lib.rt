@@ -1,4 +1,5 @@
-//! Scripts, as text both ways: lines to entries, and records and events to lines.
+//! Scripts, as text both ways: lines to entries, and records and events to lines; the calls of the other kinds
+//! of script are offered again.
 //!
 //! The forms are this project's own. Proved: what is read and what is written are the definitions in
 //! `specs/`, byte for byte, where the reader and the writer tell their bytes; and what is printed of an entry
@@ -14,4 +15,5 @@ mod tests;
 pub use cpg_accept::accept_script;
 pub use cpg_print::{entries_read_back, rules_read_back, whos_read_back};
 pub use cpg_script::{Fault, put_fault};
+pub use cpg_step::run_script;
 pub use judging::judge_script;
