@@ -1,5 +1,6 @@
 -- The record of one entry more keeps records judged and tables current.
 use Rattle.std.proofs.Common.{◌≡◌, ℕ, ◌+◌, ◌<◌, ◌≤◌, Bool, true, false, ◌&&◌, cond, List, [], ◌∷◌, ◌++◌, length, take, get_or, All, refl, sym, ap, subst, ◌∙◌, arith, Some}
+use Rattle.std.specs.Prelude.{count_by}
 use Rattle.std.specs.List.{fold, enumerate_from}
 use Rattle.std.proofs.lemmas.List.{map-append, take_more}
 use Rattle.std.proofs.lemmas.List.Sums.{fold_push}
@@ -10,6 +11,7 @@ use Rattle.cpg_entry.specs.declared.calls.Op.TheVariants.{Act, Gone}
 use Rattle.cpg_entry.specs.declared.entries.Entry.{Entry}
 use Rattle.cpg_record.specs.declared.memberships.Member.{Member}
 use Rattle.cpg_record.specs.declared.records.Record.{Record}
+use Rattle.cpg_record.specs.Connections.{member_of}
 use Rattle.cpg_record.specs.Judging.{judged, with_judgement, record_of, entry_group, entries_of, AreJudged}
 use Rattle.cpg_record.specs.Membership.{is_allowed, is_named, members}
 use Rattle.cpg_record.specs.RuleTables.{edited, edited_by, named, rules_of}
@@ -18,12 +20,13 @@ use Rattle.cpg_record.proofs.Elsewhere.{elsewhere_of, lists_members, named_group
 use Rattle.cpg_record.proofs.Growing.{members_push, rules_of_push}
 use Rattle.cpg_record.specs.Nexts.{acts_in}
 use Rattle.cpg_record.specs.Places.{places_of}
-use Rattle.cpg_record.proofs.Once.{OneEach, one_from}
+use Rattle.cpg_record.proofs.Once.{OneEach, one_from, once_in_a_group}
 use Rattle.cpg_record.proofs.Positions.{places_from-push}
 use Rattle.std.proofs.lemmas.List.{append-nil}
 use Rattle.cpg_record.proofs.Judging.{can_edit, ids_edited, Each-judged}
 use Rattle.cpg_group.specs.Standing.{GroupValue}
-use Rattle.cpg_group.specs.Standing.{Kept, kept_group, changed, group_past, standing, AreStanding, CanTake}
+use Rattle.cpg_group.specs.Standing.{Kept, kept_group, changed, group_past, standing, AreStanding, CanChange, CanTake}
+use Rattle.cpg_group.specs.Processes.{process_in, is_process, ComesTo, OnceEach}
 
 -- ---- judged records
 
@@ -67,16 +70,6 @@ can_take_by rs e (Act (Send m)) g place here can = tt
 can_take_by rs e (Act (Remove h id)) g place here can = tt
 can_take_by rs e Gone g place here can = tt
 
--- the next record can edit the table of its group as it is kept
-pub can_take : (kept : Kept) (rs : List Record) (r : Record) (place : ℕ) → AreStanding kept rs → place ≡ length rs + 1 → r ≡ record_of rs r.entry →
-    (g : List ℕ) → CanTake g (kept_group kept g) (place, r)
-can_take kept rs r place current is judgement g allowed here =
-    let P : GroupValue → Type 0 = λ (group : GroupValue). CanEditBy group.table place r.entry.op in
-    let said : is_named (entry_group rs r.entry r.entry.op) g ≡ true = ap (λ (q : Record). is_named q.group g) (sym judgement) ∙ here in
-    subst P (sym (current g))
-    (can_take_by rs r.entry r.entry.op g place said
-    (λ named_is. can_edit rs r g place judgement (λ k d h same. absurd (omega (arith, ids_low rs g k d h))) allowed named_is))
-
 -- an edit of the group that an op names is one of the entry's group
 edit_same : (rs : List Record) (e : Entry) (op : Op) (g : List ℕ) (place : ℕ) (rules : Rules) (n : Bool) → is_named (entry_group rs e op) g ≡ n →
     cond (is_named (named op) g) (edited_by place op rules) rules ≡ cond n (edited_by place op rules) rules
@@ -107,6 +100,40 @@ unchanged_there : (rs : List Record) (r : Record) (g : List ℕ) → OneEach rs 
 unchanged_there rs r g one judgement other =
     sym (elsewhere_of rs r.entry g one (ap (λ (q : Record). is_named q.group g) (sym judgement) ∙ other))
     ∙ ap (λ (q : Record). members (rs ++ q ∷ []) g) (sym judgement)
+
+-- over judged records no process stands twice in a group
+once_each : (rs : List Record) (g : List ℕ) → AreJudged rs → OnceEach (members rs g)
+once_each rs g are p = subst (λ (past : List Record). count_by (λ member. is_process (process_in member) p) (members past g) ≤ 1) (sym are) (once_in_a_group (entries_of rs) g p.node p.pid)
+
+comes_to_by : (rs : List Record) (e : Entry) (op : Op) (g : List ℕ) (before after : List Member) → is_named (entry_group rs e op) g ≡ true → OnceEach before →
+    after ≡ members_by e op g before → ComesTo before e op after
+comes_to_by rs e (Act (Join h)) g before after here once is = is ∙ ap (λ (b : Bool). cond b (before ++ member_of e ∷ []) before) here
+comes_to_by rs e (Act Leave) g before after here once is = (is, once)
+comes_to_by rs e (Act (Send m)) g before after here once is = is
+comes_to_by rs e (Act (Insert h at rule)) g before after here once is = is
+comes_to_by rs e (Act (Remove h id)) g before after here once is = is
+comes_to_by rs e Gone g before after here once is = (is, once)
+
+-- the next record lists what its op makes of its group's members
+comes_to : (rs : List Record) (r : Record) (g : List ℕ) → AreJudged rs → r ≡ record_of rs r.entry → is_allowed r.verdict ≡ true → is_named r.group g ≡ true →
+    ComesTo (members rs g) r.entry r.entry.op r.members
+comes_to rs r g are judgement allowed here =
+    let said : is_named (entry_group rs r.entry r.entry.op) g ≡ true = ap (λ (q : Record). is_named q.group g) (sym judgement) ∙ here in
+    comes_to_by rs r.entry r.entry.op g (members rs g) r.members said (once_each rs g are)
+    (listed_there rs r g judgement here ∙ members_push rs r g
+    ∙ ap (λ (v : Bool). cond v (members_by r.entry r.entry.op g (members rs g)) (members rs g)) allowed)
+
+-- the group of the next record can take it as it is kept
+pub can_take : (kept : Kept) (rs : List Record) (r : Record) (place : ℕ) → AreStanding kept rs → AreJudged rs → place ≡ length rs + 1 → r ≡ record_of rs r.entry →
+    (g : List ℕ) → CanTake g (kept_group kept g) (place, r)
+can_take kept rs r place current are is judgement g allowed here =
+    let P : GroupValue → Type 0 = λ (group : GroupValue). CanChange group place r in
+    let said : is_named (entry_group rs r.entry r.entry.op) g ≡ true = ap (λ (q : Record). is_named q.group g) (sym judgement) ∙ here in
+    subst P (sym (current g)) (
+      can_take_by rs r.entry r.entry.op g place said
+          (λ named_is. can_edit rs r g place judgement (λ k d h same. absurd (omega (arith, ids_low rs g k d h))) allowed named_is),
+      comes_to rs r g are judgement allowed here,
+    )
 
 -- its places
 places_past : (rs : List Record) (r : Record) (g : List ℕ) (place : ℕ) (b n : Bool) → is_allowed r.verdict ≡ b → is_named r.group g ≡ n → place ≡ 1 + length rs →

@@ -2,6 +2,7 @@
 use Rattle.std.proofs.Math.Seq.{take-nil}
 use Rattle.std.proofs.Common.{◌≡◌, ◌≤◌, zero, suc, length, take, arith, ℕ, nat_eq, Bool, true, false, cond, List, [], ◌∷◌, ◌++◌, map, refl, sym, ap, ◌∙◌, Option, Some, None}
 use Rattle.std.specs.Prelude.{◌↔◌, is_some, Result, Ok, Err, OnOk, OnErr}
+use Rattle.std.specs.List.{AllByRecursion, IsDistinct}
 use Rattle.std.specs.Map.{keys_of}
 use Rattle.cpg_record.specs.declared.records.Record.{Record}
 use Rattle.std.specs.Cmp.Lexicographic.{pointwise}
@@ -169,3 +170,15 @@ take_past {X} (suc n) (x ∷ xs) h = ap (λ (rest : List X). x ∷ rest) (take_p
 pub keys_named : {Z : Type 0} (entries : List (Vec ℕ Z × GroupValue)) → map (λ key. key.items) (keys_of entries) ≡ names_of (named entries)
 keys_named [] = refl
 keys_named (entry ∷ entries) = ap (λ (names : List (List ℕ)). entry.0.items ∷ names) (keys_named entries)
+
+-- keys that differ have names that differ
+apart_from : {Z : Type 0} (name : List ℕ) (entries : List (Vec ℕ Z × GroupValue)) → AllByRecursion (λ key. pointwise nat_eq name key.items ≡ false) (keys_of entries) →
+    AllByRecursion (λ other. bytes_eq name other ≡ false) (names_of (named entries))
+apart_from name [] apart = tt
+apart_from name (entry ∷ entries) apart = (apart.0, apart_from name entries apart.1)
+
+pub names_apart : {Z : Type 0} (entries : List (Vec ℕ Z × GroupValue)) → IsDistinct (λ a b. pointwise nat_eq a.items b.items) (keys_of entries) →
+    IsDistinct bytes_eq (names_of (named entries))
+unfolding IsDistinct
+names_apart [] apart = tt
+names_apart (entry ∷ entries) apart = (apart_from entry.0.items entries apart.0, names_apart entries apart.1)

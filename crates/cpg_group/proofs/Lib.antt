@@ -1,6 +1,8 @@
 mod Passed
 mod Shown
 mod Kept
+mod Indexed
 mod Applying
 mod Stops
 mod Latest
+mod Counted

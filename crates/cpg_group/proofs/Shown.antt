@@ -1,18 +1,19 @@
--- Which groups are shown: those that are kept, sorted, each once, and of these the ones that an asker
+-- Which groups are shown: those that are kept, each once and sorted, and of these the ones that an asker
 -- may list and that have members.
-use Rattle.std.proofs.Common.{◌≡◌, ◌≢◌, ℕ, Bool, true, false, ◌&&◌, cond, List, [], ◌∷◌, Contains, refl, sym, ap, ◌∙◌, arith, Option, Some, None}
+use Rattle.std.proofs.Common.{◌≡◌, ◌≢◌, ℕ, Bool, true, false, ◌&&◌, cond, List, [], ◌∷◌, Contains, refl, sym, ap, subst, ◌∙◌, arith, Option, Some, None}
 use Rattle.std.specs.Prelude.{AllPairs}
 use Rattle.std.specs.Ordering.{nat_cmp, eq_by_cmp}
 use Rattle.std.specs.declared.cmp.Ordering.{Ordering}
 use Rattle.std.specs.Cmp.Lexicographic.{slice_cmp, nat_list_eq_equiv}
 use Rattle.std.specs.declared.cmp.Ordering.TheVariants.{Less}
-use Rattle.std.specs.List.{filter, dedup}
+use Rattle.std.specs.List.{filter, dedup, dedup_from, IsDistinct}
 use Rattle.std.specs.List.Sorted.{IsStrictlySortedBy, IsSorted, IsPermutation}
 use Rattle.std.specs.Str.{bytes_eq}
 use Rattle.std.proofs.lemmas.Cmp.{nat_list_cmp_total}
 use Rattle.std.proofs.lemmas.List.Elements.{All-from_recursion}
-use Rattle.std.proofs.lemmas.List.Kept.{AllPairs-cons, AllPairs-filter, Contains-dedup, IsStrictlySortedBy-dedup}
+use Rattle.std.proofs.lemmas.List.Kept.{AllPairs-cons, AllPairs-filter, IsStrictlySortedBy-dedup}
 use Rattle.std.proofs.lemmas.List.Sorted.{Contains-permutation}
+use Rattle.std.proofs.lemmas.Map.Keys.{IsDistinct-IsPermutation}
 use Rattle.std.proofs.lemmas.Map.Text.{is_eq-slice_cmp}
 use Rattle.std.proofs.lemmas.Slice.Eq.{bytes_eq-Decides}
 use Rattle.cpg_cred.specs.declared.bases.By.{By}
@@ -38,6 +39,19 @@ unfolding IsStrictlySortedBy
 AllPairs-from_sorted c [] sorted = λ i j d below within. absurd (omega arith)
 AllPairs-from_sorted c (x ∷ xs) sorted =
     AllPairs-cons (λ a b. c a b ≡ Less) x xs (All-from_recursion (λ b. c x b ≡ Less) xs sorted.0) (AllPairs-from_sorted c xs sorted.1)
+
+-- names of which no two are the same stay, each once
+same_from : (g : List ℕ) (names : List (List ℕ)) → IsDistinct bytes_eq (g ∷ names) → dedup_from bytes_eq g names ≡ g ∷ names
+unfolding IsDistinct
+same_from g [] apart = refl
+same_from g (h ∷ names) apart =
+    let flipped : bytes_eq h g ≡ false = nat_list_eq_equiv.symm h g ∙ apart.0.0 in
+    ap (λ (b : Bool). cond b (dedup_from bytes_eq g names) (g ∷ dedup_from bytes_eq h names)) flipped
+    ∙ ap (λ (rest : List (List ℕ)). g ∷ rest) (same_from h names apart.1)
+
+each_once : (names : List (List ℕ)) → IsDistinct bytes_eq names → dedup bytes_eq names ≡ names
+each_once [] apart = refl
+each_once (g ∷ names) apart = same_from g names apart
 
 -- ---- names that are kept
 
@@ -76,15 +90,18 @@ is_shown_by (decision.Denied b) list by some is = absurd (cc)
 same_ties : (x y : List ℕ) → bytes_eq x y ≡ eq_by_cmp (slice_cmp nat_cmp) x y
 same_ties x y = sym (is_eq-slice_cmp x y)
 
--- the names that are kept, sorted, each once, where they are shown, are the groups
-pub shown_groups : (kept : Kept) (rs : List Record) (asker : Asker) (sorted : List (List ℕ)) → AreStanding kept rs → IsPermutation (names_of kept) sorted → IsSorted (slice_cmp nat_cmp) sorted →
-    AreGroups rs asker (filter (is_shown rs asker) (dedup bytes_eq sorted))
-shown_groups kept rs asker sorted current moved order = record {
-  ascending = AllPairs-filter (λ g h. slice_cmp nat_cmp g h ≡ Less) (is_shown rs asker) (dedup bytes_eq sorted)
-      (AllPairs-from_sorted (slice_cmp nat_cmp) (dedup bytes_eq sorted) (IsStrictlySortedBy-dedup nat_list_cmp_total same_ties sorted order));
-  exactly = λ g. (
-    (λ h. shown_is (list_decision rs asker g) (members rs g) (Contains-from_filter (is_shown rs asker) (dedup bytes_eq sorted) g h).0),
-    (λ h. Contains-filter (is_shown rs asker) (dedup bytes_eq sorted) g (is_shown_by (list_decision rs asker g) (members rs g) h.1.0 h.0 h.1.1)
-        (Contains-dedup nat_list_eq_equiv (λ x y e. (bytes_eq-Decides x y).0 e) sorted g (Contains-permutation (names_of kept) sorted g moved (members_named kept rs g current h.0)))),
-  );
-}
+-- the names that are kept, each once and sorted, where they are shown, are the groups
+pub shown_groups : (kept : Kept) (rs : List Record) (asker : Asker) (sorted : List (List ℕ)) → AreStanding kept rs → IsDistinct bytes_eq (names_of kept) →
+    IsPermutation (names_of kept) sorted → IsSorted (slice_cmp nat_cmp) sorted → AreGroups rs asker (filter (is_shown rs asker) sorted)
+shown_groups kept rs asker sorted current apart moved order =
+    let same : dedup bytes_eq sorted ≡ sorted = each_once sorted (IsDistinct-IsPermutation bytes_eq nat_list_eq_equiv.symm (names_of kept) sorted moved apart) in
+    record {
+      ascending = AllPairs-filter (λ g h. slice_cmp nat_cmp g h ≡ Less) (is_shown rs asker) sorted
+          (AllPairs-from_sorted (slice_cmp nat_cmp) sorted
+          (subst (IsStrictlySortedBy (slice_cmp nat_cmp)) same (IsStrictlySortedBy-dedup nat_list_cmp_total same_ties sorted order)));
+      exactly = λ g. (
+        (λ h. shown_is (list_decision rs asker g) (members rs g) (Contains-from_filter (is_shown rs asker) sorted g h).0),
+        (λ h. Contains-filter (is_shown rs asker) sorted g (is_shown_by (list_decision rs asker g) (members rs g) h.1.0 h.0 h.1.1)
+            (Contains-permutation (names_of kept) sorted g moved (members_named kept rs g current h.0))),
+      );
+    }

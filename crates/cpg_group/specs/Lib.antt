@@ -1,3 +1,5 @@
 pub mod Groups
+pub mod Processes
 pub mod Standing
+pub mod Telling
 pub mod Trails

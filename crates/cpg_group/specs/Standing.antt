@@ -11,6 +11,7 @@ use Rattle.cpg_record.specs.Nexts.{acts_in}
 use Rattle.cpg_record.specs.Places.{places_of}
 use Rattle.cpg_record.specs.RuleTables.{edited_by, rules_of}
 use Rattle.cpg_record.specs.Steps.{CanEditBy}
+use Rattle.cpg_group.specs.Processes.{ComesTo}
 
 -- a group: its table, its members, and the places of the allowed entries that are of it
 pub record GroupValue : Type 0 where
@@ -68,6 +69,10 @@ changed place r group = record { table = edited_by place r.entry.op group.table;
 abbrev pub group_past : List ℕ → GroupValue → ℕ × Record → GroupValue
 group_past g group p = if is_allowed p.1.verdict && is_named p.1.group g then changed p.0 p.1 group else group
 
--- where the record changes the group, its table can take the edit
+-- the group can take its allowed record at that place: its table the edit, and its members those that the record lists
+abbrev pub CanChange : GroupValue → ℕ → Record → Type 0
+CanChange group place r = CanEditBy group.table place r.entry.op × ComesTo group.members r.entry r.entry.op r.members
+
+-- where the record changes the group, the group can take it
 abbrev pub CanTake : List ℕ → GroupValue → ℕ × Record → Type 0
-CanTake g group p = is_allowed p.1.verdict ≡ true → is_named p.1.group g ≡ true → CanEditBy group.table p.0 p.1.entry.op
+CanTake g group p = is_allowed p.1.verdict ≡ true → is_named p.1.group g ≡ true → CanChange group p.0 p.1

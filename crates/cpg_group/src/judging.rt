@@ -1,6 +1,6 @@
 //! The judgement of one entry over the records before it, by the groups and the trail that they come to.
 
-ghost use Rattle.std.specs.Prelude.{◌≡◌, ◌++◌, ◌∷◌, [], IfOk, IsOkUnless};
+ghost use Rattle.std.specs.Prelude.{◌≡◌, ◌++◌, ◌∷◌, [], IfOk, IfErr, IsOkUnless};
 ghost use Rattle.std.specs.Option.{option_copied};
 ghost use Rattle.cpg_record.specs.Connections.{conn_of};
 ghost use Rattle.cpg_record.specs.Judging.{entry_group, record_of};
@@ -11,7 +11,7 @@ ghost use Rattle.cpg_group.specs.Trails.{IsTrail};
 
 use crate::standing::{Group, Groups};
 use crate::trails::{Stop, find_group};
-use cpg_cred::{By, Refusal};
+use cpg_cred::{By, Refusal, Refused};
 use cpg_entry::{Call, Entry, Name, Op};
 use cpg_record::{MOST_MEMBERS, Members, Reason, Record, Verdict};
 use cpg_rules::{Decision, MOST_RULES, Right, Table};
@@ -34,7 +34,7 @@ fn judge_join(
         Decision::Allowed(by) => {
             if seat.is_some() {
                 Verdict::Denied(Reason::Joined)
-            } else if group.members().has_process(entry) {
+            } else if group.has_process(entry) {
                 Verdict::Denied(Reason::Twice)
             } else if group.members().len() >= MOST_MEMBERS {
                 Verdict::Denied(Reason::Full)
@@ -180,32 +180,56 @@ fn collect_members_with(
     }
 }
 
-/// The record of an entry over the records before it.
+/// The same group's name, if there is a group.
+fn copy_name(alloc: Global, group: Option<&Name>) -> Result<Option<Name>, Refusal>
+    ensures ok { IfOk result (λ copy. copy ≡ option_copied group.entry) }
+    ensures memory { IsOkUnless result Refusal.Memory }
+{
+    match group {
+        None => Ok(None),
+        Some(group) => Ok(Some(group.copy(alloc)?)),
+    }
+}
+
+/// The record of an entry over the records before it, with the entry moved into it. A refusal gives the
+/// entry back.
 pub(crate) fn judge(
     alloc: Global,
     records: &[Record],
     groups: &Groups,
     trail: &[Stop],
-    entry: &Entry,
-) -> Result<Record, Refusal>
+    entry: Entry,
+) -> Result<Record, Refused<Entry>>
     requires groups { AreStanding groups.now records.now }
-    requires trail { IsTrail records.now (conn_of entry.now) trail.now }
-    ensures ok { IfOk result (λ next. next ≡ record_of records.now entry.now) }
-    ensures memory { IsOkUnless result Refusal.Memory }
+    requires trail { IsTrail records.now (conn_of entry) trail.now }
+    ensures ok { IfOk result (λ next. next ≡ record_of records.now entry) }
+    ensures err { IfErr result (λ refused. refused ≡ record { refusal = Refusal.Memory; back = entry }) }
 {
     let seat = find_group(records, trail, records.len());
-    let verdict = judge_entry(records, groups, seat, entry);
-    let group = match find_entry_group(records, seat, entry) {
-        Some(group) => Some(group.copy(alloc)?),
-        None => None,
+    let verdict = judge_entry(records, groups, seat, &entry);
+    let group = match copy_name(alloc, find_entry_group(records, seat, &entry)) {
+        Ok(group) => group,
+        Err(refusal) => {
+            return Err(Refused {
+                refusal,
+                back: entry,
+            });
+        }
     };
-    let entry = entry.copy(alloc)?;
     let mut next = Record {
         entry,
         group,
         verdict,
         members: Members::new(alloc),
     };
-    next.members = collect_members_with(alloc, records, groups, &next)?;
-    Ok(next)
+    match collect_members_with(alloc, records, groups, &next) {
+        Ok(members) => {
+            next.members = members;
+            Ok(next)
+        }
+        Err(refusal) => Err(Refused {
+            refusal,
+            back: next.entry,
+        }),
+    }
 }

@@ -10,8 +10,10 @@ mod listing;
 mod nexts;
 mod places;
 mod policies;
+mod rosters;
 mod standing;
 mod telling;
+mod told;
 mod trails;
 mod verifying;
 

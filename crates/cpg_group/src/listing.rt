@@ -137,7 +137,6 @@ pub(crate) fn list_groups(
 {
     let mut kept = groups.names(alloc)?;
     kept.sort()?;
-    kept.dedup();
     let names = keep_shown(alloc, records, groups, kept, asker)?;
     Ok(Names { names })
 }

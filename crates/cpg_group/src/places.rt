@@ -25,12 +25,29 @@ pub(crate) fn find_record(records: &[Record], place: u32) -> Option<&Record>
     }
 }
 
-/// How many of the ascending places come up to the last one, by a binary search.
-fn count_upto(places: &[u32], last: usize) -> usize
-    ensures within { result ≤ length places.now }
-    ensures cut { IsNonDecreasingBy (λ place. place) places.now → IsPartitionPoint (λ place. nat_le place last ≡ true) (λ place. nat_le place last ≡ false) places.now result }
+/// What stands at a place. A place stands at itself.
+pub(crate) trait Placed {
+    ghost place_of: { Self → ℕ };
+
+    /// The place.
+    fn place(&self) -> u32
+        ensures { result ≡ place_of self.now };
+}
+
+impl Placed for u32 {
+    ghost place_of = { λ place. place };
+
+    fn place(&self) -> u32 {
+        *self
+    }
+}
+
+/// How many of those that stand at ascending places come up to the last place, by a binary search.
+pub(crate) fn count_upto<T: Placed>(items: &[T], last: usize) -> usize
+    ensures within { result ≤ length items.now }
+    ensures cut { IsNonDecreasingBy T.place_of items.now → IsPartitionPoint (λ item. nat_le (T.place_of item) last ≡ true) (λ item. nat_le (T.place_of item) last ≡ false) items.now result }
 {
-    places.partition_point(|place| *place as usize <= last)
+    items.partition_point(|item| item.place() as usize <= last)
 }
 
 /// The first of the ascending places that is above the last one.

@@ -1,23 +1,27 @@
 //! The judged entries, and what they come to.
 
-ghost use Rattle.std.specs.Prelude.{List, ℕ, ◌≡◌, ◌≢◌, ◌<◌, ◌≤◌, ◌++◌, ◌∷◌, [], length, OnOk, OnErr, IfOk, IfErr, MatchOption, IsOkUnless};
+ghost use Rattle.std.specs.Prelude.{List, ℕ, ◌≡◌, ◌≢◌, ◌<◌, ◌≤◌, ◌++◌, ◌∷◌, [], length, take, OnOk, OnErr, IfOk, IfErr, MatchOption, IsOkUnless};
 ghost use Rattle.cpg_record.specs.declared.connections.ConnId.{ConnId};
 ghost use Rattle.cpg_record.specs.Connections.{conn_of};
 ghost use Rattle.cpg_record.specs.Events.{events};
 ghost use Rattle.cpg_record.specs.Judging.{judged, most_places, record_of, IsNext};
 ghost use Rattle.cpg_record.specs.Listings.{Answers, AreGroups, listing};
-ghost use Rattle.cpg_record.specs.Nexts.{IsNextTold, TellsNoMore};
+ghost use Rattle.std.specs.Option.{option_copied};
+ghost use Rattle.cpg_record.specs.Membership.{group_of};
+ghost use Rattle.cpg_record.specs.Nexts.{acts_in, is_made_by, IsNextTold, TellsNoMore};
+ghost use Rattle.cpg_record.specs.Places.{places_of, IsNextOf};
 ghost use Rattle.cpg_record.specs.RuleTables.{rules_of};
 ghost use Rattle.cpg_group.specs.Standing.{kept_group, group_past, CanTake};
+ghost use Rattle.cpg_group.specs.Telling.{told};
 ghost use Rattle.cpg_group.specs.Trails.{kept_trail, HasRoom};
 
 use crate::listing::{self, Names, Processes};
 use crate::standing::Groups;
 use crate::trails::{Trails, stop_of};
-use crate::{judging, nexts, telling};
+use crate::{judging, nexts, telling, told, trails};
 use cpg_cred::{Refusal, Refused};
-use cpg_entry::Entry;
-use cpg_record::{ConnId, Events, Record};
+use cpg_entry::{Entry, Name};
+use cpg_record::{ConnId, Event, Events, Record};
 use cpg_rules::{Asker, Table};
 use std::alloc::Global;
 use std::fmt;
@@ -83,11 +87,25 @@ impl Policy {
         ensures ok { IfOk result (λ next. next ≡ record_of (judged self.now) entry.now) }
         ensures memory { IsOkUnless result Refusal.Memory }
     {
+        let entry = entry.copy(*self.records.allocator())?;
+        match self.judge_owned(entry) {
+            Ok(next) => Ok(next),
+            Err(refused) => Err(refused.refusal),
+        }
+    }
+
+    /// The record that the entry would have as the next one, with the entry moved into it. A refusal gives
+    /// the entry back.
+    pub fn judge_owned(&self, entry: Entry) -> Result<Record, Refused<Entry>>
+        requires { length self.now < most_places }
+        ensures ok { IfOk result (λ next. next ≡ record_of (judged self.now) entry) }
+        ensures err { IfErr result (λ refused. refused ≡ record { refusal = Refusal.Memory; back = entry }) }
+    {
         judging::judge(
             *self.records.allocator(),
             self.records.as_slice(),
             &self.groups,
-            self.trails.of(&ConnId::of(entry)),
+            self.trails.of(&ConnId::of(&entry)),
             entry,
         )
     }
@@ -188,6 +206,7 @@ impl Policy {
             &conn,
         )
     }
+
     /// The least judged place above `after` that tells the connection anything, if there is one. Takes no
     /// memory, and searches by halving.
     pub fn next_event(&self, after: u32, conn: ConnId) -> Option<u32>
@@ -200,5 +219,47 @@ impl Policy {
             &conn,
             after as usize,
         )
+    }
+
+    /// What a judged place, from 1, tells each of those of its group who are told of it; the verdict is told
+    /// to the maker alone.
+    pub fn told_at(&self, place: u32) -> Result<Option<Event>, Refusal>
+        requires { (1 ≤ place) × (place ≤ length self.now) }
+        ensures ok { IfOk result (λ event. event ≡ told (judged self.now) place) }
+        ensures memory { IsOkUnless result Refusal.Memory }
+    {
+        told::collect_told(
+            *self.records.allocator(),
+            self.records.as_slice(),
+            &self.groups,
+            place,
+        )
+    }
+
+    /// The next place above `after` at which the connection made the entry. Takes no memory, and searches by
+    /// halving.
+    pub fn next_own(&self, after: u32, conn: ConnId) -> Option<u32>
+        ensures { IsNextOf (is_made_by conn) (judged self.now) after result }
+    {
+        trails::next_own(self.trails.of(&conn), after as usize)
+    }
+
+    /// The group that the connection is in after the last place. Takes no memory, and searches by halving.
+    pub fn group_after(&self, last: u32, conn: ConnId) -> Option<&Name>
+        ensures { option_copied result ≡ group_of (take last (judged self.now)) conn }
+    {
+        trails::find_group(
+            self.records.as_slice(),
+            self.trails.of(&conn),
+            last as usize,
+        )
+    }
+
+    /// How many allowed entries of the group stand at places up to the last one. Takes no memory, and searches
+    /// by halving.
+    pub fn count_upto(&self, group: &[u8], last: u32) -> usize
+        ensures { result ≡ length (places_of (acts_in group.now) (take last (judged self.now))) }
+    {
+        told::count_in(self.groups.of(group).places(), last as usize)
     }
 }

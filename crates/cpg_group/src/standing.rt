@@ -1,13 +1,16 @@
 //! How the groups stand, kept beside the records: each one's table, members and places.
 
 ghost use Rattle.std.specs.Prelude.{◌≡◌, List, ℕ, true, is_some, if◌then◌else◌, OnOk, OnErr, IfOk, IsOkUnless};
+ghost use Rattle.std.specs.List.{IsDistinct};
 ghost use Rattle.std.specs.Str.{bytes_eq};
 ghost use Rattle.cpg_record.specs.RuleTables.{edited_by};
 ghost use Rattle.cpg_record.specs.Steps.{CanEditBy};
-ghost use Rattle.cpg_group.specs.Standing.{kept_group, names_of, changed, group_past, no_group, CanTake, HasGroup};
+ghost use Rattle.cpg_record.specs.Verdicts.{has_process};
+ghost use Rattle.cpg_group.specs.Standing.{kept_group, names_of, changed, group_past, no_group, CanChange, CanTake, HasGroup};
 
+use crate::rosters::Roster;
 use cpg_cred::Refusal;
-use cpg_entry::{Call, Name, Op};
+use cpg_entry::{Call, Entry, Name, Op};
 use cpg_record::{Members, Record};
 use cpg_rules::Table;
 use indexmap::IndexMap;
@@ -36,7 +39,7 @@ fn edit(table: &mut Table, place: u32, op: &Op) -> Result<(), Refusal>
 #[derive(Debug, Drop)]
 pub(crate) struct Group {
     table: Table,
-    members: Members,
+    roster: Roster,
     places: Vec<u32>,
 }
 
@@ -45,7 +48,7 @@ impl Model for Group {
 
     ghost Value = { GroupValue };
 
-    ghost view = { λ group. record { table = group.table; members = group.members; places = group.places.items } };
+    ghost view = { λ group. record { table = group.table; members = group.roster; places = group.places.items } };
 }
 
 impl Group {
@@ -55,7 +58,7 @@ impl Group {
     {
         Group {
             table: Table::new(alloc),
-            members: Members::new(alloc),
+            roster: Roster::new(alloc),
             places: Vec::new(alloc),
         }
     }
@@ -71,7 +74,14 @@ impl Group {
     pub(crate) fn members(&self) -> &Members
         ensures { result.now ≡ self.now.members }
     {
-        &self.members
+        self.roster.members()
+    }
+
+    /// Whether the entry's process is a member.
+    pub(crate) fn has_process(&self, entry: &Entry) -> bool
+        ensures { result ≡ has_process entry.now self.now.members }
+    {
+        self.roster.has_process(entry)
     }
 
     /// The places of the allowed entries that are of it.
@@ -82,17 +92,20 @@ impl Group {
     }
 
     /// Brings the group past its allowed record at that place. A refusal changes nothing.
-    fn take_in(&mut self, alloc: Global, place: u32, past: &Record) -> Result<(), Refusal>
-        requires { CanEditBy self.old.table place past.now.entry.op }
+    fn take_in(&mut self, place: u32, past: &Record) -> Result<(), Refusal>
+        requires { CanChange self.old place past.now }
         ensures ok { OnOk result (self.new ≡ changed place past.now self.old) }
         ensures err { OnErr result (self.new ≡ self.old) }
         ensures memory { IsOkUnless result Refusal.Memory }
     {
-        let members = past.members.copy(alloc)?;
         self.places.reserve(1)?;
-        edit(&mut self.table, place, &past.entry.op)?;
+        match &past.entry.op {
+            Op::Act(Call::Insert(_, _, _)) | Op::Act(Call::Remove(_, _)) => {
+                edit(&mut self.table, place, &past.entry.op)?
+            }
+            _ => self.roster.take_in(past)?,
+        }
         self.places.push_reserved(place);
-        self.members = members;
         Ok(())
     }
 }
@@ -137,9 +150,10 @@ impl Groups {
         }
     }
 
-    /// The names of the groups that are kept.
+    /// The names of the groups that are kept, each once.
     pub(crate) fn names(&self, alloc: Global) -> Result<Vec<Name>, Refusal>
         ensures ok { IfOk result (λ names. names.items ≡ names_of self.now) }
+        ensures once { IfOk result (λ names. IsDistinct bytes_eq names.items) }
         ensures memory { IsOkUnless result Refusal.Memory }
     {
         let mut names = Vec::new(alloc);
@@ -167,15 +181,14 @@ impl Groups {
     /// Brings the group of that name, which has a place, past its allowed record.
     fn change(&mut self, name: &[u8], place: u32, past: &Record) -> Result<(), Refusal>
         requires there { HasGroup self.old name.now }
-        requires can { CanEditBy (kept_group self.old name.now).table place past.now.entry.op }
+        requires can { CanChange (kept_group self.old name.now) place past.now }
         ensures ok { OnOk result ((g : List ℕ) → kept_group self.new g ≡ (if bytes_eq name.now g then changed place past.now (kept_group self.old g) else kept_group self.old g)) }
         ensures err { OnErr result ((g : List ℕ) → kept_group self.new g ≡ kept_group self.old g) }
         ensures memory { IsOkUnless result Refusal.Memory }
     {
-        let alloc = *self.kept.allocator();
         match self.kept.get_mut(name) {
             None => Ok(()),
-            Some(group) => group.take_in(alloc, place, past),
+            Some(group) => group.take_in(place, past),
         }
     }
 

@@ -93,7 +93,7 @@ fn tell_change(
 }
 
 /// Who left the group by an allowed end of a membership at the place: the member that its connection was.
-fn collect_left(
+pub(crate) fn collect_left(
     alloc: Global,
     records: &[Record],
     groups: &Groups,

@@ -12,7 +12,7 @@ ghost use Rattle.cpg_record.specs.Nexts.{is_made_by};
 ghost use Rattle.cpg_record.specs.Places.{IsNextOf};
 ghost use Rattle.cpg_group.specs.Trails.{kept_trail, group_at, join_after, joined_by, Extends, HasRoom, HasTrail, IsTrail, StandsBy};
 
-use crate::places::find_record;
+use crate::places::{Placed, count_upto, find_record};
 use cpg_cred::Refusal;
 use cpg_entry::{Call, Name, Op};
 use cpg_record::{ConnId, Record};
@@ -27,12 +27,12 @@ pub(crate) struct Stop {
     join: u32,
 }
 
-/// How many stops stand at places up to the last one, by a binary search.
-fn count_upto(trail: &[Stop], last: usize) -> usize
-    ensures within { result ≤ length trail.now }
-    ensures cut { IsNonDecreasingBy (λ stop. stop.place) trail.now → IsPartitionPoint (λ stop. nat_le stop.place last ≡ true) (λ stop. nat_le stop.place last ≡ false) trail.now result }
-{
-    trail.partition_point(|stop| stop.place as usize <= last)
+impl Placed for Stop {
+    ghost place_of = { λ stop. stop.place };
+
+    fn place(&self) -> u32 {
+        self.place
+    }
 }
 
 /// The place of the join by which the connection is in a group after the last place, 0 where it is in none.

@@ -50,6 +50,43 @@ fn put_group(line: &mut Vec<u8>, group: Option<&Name>, members: &[Member]) -> Re
     }
 }
 
+/// Puts the audit line of a record, which stands at that place, at the line's end, from the text of its members.
+#[tactic(auto, unfolding(crate::specs::Records::audit_line))]
+pub fn put_audit_with(
+    line: &mut Vec<u8>,
+    place: u32,
+    past: &Record,
+    members: &[u8],
+) -> Result<(), Refusal>
+    requires { members.now ≡ members_text past.now.members }
+    ensures ok { OnOk result (line.new.items ≡ line.old.items ++ audit_line place past.now) }
+    ensures memory { IsOkUnless result Refusal.Memory }
+{
+    push_number(line, u64::from(place))?;
+    put(line, " ")?;
+    put_entry(line, &past.entry)?;
+    put(line, " -> ")?;
+    put_verdict(line, past.verdict)?;
+    put_group_with(line, past, members)?;
+    put(line, "\n")
+}
+
+fn put_group_with(line: &mut Vec<u8>, past: &Record, members: &[u8]) -> Result<(), Refusal>
+    requires { members.now ≡ members_text past.now.members }
+    ensures ok { OnOk result (line.new.items ≡ line.old.items ++ group_text past.now.group past.now.members) }
+    ensures memory { IsOkUnless result Refusal.Memory }
+{
+    match &past.group {
+        None => Ok(()),
+        Some(group) => {
+            put(line, " group ")?;
+            put_bytes(line, group.as_slice())?;
+            put(line, " members ")?;
+            put_bytes(line, members)
+        }
+    }
+}
+
 /// Puts the list of members at the line's end.
 pub fn put_members(line: &mut Vec<u8>, members: &[Member]) -> Result<(), Refusal>
     ensures ok { OnOk result (line.new.items ≡ line.old.items ++ members_text members.now) }

@@ -14,7 +14,7 @@ pub grow-requires : goal.grow-requires
 grow-requires c =
     let same : judged c.args.self.now ≡ c.self.inside.records.items = ap judged (sym c.self.view_is) ∙ sym c.self.invariant.0.1 in
     let here : c.len.result + 1 ≡ length c.self.inside.records.items + 1 = omega arith in
-    can_take c.self.inside.groups c.self.inside.records.items c.args.next (c.len.result + 1) c.self.invariant.1 here
+    can_take c.self.inside.groups c.self.inside.records.items c.args.next (c.len.result + 1) c.self.invariant.1 c.self.invariant.0.1 here
     (c.requires.1 ∙ ap (λ (rs : List Record). record_of rs c.args.next.entry) same)
 
 pub push-requires : goal.push-requires

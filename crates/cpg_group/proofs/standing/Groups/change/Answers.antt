@@ -1,9 +1,7 @@
 use Rattle.std.proofs.Common.{bytes_eq, ap, sym, subst, ◌∙◌}
 use Rattle.std.specs.Prelude.{is_some}
 use Rattle.std.specs.Map.{lookup, set_value}
-use Rattle.cpg_record.specs.Steps.{CanEditBy}
-use Rattle.cpg_group.specs.Standing.{GroupValue}
-use Rattle.cpg_group.specs.Standing.{Kept, named, or_none, kept_group}
+use Rattle.cpg_group.specs.Standing.{GroupValue, Kept, named, or_none, kept_group, CanChange}
 use Rattle.cpg_group.proofs.Kept.{found_alike, group_set, group_changed, on_ok, on_err, same_group, set_alike}
 use Rattle.cpg_group.proofs.standing.Groups.change.Goals as goal
 use Rattle.cpg_group.proofs.standing.Groups.change.Goals.{in-None, in-Some}
@@ -11,7 +9,7 @@ use Rattle.cpg_group.proofs.standing.Groups.change.Goals.{in-None, in-Some}
 pub take_in-requires : goal.take_in-requires
 take_in-requires c =
     let found = ap or_none (c.in-Some.ensures.value ∙ found_alike c.args.name.now c.self.inside.kept.entries ∙ ap (lookup (bytes_eq c.args.name.now)) c.self.view_is) in
-    subst (λ (group : GroupValue). CanEditBy group.table c.args.place c.args.past.now.entry.op) (sym found) c.requires.can
+    subst (λ (group : GroupValue). CanChange group c.args.place c.args.past.now) (sym found) c.requires.can
 
 pub returns-clause-ok : goal.returns-clause-ok
 returns-clause-ok c = elim c.match-get_mut.branch [

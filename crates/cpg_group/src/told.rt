@@ -1,0 +1,132 @@
+//! What places tell their groups, whoever is in them, and how many entries a group has up to a place.
+
+ghost use Rattle.std.specs.Prelude.{◌≡◌, ◌≤◌, ℕ, List, Bool, length, take, IfOk, IsOkUnless};
+ghost use Rattle.cpg_record.specs.declared.records.Record.{Record};
+ghost use Rattle.cpg_record.specs.Judging.{AreJudged};
+ghost use Rattle.cpg_record.specs.Places.{places_of, records_before};
+ghost use Rattle.cpg_group.specs.Standing.{AreStanding};
+ghost use Rattle.cpg_group.specs.Telling.{told, told_by, told_in};
+
+use crate::places::count_upto;
+use crate::standing::Groups;
+use crate::telling::collect_left;
+use cpg_cred::Refusal;
+use cpg_entry::{Call, Name, Op};
+use cpg_record::{Cause, Event, Member, Moves, Record};
+use std::alloc::Global;
+
+/// How many of the ascending places stand up to the last one.
+pub(crate) fn count_in(places: &[u32], last: usize) -> usize
+    ensures { (test : Record → Bool) (records : List Record) → places.now ≡ places_of test records → result ≡ length (places_of test (take last records)) }
+{
+    count_upto(places, last)
+}
+
+/// A change of the group by the record.
+fn change_of(
+    alloc: Global,
+    place: u32,
+    past: &Record,
+    group: &Name,
+    left: Moves,
+    joined: Moves,
+) -> Result<Event, Refusal>
+    ensures ok { IfOk result (λ event. event ≡ Event.Change place group.now past.now.members left joined) }
+    ensures memory { IsOkUnless result Refusal.Memory }
+{
+    let group = group.copy(alloc)?;
+    let members = past.members.copy(alloc)?;
+    Ok(Event::Change {
+        place,
+        group,
+        members,
+        left,
+        joined,
+    })
+}
+
+/// What an allowed op tells each of those of the group who are told of it.
+fn event_of(
+    alloc: Global,
+    records: &[Record],
+    groups: &Groups,
+    place: u32,
+    past: &Record,
+    group: &Name,
+) -> Result<Event, Refusal>
+    requires place { 1 ≤ place }
+    requires judged { AreJudged records.now }
+    requires groups { AreStanding groups.now records.now }
+    ensures ok { IfOk result (λ event. event ≡ told_by place (records_before records.now place) past.now group.now past.now.entry.op) }
+    ensures memory { IsOkUnless result Refusal.Memory }
+{
+    match &past.entry.op {
+        Op::Act(Call::Join(_)) => {
+            let joined = Moves::join_of(alloc, Member::of(&past.entry))?;
+            change_of(alloc, place, past, group, Moves::new(alloc), joined)
+        }
+        Op::Act(Call::Leave) => {
+            let left = collect_left(alloc, records, groups, place, past, group, Cause::Leave)?;
+            change_of(alloc, place, past, group, left, Moves::new(alloc))
+        }
+        Op::Gone => {
+            let left = collect_left(alloc, records, groups, place, past, group, Cause::Down)?;
+            change_of(alloc, place, past, group, left, Moves::new(alloc))
+        }
+        Op::Act(Call::Send(message)) => Ok(Event::Message {
+            place,
+            group: group.copy(alloc)?,
+            node: past.entry.node,
+            pid: past.entry.pid,
+            message: message.copy(alloc)?,
+        }),
+        Op::Act(Call::Insert(_, _, _)) | Op::Act(Call::Remove(_, _)) => Ok(Event::RulesChanged {
+            place,
+            group: group.copy(alloc)?,
+        }),
+    }
+}
+
+/// What a record tells its group, if it has one.
+fn event_in(
+    alloc: Global,
+    records: &[Record],
+    groups: &Groups,
+    place: u32,
+    past: &Record,
+) -> Result<Option<Event>, Refusal>
+    requires place { 1 ≤ place }
+    requires judged { AreJudged records.now }
+    requires groups { AreStanding groups.now records.now }
+    ensures ok { IfOk result (λ event. event ≡ told_in place (records_before records.now place) past.now past.now.group) }
+    ensures memory { IsOkUnless result Refusal.Memory }
+{
+    match &past.group {
+        None => Ok(None),
+        Some(group) => {
+            if past.verdict.is_allowed() {
+                Ok(Some(event_of(alloc, records, groups, place, past, group)?))
+            } else {
+                Ok(None)
+            }
+        }
+    }
+}
+
+/// What a place tells its group.
+#[tactic(auto, using(crate::proofs::Passed::record_at_index))]
+pub(crate) fn collect_told(
+    alloc: Global,
+    records: &[Record],
+    groups: &Groups,
+    place: u32,
+) -> Result<Option<Event>, Refusal>
+    requires place { (1 ≤ place) × (place ≤ length records.now) }
+    requires judged { AreJudged records.now }
+    requires groups { AreStanding groups.now records.now }
+    ensures ok { IfOk result (λ event. event ≡ told records.now place) }
+    ensures memory { IsOkUnless result Refusal.Memory }
+{
+    let past = &records[place as usize - 1];
+    event_in(alloc, records, groups, place, past)
+}
