@@ -1,14 +1,12 @@
 -- The events of an inbox, place by place.
-use Rattle.std.proofs.Common.{◌≡◌, ℕ, zero, suc, ◌+◌, ◌-◌, ◌<◌, ◌≤◌, Bool, true, false, List, [], ◌∷◌, ◌++◌, length, get_or, Option, Some, None, refl, sym, ap, ◌∙◌, subst, arith, slice_get, length-append, append-nil, option_to_list, take, if◌then◌else◌}
+use Rattle.std.proofs.Common.{◌≡◌, ℕ, zero, suc, ◌+◌, ◌-◌, ◌<◌, ◌≤◌, List, [], ◌∷◌, ◌++◌, length, get_or, Some, None, refl, sym, ap, ◌∙◌, subst, arith, slice_get, length-append, append-nil}
 use Rattle.std.specs.List.{flat_map, range_with_len}
 use Rattle.std.proofs.lemmas.Grind.{flat_map-append}
 use Rattle.std.proofs.lemmas.Option.{slice_get-get_or, slice_get_past}
 use Rattle.cpg_record.specs.declared.connections.ConnId.{ConnId}
 use Rattle.cpg_record.specs.declared.events.Event.{Event}
-use Rattle.cpg_record.specs.declared.events.Event.TheVariants.{Verdict}
 use Rattle.cpg_record.specs.declared.records.Record.{Record}
-use Rattle.cpg_record.specs.Connections.{conn_of, is_conn}
-use Rattle.cpg_record.specs.Events.{events, events_by, answer, news, inbox}
+use Rattle.cpg_record.specs.Events.{events, inbox}
 
 range_split : (a m k : ℕ) → range_with_len a (m + k) ≡ range_with_len a m ++ range_with_len (a + m) k
 range_split a zero k = rw (zero_plus k) (ap (λ b. range_with_len b k) (sym (plus_zero a)))
@@ -56,6 +54,30 @@ told_item f n i j below within =
   where
     whole : n ≡ i + suc (n - (i + 1))
     whole = omega arith
+
+-- places that tell nothing add nothing
+quiet : (f : ℕ → List Event) (low count : ℕ) → ((place : ℕ) → low < place → place ≤ low + count → f place ≡ []) → flat_map f (range_with_len 1 (low + count)) ≡ flat_map f (range_with_len 1 low)
+quiet f low zero none = ap (λ n. flat_map f (range_with_len 1 n)) (plus_zero low)
+  where
+    plus_zero : (n : ℕ) → n + 0 ≡ n
+    plus_zero n = omega arith
+quiet f low (suc count) none =
+    let sum : low + suc count ≡ low + count + 1 = omega arith in
+    ap (λ n. flat_map f (range_with_len 1 n)) sum ∙ (told_more f (low + count)
+    ∙ (ap (λ l. flat_map f (range_with_len 1 (low + count)) ++ l) (none (1 + (low + count)) (omega arith) (omega arith))
+    ∙ (append-nil (flat_map f (range_with_len 1 (low + count)))
+    ∙ quiet f low count (λ place above below. none place above (omega (arith, below))))))
+
+pub quiet_to : (f : ℕ → List Event) (low high : ℕ) → low ≤ high → ((place : ℕ) → low < place → place ≤ high → f place ≡ []) → flat_map f (range_with_len 1 high) ≡ flat_map f (range_with_len 1 low)
+quiet_to f low high within none =
+    let sum : high ≡ low + (high - low) = omega (arith, within) in
+    ap (λ n. flat_map f (range_with_len 1 n)) sum ∙ quiet f low (high - low) (λ place above below. none place above (omega (arith, within, below)))
+
+-- so many events are told before the next place that tells any
+pub counted_before : (f : ℕ → List Event) (after place told : ℕ) → after < place → ((earlier : ℕ) → after < earlier → earlier < place → f earlier ≡ [])
+    → told ≡ length (flat_map f (range_with_len 1 after)) → told ≡ length (flat_map f (range_with_len 1 (place - 1)))
+counted_before f after place told above none counted =
+    counted ∙ ap length (sym (quiet_to f after (place - 1) (omega (arith, above)) (λ earlier higher lower. none earlier higher (omega (arith, above, lower)))))
 
 one_more : (i : ℕ) → 1 + i ≡ i + 1
 one_more i = omega arith

@@ -1,4 +1,5 @@
 pub mod Nodes
 pub mod Calls
 pub mod Answers
+pub mod Cursors
 pub mod Kept

@@ -7,7 +7,9 @@
 
 mod clients;
 mod connections;
+mod cursors;
 mod inboxes;
+mod judged;
 mod names;
 mod nodes;
 mod ringing;

@@ -16,13 +16,13 @@ ghost use Rattle.cpg_node.specs.Answers.{CanBeSpelled, IsNodeMade, IsFrameAnswer
 
 use crate::clients::{open_client, put_client};
 use crate::connections::{Client, Connection};
-use crate::inboxes::event_of;
+use crate::judged::Judged;
 use crate::names::call_refusal;
 use crate::ringing::{hear_packet, hear_token, refusal_in};
 use bytes::Bytes;
 use cpg_cred::{AcceptList, Cred, NodeId, Refusal, Refused};
 use cpg_entry::{Call, Entry, Frame, MOST_CONNECTIONS, Op, token_fits};
-use cpg_group::{ConnId, Event, Names, Policy, Processes, Record};
+use cpg_group::{ConnId, Event, Names, Processes, Record};
 use cpg_ring::{Ring, Settings};
 use cpg_rules::{Asker, Table};
 use cpg_wire::{decode, encode_token};
@@ -37,7 +37,7 @@ pub struct Node {
     list: AcceptList,
     clients: Vec<Client>,
     ring: Ring,
-    policy: Policy,
+    judged: Judged,
 }
 
 impl Model for Node {
@@ -52,7 +52,7 @@ impl Model for Node {
 
     ghost view = { λ a. record { ring = a.ring; list = a.list; clients = a.clients.items } };
 
-    ghost invariant = { λ a. IsNodeKept a.id a.ring a.clients.items a.policy };
+    ghost invariant = { λ a. IsNodeKept a.id a.ring a.clients.items a.judged };
 }
 
 impl Node {
@@ -77,7 +77,7 @@ impl Node {
                 list,
                 clients: Vec::new(alloc),
                 ring,
-                policy: Policy::new(alloc),
+                judged: Judged::new(alloc),
             }),
         }
     }
@@ -96,13 +96,17 @@ impl Node {
         if count >= usize::from(MOST_CONNECTIONS) {
             return Err(Refusal::ConnectionsFull);
         }
-        self.clients.push(Client {
+        let conn = count as u16 + 1;
+        self.clients.reserve(1)?;
+        let new = self.conn_id(conn);
+        self.judged.add(new)?;
+        self.clients.push_reserved(Client {
             pid,
             cred,
             ended: false,
             taken: 0,
-        })?;
-        Ok(count as u16 + 1)
+        });
+        Ok(conn)
     }
 
     /// The open connection of that number.
@@ -212,7 +216,7 @@ impl Node {
     {
         match self.ring.next_place() {
             None => Ok(None),
-            Some(entry) => Ok(Some(self.policy.judge(entry)?)),
+            Some(entry) => Ok(Some(self.judged.policy().judge(entry)?)),
         }
     }
 
@@ -223,7 +227,7 @@ impl Node {
         ensures unchanged { OnErr result (self.new ≡ self.old) }
         ensures err { IfErr result (λ refused. refused ≡ record { refusal = Refusal.Memory; back = next }) }
     {
-        match self.policy.apply(next) {
+        match self.judged.apply(next) {
             Ok(()) => {
                 self.ring.advance();
                 Ok(())
@@ -258,12 +262,8 @@ impl Node {
         let Some(client) = self.client(conn) else {
             return Err(Refusal::NoConnection);
         };
-        let event = event_of(
-            self.alloc,
-            &self.policy,
-            self.conn_id(conn),
-            client.taken as usize,
-        )?;
+        let id = self.conn_id(conn);
+        let event = self.judged.event_of(self.alloc, id, client.taken as usize)?;
         if event.is_some() {
             let taken = client.taken + 1;
             put_client(&mut self.clients, conn, Client { taken, ..client });
@@ -286,7 +286,7 @@ impl Node {
     {
         match self.client(conn) {
             None => Err(Refusal::NoConnection),
-            Some(client) => self.policy.members(group, client.asker(self.id)),
+            Some(client) => self.judged.policy().members(group, client.asker(self.id)),
         }
     }
 
@@ -296,7 +296,7 @@ impl Node {
     {
         match self.client(conn) {
             None => Err(Refusal::NoConnection),
-            Some(client) => self.policy.groups(client.asker(self.id)),
+            Some(client) => self.judged.policy().groups(client.asker(self.id)),
         }
     }
 
@@ -304,7 +304,7 @@ impl Node {
     pub fn audit(&self) -> &[Record]
         ensures { result.now ≡ records_of self.now }
     {
-        self.policy.records()
+        self.judged.policy().records()
     }
 
     /// How many places it delivered: it has a record of each.
@@ -321,7 +321,7 @@ impl Node {
     pub fn table(&self, group: &[u8]) -> Option<&Table>
         ensures { MatchOption result (rules_of (records_of self.now) group.now ≡ []) (λ table. table.now ≡ rules_of (records_of self.now) group.now) }
     {
-        self.policy.table(group)
+        self.judged.policy().table(group)
     }
 
     /// The open connection of that number.

@@ -1,0 +1,39 @@
+//! Up to where connections' inboxes were looked through.
+
+ghost use Rattle.std.specs.Prelude.{◌≡◌, ◌+◌, ◌≤◌};
+
+use cpg_record::ConnId;
+
+/// How many events the places up to one tell a connection.
+#[derive(Debug, Clone, Copy, PartialEq, Eq)]
+pub struct Cursor {
+    pub conn: ConnId,
+    /// The last place that was looked at; 0 before the first.
+    pub place: u32,
+    pub told: usize,
+}
+
+impl Cursor {
+    /// The cursor before all places.
+    pub fn start(conn: ConnId) -> Cursor
+        ensures { result ≡ record { conn = conn; place = 0; told = 0 } }
+    {
+        Cursor {
+            conn,
+            place: 0,
+            told: 0,
+        }
+    }
+
+    /// The cursor at a later place, which tells so many events, where none between tells any.
+    pub fn past(self, place: u32, events: usize) -> Cursor
+        requires { self.told + events ≤ 4294967295 }
+        ensures { result ≡ record { conn = self.conn; place = place; told = self.told + events } }
+    {
+        Cursor {
+            conn: self.conn,
+            place,
+            told: self.told + events,
+        }
+    }
+}
