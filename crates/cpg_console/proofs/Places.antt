@@ -1,7 +1,16 @@
--- the lines of places, one place after the other
-use Rattle.std.proofs.Common.{◌≡◌, ℕ, ◌+◌, ◌-◌, ◌<◌, ◌≤◌, suc, List, [], ◌∷◌, ◌++◌, refl, ap, ◌∙◌, append-nil, zero-add, add-zero, zero, arith}
+-- the lines of places, one stretch after the other
+use Rattle.std.proofs.Common.{◌≡◌, ℕ, ◌+◌, ◌-◌, ◌<◌, ◌≤◌, suc, List, [], ◌∷◌, ◌++◌, length, map, Some, None, refl, ap, ◌∙◌, append-nil, zero-add, add-zero, zero, arith}
 use Rattle.std.specs.List.{flat_map, range_with_len}
 use Rattle.std.proofs.lemmas.List.Concat.{flat_map-append}
+use Rattle.std.proofs.lemmas.Option.{slice_get_within}
+use Rattle.cpg_record.specs.declared.connections.ConnId.{ConnId}
+use Rattle.cpg_record.specs.declared.records.Record.{Record}
+use Rattle.cpg_record.specs.Events.{events, inbox}
+use Rattle.cpg_record.specs.Nexts.{is_made_by}
+use Rattle.cpg_record.specs.Places.{record_at, IsNextOf}
+use Rattle.cpg_script.proofs.Lined.{map-flat_map}
+use Rattle.cpg_print.specs.Events.{event_line}
+use Rattle.cpg_console.specs.Texts.{lines_at, lines_between, MakesNone}
 
 -- numbers in a row, parted
 range_parted : (a m n : ℕ) → range_with_len a (m + n) ≡ range_with_len a m ++ range_with_len (a + m) n
@@ -11,74 +20,51 @@ range_parted a (suc m) n =
     let next : a + suc m ≡ a + 1 + m = omega arith in
     rw (sum, next) (ap (λ l. a ∷ l) (range_parted (a + 1) m n))
 
--- numbers from 1 on, around one of them
-pub range_around : (n k : ℕ) → k < n → range_with_len 1 n ≡ range_with_len 1 k ++ ((k + 1) ∷ range_with_len (k + 2) (n - (k + 1)))
-range_around n k within =
-    let sum : n ≡ k + suc (n - (k + 1)) = omega arith in
-    let here : 1 + k ≡ k + 1 = omega arith in
-    let next : k + 1 + 1 ≡ k + 2 = omega arith in
-    ap (range_with_len 1) sum ∙ range_parted 1 k (suc (n - (k + 1)))
-    ∙ ap (λ a. range_with_len 1 k ++ range_with_len a (suc (n - (k + 1)))) here
-    ∙ ap (λ a. range_with_len 1 k ++ ((k + 1) ∷ range_with_len a (n - (k + 1)))) next
+-- the lines between two places, parted at one amid
+pub between_parted : (rs : List Record) (conn : ConnId) (after amid last : ℕ) → after ≤ amid → amid ≤ last
+    → lines_between rs conn after last ≡ lines_between rs conn after amid ++ lines_between rs conn amid last
+between_parted rs conn after amid last low high =
+    let sum : last - after ≡ (amid - after) + (last - amid) = omega (arith, low, high) in
+    let next : after + 1 + (amid - after) ≡ amid + 1 = omega (arith, low) in
+    ap (λ n. flat_map (lines_at rs conn) (range_with_len (after + 1) n)) sum
+    ∙ ap (flat_map (lines_at rs conn)) (range_parted (after + 1) (amid - after) (last - amid))
+    ∙ ap (λ n. flat_map (lines_at rs conn) (range_with_len (after + 1) (amid - after) ++ range_with_len n (last - amid))) next
+    ∙ flat_map-append (lines_at rs conn) (range_with_len (after + 1) (amid - after)) (range_with_len (amid + 1) (last - amid))
 
--- one number more
-pub range_one_more : (k : ℕ) → range_with_len 1 (k + 1) ≡ range_with_len 1 k ++ (k + 1) ∷ []
-range_one_more k =
-    let here : 1 + k ≡ k + 1 = omega arith in
-    range_parted 1 k 1 ∙ ap (λ a. range_with_len 1 k ++ range_with_len a 1) here
+-- the lines up to a place, and those of the place
+pub one_place_more : (rs : List Record) (conn : ConnId) (after place : ℕ) → after < place
+    → lines_between rs conn after place ≡ lines_between rs conn after (place - 1) ++ lines_at rs conn place
+one_place_more rs conn after place above =
+    let one : place - (place - 1) ≡ 1 = omega (arith, above) in
+    let here : place - 1 + 1 ≡ place = omega (arith, above) in
+    between_parted rs conn after (place - 1) place (omega (arith, above)) (omega (arith, above))
+    ∙ ap (λ n. lines_between rs conn after (place - 1) ++ flat_map (lines_at rs conn) (range_with_len (place - 1 + 1) n)) one
+    ∙ ap (λ n. lines_between rs conn after (place - 1) ++ (lines_at rs conn n ++ [])) here
+    ∙ ap (λ l. lines_between rs conn after (place - 1) ++ l) (append-nil (lines_at rs conn place))
 
--- the lines of places from 1 on, around those of one place
-pub places_around : (lines : ℕ → List (List ℕ)) (n k : ℕ) → k < n
-    → flat_map lines (range_with_len 1 n) ≡ flat_map lines (range_with_len 1 k) ++ (lines (k + 1) ++ flat_map lines (range_with_len (k + 2) (n - (k + 1))))
-places_around lines n k within =
-    ap (flat_map lines) (range_around n k within) ∙ flat_map-append lines (range_with_len 1 k) ((k + 1) ∷ range_with_len (k + 2) (n - (k + 1)))
+-- the lines of all places are those of the inbox
+pub inbox_by_place : (rs : List Record) (conn : ConnId) → map event_line (inbox rs conn) ≡ lines_between rs conn 0 (length rs)
+inbox_by_place rs conn =
+    let all : length rs ≡ length rs - 0 = omega arith in
+    map-flat_map event_line (λ place. events rs place conn) (range_with_len 1 (length rs)) ∙ ap (λ n. flat_map (lines_at rs conn) (range_with_len 1 n)) all
 
--- one place more
-pub places_one_more : (lines : ℕ → List (List ℕ)) (k : ℕ) → flat_map lines (range_with_len 1 (k + 1)) ≡ flat_map lines (range_with_len 1 k) ++ lines (k + 1)
-places_one_more lines k =
-    ap (flat_map lines) (range_one_more k) ∙ flat_map-append lines (range_with_len 1 k) ((k + 1) ∷ [])
-    ∙ ap (λ l. flat_map lines (range_with_len 1 k) ++ l) (append-nil (lines (k + 1)))
+-- the next own place is one of the places, and between there is none
+pub record OwnNext (rs : List Record) (conn : ConnId) (after place : ℕ) : Type 0 where
+  pub above : after < place
+  pub within : place ≤ length rs
+  pub none_between : MakesNone rs conn after (place - 1)
 
-quiet : (lines : ℕ → List (List ℕ)) (low count : ℕ) → ((place : ℕ) → low < place → place ≤ low + count → lines place ≡ [])
-    → flat_map lines (range_with_len 1 (low + count)) ≡ flat_map lines (range_with_len 1 low)
-quiet lines low zero none = rw (add-zero low) refl
-quiet lines low (suc count) none =
-    let sum : low + suc count ≡ low + count + 1 = omega arith in
-    ap (λ n. flat_map lines (range_with_len 1 n)) sum ∙ places_one_more lines (low + count)
-    ∙ ap (λ l. flat_map lines (range_with_len 1 (low + count)) ++ l) (none (low + count + 1) (omega arith) (omega arith))
-    ∙ append-nil (flat_map lines (range_with_len 1 (low + count)))
-    ∙ quiet lines low count (λ place above below. none place above (omega (arith, below)))
+at_most : (rs : List Record) (place : ℕ) (r : Record) → record_at rs place ≡ Some r → place ≤ length rs
+at_most rs zero r is = omega arith
+at_most rs (suc n) r is = omega (arith, slice_get_within rs n r is)
 
--- places above one that have no lines add nothing
-pub quiet_to : (lines : ℕ → List (List ℕ)) (low high : ℕ) → low ≤ high → ((place : ℕ) → low < place → place ≤ high → lines place ≡ [])
-    → flat_map lines (range_with_len 1 high) ≡ flat_map lines (range_with_len 1 low)
-quiet_to lines low high within none =
-    let sum : high ≡ low + (high - low) = omega (arith, within) in
-    ap (λ n. flat_map lines (range_with_len 1 n)) sum
-    ∙ quiet lines low (high - low) (λ place above below. none place above (omega (arith, within, below)))
+pub own_next : (rs : List Record) (conn : ConnId) (after place : ℕ) → IsNextOf (is_made_by conn) rs after (Some place) → OwnNext rs conn after place
+own_next rs conn after place next = record {
+  above = next.0;
+  within = at_most rs place next.1.0 next.1.1;
+  none_between = λ earlier r above below is. next.2 earlier r above (omega (arith, below, next.0, above)) is;
+}
 
--- the lines of the places before the next one that has any
-pub up_to_next : (lines : ℕ → List (List ℕ)) (after place : ℕ) → after < place → ((earlier : ℕ) → after < earlier → earlier < place → lines earlier ≡ [])
-    → flat_map lines (range_with_len 1 (place - 1)) ≡ flat_map lines (range_with_len 1 after)
-up_to_next lines after place above none =
-    quiet_to lines after (place - 1) (omega (arith, above)) (λ earlier higher lower. none earlier higher (omega (arith, above, lower)))
-
--- one place more, which is the next that has lines
-pub places_next : (lines : ℕ → List (List ℕ)) (after place : ℕ) → after < place → ((earlier : ℕ) → after < earlier → earlier < place → lines earlier ≡ [])
-    → flat_map lines (range_with_len 1 place) ≡ flat_map lines (range_with_len 1 after) ++ lines place
-places_next lines after place above none =
-    let here : place ≡ place - 1 + 1 = omega (arith, above) in
-    let back : place - 1 + 1 ≡ place = omega (arith, above) in
-    ap (λ n. flat_map lines (range_with_len 1 n)) here ∙ places_one_more lines (place - 1)
-    ∙ ap (λ n. flat_map lines (range_with_len 1 (place - 1)) ++ lines n) back
-    ∙ ap (λ l. l ++ lines place) (up_to_next lines after place above none)
-
--- the lines of all places, around those of the next that has lines
-pub places_around_next : (lines : ℕ → List (List ℕ)) (n after place : ℕ) → after < place → place ≤ n
-    → ((earlier : ℕ) → after < earlier → earlier < place → lines earlier ≡ [])
-    → flat_map lines (range_with_len 1 n) ≡ flat_map lines (range_with_len 1 after) ++ (lines place ++ flat_map lines (range_with_len (place - 1 + 2) (n - (place - 1 + 1))))
-places_around_next lines n after place above within none =
-    let back : place - 1 + 1 ≡ place = omega (arith, above) in
-    places_around lines n (place - 1) (omega (arith, above, within))
-    ∙ ap (λ k. flat_map lines (range_with_len 1 (place - 1)) ++ (lines k ++ flat_map lines (range_with_len (place - 1 + 2) (n - (place - 1 + 1))))) back
-    ∙ ap (λ l. l ++ (lines place ++ flat_map lines (range_with_len (place - 1 + 2) (n - (place - 1 + 1))))) (up_to_next lines after place above none)
+-- after the last own place there is none
+pub none_more : (rs : List Record) (conn : ConnId) (after : ℕ) → IsNextOf (is_made_by conn) rs after None → MakesNone rs conn after (length rs)
+none_more rs conn after none = λ place r above within is. none place r above is

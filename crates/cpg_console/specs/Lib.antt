@@ -1,3 +1,4 @@
 pub mod Judging
 pub mod Scripts
 pub mod Steps
+pub mod Texts

@@ -10,16 +10,17 @@ ghost use Rattle.cpg_record.specs.Judging.{judged, most_places, record_of, IsNex
 ghost use Rattle.cpg_script.specs.Written.{LeavesLines, WritesLate};
 ghost use Rattle.cpg_print.specs.Records.{audit_lines};
 ghost use Rattle.cpg_console.specs.Judging.{with_conn, conns_of, judge_lines, EndsJudging, IsWritten, Leaves};
-ghost use Rattle.cpg_print.specs.Records.{audit_line};
+ghost use Rattle.cpg_print.specs.Records.{audit_line, members_text};
 ghost use Rattle.cpg_console.specs.Scripts.{entries_of_script};
 
 use crate::output::{write_count, write_inboxes};
+use crate::printing::put_audit;
 use crate::scripts::read_entries;
 use cpg_cred::Refusal;
 use cpg_entry::Entry;
 use cpg_group::Policy;
-use cpg_print::put_audit;
-use cpg_record::{ConnId, Record};
+use cpg_print::put_members;
+use cpg_record::{ConnId, Members, Record};
 use cpg_script::{Fault, write_line};
 use cpg_text::{MOST_BYTES, read_whole};
 use indexmap::IndexSet;
@@ -81,14 +82,16 @@ fn write_judgement<W: Write>(
 {
     let mut line = Vec::new(alloc);
     let mut policy = Policy::new(alloc);
-    judge_entries(writer, &mut line, &mut policy, entries)?;
+    judge_entries(alloc, writer, &mut line, &mut policy, entries)?;
     write_count(writer, &mut line, policy.len() as u32)?;
     let conns = list_conns(alloc, entries)?;
-    write_inboxes(writer, &mut line, &policy, conns.as_slice())
+    write_inboxes(alloc, writer, &mut line, &policy, conns.as_slice())
 }
 
 /// Judges the entries one after the other, and writes the line of each.
+#[tactic(auto, using(crate::proofs::Lined::none_written))]
 fn judge_entries<W: Write>(
+    alloc: Global,
     writer: &mut W,
     line: &mut Vec<u8>,
     policy: &mut Policy,
@@ -99,8 +102,31 @@ fn judge_entries<W: Write>(
     ensures ok { OnOk result ((policy.new ≡ entries.now) × Appends (W.contents writer.old) (W.contents writer.new) (concat (audit_lines (judged entries.now)))) }
     ensures err { IfErr result (λ refusal. LeavesLines (audit_lines (judged entries.now)) refusal (W.contents writer.old) (W.contents writer.new)) }
 {
+    let mut shown = Members::new(alloc);
+    let mut text = Vec::new(alloc);
+    put_members(&mut text, shown.as_slice())?;
+    judge_each(alloc, writer, line, &mut shown, &mut text, policy, entries)
+}
+
+/// Judges the entries one after the other, and writes the line of each, with the members that were printed last
+/// and their text.
+fn judge_each<W: Write>(
+    alloc: Global,
+    writer: &mut W,
+    line: &mut Vec<u8>,
+    shown: &mut Members,
+    text: &mut Vec<u8>,
+    policy: &mut Policy,
+    entries: &[Entry],
+) -> Result<(), Refusal>
+    requires few { length entries.now ≤ most_places }
+    requires fresh { policy.old ≡ [] }
+    requires text { text.old.items ≡ members_text shown.old }
+    ensures ok { OnOk result ((policy.new ≡ entries.now) × Appends (W.contents writer.old) (W.contents writer.new) (concat (audit_lines (judged entries.now)))) }
+    ensures err { IfErr result (λ refusal. LeavesLines (audit_lines (judged entries.now)) refusal (W.contents writer.old) (W.contents writer.new)) }
+{
     for entry in entries {
-        match judge_entry(writer, line, policy, entry) {
+        match judge_entry(alloc, writer, line, shown, text, policy, entry) {
             Ok(()) => {}
             Err(refusal) => return Err(refusal),
         }
@@ -111,19 +137,24 @@ fn judge_entries<W: Write>(
 /// Judges one entry more, and then writes its line.
 #[tactic(auto, using(crate::proofs::Lined::none_written))]
 fn judge_entry<W: Write>(
+    alloc: Global,
     writer: &mut W,
     line: &mut Vec<u8>,
+    shown: &mut Members,
+    text: &mut Vec<u8>,
     policy: &mut Policy,
     entry: &Entry,
 ) -> Result<(), Refusal>
-    requires { length policy.old < most_places }
+    requires few { length policy.old < most_places }
+    requires text { text.old.items ≡ members_text shown.old }
     ensures ok { OnOk result ((policy.new ≡ policy.old ++ entry.now ∷ []) × Appends (W.contents writer.old) (W.contents writer.new) (audit_line (length policy.old + 1) (record_of (judged policy.old) entry.now))) }
+    ensures text { OnOk result (text.new.items ≡ members_text shown.new) }
     ensures err { IfErr result (λ refusal. LeavesLines (audit_line (length policy.old + 1) (record_of (judged policy.old) entry.now) ∷ []) refusal (W.contents writer.old) (W.contents writer.new)) }
 {
     let next = policy.judge(entry)?;
     let place = policy.len() as u32 + 1;
     line.clear();
-    put_audit(line, place, &next)?;
+    put_audit(alloc, line, shown, text, place, &next)?;
     apply(policy, next)?;
     write_line(writer, line.as_slice())
 }

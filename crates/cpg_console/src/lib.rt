@@ -8,11 +8,14 @@
 
 mod judging;
 mod output;
+mod printing;
 mod scripts;
 #[cfg(test)]
 mod tests;
+mod texts;
 
 pub use cpg_accept::accept_script;
+pub use cpg_cluster::cluster_script;
 pub use cpg_print::{entries_read_back, rules_read_back, whos_read_back};
 pub use cpg_script::{Fault, put_fault};
 pub use cpg_step::run_script;
