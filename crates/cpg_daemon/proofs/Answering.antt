@@ -1,5 +1,5 @@
 -- What a station answers a session is what the session is to be answered, whatever the station was under its lock.
-use Rattle.std.proofs.Common.{◌≡◌, ℕ, List, Option, Result, Ok, Err}
+use Rattle.std.proofs.Common.{ℕ, List, Option, Result, Ok, Err}
 use Rattle.cpg_cred.specs.Listed.{Listed}
 use Rattle.cpg_cred.specs.declared.credentials.Cred.{Cred}
 use Rattle.cpg_cred.specs.declared.refusals.Refusal.{Refusal}

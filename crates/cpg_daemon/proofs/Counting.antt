@@ -1,5 +1,5 @@
 -- So many ends of each thread.
-use Rattle.std.proofs.Common.{◌≡◌, ℕ, suc, ◌+◌, ◌*◌, ◌-◌, ◌<◌, ◌≤◌, sym, ap, ◌∙◌, subst, mul-le-mul_right, suc-mul, arith}
+use Rattle.std.proofs.Common.{◌≡◌, ℕ, suc, ◌+◌, ◌*◌, ◌-◌, ◌<◌, ◌≤◌, ap, ◌∙◌, subst, mul-le-mul_right, suc-mul, arith}
 
 pub one_more : (counter peers : ℕ) → (counter + 1) * peers ≡ counter * peers + peers
 one_more counter peers = let e : counter + 1 ≡ suc counter = omega arith in ap (λ n. n * peers) e ∙ suc-mul counter peers

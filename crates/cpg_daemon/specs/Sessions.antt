@@ -1,18 +1,17 @@
 -- What a session is seen as, and what it is answered.
-use Rattle.std.specs.Prelude.{ℕ, suc, ◌≡◌, ◌<◌, ◌≤◌, List, [], length, Option, Some, None, Result, Ok, Err}
+use Rattle.std.specs.Prelude.{ℕ, ◌≡◌, ◌<◌, List, [], length, Option, Result, Ok, Err}
 use Rattle.std.specs.List.{slice_get}
 use Rattle.cpg_cred.specs.Listed.{Listed}
 use Rattle.cpg_cred.specs.declared.credentials.Cred.{Cred}
 use Rattle.cpg_cred.specs.declared.refusals.Refusal.{Refusal}
 use Rattle.cpg_cred.specs.declared.refusals.Refusal.TheVariants.{Memory, Access, ConnectionsFull, Behind, Stopped, Denied}
 use Rattle.cpg_record.specs.declared.events.Event.{Event}
-use Rattle.cpg_record.specs.declared.records.Record.{Record}
 use Rattle.cpg_record.specs.Events.{inbox}
 use Rattle.cpg_record.specs.Listings.{listing, AreGroups}
 use Rattle.cpg_node.specs.declared.connections.Connection.{Connection}
-use Rattle.cpg_board.specs.Seats.{SeatValue, Begins}
+use Rattle.cpg_board.specs.Seats.{SeatValue}
 use Rattle.cpg_station.specs.Admitting.{Accepts, IsAdmitted}
-use Rattle.cpg_station.specs.Serving.{OverFront, asker_of, moved_on}
+use Rattle.cpg_station.specs.Serving.{OverFront, asker_of}
 
 -- A session: its connection, with how many events it took, and the records that it has seen.
 pub record SessionValue : Type 0 where

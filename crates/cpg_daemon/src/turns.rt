@@ -15,13 +15,81 @@ use std::time::{Clock, Duration};
 /// After how many idle turns in a row a node sends its last token again.
 const IDLE_TURNS: u32 = 64;
 
-/// How many idle turns in a row a thread lets pass at once, and how many with a yield, before it sleeps.
-const SPINS: u32 = 8;
+/// After how many turns in a row that weren't busy a thread yields after each, and after how many it sleeps.
+const SPINS: u32 = 64;
 
-const YIELDS: u32 = 32;
+const YIELDS: u32 = 4096;
 
-/// For how long a thread sleeps between idle turns, in microseconds.
-const SLEEP_MICROS: u64 = 20;
+/// For how long a thread sleeps between such turns, in microseconds: eight nodes pass the token round in 16
+/// milliseconds then.
+const SLEEP_MICROS: u64 = 2_000;
+
+/// What a turn did.
+#[derive(Clone, Copy, PartialEq, Eq)]
+enum Turn {
+    /// It took no frame, and delivered nothing.
+    Idle,
+    /// It passed a token on, which brought nothing and took nothing along, or a frame was refused.
+    Quiet,
+    /// It took or sent data, or delivered.
+    Busy,
+}
+
+impl Turn {
+    /// Both parts of one turn.
+    fn and(self, other: Turn) -> Turn {
+        match (self, other) {
+            (Turn::Busy, _) | (_, Turn::Busy) => Turn::Busy,
+            (Turn::Idle, Turn::Idle) => Turn::Idle,
+            _ => Turn::Quiet,
+        }
+    }
+}
+
+/// How many turns in a row weren't busy, and how many of the last were idle since a token was sent again.
+#[derive(Clone, Copy)]
+struct Lull {
+    still: u32,
+    idle: u32,
+}
+
+impl Lull {
+    /// After a turn that was busy.
+    const NONE: Lull = Lull { still: 0, idle: 0 };
+
+    /// After one turn more.
+    fn after(self, turn: Turn) -> Lull {
+        match turn {
+            Turn::Busy => Lull::NONE,
+            Turn::Quiet => Lull {
+                still: self.still.saturating_add(1),
+                idle: 0,
+            },
+            Turn::Idle => Lull {
+                still: self.still.saturating_add(1),
+                idle: self.idle.saturating_add(1),
+            },
+        }
+    }
+}
+
+/// What it was to hear a frame that was answered with so many.
+fn turn_of(answers: usize) -> Turn {
+    if answers == 1 {
+        Turn::Quiet
+    } else {
+        Turn::Busy
+    }
+}
+
+/// Rests after so many turns in a row that weren't busy: not at all, then by a yield, then by a sleep.
+fn rest<R: Clock>(rt: &R, still: u32) {
+    if still > YIELDS {
+        thread::sleep(rt, Duration::from_micros(SLEEP_MICROS));
+    } else if still > SPINS {
+        thread::yield_now();
+    }
+}
 
 /// Sends what a frame is answered with: its last is a token, which goes to the next node, the others are data,
 /// which goes to all others.
@@ -68,47 +136,48 @@ impl<B: BoardName, G: Gate> Running<B, G> {
         node: NodeId,
         incoming: &mut Incoming,
         outgoing: &mut [Outgoing],
-    ) -> bool
+    ) -> Turn
         requires { node ≤ self.now.nodes }
     {
         let Some(frame) = incoming.link.take(rt) else {
-            return false;
+            return Turn::Idle;
         };
-        if let Ok(sent) = self.frame(rt, node, frame.as_slice()) {
-            send_all(rt, &self.gate, self.next(node), sent.as_slice(), outgoing);
+        match self.frame(rt, node, frame.as_slice()) {
+            Ok(sent) => {
+                send_all(rt, &self.gate, self.next(node), sent.as_slice(), outgoing);
+                turn_of(sent.len())
+            }
+            Err(_) => Turn::Quiet,
         }
-        true
     }
 
-    /// Hears at most one frame from each link. Whether there was any.
+    /// Hears at most one frame from each link.
     fn hear_each<R: Wait>(
         &self,
         rt: &R,
         node: NodeId,
         incoming: &mut [Incoming],
         outgoing: &mut [Outgoing],
-    ) -> bool
+    ) -> Turn
         requires { node ≤ self.now.nodes }
     {
-        let mut heard = false;
+        let mut heard = Turn::Idle;
         for end in incoming.iter_mut() {
-            if self.hear(rt, node, end, outgoing) {
-                heard = true;
-            }
+            heard = heard.and(self.hear(rt, node, end, outgoing));
         }
         heard
     }
 
-    /// Delivers what the node can. Whether it delivered any.
-    fn deliver_all<R: Wait>(&self, rt: &R, node: NodeId) -> bool
+    /// Delivers what the node can.
+    fn deliver_all<R: Wait>(&self, rt: &R, node: NodeId) -> Turn
         requires { node ≤ self.now.nodes }
     {
-        let mut delivered = false;
+        let mut delivered = Turn::Idle;
         for _ in rt.forever() {
             if !self.deliver(rt, node) {
                 break;
             }
-            delivered = true;
+            delivered = Turn::Busy;
         }
         delivered
     }
@@ -122,19 +191,18 @@ impl<B: BoardName, G: Gate> Running<B, G> {
         }
     }
 
-    /// One turn. Whether it was idle.
+    /// One turn.
     fn turn<R: Wait>(
         &self,
         rt: &R,
         node: NodeId,
         incoming: &mut [Incoming],
         outgoing: &mut [Outgoing],
-    ) -> bool
+    ) -> Turn
         requires { node ≤ self.now.nodes }
     {
         let heard = self.hear_each(rt, node, incoming, outgoing);
-        let delivered = self.deliver_all(rt, node);
-        !heard && !delivered
+        heard.and(self.deliver_all(rt, node))
     }
 
     /// A node's thread. It gives back its ends of links.
@@ -143,7 +211,7 @@ impl<B: BoardName, G: Gate> Running<B, G> {
         ensures { (vec_len result.outgoing ≡ vec_len lines.outgoing) × (vec_len result.incoming ≡ vec_len lines.incoming) }
     {
         let mut turn = 1u64;
-        let mut idle = 0u32;
+        let mut lull = Lull::NONE;
         for _ in rt.forever() {
             if self.is_halted(rt, node) {
                 break;
@@ -153,40 +221,18 @@ impl<B: BoardName, G: Gate> Running<B, G> {
                 continue;
             }
             turn = turn.saturating_add(1);
-            if self.turn(
+            lull = lull.after(self.turn(
                 rt,
                 node,
                 lines.incoming.as_mut_slice(),
                 lines.outgoing.as_mut_slice(),
-            ) {
-                idle = self.rest(rt, node, idle, lines.outgoing.as_mut_slice());
-            } else {
-                idle = 0;
+            ));
+            if lull.idle >= IDLE_TURNS {
+                self.send_again(rt, node, lines.outgoing.as_mut_slice());
+                lull.idle = 0;
             }
+            rest(rt, lull.still);
         }
         lines
-    }
-
-    /// After an idle turn, which followed so many others. How many there are then.
-    fn rest<R: Wait + Clock>(
-        &self,
-        rt: &R,
-        node: NodeId,
-        idle: u32,
-        outgoing: &mut [Outgoing],
-    ) -> u32
-        requires { node ≤ self.now.nodes }
-    {
-        let idle = idle.saturating_add(1);
-        if idle >= IDLE_TURNS {
-            self.send_again(rt, node, outgoing);
-            return 0;
-        }
-        if idle > YIELDS {
-            thread::sleep(rt, Duration::from_micros(SLEEP_MICROS));
-        } else if idle > SPINS {
-            thread::yield_now();
-        }
-        idle
     }
 }
