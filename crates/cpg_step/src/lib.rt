@@ -17,4 +17,5 @@ mod tests;
 
 pub use commands::{Command, Look};
 pub use cpg_script::Fault;
+pub use reading::{read_node, read_node_alone};
 pub use running::run_script;

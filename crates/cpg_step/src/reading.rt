@@ -23,7 +23,7 @@ use std::alloc::Global;
 const WORDS: usize = 10;
 
 /// The node of a NODE, where the ring has it.
-fn read_node(nodes: u8, word: &[u8]) -> Option<NodeId>
+pub fn read_node(nodes: u8, word: &[u8]) -> Option<NodeId>
     ensures node { result ≡ node_of nodes word.now }
     ensures within { IfSome result (λ node. node ≤ nodes) }
 {
@@ -45,7 +45,7 @@ fn read_conn(word: &[u8]) -> Option<u16>
 }
 
 /// The node of a NODE that is the only word.
-fn read_node_alone(nodes: u8, words: &[&[u8]]) -> Option<NodeId>
+pub fn read_node_alone(nodes: u8, words: &[&[u8]]) -> Option<NodeId>
     ensures node { result ≡ node_alone nodes (texts words.now) }
     ensures within { IfSome result (λ node. node ≤ nodes) }
 {

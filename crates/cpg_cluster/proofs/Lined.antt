@@ -1,0 +1,2 @@
+-- what every kind of script shares of its lines, offered again for the functions that cite it
+pub use Rattle.cpg_script.proofs.Lengths.{lines_few}

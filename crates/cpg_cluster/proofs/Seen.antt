@@ -1,0 +1,51 @@
+-- seats that have seen more
+use Rattle.std.proofs.Common.{◌≡◌, ◌≤◌, List, length, take, Some, None, Ok, Err, slice_get, refl, sym, ap, subst, ◌∙◌, arith}
+use Rattle.std.proofs.lemmas.List.{take-take, length-take, take_all}
+use Rattle.cpg_cred.specs.declared.refusals.Refusal.{Refusal}
+use Rattle.cpg_record.specs.declared.events.Event.{Event}
+use Rattle.cpg_record.specs.Events.{inbox}
+use Rattle.cpg_node.specs.declared.connections.Connection.{Connection}
+use Rattle.cpg_board.specs.Seats.{Begins}
+use Rattle.cpg_station.specs.Serving.{OverFront, moved_on}
+use Rattle.cpg_daemon.specs.Sessions.{SessionValue}
+use Rattle.cpg_cluster.specs.declared.commands.Ask.TheVariants as ask
+use Rattle.cpg_cluster.specs.declared.replies.Reply.TheVariants.{Took}
+use Rattle.cpg_cluster.specs.Answers.{Stays, Serves}
+
+begins_length : {X : Type 0} (xs ys : List X) → Begins xs ys → length xs ≤ length ys
+begins_length xs ys b = let l = length-take (length xs) ys in omega (arith, ap length b, l)
+
+-- what begins a list begins those that it begins
+pub begins_on : {X : Type 0} (xs ys zs : List X) → Begins xs ys → Begins ys zs → Begins xs zs
+begins_on xs ys zs first second = sym (take-take (length xs) (length ys) zs (begins_length xs ys first)) ∙ ap (take (length xs)) second ∙ first
+
+-- a list begins itself
+pub begins_self : {X : Type 0} (xs : List X) → Begins xs xs
+begins_self xs = take_all (length xs) xs (omega arith)
+
+-- a session that stayed stays
+pub stays_on : (a b c : SessionValue) → Stays a b → Stays b c → Stays a c
+stays_on a b c first second = (second.0 ∙ first.0, begins_on a.seat b.seat c.seat first.1 second.1)
+
+pub stays_self : (a : SessionValue) → Stays a a
+stays_self a = (refl, begins_self a.seat)
+
+-- an event that came after a stay
+pub awaited_on : (a b c : SessionValue) (event : Event) → Stays a b → Serves b ask.Wait (Ok (Took (Some event))) c → Serves a ask.Wait (Ok (Took (Some event))) c
+awaited_on a b c event stay came = (over, after, begins_on a.seat b.seat c.seat stay.1 came.2)
+  where
+    over : OverFront a.seat c.seat (λ front. slice_get (inbox front a.who.id) a.who.taken ≡ Some event)
+    over =
+        let before = came.0 in
+        (before.0, before.1, omega (arith, begins_length a.seat b.seat stay.1, before.2), subst (λ (who : Connection). slice_get (inbox before.0 who.id) who.taken ≡ Some event) stay.0 before.3)
+
+    after : c.who ≡ moved_on a.who (Some event)
+    after = came.1 ∙ ap (λ who. moved_on who (Some event)) stay.0
+
+-- why waiting ended after a stay
+pub ended_on : (a b c : SessionValue) (why : Refusal) → Stays a b → Serves b ask.Wait (Err why) c → Serves a ask.Wait (Err why) c
+ended_on a b c why stay came = (came.0, stays_on a b c stay came.1)
+
+-- nothing came while it stayed
+pub nothing_came : (a b : SessionValue) → Stays a b → Serves a ask.Wait (Ok (Took None)) b
+nothing_came a b stay = (tt, stay.0, stay.1)

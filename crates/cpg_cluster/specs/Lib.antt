@@ -1,0 +1,6 @@
+pub mod Answers
+pub mod Commands
+pub mod Lines
+pub mod Running
+pub mod Scripts
+pub mod Steps

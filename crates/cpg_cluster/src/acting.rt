@@ -1,0 +1,200 @@
+//! One command over running nodes.
+//!
+//! Proved: the answer is one that `specs/Answers.antt` allows, and what is put is its text.
+
+ghost use Rattle.std.specs.Prelude.{◌≡◌, ◌≢◌, ◌↔◌, [], Err, IsTrue, ◌≤◌, length, IfOk, IfSome, OnOk, IsOkUnless};
+ghost use Rattle.cpg_cluster.specs.declared.commands.Command.TheVariants as commands;
+ghost use Rattle.cpg_cluster.specs.Commands.{IsWithin};
+ghost use Rattle.cpg_cluster.specs.Answers.{IsConnected, IsServed, IsEnded, AtNumber, MayAnswer};
+ghost use Rattle.cpg_cluster.specs.Steps.{AreWithin, SeatsOn, IsDone};
+
+use crate::asking::serve;
+use crate::commands::{Ask, Command};
+use crate::printing::put_answer;
+use crate::replies::Reply;
+use cpg_cred::{Cred, NodeId, Refusal};
+use cpg_daemon::{BoardName, Running, Session};
+use std::alloc::Global;
+use std::sync::Wait;
+
+/// A session for the process at the node, put last among the sessions.
+fn connect<B: BoardName, G, H: Wait>(
+    rt: &H,
+    running: &Running<B, G>,
+    sessions: &mut Vec<Option<Session<B>>>,
+    node: NodeId,
+    pid: u32,
+    cred: Cred,
+) -> Result<Reply, Refusal>
+    requires { (node ≤ running.now.nodes) × AreWithin running.now.nodes sessions.old.items }
+    ensures answer { IsConnected running.now.list node pid cred sessions.old.items result sessions.new.items }
+    ensures within { AreWithin running.now.nodes sessions.new.items }
+    ensures seats { SeatsOn B.cells result }
+{
+    sessions.reserve(1)?;
+    let session = running.connect(rt, node, pid, cred)?;
+    sessions.push_reserved(Some(session));
+    Ok(Reply::Opened(sessions.len()))
+}
+
+/// What the session is answered, if it is an open one.
+fn serve_open<B: BoardName, G, H: Wait>(
+    rt: &H,
+    alloc: Global,
+    running: &Running<B, G>,
+    slot: &mut Option<Session<B>>,
+    asked: &Ask,
+) -> Result<Reply, Refusal>
+    requires { IfSome slot.old (λ session. session.who.id.node ≤ running.now.nodes) }
+    ensures answer { IsServed asked.now slot.old result slot.new }
+    ensures within { IfSome slot.new (λ session. session.who.id.node ≤ running.now.nodes) }
+    ensures seats { SeatsOn B.cells result }
+{
+    match slot {
+        None => Err(Refusal::NoConnection),
+        Some(session) => serve(rt, alloc, running, session, asked),
+    }
+}
+
+/// Ends the session, if it is an open one; it stays where it is refused.
+fn close_open<B: BoardName, G, H: Wait>(
+    rt: &H,
+    running: &Running<B, G>,
+    slot: &mut Option<Session<B>>,
+) -> Result<Reply, Refusal>
+    requires { IfSome slot.old (λ session. session.who.id.node ≤ running.now.nodes) }
+    ensures answer { IsEnded slot.old result slot.new }
+    ensures within { IfSome slot.new (λ session. session.who.id.node ≤ running.now.nodes) }
+    ensures seats { SeatsOn B.cells result }
+{
+    match slot.take() {
+        None => Err(Refusal::NoConnection),
+        Some(session) => match running.close(rt, session) {
+            Ok(()) => Ok(Reply::Closed),
+            Err(refused) => {
+                *slot = Some(refused.back);
+                Err(refused.refusal)
+            }
+        },
+    }
+}
+
+/// Whether a session of that number was given.
+fn is_given<T>(sessions: &[T], number: u32) -> bool
+    ensures { IsTrue result ↔ ((1 ≤ number) × (number ≤ length sessions.now)) }
+{
+    1 <= number && number as usize <= sessions.len()
+}
+
+/// What the session of that number is answered.
+fn ask<B: BoardName, G, H: Wait>(
+    rt: &H,
+    alloc: Global,
+    running: &Running<B, G>,
+    sessions: &mut Vec<Option<Session<B>>>,
+    number: u32,
+    asked: &Ask,
+) -> Result<Reply, Refusal>
+    requires { AreWithin running.now.nodes sessions.old.items }
+    ensures answer { AtNumber (IsServed asked.now) number sessions.old.items result sessions.new.items }
+    ensures within { AreWithin running.now.nodes sessions.new.items }
+    ensures seats { SeatsOn B.cells result }
+{
+    if !is_given(sessions.as_slice(), number) {
+        return Err(Refusal::NoConnection);
+    }
+    serve_open(
+        rt,
+        alloc,
+        running,
+        &mut sessions[number as usize - 1],
+        asked,
+    )
+}
+
+/// Ends the session of that number.
+fn close<B: BoardName, G, H: Wait>(
+    rt: &H,
+    running: &Running<B, G>,
+    sessions: &mut Vec<Option<Session<B>>>,
+    number: u32,
+) -> Result<Reply, Refusal>
+    requires { AreWithin running.now.nodes sessions.old.items }
+    ensures answer { AtNumber IsEnded number sessions.old.items result sessions.new.items }
+    ensures within { AreWithin running.now.nodes sessions.new.items }
+    ensures seats { SeatsOn B.cells result }
+{
+    if !is_given(sessions.as_slice(), number) {
+        return Err(Refusal::NoConnection);
+    }
+    close_open(rt, running, &mut sessions[number as usize - 1])
+}
+
+/// What the command is answered.
+fn answer<B: BoardName, G, H: Wait>(
+    rt: &H,
+    alloc: Global,
+    running: &Running<B, G>,
+    sessions: &mut Vec<Option<Session<B>>>,
+    command: &Command,
+) -> Result<Reply, Refusal>
+    requires { IsWithin running.now.nodes command.now × AreWithin running.now.nodes sessions.old.items }
+    ensures answer { MayAnswer running.now.list sessions.old.items command.now result sessions.new.items }
+    ensures within { AreWithin running.now.nodes sessions.new.items }
+    ensures seats { SeatsOn B.cells result }
+{
+    match command {
+        Command::Connect(node, pid, cred) => connect(rt, running, sessions, *node, *pid, *cred),
+        Command::Ask(number, asked) => ask(rt, alloc, running, sessions, *number, asked),
+        Command::Close(number) => close(rt, running, sessions, *number),
+        Command::Safe(node) => Ok(Reply::Safe(running.safe(rt, *node))),
+    }
+}
+
+/// Whether memory was refused.
+fn is_memory(answer: &Result<Reply, Refusal>) -> bool
+    ensures { IsTrue result ↔ (answer.now ≡ Err Refusal.Memory) }
+{
+    matches!(answer, Err(Refusal::Memory))
+}
+
+/// What the command is answered where memory was not refused.
+fn answer_with_memory<B: BoardName, G, H: Wait>(
+    rt: &H,
+    alloc: Global,
+    running: &Running<B, G>,
+    sessions: &mut Vec<Option<Session<B>>>,
+    command: &Command,
+) -> Result<Result<Reply, Refusal>, Refusal>
+    requires { IsWithin running.now.nodes command.now × AreWithin running.now.nodes sessions.old.items }
+    ensures ok { IfOk result (λ answer. MayAnswer running.now.list sessions.old.items command.now answer sessions.new.items × (answer ≢ Err Refusal.Memory) × SeatsOn B.cells answer) }
+    ensures within { AreWithin running.now.nodes sessions.new.items }
+    ensures memory { IsOkUnless result Refusal.Memory }
+{
+    let answer = answer(rt, alloc, running, sessions, command);
+    if is_memory(&answer) {
+        return Err(Refusal::Memory);
+    }
+    Ok(answer)
+}
+
+/// Does the command, and puts the text of its answer where there is none.
+#[tactic(auto, using(crate::proofs::Doing::answer_done))]
+pub fn do_command<B: BoardName, G, H: Wait>(
+    rt: &H,
+    alloc: Global,
+    text: &mut Vec<u8>,
+    running: &Running<B, G>,
+    sessions: &mut Vec<Option<Session<B>>>,
+    command: &Command,
+) -> Result<(), Refusal>
+    requires command { IsWithin running.now.nodes command.now }
+    requires within { AreWithin running.now.nodes sessions.old.items }
+    requires none { text.old.items ≡ [] }
+    ensures ok { OnOk result (IsDone running.now.list sessions.old.items command.now text.new.items sessions.new.items) }
+    ensures within { AreWithin running.now.nodes sessions.new.items }
+    ensures memory { IsOkUnless result Refusal.Memory }
+{
+    let answer = answer_with_memory(rt, alloc, running, sessions, command)?;
+    put_answer(alloc, text, running.board(), &answer)
+}

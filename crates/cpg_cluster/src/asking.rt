@@ -1,0 +1,182 @@
+//! What an open session is asked for, and what it is answered.
+//!
+//! Proved: the answer is one that `specs/Answers.antt` allows, whatever the threads do. How often a session is
+//! asked for its next event before nothing came is no clause, but a number that `limits` says.
+
+ghost use Rattle.std.specs.Prelude.{◌≡◌, ◌≤◌, IfOk, OnOk, IsOkUnless};
+ghost use Rattle.cpg_board.specs.Seats.{IsSeatOf, Begins};
+ghost use Rattle.cpg_station.specs.Serving.{SubmitRefuses};
+ghost use Rattle.cpg_cluster.specs.declared.commands.Ask.TheVariants as asks;
+ghost use Rattle.cpg_cluster.specs.Answers.{Serves};
+ghost use Rattle.cpg_cluster.specs.Steps.{SeatsOn, IsPolled};
+
+use crate::commands::Ask;
+use crate::replies::Reply;
+use cpg_board::{Board, Seat};
+use cpg_cred::Refusal;
+use cpg_daemon::{BoardName, Running, Session};
+use cpg_entry::Call;
+use cpg_node::Event;
+use std::alloc::Global;
+use std::sync::Wait;
+use std::thread;
+
+/// How often a session that waits is asked for its next event, at most.
+pub const MOST_POLLS: u32 = 1_000_000;
+
+/// The limit of a wait: a million polls.
+pub fn limits()
+    ensures polls { MOST_POLLS ≡ 1000000 }
+{}
+
+/// The session's call is to wait at its node.
+fn submit<B: BoardName, G, H: Wait>(
+    rt: &H,
+    alloc: Global,
+    running: &Running<B, G>,
+    session: &mut Session<B>,
+    call: &Call,
+) -> Result<Reply, Refusal>
+    requires { session.old.who.id.node ≤ running.now.nodes }
+    ensures answer { Serves session.old (asks.Call call.now) result session.new }
+    ensures seats { SeatsOn B.cells result }
+{
+    let call = call.copy(alloc)?;
+    match running.submit(rt, session, call) {
+        Ok(()) => Ok(Reply::Admitted),
+        Err(refused) => Err(refused.refusal),
+    }
+}
+
+/// What the session is told when it asks for its next event once: nothing where there is none yet, or where its
+/// node is behind.
+fn poll<B: BoardName, G, H: Wait>(
+    rt: &H,
+    running: &Running<B, G>,
+    session: &mut Session<B>,
+) -> Option<Result<Event, Refusal>>
+    requires { session.old.who.id.node ≤ running.now.nodes }
+    ensures { IsPolled session.old result session.new }
+{
+    match running.take(rt, session) {
+        Ok(None) => None,
+        Ok(Some(event)) => Some(Ok(event)),
+        Err(Refusal::Behind(_)) => None,
+        Err(refusal) => Some(Err(refusal)),
+    }
+}
+
+/// The session's next event, once it comes; nothing where it does not come for `MOST_POLLS` polls.
+#[tactic(auto, using(crate::proofs::Seen::stays_on, crate::proofs::Seen::stays_self, crate::proofs::Seen::awaited_on, crate::proofs::Seen::nothing_came, crate::proofs::Seen::ended_on))]
+fn wait<B: BoardName, G, H: Wait>(
+    rt: &H,
+    running: &Running<B, G>,
+    session: &mut Session<B>,
+) -> Result<Reply, Refusal>
+    requires { session.old.who.id.node ≤ running.now.nodes }
+    ensures answer { Serves session.old asks.Wait result session.new }
+    ensures seats { SeatsOn B.cells result }
+{
+    for _ in 0..MOST_POLLS {
+        match poll(rt, running, session) {
+            None => thread::yield_now(),
+            Some(Ok(event)) => return Ok(Reply::Took(Some(event))),
+            Some(Err(refusal)) => return Err(refusal),
+        }
+    }
+    Ok(Reply::Took(None))
+}
+
+fn list<B: BoardName, G, H: Wait>(
+    rt: &H,
+    running: &Running<B, G>,
+    session: &mut Session<B>,
+    group: &[u8],
+) -> Result<Reply, Refusal>
+    requires { session.old.who.id.node ≤ running.now.nodes }
+    ensures answer { Serves session.old (asks.List group.now) result session.new }
+    ensures seats { SeatsOn B.cells result }
+{
+    match running.list(rt, session, group) {
+        Ok(processes) => Ok(Reply::Members(processes)),
+        Err(refusal) => Err(refusal),
+    }
+}
+
+fn groups<B: BoardName, G, H: Wait>(
+    rt: &H,
+    running: &Running<B, G>,
+    session: &mut Session<B>,
+) -> Result<Reply, Refusal>
+    requires { session.old.who.id.node ≤ running.now.nodes }
+    ensures answer { Serves session.old asks.Groups result session.new }
+    ensures seats { SeatsOn B.cells result }
+{
+    match running.groups(rt, session) {
+        Ok(names) => Ok(Reply::Groups(names)),
+        Err(refusal) => Err(refusal),
+    }
+}
+
+/// The seat reads what stands on the board after what it knows, up to the first place that is empty.
+#[tactic(auto, using(crate::proofs::Seen::begins_on, crate::proofs::Seen::begins_self))]
+fn read_rest(board: &Board, seat: &mut Seat) -> Result<(), Refusal>
+    requires { IsSeatOf board.now seat.old }
+    ensures seat { IsSeatOf board.now seat.new × Begins seat.old seat.new }
+    ensures memory { IsOkUnless result Refusal.Memory }
+{
+    for _ in 0..u64::MAX {
+        if board.read_next(seat)?.is_none() {
+            break;
+        }
+    }
+    Ok(())
+}
+
+/// The seat knows what the other knows, and what follows on the board.
+#[tactic(auto, using(crate::proofs::Seen::begins_on))]
+fn read_all(board: &Board, seat: &mut Seat, other: &Seat) -> Result<(), Refusal>
+    requires { IsSeatOf board.now seat.old × IsSeatOf board.now other.now }
+    ensures ok { OnOk result (IsSeatOf board.now seat.new × Begins other.now seat.new) }
+    ensures memory { IsOkUnless result Refusal.Memory }
+{
+    board.catch_up(seat, other)?;
+    read_rest(board, seat)
+}
+
+/// A seat that knows all that the session and the board know.
+fn audit<B: BoardName, G>(running: &Running<B, G>, session: &Session<B>) -> Result<Reply, Refusal>
+    ensures answer { Serves session.now asks.Audit result session.now }
+    ensures seats { SeatsOn B.cells result }
+{
+    let mut seat = running.auditor();
+    match read_all(running.board(), &mut seat, session.seat()) {
+        Ok(()) => Ok(Reply::Audit(seat)),
+        Err(refusal) => {
+            drop(seat);
+            Err(refusal)
+        }
+    }
+}
+
+/// What an open session is answered.
+pub fn serve<B: BoardName, G, H: Wait>(
+    rt: &H,
+    alloc: Global,
+    running: &Running<B, G>,
+    session: &mut Session<B>,
+    asked: &Ask,
+) -> Result<Reply, Refusal>
+    requires { session.old.who.id.node ≤ running.now.nodes }
+    ensures answer { Serves session.old asked.now result session.new }
+    ensures node { session.new.who.id ≡ session.old.who.id }
+    ensures seats { SeatsOn B.cells result }
+{
+    match asked {
+        Ask::Call(call) => submit(rt, alloc, running, session, call),
+        Ask::Wait => wait(rt, running, session),
+        Ask::List(group) => list(rt, running, session, group.as_slice()),
+        Ask::Groups => groups(rt, running, session),
+        Ask::Audit => audit(running, &*session),
+    }
+}

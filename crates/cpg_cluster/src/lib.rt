@@ -1,0 +1,24 @@
+//! `cpgring run`: a script of sessions over the running nodes of a cluster.
+//!
+//! The forms are this project's own. Proved: the whole script is read and checked before it begins, sessions are
+//! numbered by accepted connections, each is answered what `cpg_daemon` promises of it, and what is printed of the
+//! answers is the definition in `specs/`, byte for byte, where the reader and the writer tell their bytes. That an
+//! event comes while it is waited for is tested.
+#![tactic(auto)]
+
+mod acting;
+mod asking;
+mod commands;
+mod printing;
+mod reading;
+mod replies;
+mod running;
+mod scripts;
+#[cfg(test)]
+mod tests;
+
+pub use asking::{MOST_POLLS, limits};
+pub use commands::{Ask, Command};
+pub use cpg_script::Fault;
+pub use replies::Reply;
+pub use running::cluster_script;

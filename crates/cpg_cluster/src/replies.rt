@@ -1,0 +1,21 @@
+//! What commands are answered.
+
+use cpg_board::Seat;
+use cpg_node::{Event, Names, Processes};
+
+/// What a command is answered where it is not refused.
+#[derive(Drop)]
+pub enum Reply {
+    /// The session's number.
+    Opened(usize),
+    Admitted,
+    /// The event that came, if one did.
+    Took(Option<Event>),
+    Members(Processes),
+    Groups(Names),
+    /// A seat that has seen the records.
+    Audit(Seat),
+    Closed,
+    /// The place.
+    Safe(u32),
+}
