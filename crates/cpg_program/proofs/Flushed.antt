@@ -1,6 +1,6 @@
 -- a flush changes nothing of what is written
-use Rattle.std.proofs.Common.{◌≡◌, ℕ, List, Bool, true, false, Option, Some, None, Result, Ok, Err, [], ◌∷◌, map, inl, inr, sym, subst}
-use Rattle.std.specs.Prelude.{OnOk, IfErr, IfSome}
+use Rattle.std.proofs.Common.{◌≡◌, ℕ, List, Bool, true, false, Option, Some, None, Result, Ok, Err, [], ◌∷◌, map, inl, inr, refl, sym, subst}
+use Rattle.std.specs.Prelude.{◌↔◌, OnOk, IfErr, IfSome}
 use Rattle.std.specs.List.{concat}
 use Rattle.std.specs.Io.KnownBytes.{Keeps}
 use Rattle.std.proofs.KnownBytes.{Appends-kept, Keeps-trans}
@@ -19,12 +19,17 @@ use Rattle.cpg_cred.specs.Listed.{Listed}
 use Rattle.cpg_step.specs.declared.commands.Command.{Command}
 use Rattle.cpg_step.specs.Running as step
 use Rattle.cpg_step.specs.Scripts.{commands_of_script}
+use Rattle.cpg_cluster.specs.declared.commands.Command.{Command as Ask}
+use Rattle.cpg_cluster.specs.Answers.{Sessions}
+use Rattle.cpg_cluster.specs.Lines.{text_of}
+use Rattle.cpg_cluster.specs.Running as cluster
+use Rattle.cpg_cluster.specs.Scripts as clustered
 use Rattle.cpg_program.specs.declared.failures.Failure.{Failure}
 use Rattle.cpg_program.specs.declared.failures.Failure.TheVariants as failure
 use Rattle.cpg_program.specs.declared.runs.Run.{Run}
-use Rattle.cpg_program.specs.declared.runs.Run.TheVariants.{Judge, Accept, Step}
+use Rattle.cpg_program.specs.declared.runs.Run.TheVariants.{Judge, Accept, Step, Cluster}
 use Rattle.cpg_program.specs.Words.{list_of_words}
-use Rattle.cpg_program.specs.Runs.{FailsLate, Prints, Runs, Steps, StepsUpTo, failure_of, failure_told}
+use Rattle.cpg_program.specs.Runs.{Clusters, ClustersUpTo, FailsLate, HasWrongWord, Prints, Runs, Steps, StepsUpTo, failure_of, failure_told}
 
 front_kept : (a b c : Option (List ℕ)) (text : List ℕ) → AppendsFront a b text → Keeps b c → AppendsFront a c text
 front_kept a b c text f k = record { front = f.front; rest = f.rest; whole = f.whole; written = Appends-kept a b c f.front f.written k }
@@ -135,6 +140,68 @@ steps_kept s (Some list) script None a b c h k = (h.0, h.1, run_kept (commands_o
 steps_kept s (Some list) script (Some (failure.Fault fault)) a b c h k = (h.0, up_to_kept s list script fault.refusal a b c h.1 k)
 steps_kept s (Some list) script (Some failure.BadWord) a b c h k = h
 
+-- of a script over a cluster, too
+session_left_kept : (refused : Refusal) (list : Listed) (sessions : Sessions) (met : Ask) (a b c : Option (List ℕ))
+    → cluster.LeavesOf refused list sessions met a b → Keeps b c → cluster.LeavesOf refused list sessions met a c
+session_left_kept refusal.Memory list sessions met a b c h k = Keeps-trans a b c h k
+session_left_kept refusal.Write list sessions met a b c h k = record {
+  answers = h.answers;
+  left = h.left;
+  answered = h.answered;
+  written = front_kept a b c (text_of h.answers) h.written k;
+}
+session_left_kept _ list sessions met a b c h k = h
+
+halt_kept : (refused : Refusal) (list : Listed) (commands : List Ask) (a b c : Option (List ℕ))
+    → cluster.IsStopped refused list [] commands a b → Keeps b c → cluster.IsStopped refused list [] commands a c
+halt_kept refused list commands a b c h k = record {
+  before = h.before;
+  met = h.met;
+  later = h.later;
+  whole = h.whole;
+  between = h.between;
+  told = h.told;
+  done = h.done;
+  left = session_left_kept refused list h.between h.met h.told b c h.left k;
+}
+
+cluster_run_kept : (list : Listed) (commands : Result (List Ask) ℕ) (a b c : Option (List ℕ)) → cluster.IsRun list commands a b → Keeps b c → cluster.IsRun list commands a c
+cluster_run_kept list (Ok commands) a b c h k = (
+  h.0,
+  record {
+    answers = h.1.answers;
+    answered = h.1.answered;
+    written = Appends-kept a b c (text_of h.1.answers) h.1.written k;
+  },
+)
+cluster_run_kept list (Err line) a b c h k = h
+
+cluster_part_kept : (list : Listed) (commands : Result (List Ask) ℕ) (refused : Refusal) (a b c : Option (List ℕ))
+    → cluster.Leaves list commands refused a b → Keeps b c → cluster.Leaves list commands refused a c
+cluster_part_kept list (Err bad) (refusal.BadCommand line) a b c h k = (h.0, Keeps-trans a b c h.1 k)
+cluster_part_kept list (Err bad) refusal.Memory a b c h k = Keeps-trans a b c h k
+cluster_part_kept list (Err bad) refusal.Read a b c h k = Keeps-trans a b c h k
+cluster_part_kept list (Ok commands) refusal.Read a b c h k = Keeps-trans a b c h k
+cluster_part_kept list (Ok commands) refusal.Memory a b c h k = elim h [
+  | inl none ↦ inl (Keeps-trans a b c none k)
+  | inr some ↦ inr (halt_kept refusal.Memory list commands a b c some k)
+]
+cluster_part_kept list (Ok commands) refusal.Write a b c h k = halt_kept refusal.Write list commands a b c h k
+cluster_part_kept list (Ok commands) _ a b c h k = h
+cluster_part_kept list (Err bad) _ a b c h k = h
+
+cluster_up_to_kept : (s : Settings) (list : Listed) (script : List ℕ) (refused : Refusal) (a b c : Option (List ℕ))
+    → ClustersUpTo s list script refused a b → Keeps b c → ClustersUpTo s list script refused a c
+cluster_up_to_kept s list script refusal.Range a b c h k = (h.0, Keeps-trans a b c h.1 k)
+cluster_up_to_kept s list script refused a b c h k = cluster_part_kept list (clustered.commands_of_script s.nodes script) refused a b c h k
+
+clusters_kept : (s : Settings) (list : Option Listed) (script : List ℕ) (end : Option Failure) (a b c : Option (List ℕ))
+    → Clusters s list script end a b → Keeps b c → Clusters s list script end a c
+clusters_kept s None script end a b c h k = (h.0, Keeps-trans a b c h.1 k)
+clusters_kept s (Some list) script None a b c h k = (h.0, cluster_run_kept list (clustered.commands_of_script s.nodes script) a b c h.1 k)
+clusters_kept s (Some list) script (Some (failure.Fault fault)) a b c h k = (h.0, cluster_up_to_kept s list script fault.refusal a b c h.1 k)
+clusters_kept s (Some list) script (Some failure.BadWord) a b c h k = h
+
 -- what was printed stays
 prints_kept : (run : Run) (script : List ℕ) (end : Option Failure) (a b c : Option (List ℕ)) → Prints run script end a b → Keeps b c → Prints run script end a c
 prints_kept Judge script None a b c h k = (h.0, judged_kept (entries_of_script script) a b c h.1 k)
@@ -144,6 +211,7 @@ prints_kept Accept script None a b c h k = (h.0, accepted_kept (accept.admitted_
 prints_kept Accept script (Some (failure.Fault fault)) a b c h k = ends_kept script fault a b c h k
 prints_kept Accept script (Some failure.BadWord) a b c h k = h
 prints_kept (Step settings words) script end a b c h k = steps_kept settings (list_of_words (map (λ word. word.now) words.now)) script end a b c h k
+prints_kept (Cluster settings words) script end a b c h k = clusters_kept settings (list_of_words (map (λ word. word.now) words.now)) script end a b c h k
 
 -- what was printed and is told, after the flush
 pub printed : (known : Option (List ℕ)) (run : Run) (done : Result (Unit {0}) Failure) (flushed : Bool) (end : Option Failure) (a b c : Option (List ℕ))
@@ -167,3 +235,12 @@ pub printed_late : (done : Result (Unit {0}) Failure) (flushed : Bool) (end : Op
     → IfErr done (λ end. FailsLate end a b) → Keeps b c → IfSome end (λ end. FailsLate end a c)
 printed_late done flushed end a b c e h k =
     subst (λ (told : Option Failure). IfSome told (λ end. FailsLate end a c)) (sym e) (told_late done flushed a b c h k)
+
+-- a wrong word is told whatever a flush does
+pub word_told : (run : Run) (done : Result (Unit {0}) Failure) (flushed : Bool) (end : Option Failure) → end ≡ failure_told flushed (failure_of done)
+    → (done ≡ Err failure.BadWord) ↔ HasWrongWord run → (end ≡ Some failure.BadWord) ↔ HasWrongWord run
+word_told run (Err failure.BadWord) flushed end e h = ((λ is. h.0 refl), (λ wrong. e))
+word_told run (Err (failure.Fault fault)) false end e h = ((λ is. absurd (cc)), (λ wrong. let same = h.1 wrong in absurd (cc)))
+word_told run (Err (failure.Fault fault)) true end e h = ((λ is. absurd (cc)), (λ wrong. let same = h.1 wrong in absurd (cc)))
+word_told run (Ok done) false end e h = ((λ is. absurd (cc)), (λ wrong. let same = h.1 wrong in absurd (cc)))
+word_told run (Ok done) true end e h = ((λ is. absurd (cc)), (λ wrong. let same = h.1 wrong in absurd (cc)))

@@ -1,4 +1,5 @@
 pub mod Accepting
 pub mod Flushed
 pub mod Fronts
+pub mod Clustered
 pub mod Started

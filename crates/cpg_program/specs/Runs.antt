@@ -14,11 +14,13 @@ use Rattle.cpg_console.specs.Judging as judge
 use Rattle.cpg_console.specs.Scripts.{entries_of_script}
 use Rattle.cpg_step.specs.Running as step
 use Rattle.cpg_step.specs.Scripts.{commands_of_script}
+use Rattle.cpg_cluster.specs.Running as cluster
+use Rattle.cpg_cluster.specs.Scripts as clustered
 use Rattle.cpg_program.specs.Words.{list_of_words}
 use Rattle.cpg_program.specs.declared.failures.Failure.{Failure}
 use Rattle.cpg_program.specs.declared.failures.Failure.TheVariants.{BadWord, Fault}
 use Rattle.cpg_program.specs.declared.runs.Run.{Run}
-use Rattle.cpg_program.specs.declared.runs.Run.TheVariants.{Judge, Accept, Step}
+use Rattle.cpg_program.specs.declared.runs.Run.TheVariants.{Judge, Accept, Step, Cluster}
 
 -- the exit status: 0, after a fault 1, after a wrong word of the command line 2
 abbrev pub status_after : Option Failure → ℕ
@@ -42,6 +44,29 @@ Steps s (Some list) script None old new = StepsAll s list script old new
 Steps s (Some list) script (Some (Fault fault)) old new = (fault.part ≡ None) × StepsUpTo s list script fault.refusal old new
 Steps s (Some list) script (Some BadWord) old new = ⊥
 
+-- The script was run over a cluster of so many nodes that accept by that list, and all its text is written.
+abbrev pub ClustersAll : ℕ → Listed → List ℕ → Option (List ℕ) → Option (List ℕ) → Type 0
+ClustersAll nodes list script old new = (length script ≤ MOST_BYTES) × cluster.IsRun list (clustered.commands_of_script nodes script) old new
+
+-- What a refusal leaves written of it; Range tells that there is no cluster of those settings.
+abbrev pub ClustersUpTo : Settings → Listed → List ℕ → Refusal → Option (List ℕ) → Option (List ℕ) → Type 0
+ClustersUpTo s list script Range old new = (¬ IsSettings s) × Keeps old new
+ClustersUpTo s list script refused old new = cluster.Leaves list (clustered.commands_of_script s.nodes script) refused old new
+
+-- what `run` writes of a script, by the list that its words give
+abbrev pub Clusters : Settings → Option Listed → List ℕ → Option Failure → Option (List ℕ) → Option (List ℕ) → Type 0
+Clusters s None script failure old new = (failure ≡ Some BadWord) × Keeps old new
+Clusters s (Some list) script None old new = ClustersAll s.nodes list script old new
+Clusters s (Some list) script (Some (Fault fault)) old new = (fault.part ≡ None) × ClustersUpTo s list script fault.refusal old new
+Clusters s (Some list) script (Some BadWord) old new = ⊥
+
+-- a word of the run's command line lets nobody in
+abbrev pub HasWrongWord : Run → Type 0
+HasWrongWord Judge = ⊥
+HasWrongWord Accept = ⊥
+HasWrongWord (Step settings words) = list_of_words (map (λ word. word.now) words.now) ≡ None
+HasWrongWord (Cluster settings words) = list_of_words (map (λ word. word.now) words.now) ≡ None
+
 -- what a run writes of a script to standard output: all of its text, or after a fault what that fault leaves
 abbrev pub Prints : Run → List ℕ → Option Failure → Option (List ℕ) → Option (List ℕ) → Type 0
 Prints Judge script None old new = (length script ≤ MOST_BYTES) × judge.IsWritten (entries_of_script script) old new
@@ -49,6 +74,7 @@ Prints Judge script (Some (Fault fault)) old new = (fault.part ≡ None) × judg
 Prints Accept script None old new = (length script ≤ MOST_BYTES) × accept.IsWritten (accept.admitted_by script) old new
 Prints Accept script (Some (Fault fault)) old new = accept.Ends script fault old new
 Prints (Step settings words) script failure old new = Steps settings (list_of_words (map (λ word. word.now) words.now)) script failure old new
+Prints (Cluster settings words) script failure old new = Clusters settings (list_of_words (map (λ word. word.now) words.now)) script failure old new
 Prints _ script (Some BadWord) old new = ⊥
 
 -- nothing is written before the words were found right, and the script read and checked

@@ -4,6 +4,7 @@
 //! output and to standard error, and the status (`specs/Runs.antt`).
 #![tactic(auto)]
 
+mod clustering;
 mod failures;
 mod runs;
 mod stepping;

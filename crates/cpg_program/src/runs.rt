@@ -3,14 +3,15 @@
 //! Standard output is buffered, and what was gathered is handed on also after a fault. Proved: what is
 //! written to standard output and to standard error, and the status, whatever the streams do.
 
-ghost use Rattle.std.specs.Prelude.{◌≡◌, ◌⊎◌, ◌↔◌, [], false, None, Some, map, OnOk, IfErr, IfSome, IsTrue};
+ghost use Rattle.std.specs.Prelude.{◌≡◌, ◌⊎◌, ◌↔◌, [], false, Err, None, Some, map, OnOk, IfErr, IfSome, IsTrue};
 ghost use Rattle.std.specs.Io.Buffered.{writer_buffer, writer_contents};
 ghost use Rattle.std.specs.Io.KnownBytes.{Appends, Keeps};
 ghost use Rattle.cpg_text.specs.Streams.{AppendsFront};
 ghost use Rattle.cpg_accept.specs.Accepting.{whole_fault};
-ghost use Rattle.cpg_program.specs.Runs.{failure_of, failure_told, status_after, FailsLate, Prints, Runs};
+ghost use Rattle.cpg_program.specs.Runs.{failure_of, failure_told, status_after, FailsLate, HasWrongWord, Prints, Runs};
 ghost use Rattle.cpg_program.specs.Telling.{error_text};
 
+use crate::clustering::run_cluster;
 use crate::failures::Failure;
 use crate::stepping::step_script;
 use crate::telling::tell_failure;
@@ -21,6 +22,9 @@ use cpg_ring::Settings;
 use cpg_script::Fault;
 use std::alloc::Global;
 use std::io::{BufWriter, Read, Write};
+use std::sync::Wait;
+use std::thread::Threads;
+use std::time::Clock;
 
 /// What the program is asked for.
 #[derive(Debug, Clone, Copy)]
@@ -32,6 +36,9 @@ pub enum Run<'a> {
     /// `cpgring step`: a script of commands is run over a new world of those settings, whose nodes let in
     /// whom the words let in.
     Step(Settings, &'a [&'a str]),
+    /// `cpgring run`: a script of sessions is run over a new cluster of those settings, whose nodes let in
+    /// whom the words let in.
+    Cluster(Settings, &'a [&'a str]),
 }
 
 /// How a run ended.
@@ -63,19 +70,28 @@ impl Ended {
 /// What was gathered is handed on also after a fault; where that fails, the fault is `Write`. Why a run ended
 /// early is told on standard error, as far as memory and the stream allow; where there is nothing to tell,
 /// nothing is.
-pub fn perform<R: Read, W: Write + Drop, E: Write>(
+pub fn perform<H, R, W, E>(
+    rt: H,
     alloc: Global,
     run: Run<'_>,
     reader: &mut R,
     writer: &mut BufWriter<W>,
     errors: &mut E,
 ) -> Ended
+where
+    H: Threads + Wait + Clock + Copy + Send + 'static,
+    R: Read,
+    W: Write + Drop,
+    E: Write,
     ensures output { IfSome (R.remaining reader.old) (λ script.
         Runs run.entry script result.flushed result.failure (writer_contents W.contents writer.old) (writer_contents W.contents writer.new)) }
 
     // Nothing is written before the words were found right and the script was read and checked, even where the
     // reader tells no bytes.
     ensures late { IfSome result.failure (λ failure. FailsLate failure (writer_contents W.contents writer.old) (writer_contents W.contents writer.new)) }
+
+    // A wrong word is told exactly where there is one, whatever the streams do.
+    ensures word { (result.failure ≡ Some Failure.BadWord) ↔ HasWrongWord run.entry }
 
     // What was gathered is handed on; where it is not, that is a fault.
     ensures flushed { IsTrue result.flushed → writer_buffer writer.new ≡ [] }
@@ -85,7 +101,7 @@ pub fn perform<R: Read, W: Write + Drop, E: Write>(
     ensures told { IsTrue result.told → Appends (E.contents errors.old) (E.contents errors.new) (error_text result.failure) }
     ensures untold { AppendsFront (E.contents errors.old) (E.contents errors.new) (error_text result.failure) }
 {
-    let (failure, flushed) = run_flushed(alloc, run, reader, writer);
+    let (failure, flushed) = run_flushed(rt, alloc, run, reader, writer);
     let told = tell(alloc, errors, &failure);
     Ended {
         failure,
@@ -118,19 +134,26 @@ fn hand_on<W: Write + Drop>(writer: &mut BufWriter<W>) -> bool
 }
 
 /// Runs the subcommand and flushes. The failure, and whether all that was written is handed on.
-fn run_flushed<R: Read, W: Write + Drop>(
+#[tactic(auto, using(crate::proofs::Flushed::word_told))]
+fn run_flushed<H, R, W>(
+    rt: H,
     alloc: Global,
     run: Run<'_>,
     reader: &mut R,
     writer: &mut BufWriter<W>,
 ) -> (Option<Failure>, bool)
+where
+    H: Threads + Wait + Clock + Copy + Send + 'static,
+    R: Read,
+    W: Write + Drop,
     ensures output { IfSome (R.remaining reader.old) (λ script.
         Runs run.entry script result.1 result.0 (writer_contents W.contents writer.old) (writer_contents W.contents writer.new)) }
     ensures late { IfSome result.0 (λ failure. FailsLate failure (writer_contents W.contents writer.old) (writer_contents W.contents writer.new)) }
+    ensures word { (result.0 ≡ Some Failure.BadWord) ↔ HasWrongWord run.entry }
     ensures flushed { IsTrue result.1 → writer_buffer writer.new ≡ [] }
     ensures unflushed { result.1 ≡ false → (result.0 ≡ Some (Failure.Fault (whole_fault Refusal.Write))) ⊎ (result.0 ≡ Some Failure.BadWord) }
 {
-    let done = run_script(alloc, run, reader, writer);
+    let done = run_script(rt, alloc, run, reader, writer);
     let flushed = hand_on(writer);
     (failure_after(done, flushed), flushed)
 }
@@ -148,22 +171,31 @@ fn failure_after(done: Result<(), Failure>, flushed: bool) -> Option<Failure>
 }
 
 /// Runs the script by the subcommand's rule.
-fn run_script<R: Read, W: Write>(
+fn run_script<H, R, W>(
+    rt: H,
     alloc: Global,
     run: Run<'_>,
     reader: &mut R,
     writer: &mut W,
 ) -> Result<(), Failure>
+where
+    H: Threads + Wait + Clock + Copy + Send + 'static,
+    R: Read,
+    W: Write,
     ensures ok { OnOk result (IfSome (R.remaining reader.old) (λ script.
         Prints run.entry script None (W.contents writer.old) (W.contents writer.new))) }
     ensures err { IfErr result (λ failure. IfSome (R.remaining reader.old) (λ script.
         Prints run.entry script (Some failure) (W.contents writer.old) (W.contents writer.new))) }
     ensures late { IfErr result (λ failure. FailsLate failure (W.contents writer.old) (W.contents writer.new)) }
+    ensures word { (result ≡ Err Failure.BadWord) ↔ HasWrongWord run.entry }
 {
     match run {
         Run::Judge => judge_script(alloc, reader, writer)?,
         Run::Accept => accept_script(alloc, reader, writer)?,
         Run::Step(settings, words) => step_script(alloc, settings, words, reader, writer)?,
+        Run::Cluster(settings, words) => {
+            run_cluster(rt, alloc, settings, words, reader, writer)?;
+        }
     }
     Ok(())
 }

@@ -2,7 +2,7 @@
 //!
 //! Proved: the words of the command line come first, then the settings, then the script; and what is written.
 
-ghost use Rattle.std.specs.Prelude.{◌≡◌, Some, None, map, OnOk, IfOk, IfErr, IfSome};
+ghost use Rattle.std.specs.Prelude.{◌≡◌, ◌↔◌, Err, Some, None, map, OnOk, IfOk, IfErr, IfSome};
 ghost use Rattle.cpg_world_laws.specs.Worlds.{new_world};
 ghost use Rattle.cpg_program.specs.Runs.{FailsLate, Steps};
 ghost use Rattle.cpg_program.specs.Starting.{IsStarted, IsNotStarted};
@@ -33,6 +33,7 @@ pub fn step_script<R: Read, W: Write>(
     ensures err { IfErr result (λ failure. IfSome (R.remaining reader.old) (λ script.
         Steps settings (list_of_words (map (λ word. word.now) words.now)) script (Some failure) (W.contents writer.old) (W.contents writer.new))) }
     ensures late { IfErr result (λ failure. FailsLate failure (W.contents writer.old) (W.contents writer.new)) }
+    ensures word { (result ≡ Err Failure.BadWord) ↔ (list_of_words (map (λ word. word.now) words.now) ≡ None) }
 {
     match world_by(alloc, settings, words) {
         Err(failure) => Err(failure),

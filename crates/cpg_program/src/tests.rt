@@ -5,7 +5,10 @@ use cpg_ring::Settings;
 use std::alloc::Global;
 use std::io::{self, BufWriter, Error, ErrorKind, Write};
 use std::process::Abort;
+use std::sync::Wait;
 use std::test::Fail;
+use std::thread::Threads;
+use std::time::Clock;
 
 /// Takes so many bytes, and then fails.
 #[derive(Drop)]
@@ -33,8 +36,8 @@ impl Write for Short {
 }
 
 /// Checks what a run of the script writes to streams of that room, and its exit status.
-fn expect(
-    rt: &impl Abort,
+fn expect<H: Abort + Threads + Wait + Clock + Copy + Send + 'static>(
+    rt: H,
     alloc: Global,
     run: Run<'_>,
     script: &str,
@@ -52,10 +55,11 @@ fn expect(
         got: Vec::new(alloc),
         room: 31,
     };
-    let ended = perform(alloc, run, &mut script.as_bytes(), &mut writer, &mut errors);
-    assert!(rt; writer.get_ref().got.as_slice() == printed.as_bytes());
-    assert!(rt; errors.got.as_slice() == told.as_bytes());
-    assert_eq!(rt; ended.status(), status);
+    let mut reader = script.as_bytes();
+    let ended = perform(rt, alloc, run, &mut reader, &mut writer, &mut errors);
+    assert!(&rt; writer.get_ref().got.as_slice() == printed.as_bytes());
+    assert!(&rt; errors.got.as_slice() == told.as_bytes());
+    assert_eq!(&rt; ended.status(), status);
     Ok(())
 }
 
@@ -114,7 +118,7 @@ fn runs_write_to_their_streams(rt: HostRuntime) -> Result<(), Fail> {
         ),
     ];
     for (run, script, room, printed, told, status) in rows {
-        expect(&rt, rt.alloc(), run, script, room, printed, told, status)?;
+        expect(rt, rt.alloc(), run, script, room, printed, told, status)?;
     }
     Ok(())
 }
@@ -146,7 +150,43 @@ fn steps_write_to_their_streams(rt: HostRuntime) -> Result<(), Fail> {
         (Run::Step(LARGE, &one), "jump", "", "cpgring: 37 Range\n", 1),
     ];
     for (run, script, printed, told, status) in rows {
-        expect(&rt, rt.alloc(), run, script, 99, printed, told, status)?;
+        expect(rt, rt.alloc(), run, script, 99, printed, told, status)?;
+    }
+    Ok(())
+}
+
+#[test]
+fn sessions_write_to_their_streams(rt: HostRuntime) -> Result<(), Fail> {
+    let script = "connect 1 40 7 9\nconnect 2 50 9 8\nclose 2\n";
+    let printed = "session 1\nrefused 2 Access\nrefused 3 NoConnection\n";
+    let list = ["uid:7"];
+    let wrong = ["uid:7", "uid:-7"];
+    let rows: [(Run<'_>, &str, &str, &str, u8); 4] = [
+        (Run::Cluster(SMALL, &list), script, printed, "", 0),
+        (
+            Run::Cluster(SMALL, &list),
+            "safe 1\njump",
+            "",
+            "cpgring: 41 BadCommand 2\n",
+            1,
+        ),
+        (
+            Run::Cluster(LARGE, &wrong),
+            "jump",
+            "",
+            "cpgring: bad accept word\n",
+            2,
+        ),
+        (
+            Run::Cluster(LARGE, &list),
+            "jump",
+            "",
+            "cpgring: 37 Range\n",
+            1,
+        ),
+    ];
+    for (run, script, printed, told, status) in rows {
+        expect(rt, rt.alloc(), run, script, 99, printed, told, status)?;
     }
     Ok(())
 }

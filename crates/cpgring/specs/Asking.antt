@@ -9,13 +9,14 @@ use Rattle.clap.specs.declared.error.kind.ErrorKind.{ErrorKind}
 use Rattle.clap.specs.declared.error.kind.ErrorKind.TheVariants.{DisplayHelp, DisplayVersion, OutOfMemory}
 use Rattle.cpg_ring.specs.declared.settings.Settings.{Settings}
 use Rattle.cpg_program.specs.declared.runs.Run.{Run}
-use Rattle.cpg_program.specs.declared.runs.Run.TheVariants.{Judge, Accept, Step}
+use Rattle.cpg_program.specs.declared.runs.Run.TheVariants.{Judge, Accept, Step, Cluster}
 
 -- the name of the subcommand of a run
 abbrev pub name_of : Run → List ℕ
 name_of Judge = codes "judge"
 name_of Accept = codes "accept"
 name_of (Step settings words) = codes "step"
+name_of (Cluster settings words) = codes "run"
 
 -- the number is what the option's text writes, in ten digits
 abbrev pub IsGiven : Found → List ℕ → ℕ → Type 0
@@ -37,10 +38,19 @@ texts_of (Some argument) = raw_values argument
 abbrev pub words_given : Found → List (List ℕ)
 words_given found = texts_of (matched_of found (codes "accept"))
 
--- the run has the settings and the words that were given
+-- the settings and the words are those that were given
+abbrev pub AreGiven : Found → Settings → List (List ℕ) → Type 0
+AreGiven found settings words = AreSettingsGiven found settings × (words ≡ words_given found)
+
+-- it is a script over a ring whose settings and words were given
 abbrev pub IsStepGiven : Found → Run → Type 0
-IsStepGiven found (Step settings words) = AreSettingsGiven found settings × (map (λ word. word.now) words.now ≡ words_given found)
+IsStepGiven found (Step settings words) = AreGiven found settings (map (λ word. word.now) words.now)
 IsStepGiven found _ = ⊥
+
+-- it is a script over a cluster whose settings and words were given
+abbrev pub IsClusterGiven : Found → Run → Type 0
+IsClusterGiven found (Cluster settings words) = AreGiven found settings (map (λ word. word.now) words.now)
+IsClusterGiven found _ = ⊥
 
 -- the exit status of what is said: 0 for help and the version, 1 where memory was refused or where what was
 -- asked for could not be written, and else 2, a fault of the command line

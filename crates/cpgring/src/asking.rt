@@ -5,7 +5,7 @@
 ghost use Rattle.std.specs.Prelude.{◌≡◌, Some, None, codes, map, IfSome, IsSome};
 ghost use Rattle.clap.specs.Words.{found_of, subcommand_name_of};
 ghost use Rattle.clap.specs.Values.{kind_of};
-ghost use Rattle.cpgring.specs.Asking.{name_of, words_given, AreSettingsGiven, IsStepGiven, IsStatusOf, Says};
+ghost use Rattle.cpgring.specs.Asking.{name_of, words_given, AreSettingsGiven, IsClusterGiven, IsStepGiven, IsStatusOf, Says};
 
 use crate::commands::{ACCEPT, HOPS, NODES, PLACES, RING, build_command};
 use clap::error::ErrorKind;
@@ -62,6 +62,8 @@ fn run_of<'a>(matches: &'a ArgMatches<'_>) -> Option<Run<'a>>
         Some(Run::Accept)
     } else if name == "step" {
         step_of(given)
+    } else if name == "run" {
+        cluster_of(given)
     } else {
         None
     }
@@ -72,6 +74,13 @@ fn step_of<'a>(given: &'a ArgMatches<'_>) -> Option<Run<'a>>
     ensures { IfSome result (IsStepGiven (found_of given.now)) }
 {
     Some(Run::Step(settings_of(given)?, words_of(given)))
+}
+
+/// The run of a script of sessions over a cluster with the settings and the words that are given.
+fn cluster_of<'a>(given: &'a ArgMatches<'_>) -> Option<Run<'a>>
+    ensures { IfSome result (IsClusterGiven (found_of given.now)) }
+{
+    Some(Run::Cluster(settings_of(given)?, words_of(given)))
 }
 
 /// The settings that the options give, where each is a number.

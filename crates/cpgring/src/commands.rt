@@ -2,7 +2,7 @@
 
 use crate::help::{
     ABOUT, ACCEPT_ABOUT, ACCEPT_HELP, ACCEPT_MORE, EXITS, JUDGE_ABOUT, JUDGE_HELP, JUDGE_MORE,
-    STEP_ABOUT, STEP_HELP, STEP_MORE,
+    RUN_ABOUT, RUN_HELP, RUN_MORE, STEP_ABOUT, STEP_HELP, STEP_MORE,
 };
 use clap::{Arg, ArgAction, Command, value_parser};
 use cpg_cred::MOST_NODES;
@@ -33,7 +33,8 @@ pub fn build_command<'a>(alloc: Global) -> Result<Command<'a>, AllocError> {
         .arg_required_else_help(true)
         .subcommand(judge_command(alloc))?
         .subcommand(accept_command(alloc))?
-        .subcommand(step_command(alloc)?)
+        .subcommand(step_command(alloc)?)?
+        .subcommand(run_command(alloc)?)
 }
 
 /// The subcommand `judge`, which has no arguments.
@@ -60,6 +61,17 @@ fn step_command<'a>(alloc: Global) -> Result<Command<'a>, AllocError> {
             .about(STEP_ABOUT)
             .long_about(STEP_HELP)
             .after_long_help(STEP_MORE),
+    )
+}
+
+/// The subcommand `run`: a cluster is started, and a script of sessions run over it.
+fn run_command<'a>(alloc: Global) -> Result<Command<'a>, AllocError> {
+    with_ring(
+        alloc,
+        Command::new(alloc, "run")
+            .about(RUN_ABOUT)
+            .long_about(RUN_HELP)
+            .after_long_help(RUN_MORE),
     )
 }
 

@@ -213,3 +213,70 @@ Exit status: 0 done; 1 a fault, told on standard error; 2 a fault of the command
 word` among them. The faults are `cpgring: 41 BadCommand LINE`, the first line that is no command, before
 which nothing is done or printed; `cpgring: 42 Read`, also where the input is too long; `cpgring: 43 Write`;
 and `cpgring: 1 Memory`, which ends the script at the command that met it.";
+
+pub const RUN_ABOUT: &str = "Runs commands from standard input over a running cluster";
+
+pub const RUN_HELP: &str = "\
+Starts a cluster in this process, a thread for each node and links between them that lose nothing but what
+finds them full, and runs commands from standard input over it, one after the other. The nodes pass the token
+round and deliver by themselves, so a script says only what processes do at their nodes. Each line is one
+command:
+
+  connect NODE PID UID GID                   a process asks the node to be let in, and gets a session
+  call S CALL                                session S hands in a call, which waits for the token
+  wait S                                     session S takes the next event of its inbox, when there is one
+  list S GROUP                               session S asks for a group's members
+  groups S                                   session S asks for the groups that it may list
+  audit S                                    the records that session S has seen, with the verdicts
+  close S                                    session S ends
+  safe NODE                                  the place up to which the node knows that all nodes hold all
+
+Sessions have the numbers 1, 2 and so on, in the order in which they were let in. NODE is 1 to the number of
+nodes; PID, UID and GID are 0 to 4294967295. CALL is one of join GROUP, leave, send TEXT, insert GROUP POS
+EFFECT RIGHT WHO, and remove GROUP ID, as `cpgring judge --help` has them.
+
+A node's calls are entered in the order in which they were handed in. Calls of two nodes are ordered by the
+token, so a script that wants one order waits for the event of the one before it makes the other.
+
+Space, tab and CR at both ends of a line are trimmed. Empty lines and lines that begin with # are ignored,
+but count as lines. The input has at most 16777216 bytes (16 MiB).";
+
+pub const RUN_MORE: &str = "\
+Printed is for each command, after it is done: session S, admitted, closed, the event as `cpgring judge`
+prints it, or none where after 1000000 looks there still was none, members MEMBERS, groups and their names,
+for audit the lines of `cpgring judge` and records COUNT, and safe PLACE. A command that is refused prints the
+refusal, and the script goes on:
+
+  2 Access           nobody lets the credentials in
+  3 NoConnection     no open session has the number
+  4 BadName          a group's name is not 1 to 128 printing ASCII characters
+  5 TooLong          a message has more than 8192 bytes
+  6 QueueFull        256 calls wait at the node
+  7 ConnectionsFull  the node has given out its 65535 numbers
+  19 Behind PLACE    the node has only so many records, fewer than the session has seen
+  20 Stopped         the node has stopped
+  21 Denied rule ID  a rule denies the listing
+
+Example:
+  $ printf '%s\\n' 'connect 1 40 7 100' 'connect 2 50 0 0' 'call 1 join db' 'wait 1' 'wait 1' \\
+      'call 2 send hi' 'wait 2' 'call 1 send hi' 'wait 1' 'wait 1' 'audit 1' |
+    cpgring run uid:7
+  session 1
+  session 2
+  admitted
+  event 1 verdict allowed default
+  event 1 change db members 1/40 left - joined 1/40:join
+  admitted
+  event 2 verdict denied closed
+  admitted
+  event 3 verdict allowed default
+  event 3 message db 1 40 hi
+  1 1.1 40 7 100 join db -> allowed default group db members 1/40
+  2 2.1 50 0 0 send hi -> denied closed
+  3 1.1 40 7 100 send hi -> allowed default group db members 1/40
+  records 3
+
+Exit status: 0 done; 1 a fault, told on standard error; 2 a fault of the command line, `cpgring: bad accept
+word` among them. The faults are `cpgring: 41 BadCommand LINE`, the first line that is no command, before
+which nothing is done or printed; `cpgring: 42 Read`, also where the input is too long; `cpgring: 43 Write`;
+and `cpgring: 1 Memory`, which ends the script at the command that met it, also where a thread is not given.";

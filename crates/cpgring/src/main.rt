@@ -16,22 +16,36 @@ use cpg_program::perform;
 use std::alloc::AllocError;
 use std::io::BufWriter;
 use std::process::ExitCode;
+use std::sync::Wait;
+use std::thread::Threads;
+use std::time::Clock;
 
 fn main(rt: HostRuntime) -> ExitCode {
-    let status = match start(&rt) {
+    let status = match start(&rt, rt) {
         Ok(status) => status,
         Err(error) => explain(rt.alloc(), &error, &mut rt.stdout(), &mut rt.stderr()),
     };
     ExitCode::from(status)
 }
 
-/// The exit status of the run that the command line asks for, over the process's streams.
-fn start(rt: &HostRuntime) -> Result<u8, Error> {
+/// The exit status of the run that the command line asks for, over the process's streams, with the handle for
+/// what starts threads.
+fn start<H: Threads + Wait + Clock + Copy + Send + 'static>(
+    rt: &HostRuntime,
+    threads: H,
+) -> Result<u8, Error> {
     let alloc = rt.alloc();
     let words = read_words(rt)?;
     let matches = match_words(alloc, words.as_slice())?;
     let run = read_run(alloc, &matches)?;
     let mut writer = BufWriter::new(alloc, rt.stdout()).map_err(|_| AllocError)?;
-    let ended = perform(alloc, run, &mut rt.stdin(), &mut writer, &mut rt.stderr());
+    let ended = perform(
+        threads,
+        alloc,
+        run,
+        &mut rt.stdin(),
+        &mut writer,
+        &mut rt.stderr(),
+    );
     Ok(ended.status())
 }

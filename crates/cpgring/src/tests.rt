@@ -105,6 +105,17 @@ fn asks_to_step(alloc: Global, words: &[&str], settings: Settings, list: &[&str]
     }
 }
 
+/// Whether the words ask for a script of sessions over a cluster of those settings, and for those words.
+fn asks_to_run(alloc: Global, words: &[&str], settings: Settings, list: &[&str]) -> bool {
+    match match_words(alloc, words) {
+        Ok(matches) => match read_run(alloc, &matches) {
+            Ok(Run::Cluster(asked, given)) => asked == settings && given == list,
+            _ => false,
+        },
+        Err(_) => false,
+    }
+}
+
 #[test]
 fn settings_and_words_are_read(rt: HostRuntime) {
     let usual = Settings {
@@ -132,6 +143,7 @@ fn settings_and_words_are_read(rt: HostRuntime) {
         "--hops=7",
     ];
     assert!(rt; asks_to_step(rt.alloc(), &["cpgring", "step"], usual, &[]));
+    assert!(rt; asks_to_run(rt.alloc(), &["cpgring", "run", "uid:7"], usual, &["uid:7"]));
     assert!(rt; asks_to_step(rt.alloc(), &long, other, &["gid:9", "uid:7"]));
 }
 

@@ -1,0 +1,142 @@
+//! `cpgring run`: a new cluster, and the script that is run over it.
+//!
+//! Proved: the words of the command line come first, then the settings, then the script; and what is written.
+
+ghost use Rattle.std.specs.Prelude.{◌≡◌, ◌≢◌, ◌↔◌, Err, Some, None, map, OnOk, IfErr, IfSome};
+ghost use Rattle.cpg_program.specs.Runs.{Clusters, ClustersAll, FailsLate};
+ghost use Rattle.cpg_program.specs.Starting.{ClusterLeaves};
+ghost use Rattle.cpg_program.specs.Words.{list_of_words};
+
+use crate::failures::Failure;
+use crate::words::read_list;
+use cpg_board::Board;
+use cpg_cluster::cluster_script;
+use cpg_cred::{AcceptList, Refusal};
+use cpg_daemon::{BoardName, Cluster, PassAll};
+use cpg_ring::{Settings, are_settings};
+use std::alloc::Global;
+use std::io::{Read, Write};
+use std::marker::Brand;
+use std::sync::Wait;
+use std::thread::Threads;
+use std::time::Clock;
+
+/// Runs the script over a new cluster of those settings, whose nodes let in whom the words let in, and stops
+/// the cluster.
+///
+/// A wrong word comes first, then settings out of their ranges, then the faults of the script.
+#[tactic(auto, using(crate::proofs::Clustered::none_of_words, crate::proofs::Clustered::none_of_memory))]
+pub fn run_cluster<H, R, W>(
+    rt: H,
+    alloc: Global,
+    settings: Settings,
+    words: &[&str],
+    reader: &mut R,
+    writer: &mut W,
+) -> Result<(), Failure>
+where
+    H: Threads + Wait + Clock + Copy + Send + 'static,
+    R: Read,
+    W: Write,
+    ensures ok { OnOk result (IfSome (R.remaining reader.old) (λ script.
+        Clusters settings (list_of_words (map (λ word. word.now) words.now)) script None (W.contents writer.old) (W.contents writer.new))) }
+    ensures err { IfErr result (λ failure. IfSome (R.remaining reader.old) (λ script.
+        Clusters settings (list_of_words (map (λ word. word.now) words.now)) script (Some failure) (W.contents writer.old) (W.contents writer.new))) }
+    ensures late { IfErr result (λ failure. FailsLate failure (W.contents writer.old) (W.contents writer.new)) }
+    ensures word { (result ≡ Err Failure.BadWord) ↔ (list_of_words (map (λ word. word.now) words.now) ≡ None) }
+{
+    match read_list(alloc, words) {
+        Err(refusal) => Err(Failure::from(refusal)),
+        Ok(None) => Err(Failure::BadWord),
+        Ok(Some(list)) => run_listed(rt, alloc, settings, &list, reader, writer),
+    }
+}
+
+/// Runs the script over a new cluster of those settings and that list. The board is made here, and named.
+#[tactic(auto, using(crate::proofs::Clustered::none_of_settings, crate::proofs::Clustered::none_of_memory))]
+fn run_listed<H, R, W>(
+    rt: H,
+    alloc: Global,
+    settings: Settings,
+    list: &AcceptList,
+    reader: &mut R,
+    writer: &mut W,
+) -> Result<(), Failure>
+where
+    H: Threads + Wait + Clock + Copy + Send + 'static,
+    R: Read,
+    W: Write,
+    ensures ok { OnOk result (IfSome (R.remaining reader.old) (λ script.
+        Clusters settings (Some list.now) script None (W.contents writer.old) (W.contents writer.new))) }
+    ensures err { IfErr result (λ failure. IfSome (R.remaining reader.old) (λ script.
+        Clusters settings (Some list.now) script (Some failure) (W.contents writer.old) (W.contents writer.new))) }
+    ensures late { IfErr result (λ failure. FailsLate failure (W.contents writer.old) (W.contents writer.new)) }
+    ensures word { result ≢ Err Failure.BadWord }
+{
+    if !are_settings(&settings) {
+        return Err(Failure::from(Refusal::Range));
+    }
+    match Board::new(alloc, settings.places) {
+        Err(_) => Err(Failure::from(Refusal::Memory)),
+        Ok(board) => run_on::<Brand, H, R, W>(rt, alloc, settings, board, list, reader, writer),
+    }
+}
+
+/// Runs the script over a new cluster on that board.
+#[tactic(auto, using(crate::proofs::Clustered::left_clustered, crate::proofs::Clustered::none_of_memory))]
+fn run_on<B, H, R, W>(
+    rt: H,
+    alloc: Global,
+    settings: Settings,
+    board: Board,
+    list: &AcceptList,
+    reader: &mut R,
+    writer: &mut W,
+) -> Result<(), Failure>
+where
+    B: BoardName + Send + Sync + 'static,
+    H: Threads + Wait + Clock + Copy + Send + 'static,
+    R: Read,
+    W: Write,
+    requires { board ≡ B.cells }
+    ensures ok { OnOk result (IfSome (R.remaining reader.old) (λ script.
+        Clusters settings (Some list.now) script None (W.contents writer.old) (W.contents writer.new))) }
+    ensures err { IfErr result (λ failure. IfSome (R.remaining reader.old) (λ script.
+        Clusters settings (Some list.now) script (Some failure) (W.contents writer.old) (W.contents writer.new))) }
+    ensures late { IfErr result (λ failure. FailsLate failure (W.contents writer.old) (W.contents writer.new)) }
+    ensures word { result ≢ Err Failure.BadWord }
+{
+    match Cluster::<B, PassAll>::start(rt, alloc, settings, board, list, PassAll) {
+        Err(_) => Err(Failure::from(Refusal::Memory)),
+        Ok(cluster) => run_over(rt, alloc, cluster, reader, writer),
+    }
+}
+
+/// Runs the script over the cluster, and stops it.
+#[tactic(auto, using(crate::proofs::Clustered::part_late))]
+fn run_over<B, H, R, W>(
+    rt: H,
+    alloc: Global,
+    cluster: Cluster<B, PassAll>,
+    reader: &mut R,
+    writer: &mut W,
+) -> Result<(), Failure>
+where
+    B: BoardName + Send + Sync + 'static,
+    H: Threads + Wait + Copy,
+    R: Read,
+    W: Write,
+    ensures ok { OnOk result (IfSome (R.remaining reader.old) (λ script.
+        ClustersAll cluster.nodes cluster.list script (W.contents writer.old) (W.contents writer.new))) }
+    ensures err { IfErr result (λ failure. IfSome (R.remaining reader.old) (λ script.
+        ClusterLeaves cluster.nodes cluster.list script failure (W.contents writer.old) (W.contents writer.new))) }
+    ensures late { IfErr result (λ failure. FailsLate failure (W.contents writer.old) (W.contents writer.new)) }
+    ensures word { result ≢ Err Failure.BadWord }
+{
+    let done = cluster_script(&rt, alloc, reader, writer, &cluster);
+    drop(cluster.stop(&rt));
+    match done {
+        Ok(()) => Ok(()),
+        Err(fault) => Err(Failure::from(fault)),
+    }
+}
