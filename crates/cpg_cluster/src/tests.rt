@@ -12,8 +12,9 @@ use std::alloc::Global;
 use std::marker::Brand;
 use std::sync::Wait;
 use std::test::Fail;
+use std::thread;
 use std::thread::Threads;
-use std::time::Clock;
+use std::time::{Clock, Duration};
 
 /// Sessions that are refused, wait, list, audit and close.
 const SESSIONS: &[u8] =
@@ -59,6 +60,10 @@ fn goes<B: BoardName, G, H: Wait>(
     ended == fault && written.as_slice() == answer
 }
 
+/// How long a cluster is left alone before its script begins, in milliseconds: a busy machine may take long over
+/// the frames that are lost at first, and a wait makes no more than a million looks.
+const SETTLES_MILLIS: u64 = 2_000;
+
 /// Whether the script prints so over a new cluster of two nodes with that gate.
 fn prints<B, G, R>(
     rt: R,
@@ -76,6 +81,7 @@ where
 {
     let list = list_of_two(alloc)?;
     let cluster = Cluster::<B, G>::start(rt, alloc, settings_of_two(), board, &list, gate)?;
+    thread::sleep(&rt, Duration::from_millis(SETTLES_MILLIS));
     let printed = goes(&rt, alloc, &cluster, script, None, answer);
     drop(cluster.stop(&rt));
     Ok(printed)

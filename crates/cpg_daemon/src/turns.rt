@@ -24,12 +24,27 @@ const YIELDS: u32 = 4096;
 /// milliseconds then.
 const SLEEP_MICROS: u64 = 2_000;
 
+/// After how many idle turns in a row the token is overdue, so that a thread sleeps so long no more until it
+/// sends its last one again.
+const DUE_TURNS: u32 = 16;
+
+/// How many microseconds more a thread sleeps after an idle turn for each time that it sent its last token again,
+/// up to so many times: whoever's token is the last finds the time for its own idle turns then.
+const RESENT_MICROS: u64 = 20;
+
+const SLOWEST_RESENT: u32 = 8;
+
+/// After how many tokens sent again, or frames refused, a thread takes it that there is no way on.
+const MOST_IN_VAIN: u32 = 1024;
+
 /// What a turn did.
 #[derive(Clone, Copy, PartialEq, Eq)]
 enum Turn {
     /// It took no frame, and delivered nothing.
     Idle,
-    /// It passed a token on, which brought nothing and took nothing along, or a frame was refused.
+    /// It was refused a frame: somebody sent it again.
+    Stale,
+    /// It passed a token on, which brought nothing and took nothing along.
     Quiet,
     /// It took or sent data, or delivered.
     Busy,
@@ -40,36 +55,81 @@ impl Turn {
     fn and(self, other: Turn) -> Turn {
         match (self, other) {
             (Turn::Busy, _) | (_, Turn::Busy) => Turn::Busy,
+            (Turn::Quiet, _) | (_, Turn::Quiet) => Turn::Quiet,
+            (Turn::Stale, _) | (_, Turn::Stale) => Turn::Stale,
             (Turn::Idle, Turn::Idle) => Turn::Idle,
-            _ => Turn::Quiet,
         }
     }
 }
 
-/// How many turns in a row weren't busy, and how many of the last were idle since a token was sent again.
+/// How long nothing much has happened.
 #[derive(Clone, Copy)]
 struct Lull {
+    /// How many turns in a row weren't busy.
     still: u32,
+    /// How many of the last were idle since a token was sent again.
     idle: u32,
+    /// How often a token was sent again since a frame came.
+    resent: u32,
+    /// How many frames were refused since one was not.
+    stale: u32,
 }
 
 impl Lull {
     /// After a turn that was busy.
-    const NONE: Lull = Lull { still: 0, idle: 0 };
+    const NONE: Lull = Lull {
+        still: 0,
+        idle: 0,
+        resent: 0,
+        stale: 0,
+    };
 
     /// After one turn more.
     fn after(self, turn: Turn) -> Lull {
+        let still = self.still.saturating_add(1);
         match turn {
             Turn::Busy => Lull::NONE,
             Turn::Quiet => Lull {
-                still: self.still.saturating_add(1),
-                idle: 0,
+                still,
+                ..Lull::NONE
+            },
+            Turn::Stale => Lull {
+                still,
+                stale: self.stale.saturating_add(1),
+                ..Lull::NONE
             },
             Turn::Idle => Lull {
-                still: self.still.saturating_add(1),
+                still,
                 idle: self.idle.saturating_add(1),
+                ..self
             },
         }
+    }
+
+    /// After a token was sent again.
+    fn after_resend(self) -> Lull {
+        Lull {
+            idle: 0,
+            resent: self.resent.saturating_add(1),
+            ..self
+        }
+    }
+
+    /// For how many microseconds to sleep, if at all.
+    fn sleep(self) -> Option<u64> {
+        if self.idle == 0 {
+            return None;
+        }
+        if self.resent > MOST_IN_VAIN || self.stale > MOST_IN_VAIN {
+            return Some(SLEEP_MICROS);
+        }
+        if self.resent > 0 {
+            return Some(RESENT_MICROS * u64::from(self.resent.min(SLOWEST_RESENT)));
+        }
+        if self.still > YIELDS && self.stale == 0 && self.idle <= DUE_TURNS {
+            return Some(SLEEP_MICROS);
+        }
+        None
     }
 }
 
@@ -82,12 +142,12 @@ fn turn_of(answers: usize) -> Turn {
     }
 }
 
-/// Rests after so many turns in a row that weren't busy: not at all, then by a yield, then by a sleep.
-fn rest<R: Clock>(rt: &R, still: u32) {
-    if still > YIELDS {
-        thread::sleep(rt, Duration::from_micros(SLEEP_MICROS));
-    } else if still > SPINS {
-        thread::yield_now();
+/// Rests between two turns: not at all, by a yield, or by a sleep.
+fn rest<R: Clock>(rt: &R, lull: Lull) {
+    match lull.sleep() {
+        Some(micros) => thread::sleep(rt, Duration::from_micros(micros)),
+        None if lull.still > SPINS => thread::yield_now(),
+        None => {}
     }
 }
 
@@ -147,7 +207,7 @@ impl<B: BoardName, G: Gate> Running<B, G> {
                 send_all(rt, &self.gate, self.next(node), sent.as_slice(), outgoing);
                 turn_of(sent.len())
             }
-            Err(_) => Turn::Quiet,
+            Err(_) => Turn::Stale,
         }
     }
 
@@ -229,9 +289,9 @@ impl<B: BoardName, G: Gate> Running<B, G> {
             ));
             if lull.idle >= IDLE_TURNS {
                 self.send_again(rt, node, lines.outgoing.as_mut_slice());
-                lull.idle = 0;
+                lull = lull.after_resend();
             }
-            rest(rt, lull.still);
+            rest(rt, lull);
         }
         lines
     }
