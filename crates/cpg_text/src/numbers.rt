@@ -61,7 +61,21 @@ fn one_more(most: u64, number: u64, byte: u8) -> Option<u64>
 }
 
 /// Puts the number at the line's end, without leading zeros.
+#[tactic(auto, using(std::proofs::lemmas::Fmt::decimal_digit))]
 pub fn push_number(line: &mut Vec<u8>, number: u64) -> Result<(), Refusal>
+    ensures ok { OnOk result (line.new.items ≡ line.old.items ++ decimal number) }
+    ensures memory { IsOkUnless result Refusal.Memory }
+{
+    if number >= 10 {
+        return push_digits(line, number);
+    }
+    line.push(b'0' + number as u8)?;
+    Ok(())
+}
+
+/// The same by a buffer. It stands apart, so that what a number of one digit costs stays small.
+#[inline(never)]
+fn push_digits(line: &mut Vec<u8>, number: u64) -> Result<(), Refusal>
     ensures ok { OnOk result (line.new.items ≡ line.old.items ++ decimal number) }
     ensures memory { IsOkUnless result Refusal.Memory }
 {

@@ -4,6 +4,7 @@
 
 ghost use Rattle.std.specs.Prelude.{◌≡◌, ◌<◌, ◌++◌, length, OnOk, IfOk, IfSome, MatchOption, IsOkUnless, None, true, option_map};
 ghost use Rattle.std.specs.Fmt.{digit_glyph};
+ghost use Rattle.std.specs.List.{list_all};
 ghost use Rattle.cpg_text.specs.Percent.{decoded, before, message_of, is_plain, encoded_byte, encoded, text_of};
 
 use cpg_cred::Refusal;
@@ -28,13 +29,13 @@ fn decode(alloc: Global, text: &[u8]) -> Result<Option<Vec<u8>>, Refusal>
     ensures ok { IfOk result (λ found. option_map (λ bytes. bytes.items) found ≡ decoded text.now) }
     ensures memory { IsOkUnless result Refusal.Memory }
 {
-    let mut bytes = Vec::new(alloc);
+    let mut bytes = Vec::with_capacity(alloc, text.len())?;
     let mut rest = text;
     while !rest.is_empty() {
         let Some((byte, more)) = first_byte(rest) else {
             return Ok(None);
         };
-        bytes.push(byte)?;
+        bytes.push_reserved(byte);
         rest = more;
     }
     Ok(Some(bytes))
@@ -76,14 +77,27 @@ pub fn push_message(line: &mut Vec<u8>, message: &[u8]) -> Result<(), Refusal>
     }
 }
 
+/// Puts each byte as itself or escaped at the line's end, all at once where each stands for itself.
+#[tactic(auto, using(crate::proofs::Plain::plain_spelled))]
 fn push_encoded(line: &mut Vec<u8>, message: &[u8]) -> Result<(), Refusal>
     ensures ok { OnOk result (line.new.items ≡ line.old.items ++ encoded message.now) }
     ensures memory { IsOkUnless result Refusal.Memory }
 {
+    if has_plain_alone(message) {
+        line.extend_from_slice(message)?;
+        return Ok(());
+    }
+    line.reserve(message.len())?;
     for byte in message {
         push_byte(line, *byte)?;
     }
     Ok(())
+}
+
+fn has_plain_alone(message: &[u8]) -> bool
+    ensures { result ≡ list_all is_plain message.now }
+{
+    message.iter().all(|byte| is_plain(*byte))
 }
 
 fn push_byte(line: &mut Vec<u8>, byte: u8) -> Result<(), Refusal>

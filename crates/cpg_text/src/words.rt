@@ -11,7 +11,7 @@ ghost use Rattle.cpg_text.specs.Steps.{StartsWord};
 
 use crate::lines::is_blank;
 use cpg_cred::Refusal;
-use std::alloc::{AllocError, Global};
+use std::alloc::Global;
 
 /// The words of a line, first to last.
 #[derive(Drop)]
@@ -84,14 +84,14 @@ pub fn first_words(alloc: Global, most: usize, line: &[u8]) -> Result<Vec<&[u8]>
     ensures ok { IfOk result (λ words. map (λ word. word.now) words.items ≡ take most (words_of line.now)) }
     ensures memory { IsOkUnless result Refusal.Memory }
 {
-    Ok(split_words(alloc, most, line)?)
-}
-
-fn split_words(alloc: Global, most: usize, line: &[u8]) -> Result<Vec<&[u8]>, AllocError>
-    ensures { IfOk result (λ words. map (λ word. word.now) words.items ≡ take most (words_of line.now)) }
-{
-    line.split(|byte| is_blank(*byte))
-        .filter(|word| !word.is_empty())
-        .take(most)
-        .collect(alloc)
+    let mut words = Vec::with_capacity(alloc, most.min(line.len()))?;
+    let mut rest = line;
+    for _ in 0..most {
+        let Some((word, after)) = first_word(rest) else {
+            break;
+        };
+        words.push(word)?;
+        rest = after;
+    }
+    Ok(words)
 }
