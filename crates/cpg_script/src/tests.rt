@@ -1,6 +1,9 @@
-//! How faults are printed, words taken apart, and lines that a writer takes in part.
+//! How faults are printed, words taken apart, scripts read, and lines that a writer takes in part.
 
-use crate::{Fault, cut, is, put, put_bytes, put_fault, read_u32, strip_name, write_line};
+use crate::{
+    Fault, ReadsLine, cut, is, put, put_bytes, put_fault, read_script, read_u32, strip_name,
+    write_line,
+};
 use cpg_cred::Refusal;
 use std::alloc::Global;
 use std::process::Abort;
@@ -54,5 +57,41 @@ fn lines_are_put_and_written(rt: HostRuntime) -> Result<(), Fail> {
     let mut short = [0u8; 4];
     let done = write_line(&mut short.as_mut_slice(), line.as_slice());
     assert!(rt; matches!(done, Err(Refusal::Write)));
+    Ok(())
+}
+
+/// Reads so many lines at most, each a number up to 9.
+#[derive(Debug, Drop)]
+struct Digits {
+    most: usize,
+}
+
+impl ReadsLine for Digits {
+    type Item = u32;
+
+    ghost use Rattle.std.specs.Prelude.{⊤, None, nat_le, if◌then◌else◌};
+    ghost use Rattle.cpg_text.specs.Numbers.{number_in};
+
+    ghost meaning = { λ digits before line. if nat_le digits.most before then None else number_in 0 9 line };
+
+    ghost holds = { λ digits item. ⊤ };
+
+    fn read(&self, _alloc: Global, before: usize, line: &[u8]) -> Result<Option<u32>, Refusal> {
+        if self.most <= before {
+            return Ok(None);
+        }
+        Ok(read_u32(0, 9, line))
+    }
+}
+
+#[test]
+fn scripts_are_read(rt: HostRuntime) -> Result<(), Fail> {
+    let digits = Digits { most: 2 };
+    let items = read_script(rt.alloc(), &digits, b"1\n# two\n\n 3 \n".as_slice())?;
+    assert!(rt; items.as_slice() == [1, 3].as_slice());
+    let above = read_script(rt.alloc(), &digits, b"1\n\n10\n11".as_slice());
+    assert!(rt; matches!(above, Err(Refusal::BadCommand(3))));
+    let too_many = read_script(rt.alloc(), &digits, b"1\n2\n3\n".as_slice());
+    assert!(rt; matches!(too_many, Err(Refusal::BadCommand(3))));
     Ok(())
 }
