@@ -1,6 +1,6 @@
 //! Calls and ops as words, both ways.
 
-ghost use Rattle.std.specs.Prelude.{◌≡◌, ◌<◌, ◌++◌, OnOk, IfOk, IfSome, IsOkUnless};
+ghost use Rattle.std.specs.Prelude.{◌≡◌, ◌<◌, ◌++◌, codes, OnOk, IfOk, IfSome, IsOkUnless};
 ghost use Rattle.cpg_print.specs.Calls.{call_text, op_text, join_of, leave_of, send_of, insert_at, insert_of, remove_of, call_of, is_gone, op_of, is_within_limits, is_enterable};
 ghost use Rattle.cpg_print.specs.Words.{texts};
 
@@ -12,33 +12,33 @@ use cpg_script::{is, put, put_bytes, read_u32};
 use cpg_text::{push_message, push_number, read_message};
 use std::alloc::Global;
 
-/// Puts CALL, or `gone`, at the line's end.
+/// Puts a space and CALL, or `gone`, at the line's end.
 pub fn put_op(line: &mut Vec<u8>, op: &Op) -> Result<(), Refusal>
-    ensures ok { OnOk result (line.new.items ≡ line.old.items ++ op_text op.now) }
+    ensures ok { OnOk result (line.new.items ≡ line.old.items ++ codes " " ++ op_text op.now) }
     ensures memory { IsOkUnless result Refusal.Memory }
 {
     match op {
         Op::Act(call) => put_call(line, call),
-        Op::Gone => put(line, "gone"),
+        Op::Gone => put(line, " gone"),
     }
 }
 
 fn put_call(line: &mut Vec<u8>, call: &Call) -> Result<(), Refusal>
-    ensures ok { OnOk result (line.new.items ≡ line.old.items ++ call_text call.now) }
+    ensures ok { OnOk result (line.new.items ≡ line.old.items ++ codes " " ++ call_text call.now) }
     ensures memory { IsOkUnless result Refusal.Memory }
 {
     match call {
         Call::Join(group) => {
-            put(line, "join ")?;
+            put(line, " join ")?;
             put_bytes(line, group.as_slice())
         }
-        Call::Leave => put(line, "leave"),
+        Call::Leave => put(line, " leave"),
         Call::Send(message) => {
-            put(line, "send ")?;
+            put(line, " send ")?;
             push_message(line, message.as_slice())
         }
         Call::Insert(group, index, rule) => {
-            put(line, "insert ")?;
+            put(line, " insert ")?;
             put_bytes(line, group.as_slice())?;
             put(line, " ")?;
             push_number(line, u64::from(*index))?;
@@ -46,7 +46,7 @@ fn put_call(line: &mut Vec<u8>, call: &Call) -> Result<(), Refusal>
             put_rule(line, *rule)
         }
         Call::Remove(group, id) => {
-            put(line, "remove ")?;
+            put(line, " remove ")?;
             put_bytes(line, group.as_slice())?;
             put(line, " ")?;
             push_number(line, u64::from(*id))

@@ -39,7 +39,6 @@ pub fn put_entry(line: &mut Vec<u8>, entry: &Entry) -> Result<(), Refusal>
     push_number(line, u64::from(entry.cred.uid))?;
     put(line, " ")?;
     push_number(line, u64::from(entry.cred.gid))?;
-    put(line, " ")?;
     put_op(line, &entry.op)
 }
 

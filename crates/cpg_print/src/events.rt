@@ -1,14 +1,14 @@
 //! Events as they are printed.
 
-ghost use Rattle.std.specs.Prelude.{◌≡◌, ◌++◌, codes, OnOk, IsOkUnless};
+ghost use Rattle.std.specs.Prelude.{◌≡◌, ◌++◌, codes, decimal, OnOk, IsOkUnless};
 ghost use Rattle.std.specs.List.{flat_map};
-ghost use Rattle.cpg_print.specs.Events.{cause_text, move_text, moves_text, news_text, place_of, event_line, inbox_line};
+ghost use Rattle.cpg_print.specs.Events.{cause_text, move_text, moves_text, news_text, event_line, inbox_line};
 
 use crate::entries::put_conn;
 use crate::records::{put_member, put_members};
 use crate::verdicts::put_verdict;
-use cpg_cred::Refusal;
-use cpg_record::{Cause, ConnId, Event, Move};
+use cpg_cred::{NodeId, Refusal};
+use cpg_record::{Cause, ConnId, Event, Member, Move, Verdict};
 use cpg_script::{put, put_bytes};
 use cpg_text::{push_message, push_number};
 
@@ -27,71 +27,154 @@ pub fn put_event(line: &mut Vec<u8>, event: &Event) -> Result<(), Refusal>
     ensures ok { OnOk result (line.new.items ≡ line.old.items ++ event_line event.now) }
     ensures memory { IsOkUnless result Refusal.Memory }
 {
-    put(line, "event ")?;
-    push_number(line, u64::from(place_of(event)))?;
-    put(line, " ")?;
-    put_news(line, event)?;
-    put(line, "\n")
-}
-
-fn place_of(event: &Event) -> u32
-    ensures { result ≡ place_of event.now }
-{
     match event {
-        Event::Verdict { place, .. } => *place,
-        Event::Message { place, .. } => *place,
-        Event::Change { place, .. } => *place,
-        Event::RulesChanged { place, .. } => *place,
-    }
-}
-
-#[tactic(auto, unfolding(crate::specs::Events::news_text))]
-fn put_news(line: &mut Vec<u8>, event: &Event) -> Result<(), Refusal>
-    ensures ok { OnOk result (line.new.items ≡ line.old.items ++ news_text event.now) }
-    ensures memory { IsOkUnless result Refusal.Memory }
-{
-    match event {
-        Event::Verdict { verdict, .. } => {
-            put(line, "verdict ")?;
-            put_verdict(line, *verdict)
-        }
+        Event::Verdict { place, verdict } => put_verdict_line(line, *place, *verdict),
         Event::Message {
+            place,
             group,
             node,
             pid,
             message,
-            ..
         } => {
-            put(line, "message ")?;
-            put_bytes(line, group.as_slice())?;
-            put(line, " ")?;
-            push_number(line, u64::from(node.get()))?;
-            put(line, " ")?;
-            push_number(line, u64::from(*pid))?;
-            put(line, " ")?;
-            push_message(line, message.as_slice())
+            put_message_line(
+                line,
+                *place,
+                group.as_slice(),
+                *node,
+                *pid,
+                message.as_slice(),
+            )
         }
         Event::Change {
+            place,
             group,
             members,
             left,
             joined,
-            ..
         } => {
-            put(line, "change ")?;
-            put_bytes(line, group.as_slice())?;
-            put(line, " members ")?;
-            put_members(line, members.as_slice())?;
-            put(line, " left ")?;
-            put_moves(line, left.as_slice())?;
-            put(line, " joined ")?;
-            put_moves(line, joined.as_slice())
+            put_change_line(
+                line,
+                *place,
+                group.as_slice(),
+                members.as_slice(),
+                left.as_slice(),
+                joined.as_slice(),
+            )
         }
-        Event::RulesChanged { group, .. } => {
-            put(line, "rules ")?;
-            put_bytes(line, group.as_slice())
-        }
+        Event::RulesChanged { place, group } => put_rules_line(line, *place, group.as_slice()),
     }
+}
+
+/// Puts the line of what a connection's own entry was answered at the line's end.
+#[tactic(auto, unfolding(crate::specs::Events::news_text))]
+pub fn put_verdict_line(line: &mut Vec<u8>, place: u32, verdict: Verdict) -> Result<(), Refusal>
+    ensures ok { OnOk result (line.new.items ≡ line.old.items ++ event_line (Event.Verdict place verdict)) }
+    ensures memory { IsOkUnless result Refusal.Memory }
+{
+    put_place(line, place)?;
+    put(line, " verdict ")?;
+    put_verdict(line, verdict)?;
+    put(line, "\n")
+}
+
+/// Puts the line of a message to a group, with the process that sent it, at the line's end.
+pub fn put_message_line(
+    line: &mut Vec<u8>,
+    place: u32,
+    group: &[u8],
+    node: NodeId,
+    pid: u32,
+    message: &[u8],
+) -> Result<(), Refusal>
+    ensures ok { OnOk result (line.new.items ≡ line.old.items ++ event_line (Event.Message place group.now node pid message.now)) }
+    ensures memory { IsOkUnless result Refusal.Memory }
+{
+    put_message(line, place, group, node, pid, message)?;
+    put(line, "\n")
+}
+
+#[tactic(auto, unfolding(crate::specs::Events::news_text))]
+fn put_message(
+    line: &mut Vec<u8>,
+    place: u32,
+    group: &[u8],
+    node: NodeId,
+    pid: u32,
+    message: &[u8],
+) -> Result<(), Refusal>
+    ensures ok { OnOk result (line.new.items ≡ line.old.items ++ codes "event " ++ decimal place ++ codes " " ++ news_text (Event.Message place group.now node pid message.now)) }
+    ensures memory { IsOkUnless result Refusal.Memory }
+{
+    put_place(line, place)?;
+    put(line, " message ")?;
+    put_bytes(line, group)?;
+    put(line, " ")?;
+    push_number(line, u64::from(node.get()))?;
+    put(line, " ")?;
+    push_number(line, u64::from(pid))?;
+    put(line, " ")?;
+    push_message(line, message)
+}
+
+/// Puts the line of a change of a group, with its members after it, those who left and those who joined, at the
+/// line's end.
+pub fn put_change_line(
+    line: &mut Vec<u8>,
+    place: u32,
+    group: &[u8],
+    members: &[Member],
+    left: &[Move],
+    joined: &[Move],
+) -> Result<(), Refusal>
+    ensures ok { OnOk result (line.new.items ≡ line.old.items ++ event_line (Event.Change place group.now members.now left.now joined.now)) }
+    ensures memory { IsOkUnless result Refusal.Memory }
+{
+    put_change(line, place, group, members, left, joined)?;
+    put(line, "\n")
+}
+
+#[tactic(auto, unfolding(crate::specs::Events::news_text))]
+fn put_change(
+    line: &mut Vec<u8>,
+    place: u32,
+    group: &[u8],
+    members: &[Member],
+    left: &[Move],
+    joined: &[Move],
+) -> Result<(), Refusal>
+    ensures ok { OnOk result (line.new.items ≡ line.old.items ++ codes "event " ++ decimal place ++ codes " " ++ news_text (Event.Change place group.now members.now left.now joined.now)) }
+    ensures memory { IsOkUnless result Refusal.Memory }
+{
+    put_place(line, place)?;
+    put(line, " change ")?;
+    put_bytes(line, group)?;
+    put(line, " members ")?;
+    put_members(line, members)?;
+    put(line, " left ")?;
+    put_moves(line, left)?;
+    put(line, " joined ")?;
+    put_moves(line, joined)
+}
+
+/// Puts the line of a change of a group's table at the line's end.
+#[tactic(auto, unfolding(crate::specs::Events::news_text))]
+pub fn put_rules_line(line: &mut Vec<u8>, place: u32, group: &[u8]) -> Result<(), Refusal>
+    ensures ok { OnOk result (line.new.items ≡ line.old.items ++ event_line (Event.RulesChanged place group.now)) }
+    ensures memory { IsOkUnless result Refusal.Memory }
+{
+    put_place(line, place)?;
+    put(line, " rules ")?;
+    put_bytes(line, group)?;
+    put(line, "\n")
+}
+
+/// Puts the word `event` and the place at the line's end.
+fn put_place(line: &mut Vec<u8>, place: u32) -> Result<(), Refusal>
+    ensures ok { OnOk result (line.new.items ≡ line.old.items ++ codes "event " ++ decimal place) }
+    ensures memory { IsOkUnless result Refusal.Memory }
+{
+    put(line, "event ")?;
+    push_number(line, u64::from(place))
 }
 
 fn put_moves(line: &mut Vec<u8>, moves: &[Move]) -> Result<(), Refusal>
@@ -123,16 +206,15 @@ fn put_move(line: &mut Vec<u8>, one: Move) -> Result<(), Refusal>
     ensures memory { IsOkUnless result Refusal.Memory }
 {
     put_member(line, one.member)?;
-    put(line, ":")?;
-    put(line, cause_name(one.cause))
+    put(line, cause_after_colon(one.cause))
 }
 
-fn cause_name(cause: Cause) -> &'static str
-    ensures { result.now ≡ cause_text cause }
+fn cause_after_colon(cause: Cause) -> &'static str
+    ensures { result.now ≡ codes ":" ++ cause_text cause }
 {
     match cause {
-        Cause::Leave => "leave",
-        Cause::Down => "down",
-        Cause::Join => "join",
+        Cause::Leave => ":leave",
+        Cause::Down => ":down",
+        Cause::Join => ":join",
     }
 }

@@ -1,6 +1,6 @@
 //! Verdicts as they are printed.
 
-ghost use Rattle.std.specs.Prelude.{◌≡◌, ◌++◌, OnOk, IsOkUnless};
+ghost use Rattle.std.specs.Prelude.{◌≡◌, ◌++◌, codes, OnOk, IsOkUnless};
 ghost use Rattle.cpg_cred.specs.Shown.{by_text};
 ghost use Rattle.cpg_print.specs.Verdicts.{reason_text, verdict_text};
 
@@ -15,48 +15,42 @@ pub fn put_verdict(line: &mut Vec<u8>, verdict: Verdict) -> Result<(), Refusal>
     ensures memory { IsOkUnless result Refusal.Memory }
 {
     match verdict {
-        Verdict::Allowed(by) => {
-            put(line, "allowed ")?;
-            put_by(line, by)
-        }
-        Verdict::Denied(reason) => {
-            put(line, "denied ")?;
-            put_reason(line, reason)
-        }
+        Verdict::Allowed(by) => put_allowed(line, by),
+        Verdict::Denied(reason) => put_denied(line, reason),
     }
 }
 
-fn put_by(line: &mut Vec<u8>, by: By) -> Result<(), Refusal>
-    ensures ok { OnOk result (line.new.items ≡ line.old.items ++ by_text by) }
+fn put_allowed(line: &mut Vec<u8>, by: By) -> Result<(), Refusal>
+    ensures ok { OnOk result (line.new.items ≡ line.old.items ++ codes "allowed " ++ by_text by) }
     ensures memory { IsOkUnless result Refusal.Memory }
 {
     match by {
         By::Rule(id) => {
-            put(line, "rule ")?;
+            put(line, "allowed rule ")?;
             push_number(line, u64::from(id))
         }
-        By::Default => put(line, "default"),
-        By::Root => put(line, "root"),
-        By::Free => put(line, "free"),
+        By::Default => put(line, "allowed default"),
+        By::Root => put(line, "allowed root"),
+        By::Free => put(line, "allowed free"),
     }
 }
 
-fn put_reason(line: &mut Vec<u8>, reason: Reason) -> Result<(), Refusal>
-    ensures ok { OnOk result (line.new.items ≡ line.old.items ++ reason_text reason) }
+fn put_denied(line: &mut Vec<u8>, reason: Reason) -> Result<(), Refusal>
+    ensures ok { OnOk result (line.new.items ≡ line.old.items ++ codes "denied " ++ reason_text reason) }
     ensures memory { IsOkUnless result Refusal.Memory }
 {
     match reason {
         Reason::Rule(id) => {
-            put(line, "rule ")?;
+            put(line, "denied rule ")?;
             push_number(line, u64::from(id))
         }
-        Reason::Default => put(line, "default"),
-        Reason::Closed => put(line, "closed"),
-        Reason::Joined => put(line, "joined"),
-        Reason::Twice => put(line, "twice"),
-        Reason::Full => put(line, "full"),
-        Reason::Position => put(line, "position"),
-        Reason::TableFull => put(line, "tablefull"),
-        Reason::Absent => put(line, "absent"),
+        Reason::Default => put(line, "denied default"),
+        Reason::Closed => put(line, "denied closed"),
+        Reason::Joined => put(line, "denied joined"),
+        Reason::Twice => put(line, "denied twice"),
+        Reason::Full => put(line, "denied full"),
+        Reason::Position => put(line, "denied position"),
+        Reason::TableFull => put(line, "denied tablefull"),
+        Reason::Absent => put(line, "denied absent"),
     }
 }
