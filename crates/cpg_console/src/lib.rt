@@ -1,22 +1,13 @@
-//! Scripts, as text both ways: lines to entries, and records and events to lines; the calls of the other kinds
-//! of script are offered again.
+//! The scripts of `cpgring`, offered in one place: each has a crate of its own, with its definitions and its proof.
 //!
-//! The forms are this project's own. Proved: what is read and what is written are the definitions in
-//! `specs/`, byte for byte, where the reader and the writer tell their bytes; and what is printed of an entry
-//! or of a rule is read as that entry or rule again.
+//! The forms are this project's own: entries that are judged (`judge_script`), conf texts that are asked who is
+//! let in (`accept_script`), all nodes event by event (`run_script`), and sessions on a running cluster
+//! (`cluster_script`).
 #![tactic(auto)]
-
-mod judging;
-mod output;
-mod printing;
-mod scripts;
-#[cfg(test)]
-mod tests;
-mod texts;
 
 pub use cpg_accept::accept_script;
 pub use cpg_cluster::cluster_script;
+pub use cpg_judge::judge_script;
 pub use cpg_print::{entries_read_back, rules_read_back, whos_read_back};
 pub use cpg_script::{Fault, put_fault};
 pub use cpg_step::run_script;
-pub use judging::judge_script;

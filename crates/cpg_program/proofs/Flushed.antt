@@ -11,8 +11,8 @@ use Rattle.cpg_text.specs.Streams.{AppendsFront}
 use Rattle.cpg_script.specs.declared.faults.Fault.{Fault}
 use Rattle.cpg_script.specs.Written.{LeavesLines, WritesLate}
 use Rattle.cpg_accept.specs.Accepting as accept
-use Rattle.cpg_console.specs.Judging as judge
-use Rattle.cpg_console.specs.Scripts.{entries_of_script}
+use Rattle.cpg_judge.specs.Judging as judge
+use Rattle.cpg_judge.specs.Scripts.{entries_of_script}
 use Rattle.cpg_world_laws.specs.Worlds.{WorldValue, new_world}
 use Rattle.cpg_ring.specs.declared.settings.Settings.{Settings}
 use Rattle.cpg_cred.specs.Listed.{Listed}

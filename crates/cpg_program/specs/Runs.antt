@@ -10,8 +10,8 @@ use Rattle.cpg_ring.specs.States.{IsSettings}
 use Rattle.cpg_ring.specs.declared.settings.Settings.{Settings}
 use Rattle.cpg_world_laws.specs.Worlds.{WorldValue, new_world}
 use Rattle.cpg_accept.specs.Accepting as accept
-use Rattle.cpg_console.specs.Judging as judge
-use Rattle.cpg_console.specs.Scripts.{entries_of_script}
+use Rattle.cpg_judge.specs.Judging as judge
+use Rattle.cpg_judge.specs.Scripts.{entries_of_script}
 use Rattle.cpg_step.specs.Running as step
 use Rattle.cpg_step.specs.Scripts.{commands_of_script}
 use Rattle.cpg_cluster.specs.Running as cluster

@@ -10,7 +10,7 @@ ghost use Rattle.cpg_program.specs.Words.{list_of_words};
 use crate::failures::Failure;
 use crate::words::read_list;
 use cpg_board::Board;
-use cpg_cluster::cluster_script;
+use cpg_console::cluster_script;
 use cpg_cred::{AcceptList, Refusal};
 use cpg_daemon::{BoardName, Cluster, PassAll};
 use cpg_ring::{Settings, are_settings};
@@ -123,7 +123,7 @@ fn run_over<B, H, R, W>(
 ) -> Result<(), Failure>
 where
     B: BoardName + Send + Sync + 'static,
-    H: Threads + Wait + Copy,
+    H: Threads + Wait + Clock + Copy,
     R: Read,
     W: Write,
     ensures ok { OnOk result (IfSome (R.remaining reader.old) (λ script.

@@ -10,9 +10,9 @@ ghost use Rattle.cpg_program.specs.Words.{list_of_words};
 
 use crate::failures::Failure;
 use crate::words::read_list;
+use cpg_console::run_script;
 use cpg_cred::AcceptList;
 use cpg_ring::Settings;
-use cpg_step::run_script;
 use cpg_world::World;
 use std::alloc::Global;
 use std::io::{Read, Write};

@@ -1,8 +1,0 @@
-use Rattle.cpg_record.specs.Judging.{judged}
-use Rattle.cpg_console.specs.Texts.{lines_between}
-use Rattle.cpg_console.proofs.Lined.{on_err_at}
-use Rattle.cpg_console.proofs.output.write_stretch.Goals as goal
-
-pub returns-clause-err : goal.returns-clause-err
-returns-clause-err g c =
-    on_err_at c.write_text.result (g.W.Write.contents c.args.writer.now) (g.W.Write.contents c.write_text.new.writer) (lines_between (judged c.args.policy.now) c.args.conn.now c.args.after c.args.last) c.find_lines.ensures c.write_text.ensures.err

@@ -1,4 +1,0 @@
-pub mod Judging
-pub mod Scripts
-pub mod Steps
-pub mod Texts

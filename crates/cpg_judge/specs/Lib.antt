@@ -1,0 +1,3 @@
+pub mod Judging
+pub mod Scripts
+pub mod Texts

@@ -1,0 +1,15 @@
+//! `cpgring judge`: entries that a script lists are judged one after the other.
+//!
+//! The forms are this project's own. Proved: what is read and what is written are the definitions in
+//! `specs/`, byte for byte, where the reader and the writer tell their bytes.
+#![tactic(auto)]
+
+mod judging;
+mod output;
+mod printing;
+mod scripts;
+#[cfg(test)]
+mod tests;
+mod texts;
+
+pub use judging::judge_script;

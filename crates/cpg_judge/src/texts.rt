@@ -1,0 +1,212 @@
+//! What places tell their groups, as it is printed: each place's line is put once, into the text of its group,
+//! so that the lines of places that follow each other in a group are one slice.
+
+ghost use Rattle.std.specs.Prelude.{true, ◌≡◌, ◌≤◌, ◌+◌, ◌-◌, ◌++◌, ℕ, List, [], Some, length, take, drop, if◌then◌else◌, IfOk, OnOk, IsOkUnless};
+ghost use Rattle.std.specs.List.{concat};
+ghost use Rattle.std.specs.Str.{bytes_eq};
+ghost use Rattle.cpg_record.specs.Judging.{judged};
+ghost use Rattle.cpg_record.specs.Membership.{is_allowed};
+ghost use Rattle.cpg_record.specs.Places.{record_at};
+ghost use Rattle.cpg_judge.specs.Texts.{kept_text, no_text, told_text, with_text, AreTexts, LacksText, Holds};
+
+use cpg_cred::Refusal;
+use cpg_entry::{Call, Op};
+use cpg_group::Policy;
+use cpg_print::{put_event, put_message_line};
+use cpg_record::Record;
+use indexmap::IndexMap;
+use std::alloc::Global;
+use std::marker::Model;
+
+/// Puts the line that the allowed record of the place tells its group at the line's end. A message's is put
+/// from the record.
+fn put_told(
+    line: &mut Vec<u8>,
+    policy: &Policy,
+    place: u32,
+    past: &Record,
+    group: &[u8],
+) -> Result<(), Refusal>
+    requires place { (1 ≤ place) × (place ≤ length policy.now) }
+    requires stands { record_at (judged policy.now) place ≡ Some past.now }
+    requires group { past.now.group ≡ Some group.now }
+    requires allowed { is_allowed past.now.verdict ≡ true }
+    ensures ok { OnOk result (line.new.items ≡ line.old.items ++ told_text (judged policy.now) place) }
+    ensures memory { IsOkUnless result Refusal.Memory }
+{
+    match &past.entry.op {
+        Op::Act(Call::Send(message)) => {
+            let node = past.entry.node;
+            put_message_line(line, place, group, node, past.entry.pid, message.as_slice())
+        }
+        _ => match policy.told_at(place)? {
+            None => Ok(()),
+            Some(event) => put_event(line, &event),
+        },
+    }
+}
+
+/// Texts put one after the other, with where each of them ends.
+#[derive(Debug, Drop)]
+pub(crate) struct Text {
+    text: Vec<u8>,
+    ends: Vec<usize>,
+}
+
+impl Model for Text {
+    ghost use Rattle.cpg_judge.specs.Texts.{TextValue};
+
+    ghost Value = { TextValue };
+
+    ghost view = { λ text. record { text = text.text.items; ends = text.ends.items } };
+}
+
+impl Text {
+    /// No texts.
+    fn new(alloc: Global) -> Text
+        ensures { result ≡ no_text }
+    {
+        Text {
+            text: Vec::new(alloc),
+            ends: Vec::new(alloc),
+        }
+    }
+
+    /// Puts the line last.
+    fn push(&mut self, line: &[u8]) -> Result<(), Refusal>
+        ensures ok { OnOk result (self.new ≡ with_text line.now self.old) }
+        ensures memory { IsOkUnless result Refusal.Memory }
+    {
+        self.text.extend_from_slice(line)?;
+        let end = self.text.len();
+        self.ends.push(end)?;
+        Ok(())
+    }
+
+    /// Where the first so many texts end.
+    fn end(&self, count: usize) -> usize
+        ensures { (texts : List (List ℕ)) → Holds self.now texts → count ≤ length texts → result ≡ length (concat (take count texts)) }
+    {
+        if count == 0 {
+            return 0;
+        }
+        if count <= self.ends.len() {
+            self.ends[count - 1]
+        } else {
+            0
+        }
+    }
+
+    /// The texts after the first `from`, up to the first `to`, as one.
+    pub(crate) fn range(&self, from: usize, to: usize) -> &[u8]
+        ensures { (texts : List (List ℕ)) → Holds self.now texts → from ≤ to → to ≤ length texts → result.now ≡ concat (drop from (take to texts)) }
+    {
+        let start = self.end(from);
+        let end = self.end(to);
+        if start <= end && end <= self.text.len() {
+            &self.text[start..end]
+        } else {
+            &[]
+        }
+    }
+}
+
+/// The texts of all groups. Contracts see it as the list of names with texts; a group that is not there has
+/// none.
+#[derive(Drop)]
+pub(crate) struct Texts {
+    kept: IndexMap<Vec<u8>, Text>,
+    none: Text,
+}
+
+impl Model for Texts {
+    ghost use Rattle.std.specs.Prelude.{◌≡◌};
+    ghost use Rattle.cpg_judge.specs.Texts.{KeptTexts, named, no_text};
+
+    ghost Value = { KeptTexts };
+
+    ghost view = { λ texts. named texts.kept.entries };
+
+    ghost invariant = { λ texts. texts.none ≡ no_text };
+}
+
+impl Texts {
+    /// No texts.
+    fn new(alloc: Global) -> Texts
+        ensures { (g : List ℕ) → kept_text result g ≡ no_text }
+    {
+        Texts {
+            kept: IndexMap::new(alloc),
+            none: Text::new(alloc),
+        }
+    }
+
+    /// The texts of the group of that name.
+    pub(crate) fn of(&self, name: &[u8]) -> &Text
+        ensures { result.now ≡ kept_text self.now name.now }
+    {
+        match self.kept.get(name) {
+            Some(text) => text,
+            None => &self.none,
+        }
+    }
+
+    /// Makes a place for the texts of the group of that name, which has none, with the line as the first.
+    fn begin(&mut self, name: &[u8], line: &[u8]) -> Result<(), Refusal>
+        requires { LacksText self.old name.now }
+        ensures ok { OnOk result ((g : List ℕ) → kept_text self.new g ≡ (if bytes_eq name.now g then with_text line.now (kept_text self.old g) else kept_text self.old g)) }
+        ensures memory { IsOkUnless result Refusal.Memory }
+    {
+        let alloc = *self.kept.allocator();
+        let key = Vec::from_slice(alloc, name)?;
+        let mut text = Text::new(alloc);
+        text.push(line)?;
+        self.kept.insert(key, text)?;
+        Ok(())
+    }
+
+    /// Puts the line last in the texts of the group of that name.
+    fn add(&mut self, name: &[u8], line: &[u8]) -> Result<(), Refusal>
+        ensures ok { OnOk result ((g : List ℕ) → kept_text self.new g ≡ (if bytes_eq name.now g then with_text line.now (kept_text self.old g) else kept_text self.old g)) }
+        ensures memory { IsOkUnless result Refusal.Memory }
+    {
+        match self.kept.get_mut(name) {
+            Some(text) => text.push(line),
+            None => self.begin(name, line),
+        }
+    }
+
+    /// Puts what the next place tells its group; the line is written over.
+    fn add_place(&mut self, line: &mut Vec<u8>, policy: &Policy, place: u32) -> Result<(), Refusal>
+        requires place { (1 ≤ place) × (place ≤ length policy.now) }
+        requires texts { AreTexts self.old (judged policy.now) (place - 1) }
+        ensures ok { OnOk result (AreTexts self.new (judged policy.now) place) }
+        ensures memory { IsOkUnless result Refusal.Memory }
+    {
+        let past = &policy.records()[place as usize - 1];
+        match &past.group {
+            None => Ok(()),
+            Some(group) => {
+                if !past.verdict.is_allowed() {
+                    return Ok(());
+                }
+                line.clear();
+                put_told(line, policy, place, past, group.as_slice())?;
+                self.add(group.as_slice(), line.as_slice())
+            }
+        }
+    }
+
+    /// What all judged places tell their groups.
+    pub(crate) fn collect(alloc: Global, policy: &Policy) -> Result<Texts, Refusal>
+        ensures ok { IfOk result (λ texts. AreTexts texts (judged policy.now) (length (judged policy.now))) }
+        ensures memory { IsOkUnless result Refusal.Memory }
+    {
+        let mut texts = Texts::new(alloc);
+        let mut line = Vec::new(alloc);
+        for index in 0..policy.len() as u32 {
+            texts.add_place(&mut line, policy, index + 1)?;
+        }
+        Ok(texts)
+    }
+}
