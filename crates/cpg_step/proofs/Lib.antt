@@ -1,5 +1,3 @@
 pub mod Doing
 pub mod Lengths
-pub mod Lined
 pub mod Listing
-pub mod Scripted
