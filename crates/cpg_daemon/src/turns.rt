@@ -15,14 +15,19 @@ use std::time::{Clock, Duration};
 /// After how many idle turns in a row a node sends its last token again.
 const IDLE_TURNS: u32 = 64;
 
-/// After how many turns in a row that weren't busy a thread yields after each, and after how many it sleeps.
+/// After how many turns in a row that weren't busy a thread yields after each, and after how many it sleeps after
+/// each.
 const SPINS: u32 = 64;
 
-const YIELDS: u32 = 4096;
+const YIELDS: u32 = 512;
 
-/// For how long a thread sleeps between such turns, in microseconds: eight nodes pass the token round in 16
+/// For how long a thread sleeps between such turns, in microseconds: eight nodes pass the token round in some 12
 /// milliseconds then.
-const SLEEP_MICROS: u64 = 2_000;
+const SLEEP_MICROS: u64 = 3_000;
+
+/// For how long it sleeps after a turn that passed the token on, in microseconds: it comes back after all others
+/// had it.
+const PASSED_MICROS: u64 = 6_000;
 
 /// After how many idle turns in a row the token is overdue, so that a thread sleeps so long no more until it
 /// sends its last one again.
@@ -117,19 +122,20 @@ impl Lull {
 
     /// For how many microseconds to sleep, if at all.
     fn sleep(self) -> Option<u64> {
-        if self.idle == 0 {
-            return None;
-        }
         if self.resent > MOST_IN_VAIN || self.stale > MOST_IN_VAIN {
             return Some(SLEEP_MICROS);
         }
-        if self.resent > 0 {
+        if self.resent > 0 && self.idle > 0 {
             return Some(RESENT_MICROS * u64::from(self.resent.min(SLOWEST_RESENT)));
         }
-        if self.still > YIELDS && self.stale == 0 && self.idle <= DUE_TURNS {
-            return Some(SLEEP_MICROS);
+        if self.still <= YIELDS || self.resent > 0 || self.stale > 0 || self.idle > DUE_TURNS {
+            return None;
         }
-        None
+        Some(if self.idle == 0 {
+            PASSED_MICROS
+        } else {
+            SLEEP_MICROS
+        })
     }
 }
 
