@@ -16,6 +16,7 @@ use cpg_cred::{Cred, NodeId, Refusal};
 use cpg_daemon::{BoardName, Running, Session};
 use std::alloc::Global;
 use std::sync::Wait;
+use std::time::Clock;
 
 /// A session for the process at the node, put last among the sessions.
 fn connect<B: BoardName, G, H: Wait>(
@@ -38,7 +39,7 @@ fn connect<B: BoardName, G, H: Wait>(
 }
 
 /// What the session is answered, if it is an open one.
-fn serve_open<B: BoardName, G, H: Wait>(
+fn serve_open<B: BoardName, G, H: Wait + Clock>(
     rt: &H,
     alloc: Global,
     running: &Running<B, G>,
@@ -87,7 +88,7 @@ fn is_given<T>(sessions: &[T], number: u32) -> bool
 }
 
 /// What the session of that number is answered.
-fn ask<B: BoardName, G, H: Wait>(
+fn ask<B: BoardName, G, H: Wait + Clock>(
     rt: &H,
     alloc: Global,
     running: &Running<B, G>,
@@ -131,7 +132,7 @@ fn close<B: BoardName, G, H: Wait>(
 }
 
 /// What the command is answered.
-fn answer<B: BoardName, G, H: Wait>(
+fn answer<B: BoardName, G, H: Wait + Clock>(
     rt: &H,
     alloc: Global,
     running: &Running<B, G>,
@@ -159,7 +160,7 @@ fn is_memory(answer: &Result<Reply, Refusal>) -> bool
 }
 
 /// What the command is answered where memory was not refused.
-fn answer_with_memory<B: BoardName, G, H: Wait>(
+fn answer_with_memory<B: BoardName, G, H: Wait + Clock>(
     rt: &H,
     alloc: Global,
     running: &Running<B, G>,
@@ -180,7 +181,7 @@ fn answer_with_memory<B: BoardName, G, H: Wait>(
 
 /// Does the command, and puts the text of its answer where there is none.
 #[tactic(auto, using(crate::proofs::Doing::answer_done))]
-pub fn do_command<B: BoardName, G, H: Wait>(
+pub fn do_command<B: BoardName, G, H: Wait + Clock>(
     rt: &H,
     alloc: Global,
     text: &mut Vec<u8>,

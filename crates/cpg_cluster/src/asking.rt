@@ -20,9 +20,16 @@ use cpg_node::Event;
 use std::alloc::Global;
 use std::sync::Wait;
 use std::thread;
+use std::time::{Clock, Duration};
 
 /// How often a session that waits is asked for its next event, at most.
 pub const MOST_POLLS: u32 = 1_000_000;
+
+/// After how many polls a wait sleeps each time, and for how many microseconds: whoever waits leaves the nodes'
+/// threads their time, and a million polls take some seconds.
+const POLLS_A_SLEEP: u32 = 64;
+
+const SLEEP_MICROS: u64 = 100;
 
 /// The limit of a wait: a million polls.
 pub fn limits()
@@ -66,9 +73,18 @@ fn poll<B: BoardName, G, H: Wait>(
     }
 }
 
+/// Rests after that poll, from 0: by a yield, or now and then by a sleep.
+fn rest<H: Clock>(rt: &H, poll: u32) {
+    if poll % POLLS_A_SLEEP == POLLS_A_SLEEP - 1 {
+        thread::sleep(rt, Duration::from_micros(SLEEP_MICROS));
+    } else {
+        thread::yield_now();
+    }
+}
+
 /// The session's next event, once it comes; nothing where it does not come for `MOST_POLLS` polls.
 #[tactic(auto, using(crate::proofs::Seen::stays_on, crate::proofs::Seen::stays_self, crate::proofs::Seen::awaited_on, crate::proofs::Seen::nothing_came, crate::proofs::Seen::ended_on))]
-fn wait<B: BoardName, G, H: Wait>(
+fn wait<B: BoardName, G, H: Wait + Clock>(
     rt: &H,
     running: &Running<B, G>,
     session: &mut Session<B>,
@@ -77,9 +93,9 @@ fn wait<B: BoardName, G, H: Wait>(
     ensures answer { Serves session.old asks.Wait result session.new }
     ensures seats { SeatsOn B.cells result }
 {
-    for _ in 0..MOST_POLLS {
+    for number in 0..MOST_POLLS {
         match poll(rt, running, session) {
-            None => thread::yield_now(),
+            None => rest(rt, number),
             Some(Ok(event)) => return Ok(Reply::Took(Some(event))),
             Some(Err(refusal)) => return Err(refusal),
         }
@@ -160,7 +176,7 @@ fn audit<B: BoardName, G>(running: &Running<B, G>, session: &Session<B>) -> Resu
 }
 
 /// What an open session is answered.
-pub fn serve<B: BoardName, G, H: Wait>(
+pub fn serve<B: BoardName, G, H: Wait + Clock>(
     rt: &H,
     alloc: Global,
     running: &Running<B, G>,

@@ -19,6 +19,7 @@ use cpg_text::{MOST_BYTES, read_whole, write_whole};
 use std::alloc::Global;
 use std::io::{Read, Write};
 use std::sync::Wait;
+use std::time::Clock;
 
 /// Runs the commands of a script over running nodes, and writes what each prints after it.
 ///
@@ -35,7 +36,7 @@ pub fn cluster_script<B, G, H, R, W>(
 ) -> Result<(), Fault>
 where
     B: BoardName,
-    H: Wait,
+    H: Wait + Clock,
     R: Read,
     W: Write,
     ensures ok { OnOk result (IfSome (R.remaining reader.old) (λ script.
@@ -62,7 +63,7 @@ fn run_whole<B, G, H, R, W>(
 ) -> Result<(), Refusal>
 where
     B: BoardName,
-    H: Wait,
+    H: Wait + Clock,
     R: Read,
     W: Write,
     ensures ok { OnOk result (IfSome (R.remaining reader.old) (λ script.
@@ -77,7 +78,7 @@ where
 }
 
 /// Runs the commands from no session on, one after the other, and writes the lines of each.
-fn run_commands<B: BoardName, G, H: Wait, W: Write>(
+fn run_commands<B: BoardName, G, H: Wait + Clock, W: Write>(
     rt: &H,
     alloc: Global,
     writer: &mut W,
@@ -109,7 +110,7 @@ fn run_commands<B: BoardName, G, H: Wait, W: Write>(
 
 /// Does one command, and then writes its lines.
 #[tactic(auto, using(crate::proofs::Doing::written_whole, crate::proofs::Doing::written_in_part))]
-fn run_command<B: BoardName, G, H: Wait, W: Write>(
+fn run_command<B: BoardName, G, H: Wait + Clock, W: Write>(
     rt: &H,
     alloc: Global,
     writer: &mut W,

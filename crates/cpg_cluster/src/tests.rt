@@ -12,9 +12,8 @@ use std::alloc::Global;
 use std::marker::Brand;
 use std::sync::Wait;
 use std::test::Fail;
-use std::thread;
 use std::thread::Threads;
-use std::time::{Clock, Duration};
+use std::time::Clock;
 
 /// Sessions that are refused, wait, list, audit and close.
 const SESSIONS: &[u8] =
@@ -43,7 +42,7 @@ fn list_of_two(alloc: Global) -> Result<AcceptList, Refusal> {
 }
 
 /// Whether the script ends so over the running nodes, and prints so.
-fn goes<B: BoardName, G, H: Wait>(
+fn goes<B: BoardName, G, H: Wait + Clock>(
     rt: &H,
     alloc: Global,
     running: &Running<B, G>,
@@ -59,10 +58,6 @@ fn goes<B: BoardName, G, H: Wait>(
     };
     ended == fault && written.as_slice() == answer
 }
-
-/// How long a cluster is left alone before its script begins, in milliseconds: a busy machine may take long over
-/// the frames that are lost at first, and a wait makes no more than a million looks.
-const SETTLES_MILLIS: u64 = 2_000;
 
 /// Whether the script prints so over a new cluster of two nodes with that gate.
 fn prints<B, G, R>(
@@ -81,7 +76,6 @@ where
 {
     let list = list_of_two(alloc)?;
     let cluster = Cluster::<B, G>::start(rt, alloc, settings_of_two(), board, &list, gate)?;
-    thread::sleep(&rt, Duration::from_millis(SETTLES_MILLIS));
     let printed = goes(&rt, alloc, &cluster, script, None, answer);
     drop(cluster.stop(&rt));
     Ok(printed)
@@ -141,7 +135,7 @@ fn numbers_without_a_session(rt: HostRuntime) -> Result<(), Fail> {
 }
 
 /// Whether the script ends with that bad line, with nothing written.
-fn is_bad<B: BoardName, G, H: Wait>(
+fn is_bad<B: BoardName, G, H: Wait + Clock>(
     rt: &H,
     alloc: Global,
     running: &Running<B, G>,
@@ -159,7 +153,7 @@ fn is_bad<B: BoardName, G, H: Wait>(
 }
 
 /// Whether bad lines end scripts before they begin.
-fn refuses_bad_lines<B: BoardName, G, H: Wait>(
+fn refuses_bad_lines<B: BoardName, G, H: Wait + Clock>(
     rt: &H,
     alloc: Global,
     running: &Running<B, G>,
@@ -192,7 +186,7 @@ fn long_calls(alloc: Global) -> Result<Vec<u8>, Refusal> {
 }
 
 /// Whether a halted cluster refuses a connection in print.
-fn refuses_halted<B: BoardName, G, H: Wait>(
+fn refuses_halted<B: BoardName, G, H: Wait + Clock>(
     rt: &H,
     alloc: Global,
     running: &Running<B, G>,

@@ -1,5 +1,5 @@
 use Rattle.cpg_cluster.specs.Answers.{Stays}
 use Rattle.cpg_cluster.proofs.asking.wait.Given as goal
 
-abbrev pub invariant-loop : goal.invariant-loop
-invariant-loop g l = Stays l.initial.session l.session
+abbrev pub invariant-loop-number : goal.invariant-loop-number
+invariant-loop-number g l = Stays l.initial.session l.session

@@ -1,2 +1,0 @@
--- what every kind of script shares of its lines, offered again for the functions that cite it
-pub use Rattle.cpg_script.proofs.Lengths.{lines_few}
