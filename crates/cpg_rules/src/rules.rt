@@ -102,8 +102,8 @@ impl Who {
     }
 
     /// Whether each condition that is there holds of the asker.
-    fn matches(&self, asker: Asker) -> bool
-        ensures { result ≡ matches self.now asker }
+    fn matches(&self, asker: &Asker) -> bool
+        ensures { result ≡ matches self.now asker.now }
     {
         holds(self.uid, asker.cred.uid)
             && holds(self.gid, asker.cred.gid)
@@ -140,8 +140,8 @@ impl Rule {
     }
 
     /// Whether the rule speaks of that right and that asker.
-    pub(crate) fn speaks_of(&self, right: Right, asker: Asker) -> bool
-        ensures { result ≡ same_right self.now.right right && matches self.now.who asker }
+    pub(crate) fn speaks_of(&self, right: Right, asker: &Asker) -> bool
+        ensures { result ≡ same_right self.now.right right && matches self.now.who asker.now }
     {
         self.right == right && self.who.matches(asker)
     }

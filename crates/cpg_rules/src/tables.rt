@@ -49,19 +49,21 @@ impl Table {
     pub fn decide(&self, right: Right, asker: Asker) -> Decision
         ensures { result ≡ decide self.now right asker }
     {
-        match self.first_speaking(right, asker) {
+        match self.first_speaking(right, &asker) {
             Some((id, rule)) => Decision::by_rule(rule.effect, id),
             None => Decision::by_default(right),
         }
     }
 
-    fn first_speaking(&self, right: Right, asker: Asker) -> Option<(u32, Rule)>
-        ensures { result ≡ find (speaks right asker) self.now }
+    fn first_speaking(&self, right: Right, asker: &Asker) -> Option<(u32, Rule)>
+        ensures { result ≡ find (speaks right asker.now) self.now }
     {
-        self.rules
-            .iter()
-            .copied()
-            .find(|(_, rule)| rule.speaks_of(right, asker))
+        for entry in &self.rules {
+            if entry.1.speaks_of(right, asker) {
+                return Some(*entry);
+            }
+        }
+        None
     }
 
     /// How many rules there are.
