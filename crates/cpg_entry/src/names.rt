@@ -9,6 +9,7 @@ use std::alloc::Global;
 use std::cmp::Ordering;
 use std::hash::{Hash, Hasher};
 use std::marker::Model;
+use std::sync::ArcSlice;
 
 /// How many bytes a group's name has at most.
 pub const MOST_NAME_BYTES: usize = 128;
@@ -35,18 +36,19 @@ pub fn names_pass()
 {}
 
 /// The name of a group, any bytes until `accepts_name` has tested them. Contracts see it as the list of
-/// its bytes.
+/// its bytes. Copies share them.
 #[derive(Debug, Drop)]
 pub struct Name {
-    bytes: Vec<u8>,
+    bytes: ArcSlice<u8>,
 }
 
 impl Model for Name {
     ghost use Rattle.std.specs.Prelude.{List, ℕ};
+    ghost use Rattle.std.specs.Arc.{arc_slice_items};
 
     ghost Value = { List ℕ };
 
-    ghost view = { λ name. name.bytes.items };
+    ghost view = { λ name. arc_slice_items name.bytes };
 }
 
 impl Name {
@@ -56,16 +58,18 @@ impl Name {
         ensures memory { IsOkUnless result Refusal.Memory }
     {
         Ok(Name {
-            bytes: Vec::from_slice(alloc, bytes)?,
+            bytes: ArcSlice::from_slice(alloc, bytes)?,
         })
     }
 
-    /// A name of the same bytes.
-    pub fn copy(&self, alloc: Global) -> Result<Name, Refusal>
+    /// A name of the same bytes, which the two share.
+    pub fn copy(&self, _alloc: Global) -> Result<Name, Refusal>
         ensures ok { IfOk result (λ name. name ≡ self.now) }
         ensures memory { IsOkUnless result Refusal.Memory }
     {
-        Name::from_slice(alloc, self.as_slice())
+        Ok(Name {
+            bytes: self.bytes.clone()?,
+        })
     }
 
     /// The bytes.
