@@ -10,7 +10,7 @@ use cpg_cred::{Cred, MOST_NODES, NodeId, Refusal};
 use cpg_entry::{Entry, MOST_CONNECTIONS, Op};
 use cpg_record::ConnId;
 use cpg_script::{cut, put, read_u32};
-use cpg_text::{first_words, push_number};
+use cpg_text::{push_number, take_words};
 use std::alloc::Global;
 
 /// The words of the longest line, and one more.
@@ -109,6 +109,6 @@ pub fn entry_in_line(alloc: Global, line: &[u8]) -> Result<Option<Entry>, Refusa
     ensures ok { IfOk result (λ found. found ≡ entry_of (words_of line.now)) }
     ensures memory { IsOkUnless result Refusal.Memory }
 {
-    let words = first_words(alloc, WORDS, line)?;
+    let words = take_words::<WORDS>(line);
     read_entry(alloc, words.as_slice())
 }

@@ -1,9 +1,11 @@
-use Rattle.std.proofs.Common.{◌≡◌, ℕ, ◌+◌, ◌*◌, ◌-◌, ◌<◌, ◌≤◌, List, [], ◌∷◌, length, Bool, true, false, ◌&&◌, nat_le, nat_lt, if◌then◌else◌, Some, None, refl, ap, arith}
+use Rattle.std.proofs.Common.{◌≡◌, ℕ, ◌+◌, ◌*◌, ◌-◌, ◌<◌, ◌≤◌, ◌^◌, sym, ◌∙◌, List, [], ◌∷◌, length, Bool, true, false, ◌&&◌, nat_le, nat_lt, if◌then◌else◌, Some, None, refl, ap, arith}
 use Rattle.std.proofs.lemmas.Bool.Decides.{nat_tests}
+use Rattle.std.proofs.lemmas.Grind.{pow_more}
+use Rattle.std.proofs.Math.Nat.{pow-le-pow_right}
 use Rattle.std.specs.Char.{is_ascii_digit}
 use Rattle.std.specs.List.{list_all}
 use Rattle.cpg_text.specs.Numbers.{value_after, number_in}
-use Rattle.cpg_text.specs.Steps.{read_on}
+use Rattle.cpg_text.specs.Steps.{one_digit, read_digits, read_on}
 
 -- digits only make a number greater
 pub value_after_ge : (n : ℕ) (cs : List ℕ) → n ≤ value_after n cs
@@ -48,3 +50,52 @@ number_found low high number word long within e =
         let one : nat_lt 0 (length word) ≡ true = grind (arith, nat_tests) in
         let low_enough : nat_le low (value_after 0 word) ≡ true = grind (arith, nat_tests) in
         rw (one, d, low_enough, f) (ap Some same)
+
+-- one digit more of a number that can't pass
+pub digit_more : (n i m byte : ℕ) → n < 10 ^ i → one_digit n byte ≡ Some m → m < 10 ^ (i + 1)
+digit_more n i m byte below e = by_digit (is_ascii_digit byte) refl
+  where
+    by_digit : (digit : Bool) → is_ascii_digit byte ≡ digit → m < 10 ^ (i + 1)
+    by_digit false d = let none = rw d at e in cc
+    by_digit true d =
+        let most : byte ≤ 57 = grind (arith, nat_tests) in
+        let some = rw d at e in
+        let same : n * 10 + (byte - 48) ≡ m = cc in
+        omega (arith, pow_more 10 i, most, below, same)
+
+-- a number of eight digits stays small
+pub power_within : (n i : ℕ) → i < 9 → n < 10 ^ i → n < 100000000
+power_within n i short below =
+    let some : 1 ≤ 10 = omega arith in
+    let within : i ≤ 8 = omega arith in
+    let most : 10 ^ i ≤ 10 ^ 8 = pow-le-pow_right some within in
+    omega (arith, most, below)
+
+-- one digit more is read, if it is one
+digit_then : (m : ℕ) (cs : List ℕ) (digit : Bool) → read_digits (Some m) cs ≡ (if list_all is_ascii_digit cs then Some (value_after m cs) else None)
+    → read_digits (if digit then Some m else None) cs ≡ (if digit && list_all is_ascii_digit cs then Some (value_after m cs) else None)
+digit_then m cs false rest = refl
+digit_then m cs true rest = rest
+
+read_digits_is : (n : ℕ) (cs : List ℕ) → read_digits (Some n) cs ≡ (if list_all is_ascii_digit cs then Some (value_after n cs) else None)
+read_digits_is n [] = refl
+read_digits_is n (c ∷ cs) = digit_then (n * 10 + (c - 48)) cs (is_ascii_digit c) (read_digits_is (n * 10 + (c - 48)) cs)
+
+-- short words that are not digits alone read as nothing
+pub short_none : (most : ℕ) (word : List ℕ) → None ≡ read_digits (Some 0) word → None ≡ read_on most (Some 0) word
+short_none most word e = by_digits (list_all is_ascii_digit word) refl
+  where
+    by_digits : (digits : Bool) → list_all is_ascii_digit word ≡ digits → None ≡ read_on most (Some 0) word
+    by_digits false d = sym (rw d at (read_on_is most 0 word (omega arith)))
+    by_digits true d = let none = rw d at (e ∙ read_digits_is 0 word) in cc
+
+-- short words of digits alone read as their number, where it is at most the most
+pub short_some : (most number : ℕ) (word : List ℕ) → Some number ≡ read_digits (Some 0) word → (if nat_le number most then Some number else None) ≡ read_on most (Some 0) word
+short_some most number word e = by_digits (list_all is_ascii_digit word) refl
+  where
+    by_digits : (digits : Bool) → list_all is_ascii_digit word ≡ digits → (if nat_le number most then Some number else None) ≡ read_on most (Some 0) word
+    by_digits false d = let some = rw d at (e ∙ read_digits_is 0 word) in cc
+    by_digits true d =
+        let some = rw d at (e ∙ read_digits_is 0 word) in
+        let same : number ≡ value_after 0 word = cc in
+        rw same (sym (rw d at (read_on_is most 0 word (omega arith))))

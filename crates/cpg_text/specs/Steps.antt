@@ -13,6 +13,16 @@ read_on most None word = None
 read_on most (Some number) [] = Some number
 read_on most (Some number) (byte ∷ word) = read_on most (one_more most number byte) word
 
+-- the number after one digit more, however great it is
+abbrev pub one_digit : ℕ → ℕ → Option ℕ
+one_digit number byte = if is_ascii_digit byte then Some (number * 10 + (byte - 48)) else None
+
+-- the number after all the digits, from the left, however great it is
+abbrev pub read_digits : Option ℕ → List ℕ → Option ℕ
+read_digits None word = None
+read_digits (Some number) [] = Some number
+read_digits (Some number) (byte ∷ word) = read_digits (one_digit number byte) word
+
 -- bytes, and then what the rest stands for
 abbrev pub after : List ℕ → Option (List ℕ) → Option (List ℕ)
 after front more = option_map (λ bytes. front ++ bytes) more

@@ -97,7 +97,7 @@ fn is_edge(byte: u8) -> bool
 pub fn is_blank(byte: u8) -> bool
     ensures { result ≡ is_blank byte }
 {
-    byte == b' ' || byte == b'\t'
+    byte <= b' ' && (byte == b' ' || byte == b'\t')
 }
 
 /// Whether a trimmed line says nothing: it is empty, or begins with `#`.

@@ -3,11 +3,11 @@
 //! A number is ASCII digits alone, leading zeros allowed. Proved: `read_number` is the definition
 //! `number_in`, however long the word; `push_number` prints a number without leading zeros.
 
-ghost use Rattle.std.specs.Prelude.{◌≡◌, ◌≤◌, ◌++◌, decimal, Some, OnOk, IsOkUnless};
+ghost use Rattle.std.specs.Prelude.{◌≡◌, ◌<◌, ◌≤◌, ◌+◌, ◌%◌, ◌++◌, length, decimal, Some, OnOk, IsOkUnless};
 ghost use Rattle.std.specs.Char.{is_ascii_digit};
 ghost use Rattle.std.specs.List.{list_all};
 ghost use Rattle.cpg_text.specs.Numbers.{is_number, number_in};
-ghost use Rattle.cpg_text.specs.Steps.{one_more, read_on};
+ghost use Rattle.cpg_text.specs.Steps.{one_digit, one_more, read_digits, read_on};
 
 use cpg_cred::Refusal;
 use itoa::Buffer;
@@ -39,6 +39,51 @@ pub fn read_number(low: u64, high: u64, word: &[u8]) -> Option<u64>
 
 /// The number that the digits write, where it is at most `most`.
 fn read_on(most: u64, word: &[u8]) -> Option<u64>
+    ensures { result ≡ read_on most (Some 0) word.now }
+{
+    if word.len() <= 9 {
+        read_short(most, word)
+    } else {
+        read_long(most, word)
+    }
+}
+
+/// The number that at most nine digits write, where it is at most `most`.
+#[tactic(auto, using(crate::proofs::Digits::short_none, crate::proofs::Digits::short_some))]
+fn read_short(most: u64, word: &[u8]) -> Option<u64>
+    requires { length word.now ≤ 9 }
+    ensures { result ≡ read_on most (Some 0) word.now }
+{
+    short_value(word).filter(|number| *number <= most)
+}
+
+/// The number that at most nine digits write: it can't pass what a `u64` holds.
+#[tactic(auto, using(crate::proofs::Digits::digit_more))]
+fn short_value(word: &[u8]) -> Option<u64>
+    requires { length word.now ≤ 9 }
+    ensures { result ≡ read_digits (Some 0) word.now }
+{
+    let mut number = 0u64;
+    for byte in word {
+        number = one_digit(number, *byte)?;
+    }
+    Some(number)
+}
+
+/// The number after one digit more.
+fn one_digit(number: u64, byte: u8) -> Option<u64>
+    requires { number < 100000000 }
+    ensures { result ≡ one_digit number byte }
+{
+    if byte.is_ascii_digit() {
+        Some(number * 10 + u64::from(byte - b'0'))
+    } else {
+        None
+    }
+}
+
+/// The number that the digits write, however many there are, where it is at most `most`.
+fn read_long(most: u64, word: &[u8]) -> Option<u64>
     ensures { result ≡ read_on most (Some 0) word.now }
 {
     let mut number = 0u64;
@@ -73,9 +118,39 @@ pub fn push_number(line: &mut Vec<u8>, number: u64) -> Result<(), Refusal>
     Ok(())
 }
 
-/// The same by a buffer. It stands apart, so that what a number of one digit costs stays small.
+/// The same of two digits or more. It stands apart, so that what a number of one digit costs stays small.
 #[inline(never)]
+#[tactic(auto, using(crate::proofs::Decimals::two_digits, crate::proofs::Decimals::three_digits, crate::proofs::Decimals::four_digits))]
 fn push_digits(line: &mut Vec<u8>, number: u64) -> Result<(), Refusal>
+    requires { 10 ≤ number }
+    ensures ok { OnOk result (line.new.items ≡ line.old.items ++ decimal number) }
+    ensures memory { IsOkUnless result Refusal.Memory }
+{
+    if number >= 10_000 {
+        return push_long(line, number);
+    }
+    let last = last_digit(number);
+    let tens = last_digit(number / 10);
+    let hundreds = last_digit(number / 100);
+    if number < 100 {
+        line.extend_from_slice(&[tens, last])?;
+    } else if number < 1000 {
+        line.extend_from_slice(&[hundreds, tens, last])?;
+    } else {
+        line.extend_from_slice(&[last_digit(number / 1000), hundreds, tens, last])?;
+    }
+    Ok(())
+}
+
+fn last_digit(number: u64) -> u8
+    ensures { result ≡ 48 + number % 10 }
+{
+    b'0' + (number % 10) as u8
+}
+
+/// The same by a buffer. It stands apart, so that what a number of fewer digits costs stays small.
+#[inline(never)]
+fn push_long(line: &mut Vec<u8>, number: u64) -> Result<(), Refusal>
     ensures ok { OnOk result (line.new.items ≡ line.old.items ++ decimal number) }
     ensures memory { IsOkUnless result Refusal.Memory }
 {

@@ -2,7 +2,7 @@
 //!
 //! Proved: both directions are the definitions `message_of` and `text_of`.
 
-ghost use Rattle.std.specs.Prelude.{◌≡◌, ◌<◌, ◌++◌, length, OnOk, IfOk, IfSome, MatchOption, IsOkUnless, None, true, option_map};
+ghost use Rattle.std.specs.Prelude.{◌≡◌, ◌<◌, ◌==◌, ◌++◌, not, length, OnOk, IfOk, IfSome, MatchOption, IsOkUnless, None, true, option_map};
 ghost use Rattle.std.specs.Fmt.{digit_glyph};
 ghost use Rattle.std.specs.List.{list_all};
 ghost use Rattle.cpg_text.specs.Percent.{decoded, before, message_of, is_plain, encoded_byte, encoded, text_of};
@@ -23,9 +23,27 @@ pub fn read_message(alloc: Global, word: &[u8]) -> Result<Option<Vec<u8>>, Refus
     }
 }
 
-/// The bytes that the text stands for.
-#[tactic(auto, using(crate::proofs::Texts::after_push))]
+/// The bytes that the text stands for, taken over all at once where each stands for itself.
+#[tactic(auto, using(crate::proofs::Plain::plain_decoded))]
 fn decode(alloc: Global, text: &[u8]) -> Result<Option<Vec<u8>>, Refusal>
+    ensures ok { IfOk result (λ found. option_map (λ bytes. bytes.items) found ≡ decoded text.now) }
+    ensures memory { IsOkUnless result Refusal.Memory }
+{
+    if has_no_percent(text) {
+        return Ok(Some(Vec::from_slice(alloc, text)?));
+    }
+    decode_each(alloc, text)
+}
+
+fn has_no_percent(text: &[u8]) -> bool
+    ensures { result ≡ list_all (λ byte. not (byte == 37)) text.now }
+{
+    text.iter().all(|byte| *byte != b'%')
+}
+
+/// The bytes that the text stands for, one after the other.
+#[tactic(auto, using(crate::proofs::Texts::after_push))]
+fn decode_each(alloc: Global, text: &[u8]) -> Result<Option<Vec<u8>>, Refusal>
     ensures ok { IfOk result (λ found. option_map (λ bytes. bytes.items) found ≡ decoded text.now) }
     ensures memory { IsOkUnless result Refusal.Memory }
 {

@@ -10,6 +10,7 @@ ghost use Rattle.cpg_text.specs.Lines.{is_blank, words_of};
 ghost use Rattle.cpg_text.specs.Steps.{StartsWord};
 
 use crate::lines::is_blank;
+use arrayvec::ArrayVec;
 use cpg_cred::Refusal;
 use std::alloc::Global;
 
@@ -76,6 +77,22 @@ fn word_end(line: &[u8]) -> Option<usize>
     ensures { result ≡ position is_blank line.now }
 {
     line.iter().position(|byte| is_blank(*byte))
+}
+
+/// The first words of a line, at most `N`, in room of their own.
+pub fn take_words<const N: usize>(line: &[u8]) -> ArrayVec<&[u8], N>
+    ensures { map (λ word. word.now) result.items ≡ take N (words_of line.now) }
+{
+    let mut words = ArrayVec::new();
+    let mut rest = line;
+    for _ in 0..N {
+        let Some((word, after)) = first_word(rest) else {
+            break;
+        };
+        words.push(word);
+        rest = after;
+    }
+    words
 }
 
 /// The first words of a line, at most `most`. One word more than a shape has room for tells that a line is
