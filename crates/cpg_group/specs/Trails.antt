@@ -37,6 +37,11 @@ abbrev pub IsTrail : List Record → ConnId → List Stop → Type 0
 IsTrail records conn trail =
     (map (λ stop. stop.place) trail ≡ places_of (is_made_by conn) records) × All (StandsBy records conn) trail
 
+-- the records among which a connection is followed, and the connection
+pub record TrailValue : Type 0 where
+  pub records : List Record
+  pub conn : ConnId
+
 -- the place of the join that a connection of that group stands by after its allowed op at the place, where it
 -- stood by that one before
 abbrev pub join_by : Op → ℕ → Option (List ℕ) → ℕ → ℕ

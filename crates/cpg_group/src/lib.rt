@@ -23,4 +23,6 @@ pub use cpg_record::{
 };
 pub use listing::{Names, Processes};
 pub use policies::Policy;
+pub use told::count_upto;
+pub use trails::Trail;
 pub use verifying::verify;

@@ -17,7 +17,7 @@ ghost use Rattle.cpg_group.specs.Trails.{kept_trail, HasRoom};
 
 use crate::listing::{self, Names, Processes};
 use crate::standing::Groups;
-use crate::trails::{Trails, stop_of};
+use crate::trails::{Trail, Trails, stop_of};
 use crate::{judging, nexts, telling, told, trails};
 use cpg_cred::{Refusal, Refused};
 use cpg_entry::{Entry, Name};
@@ -260,6 +260,20 @@ impl Policy {
     pub fn count_upto(&self, group: &[u8], last: u32) -> usize
         ensures { result ≡ length (places_of (acts_in group.now) (take last (judged self.now))) }
     {
-        told::count_in(self.groups.of(group).places(), last as usize)
+        told::count_upto(self.places_in(group), last)
+    }
+
+    /// The trail of the connection, looked up once for all that is asked of it. Takes no memory.
+    pub fn trail(&self, conn: ConnId) -> Trail<'_>
+        ensures { result ≡ record { records = judged self.now; conn = conn } }
+    {
+        Trail::of(self.records.as_slice(), conn, self.trails.of(&conn))
+    }
+
+    /// The ascending places of the allowed entries of the group. Takes no memory.
+    pub fn places_in(&self, group: &[u8]) -> &[u32]
+        ensures { result.now ≡ places_of (acts_in group.now) (judged self.now) }
+    {
+        self.groups.of(group).places()
     }
 }

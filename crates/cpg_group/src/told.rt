@@ -7,7 +7,7 @@ ghost use Rattle.cpg_record.specs.Places.{places_of, records_before};
 ghost use Rattle.cpg_group.specs.Standing.{AreStanding};
 ghost use Rattle.cpg_group.specs.Telling.{told, told_by, told_in};
 
-use crate::places::count_upto;
+use crate::places;
 use crate::standing::Groups;
 use crate::telling::collect_left;
 use cpg_cred::Refusal;
@@ -15,11 +15,11 @@ use cpg_entry::{Call, Name, Op};
 use cpg_record::{Cause, Event, Member, Moves, Record};
 use std::alloc::Global;
 
-/// How many of the ascending places stand up to the last one.
-pub(crate) fn count_in(places: &[u32], last: usize) -> usize
+/// How many of the ascending places stand up to the last one. Takes no memory, and searches by halving.
+pub fn count_upto(places: &[u32], last: u32) -> usize
     ensures { (test : Record → Bool) (records : List Record) → places.now ≡ places_of test records → result ≡ length (places_of test (take last records)) }
 {
-    count_upto(places, last)
+    places::count_upto(places, last as usize)
 }
 
 /// A change of the group by the record.

@@ -18,6 +18,7 @@ use cpg_entry::{Call, Name, Op};
 use cpg_record::{ConnId, Record};
 use indexmap::IndexMap;
 use std::alloc::Global;
+use std::marker::Model;
 
 /// The place of a connection's own entry, and the place of the join by which the connection is in a group
 /// after it: 0 where it is in none.
@@ -115,6 +116,54 @@ pub(crate) fn stop_of(records: &[Record], trail: &[Stop], place: u32, next: &Rec
     let standing = join_upto(trail, records.len());
     let join = next_join(next, place, find_joined(records, standing), standing);
     Stop { place, join }
+}
+
+/// What a connection did, looked up once: its own places and its groups. Contracts see it as the records and
+/// the connection.
+#[derive(Drop)]
+pub struct Trail<'a> {
+    records: &'a [Record],
+    conn: ConnId,
+    stops: &'a [Stop],
+}
+
+impl<'a> Model for Trail<'a> {
+    ghost use Rattle.cpg_group.specs.Trails.{IsTrail, TrailValue};
+
+    ghost Value = { TrailValue };
+
+    ghost view = { λ trail. record { records = trail.records.now; conn = trail.conn } };
+
+    ghost invariant = { λ trail. IsTrail trail.records.now trail.conn trail.stops.now };
+}
+
+impl<'a> Trail<'a> {
+    /// The trail of the connection by its stops.
+    pub(crate) fn of(records: &'a [Record], conn: ConnId, stops: &'a [Stop]) -> Trail<'a>
+        requires { IsTrail records.now conn stops.now }
+        ensures { result ≡ record { records = records.now; conn = conn } }
+    {
+        Trail {
+            records,
+            conn,
+            stops,
+        }
+    }
+
+    /// The next place above `after` at which the connection made the entry. Takes no memory, and searches by
+    /// halving.
+    pub fn next_own(&self, after: u32) -> Option<u32>
+        ensures { IsNextOf (is_made_by self.now.conn) self.now.records after result }
+    {
+        next_own(self.stops, after as usize)
+    }
+
+    /// The group that the connection is in after the last place. Takes no memory, and searches by halving.
+    pub fn group_after(&self, last: u32) -> Option<&'a Name>
+        ensures { option_copied result ≡ group_of (take last self.now.records) self.now.conn }
+    {
+        find_group(self.records, self.stops, last as usize)
+    }
 }
 
 /// The trails of all connections that made an entry.

@@ -2,7 +2,7 @@ use Rattle.std.proofs.Common.{◌≡◌, ℕ, List, leb, true, false, ap, subst,
 use Rattle.std.specs.List.Sorted.{IsPartitionPoint}
 use Rattle.cpg_record.proofs.Cuts.{all_themselves, non_decreasing}
 use Rattle.cpg_group.proofs.Counted.{count_is}
-use Rattle.cpg_group.proofs.told.count_in.Goals as goal
+use Rattle.cpg_group.proofs.told.count_upto.Goals as goal
 
 pub returns : goal.returns
 returns c = λ test rs is.
