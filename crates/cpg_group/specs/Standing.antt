@@ -44,6 +44,11 @@ or_none (Some group) = group
 abbrev pub kept_group : Kept → List ℕ → GroupValue
 kept_group kept g = or_none (lookup (bytes_eq g) kept)
 
+-- the group that is kept for a name, if there is a name
+abbrev pub kept_for : Kept → Option (List ℕ) → GroupValue
+kept_for kept None = no_group
+kept_for kept (Some g) = kept_group kept g
+
 -- a group is kept for the name
 abbrev pub HasGroup : Kept → List ℕ → Type 0
 HasGroup kept g = is_some (lookup (bytes_eq g) kept) ≡ true
@@ -56,6 +61,11 @@ listed (Some list) = list
 -- the group as it stands after the records
 abbrev pub standing : List Record → List ℕ → GroupValue
 standing records g = record { table = rules_of records g; members = members records g; places = places_of (acts_in g) records }
+
+-- the group of that name as it stands after the records, if there is a name
+abbrev pub standing_for : List Record → Option (List ℕ) → GroupValue
+standing_for records None = no_group
+standing_for records (Some g) = standing records g
 
 -- the kept groups are those that the records make
 abbrev pub AreStanding : Kept → List Record → Type 0

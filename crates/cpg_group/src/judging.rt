@@ -6,7 +6,7 @@ ghost use Rattle.cpg_record.specs.Connections.{conn_of};
 ghost use Rattle.cpg_record.specs.Judging.{entry_group, record_of};
 ghost use Rattle.cpg_record.specs.Membership.{group_of, members_in};
 ghost use Rattle.cpg_record.specs.Verdicts.{edit_decision, join_verdict, leave_verdict, send_verdict, insert_verdict, remove_verdict, verdict};
-ghost use Rattle.cpg_group.specs.Standing.{standing, AreStanding};
+ghost use Rattle.cpg_group.specs.Standing.{standing, standing_for, AreStanding};
 ghost use Rattle.cpg_group.specs.Trails.{IsTrail};
 
 use crate::standing::{Group, Groups};
@@ -56,20 +56,16 @@ fn judge_leave(group: Option<&Name>) -> Verdict
 }
 
 /// A send: Closed where the connection is in no group, then the right in its group.
-fn judge_send(records: &[Record], groups: &Groups, seat: Option<&Name>, entry: &Entry) -> Verdict
-    requires { AreStanding groups.now records.now }
+fn judge_send(records: &[Record], group: &Group, seat: Option<&Name>, entry: &Entry) -> Verdict
+    requires { group.now ≡ standing_for records.now (option_copied seat) }
     ensures { result ≡ send_verdict records.now entry.now (option_copied seat.entry) }
 {
-    match seat {
-        None => Verdict::Denied(Reason::Closed),
-        Some(group) => match groups
-            .of(group.as_slice())
-            .table()
-            .decide(Right::Send, entry.asker())
-        {
-            Decision::Denied(by) => Verdict::Denied(Reason::of(by)),
-            Decision::Allowed(by) => Verdict::Allowed(by),
-        },
+    if seat.is_none() {
+        return Verdict::Denied(Reason::Closed);
+    }
+    match group.table().decide(Right::Send, entry.asker()) {
+        Decision::Denied(by) => Verdict::Denied(Reason::of(by)),
+        Decision::Allowed(by) => Verdict::Allowed(by),
     }
 }
 
@@ -118,25 +114,18 @@ fn judge_remove(rules: &Table, entry: &Entry, id: u32) -> Verdict
     }
 }
 
-/// The verdict on an entry whose connection is in that group.
-fn judge_entry(records: &[Record], groups: &Groups, seat: Option<&Name>, entry: &Entry) -> Verdict
-    requires groups { AreStanding groups.now records.now }
+/// The verdict on an entry of that group whose connection is in the group `seat`.
+fn judge_entry(records: &[Record], group: &Group, seat: Option<&Name>, entry: &Entry) -> Verdict
+    requires group { group.now ≡ standing_for records.now (entry_group records.now entry.now entry.now.op) }
     requires seat { option_copied seat ≡ group_of records.now (conn_of entry.now) }
     ensures { result ≡ verdict records.now entry.now }
 {
     match &entry.op {
-        Op::Act(Call::Join(group)) => {
-            let name = group.as_slice();
-            judge_join(records, groups.of(name), seat, entry, name)
-        }
+        Op::Act(Call::Join(name)) => judge_join(records, group, seat, entry, name.as_slice()),
         Op::Act(Call::Leave) => judge_leave(seat),
-        Op::Act(Call::Send(_)) => judge_send(records, groups, seat, entry),
-        Op::Act(Call::Insert(group, index, _)) => {
-            judge_insert(groups.of(group.as_slice()).table(), entry, *index)
-        }
-        Op::Act(Call::Remove(group, id)) => {
-            judge_remove(groups.of(group.as_slice()).table(), entry, *id)
-        }
+        Op::Act(Call::Send(_)) => judge_send(records, group, seat, entry),
+        Op::Act(Call::Insert(_, index, _)) => judge_insert(group.table(), entry, *index),
+        Op::Act(Call::Remove(_, id)) => judge_remove(group.table(), entry, *id),
         Op::Gone => Verdict::Allowed(By::Free),
     }
 }
@@ -158,23 +147,23 @@ fn find_entry_group<'a>(
     }
 }
 
-/// The members of the record's group with that record.
+/// The members of the record's group with that record, from the group as it stood.
 #[tactic(auto, using(crate::proofs::Passed::members_push))]
 fn collect_members_with(
     alloc: Global,
     records: &[Record],
-    groups: &Groups,
+    group: &Group,
     next: &Record,
 ) -> Result<Members, Refusal>
-    requires { AreStanding groups.now records.now }
+    requires { group.now ≡ standing_for records.now next.now.group }
     ensures ok { IfOk result (λ list. list ≡ members_in (records.now ++ next.now ∷ []) next.now.group) }
     ensures memory { IsOkUnless result Refusal.Memory }
 {
     match &next.group {
         None => Ok(Members::new(alloc)),
-        Some(group) => {
-            let mut list = groups.of(group.as_slice()).members().copy(alloc)?;
-            list.take_in(next, group.as_slice())?;
+        Some(name) => {
+            let mut list = group.members().copy(alloc)?;
+            list.take_in(next, name.as_slice())?;
             Ok(list)
         }
     }
@@ -206,8 +195,10 @@ pub(crate) fn judge(
     ensures err { IfErr result (λ refused. refused ≡ record { refusal = Refusal.Memory; back = entry }) }
 {
     let seat = find_group(records, trail, records.len());
-    let verdict = judge_entry(records, groups, seat, &entry);
-    let group = match copy_name(alloc, find_entry_group(records, seat, &entry)) {
+    let name = find_entry_group(records, seat, &entry);
+    let standing = groups.of_name(name);
+    let verdict = judge_entry(records, standing, seat, &entry);
+    let group = match copy_name(alloc, name) {
         Ok(group) => group,
         Err(refusal) => {
             return Err(Refused {
@@ -222,7 +213,7 @@ pub(crate) fn judge(
         verdict,
         members: Members::new(alloc),
     };
-    match collect_members_with(alloc, records, groups, &next) {
+    match collect_members_with(alloc, records, standing, &next) {
         Ok(members) => {
             next.members = members;
             Ok(next)

@@ -2,11 +2,12 @@
 
 ghost use Rattle.std.specs.Prelude.{◌≡◌, List, ℕ, true, is_some, if◌then◌else◌, OnOk, OnErr, IfOk, IsOkUnless};
 ghost use Rattle.std.specs.List.{IsDistinct};
+ghost use Rattle.std.specs.Option.{option_copied};
 ghost use Rattle.std.specs.Str.{bytes_eq};
 ghost use Rattle.cpg_record.specs.RuleTables.{edited_by};
 ghost use Rattle.cpg_record.specs.Steps.{CanEditBy};
 ghost use Rattle.cpg_record.specs.Verdicts.{has_process};
-ghost use Rattle.cpg_group.specs.Standing.{kept_group, names_of, changed, group_past, no_group, CanChange, CanTake, HasGroup};
+ghost use Rattle.cpg_group.specs.Standing.{kept_for, kept_group, names_of, changed, group_past, no_group, CanChange, CanTake, HasGroup};
 
 use crate::rosters::Roster;
 use cpg_cred::Refusal;
@@ -147,6 +148,16 @@ impl Groups {
         match self.kept.get(name) {
             Some(group) => group,
             None => &self.none,
+        }
+    }
+
+    /// The group of that name, and one without rules, members and places where there is no name.
+    pub(crate) fn of_name(&self, name: Option<&Name>) -> &Group
+        ensures { result.now ≡ kept_for self.now (option_copied name.entry) }
+    {
+        match name {
+            None => &self.none,
+            Some(name) => self.of(name.as_slice()),
         }
     }
 
