@@ -90,36 +90,25 @@ set_alike {Z} name (entry ∷ entries) w = by_case (bytes_eq name entry.0.items)
     by_case true rest = refl
     by_case false rest = ap (λ (kept : Kept). (entry.0.items, entry.1) ∷ kept) rest
 
--- a place that was made is an empty group at the end
-pub named-push : {Z : Type 0} (entries : List (Vec ℕ Z × GroupValue)) (key : Vec ℕ Z) (group : GroupValue) → named (entries ++ (key, group) ∷ []) ≡ named entries ++ (key.items, group) ∷ []
-named-push entries key group = map-append _ entries ((key, group) ∷ [])
-
 -- what is not there is none
 pub none_of : {X : Type 0} (o : Option X) → is_some o ≡ false → o ≡ None
 none_of None h = refl
 none_of (Some x) h = absurd (cc)
 
-pub made_named : {Z : Type 0} (entries : List (Vec ℕ Z × GroupValue)) (kept : Kept) (name : List ℕ) (key : Vec ℕ Z) (group : GroupValue) →
-    named entries ≡ kept → key.items ≡ name → group ≡ no_group → named (entries ++ (key, group) ∷ []) ≡ kept ++ (name, no_group) ∷ []
-made_named entries kept name key group same spelled empty =
-    named-push entries key group
+-- a group that is kept for a name that none has
+pub group_added : {Z : Type 0} (entries : List (Vec ℕ Z × GroupValue)) (kept : Kept) (name : List ℕ) (key : Vec ℕ Z) (group : GroupValue) (g : List ℕ) →
+    named entries ≡ kept → key.items ≡ name → lookup (bytes_eq name) kept ≡ None →
+    kept_group (named (entries ++ (key, group) ∷ [])) g ≡ cond (bytes_eq name g) group (kept_group kept g)
+group_added entries kept name key group g same spelled none =
+    ap (λ (past : Kept). kept_group past g)
+    (map-append _ entries ((key, group) ∷ [])
     ∙ ap (λ (front : Kept). front ++ (key.items, group) ∷ []) same
-    ∙ ap (λ (bytes : List ℕ). kept ++ (bytes, group) ∷ []) spelled
-    ∙ ap (λ (g : GroupValue). kept ++ (name, g) ∷ []) empty
-
--- which changes no group
-pub group_made : (kept : Kept) (name g : List ℕ) → lookup (bytes_eq name) kept ≡ None → kept_group (kept ++ (name, no_group) ∷ []) g ≡ kept_group kept g
-group_made kept name g none =
-    ap or_none (lookup-push bytes_eq bytes_eq-Decides kept name no_group g none) ∙ by_case (bytes_eq name g) refl
+    ∙ ap (λ (bytes : List ℕ). kept ++ (bytes, group) ∷ []) spelled)
+    ∙ ap or_none (lookup-push bytes_eq bytes_eq-Decides kept name group g none) ∙ by_case (bytes_eq name g)
   where
-    by_case : (b : Bool) → bytes_eq name g ≡ b → or_none (cond b (Some no_group) (lookup (bytes_eq g) kept)) ≡ or_none (lookup (bytes_eq g) kept)
-    by_case false is = refl
-    by_case true is = sym (ap or_none (ap (λ (n : List ℕ). lookup (bytes_eq n) kept) (sym ((bytes_eq-Decides name g).0 is)) ∙ none))
-
-pub group_there : (kept : Kept) (name : List ℕ) → lookup (bytes_eq name) kept ≡ None → is_some (lookup (bytes_eq name) (kept ++ (name, no_group) ∷ [])) ≡ true
-group_there kept name none =
-    ap is_some (lookup-push bytes_eq bytes_eq-Decides kept name no_group name none)
-    ∙ ap (λ (b : Bool). is_some (cond b (Some no_group) (lookup (bytes_eq name) kept))) ((bytes_eq-Decides name name).1 refl)
+    by_case : (b : Bool) → or_none (cond b (Some group) (lookup (bytes_eq g) kept)) ≡ cond b group (kept_group kept g)
+    by_case true = refl
+    by_case false = refl
 
 -- a group that is there and set
 pub group_set : (kept : Kept) (name : List ℕ) (w : GroupValue) (g : List ℕ) → is_some (lookup (bytes_eq name) kept) ≡ true →
@@ -155,6 +144,10 @@ on_ok (Err e) f p = tt
 pub always_ok : {X E : Type 0} (r : Result X E) {P : Type 0} → P → OnOk r P
 always_ok (Ok x) p = p
 always_ok (Err e) p = tt
+
+pub always_err : {X E : Type 0} (r : Result X E) {P : Type 0} → P → OnErr r P
+always_err (Ok x) p = tt
+always_err (Err e) p = p
 
 pub on_err : {X E : Type 0} (r : Result X E) {P Q : Type 0} → (P → Q) → OnErr r P → OnErr r Q
 on_err (Ok x) f p = tt

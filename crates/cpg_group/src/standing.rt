@@ -1,13 +1,14 @@
 //! How the groups stand, kept beside the records: each one's table, members and places.
 
-ghost use Rattle.std.specs.Prelude.{◌≡◌, List, ℕ, true, is_some, if◌then◌else◌, OnOk, OnErr, IfOk, IsOkUnless};
+ghost use Rattle.std.specs.Prelude.{◌≡◌, List, ℕ, None, if◌then◌else◌, OnOk, OnErr, IfOk, IsOkUnless};
 ghost use Rattle.std.specs.List.{IsDistinct};
+ghost use Rattle.std.specs.Map.{lookup};
 ghost use Rattle.std.specs.Option.{option_copied};
 ghost use Rattle.std.specs.Str.{bytes_eq};
 ghost use Rattle.cpg_record.specs.RuleTables.{edited_by};
 ghost use Rattle.cpg_record.specs.Steps.{CanEditBy};
 ghost use Rattle.cpg_record.specs.Verdicts.{has_process};
-ghost use Rattle.cpg_group.specs.Standing.{kept_for, kept_group, names_of, changed, group_past, no_group, CanChange, CanTake, HasGroup};
+ghost use Rattle.cpg_group.specs.Standing.{kept_for, kept_group, names_of, changed, group_past, no_group, CanChange, CanTake};
 
 use crate::rosters::Roster;
 use cpg_cred::Refusal;
@@ -174,32 +175,32 @@ impl Groups {
         Ok(names)
     }
 
-    /// Makes a place for the group of that name, which changes no group.
-    fn make(&mut self, name: &[u8]) -> Result<(), Refusal>
-        ensures same { (g : List ℕ) → kept_group self.new g ≡ kept_group self.old g }
-        ensures ok { OnOk result (HasGroup self.new name.now) }
+    /// Keeps a group of that name, which none has, as it is after its first allowed record.
+    fn add(&mut self, name: &[u8], place: u32, past: &Record) -> Result<(), Refusal>
+        requires absent { lookup (bytes_eq name.now) self.old ≡ None }
+        requires can { CanChange no_group place past.now }
+        ensures ok { OnOk result ((g : List ℕ) → kept_group self.new g ≡ (if bytes_eq name.now g then changed place past.now (kept_group self.old g) else kept_group self.old g)) }
+        ensures err { OnErr result ((g : List ℕ) → kept_group self.new g ≡ kept_group self.old g) }
         ensures memory { IsOkUnless result Refusal.Memory }
     {
-        if self.kept.contains_key(name) {
-            return Ok(());
-        }
         let alloc = *self.kept.allocator();
         let key = Vec::from_slice(alloc, name)?;
-        self.kept.insert(key, Group::new(alloc))?;
+        let mut group = Group::new(alloc);
+        group.take_in(place, past)?;
+        self.kept.insert(key, group)?;
         Ok(())
     }
 
-    /// Brings the group of that name, which has a place, past its allowed record.
+    /// Brings the group of that name past its allowed record.
     fn change(&mut self, name: &[u8], place: u32, past: &Record) -> Result<(), Refusal>
-        requires there { HasGroup self.old name.now }
-        requires can { CanChange (kept_group self.old name.now) place past.now }
+        requires { CanChange (kept_group self.old name.now) place past.now }
         ensures ok { OnOk result ((g : List ℕ) → kept_group self.new g ≡ (if bytes_eq name.now g then changed place past.now (kept_group self.old g) else kept_group self.old g)) }
         ensures err { OnErr result ((g : List ℕ) → kept_group self.new g ≡ kept_group self.old g) }
         ensures memory { IsOkUnless result Refusal.Memory }
     {
         match self.kept.get_mut(name) {
-            None => Ok(()),
             Some(group) => group.take_in(place, past),
+            None => self.add(name, place, past),
         }
     }
 
@@ -215,10 +216,7 @@ impl Groups {
         }
         match &past.group {
             None => Ok(()),
-            Some(name) => {
-                self.make(name.as_slice())?;
-                self.change(name.as_slice(), place, past)
-            }
+            Some(name) => self.change(name.as_slice(), place, past),
         }
     }
 }
