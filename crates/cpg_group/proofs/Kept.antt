@@ -90,11 +90,6 @@ set_alike {Z} name (entry ∷ entries) w = by_case (bytes_eq name entry.0.items)
     by_case true rest = refl
     by_case false rest = ap (λ (kept : Kept). (entry.0.items, entry.1) ∷ kept) rest
 
--- what is not there is none
-pub none_of : {X : Type 0} (o : Option X) → is_some o ≡ false → o ≡ None
-none_of None h = refl
-none_of (Some x) h = absurd (cc)
-
 -- a group that is kept for a name that none has
 pub group_added : {Z : Type 0} (entries : List (Vec ℕ Z × GroupValue)) (kept : Kept) (name : List ℕ) (key : Vec ℕ Z) (group : GroupValue) (g : List ℕ) →
     named entries ≡ kept → key.items ≡ name → lookup (bytes_eq name) kept ≡ None →

@@ -148,55 +148,40 @@ places_kept : (rs : List Record) (r : Record) (conn : ConnId) (made : Bool) → 
 places_kept rs r conn made is =
     places_from-push (is_made_by conn) 1 rs r ∙ ap (λ (b : Bool). places_of (is_made_by conn) rs ++ cond b ((1 + length rs) ∷ []) []) is
 
--- the maker's trail with its stop, and every other as it was
-trail_past : (rs : List Record) (r : Record) (conn : ConnId) (stop : Stop) (trail : List Stop) (made : Bool) → is_conn conn (conn_of r.entry) ≡ made →
-    stop.place ≡ length rs + 1 → StandsBy (rs ++ r ∷ []) (conn_of r.entry) stop → IsTrail rs conn trail → IsTrail (rs ++ r ∷ []) conn (cond made (trail ++ stop ∷ []) trail)
-trail_past rs r conn stop trail false is at by are = (
-  are.0 ∙ sym (places_kept rs r conn false is ∙ append-nil (places_of (is_made_by conn) rs)),
-  all_kept rs r conn trail are,
-)
-trail_past rs r conn stop trail true is at by are =
-    let mine : StandsBy (rs ++ r ∷ []) conn stop = subst (λ (c : ConnId). StandsBy (rs ++ r ∷ []) c stop) (sym (is_conn-true conn (conn_of r.entry) is)) by in
-    let here : stop.place ≡ 1 + length rs = omega arith in (
+-- the maker's trail with its stop
+pub trail_longer : (rs : List Record) (r : Record) (stop : Stop) (trail : List Stop) →
+    stop.place ≡ length rs + 1 → StandsBy (rs ++ r ∷ []) (conn_of r.entry) stop → IsTrail rs (conn_of r.entry) trail → IsTrail (rs ++ r ∷ []) (conn_of r.entry) (trail ++ stop ∷ [])
+trail_longer rs r stop trail at by are =
+    let here : stop.place ≡ 1 + length rs = omega arith in
+    let conn : ConnId = conn_of r.entry in (
       map-append place_of trail (stop ∷ [])
           ∙ ap (λ (ps : List ℕ). ps ++ stop.place ∷ []) are.0
           ∙ ap (λ (n : ℕ). places_of (is_made_by conn) rs ++ n ∷ []) here
-          ∙ sym (places_kept rs r conn true is),
-      All-append (StandsBy (rs ++ r ∷ []) conn) trail (stop ∷ []) (all_kept rs r conn trail are) (All-cons (StandsBy (rs ++ r ∷ []) conn) stop [] mine (λ k d h. absurd (omega arith))),
+          ∙ sym (places_kept rs r conn true (is_conn-itself conn)),
+      All-append (StandsBy (rs ++ r ∷ []) conn) trail (stop ∷ []) (all_kept rs r conn trail are) (All-cons (StandsBy (rs ++ r ∷ []) conn) stop [] by (λ k d h. absurd (omega arith))),
     )
 
-pub AreTrails-push : {Y Z : Type 0} (old : KeptTrails Y) (new : KeptTrails Z) (rs : List Record) (r : Record) (stop : Stop) → AreTrails old rs → stop.place ≡ length rs + 1 →
-    StandsBy (rs ++ r ∷ []) (conn_of r.entry) stop →
-    ((c : ConnId) → kept_trail new c ≡ cond (is_conn c (conn_of r.entry)) (kept_trail old c ++ stop ∷ []) (kept_trail old c)) → AreTrails new (rs ++ r ∷ [])
-AreTrails-push old new rs r stop are at by extends conn =
-    subst (IsTrail (rs ++ r ∷ []) conn) (sym (extends conn)) (trail_past rs r conn stop (kept_trail old conn) (is_conn conn (conn_of r.entry)) refl at by (are conn))
+-- and every other as it was
+trail_elsewhere : (rs : List Record) (r : Record) (conn : ConnId) (trail : List Stop) → is_conn conn (conn_of r.entry) ≡ false → IsTrail rs conn trail → IsTrail (rs ++ r ∷ []) conn trail
+trail_elsewhere rs r conn trail is are = (
+  are.0 ∙ sym (places_kept rs r conn false is ∙ append-nil (places_of (is_made_by conn) rs)),
+  all_kept rs r conn trail are,
+)
+
+-- the trails where the maker's alone was set
+pub AreTrails-past : {Y Z : Type 0} (old : KeptTrails Y) (new : KeptTrails Z) (rs : List Record) (r : Record) (trail : List Stop) → AreTrails old rs → IsTrail (rs ++ r ∷ []) (conn_of r.entry) trail →
+    ((c : ConnId) → kept_trail new c ≡ cond (is_conn c (conn_of r.entry)) trail (kept_trail old c)) → AreTrails new (rs ++ r ∷ [])
+AreTrails-past old new rs r trail are own set conn =
+    subst (IsTrail (rs ++ r ∷ []) conn) (sym (set conn)) (by_case (is_conn conn (conn_of r.entry)) refl)
+  where
+    by_case : (b : Bool) → is_conn conn (conn_of r.entry) ≡ b → IsTrail (rs ++ r ∷ []) conn (cond b trail (kept_trail old conn))
+    by_case false is = trail_elsewhere rs r conn (kept_trail old conn) is (are conn)
+    by_case true is = subst (λ (c : ConnId). IsTrail (rs ++ r ∷ []) c trail) (sym (is_conn-true conn (conn_of r.entry) is)) own
 
 -- ---- trails by connections
 
 pub is_conn-Decides : (a b : ConnId) → (is_conn a b ≡ true) ↔ (a ≡ b)
 is_conn-Decides a b = (is_conn-true a b, (λ same. subst (λ (c : ConnId). is_conn a c ≡ true) same (is_conn-itself a)))
-
--- a trail that is made changes no connection's trail
-pub trail_made : {Z : Type 0} (kept : KeptTrails Z) (conn q : ConnId) (w : Vec Stop Z) → w.items ≡ [] → lookup (is_conn conn) kept ≡ None →
-    kept_trail (kept ++ (conn, w) ∷ []) q ≡ kept_trail kept q
-trail_made {Z} kept conn q w empty none =
-    ap or_no_trail (lookup-push is_conn is_conn-Decides kept conn w q none) ∙ by_case (is_conn conn q) refl
-  where
-    by_case : (b : Bool) → is_conn conn q ≡ b → or_no_trail (cond b (Some w) (lookup (is_conn q) kept)) ≡ or_no_trail (lookup (is_conn q) kept)
-    by_case false is = refl
-    by_case true is = empty ∙ sym (ap or_no_trail (ap (λ (c : ConnId). lookup (is_conn c) kept) (sym (is_conn-true conn q is)) ∙ none))
-
-pub trail_there : {Z : Type 0} (kept : KeptTrails Z) (conn : ConnId) (w : Vec Stop Z) → lookup (is_conn conn) kept ≡ None → is_some (lookup (is_conn conn) (kept ++ (conn, w) ∷ [])) ≡ true
-trail_there kept conn w none =
-    ap is_some (lookup-push is_conn is_conn-Decides kept conn w conn none)
-    ∙ ap (λ (b : Bool). is_some (cond b (Some w) (lookup (is_conn conn) kept))) (is_conn-itself conn)
-
--- a trail that is there and set is found
-pub trail_found : {Z : Type 0} (kept : KeptTrails Z) (conn : ConnId) (w : Vec Stop Z) → is_some (lookup (is_conn conn) kept) ≡ true →
-    lookup (is_conn conn) (set_value (is_conn conn) kept w) ≡ Some w
-trail_found kept conn w there =
-    lookup-set is_conn is_conn-Decides kept conn w conn there
-    ∙ ap (λ (b : Bool). cond b (Some w) (lookup (is_conn conn) kept)) (is_conn-itself conn)
 
 flipped : (a b : ConnId) → is_conn a b ≡ is_conn b a
 flipped a b = by_case (is_conn a b) (is_conn b a) refl refl
@@ -223,6 +208,18 @@ trail_set {Z} kept conn q w there =
     by_case true = refl
     by_case false = refl
 
+-- as it does where a trail is added
+pub trail_added : {Z : Type 0} (kept : KeptTrails Z) (conn q : ConnId) (w : Vec Stop Z) → lookup (is_conn conn) kept ≡ None →
+    kept_trail (kept ++ (conn, w) ∷ []) q ≡ cond (is_conn q conn) w.items (kept_trail kept q)
+trail_added {Z} kept conn q w none =
+    ap or_no_trail (lookup-push is_conn is_conn-Decides kept conn w q none)
+    ∙ by_case (is_conn conn q)
+    ∙ ap (λ (b : Bool). cond b w.items (kept_trail kept q)) (flipped conn q)
+  where
+    by_case : (b : Bool) → or_no_trail (cond b (Some w) (lookup (is_conn q) kept)) ≡ cond b w.items (or_no_trail (lookup (is_conn q) kept))
+    by_case true = refl
+    by_case false = refl
+
 -- what is set to the items that were there changes no trail
 pub trail_same : {Z : Type 0} (kept : KeptTrails Z) (conn q : ConnId) (v w : Vec Stop Z) → lookup (is_conn conn) kept ≡ Some v → w.items ≡ v.items →
     kept_trail (set_value (is_conn conn) kept w) q ≡ kept_trail kept q
@@ -231,13 +228,3 @@ trail_same {Z} kept conn q v w there same = trail_set kept conn q w (ap is_some 
     by_case : (b : Bool) → is_conn q conn ≡ b → cond b w.items (kept_trail kept q) ≡ kept_trail kept q
     by_case false is = refl
     by_case true is = same ∙ sym (ap (λ (c : ConnId). kept_trail kept c) (is_conn-true q conn is) ∙ ap or_no_trail there)
-
--- the trail that is set with a stop more
-pub trail_longer : {Z : Type 0} (kept : KeptTrails Z) (conn q : ConnId) (v w : Vec Stop Z) (stop : Stop) → lookup (is_conn conn) kept ≡ Some v → w.items ≡ v.items ++ stop ∷ [] →
-    kept_trail (set_value (is_conn conn) kept w) q ≡ cond (is_conn q conn) (kept_trail kept q ++ stop ∷ []) (kept_trail kept q)
-trail_longer {Z} kept conn q v w stop there longer = trail_set kept conn q w (ap is_some there) ∙ by_case (is_conn q conn) refl
-  where
-    by_case : (b : Bool) → is_conn q conn ≡ b → cond b w.items (kept_trail kept q) ≡ cond b (kept_trail kept q ++ stop ∷ []) (kept_trail kept q)
-    by_case false is = refl
-    by_case true is =
-        longer ∙ ap (λ (stops : List Stop). stops ++ stop ∷ []) (sym (ap (λ (c : ConnId). kept_trail kept c) (is_conn-true q conn is) ∙ ap or_no_trail there))

@@ -49,10 +49,6 @@ abbrev pub kept_for : Kept → Option (List ℕ) → GroupValue
 kept_for kept None = no_group
 kept_for kept (Some g) = kept_group kept g
 
--- a group is kept for the name
-abbrev pub HasGroup : Kept → List ℕ → Type 0
-HasGroup kept g = is_some (lookup (bytes_eq g) kept) ≡ true
-
 -- the members of the list that is there, and nobody where there is none
 abbrev pub listed : Option (List Member) → List Member
 listed None = []

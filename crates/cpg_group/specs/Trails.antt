@@ -68,19 +68,6 @@ or_no_trail (Some trail) = trail.items
 abbrev pub kept_trail : {Z : Type 0} → KeptTrails Z → ConnId → List Stop
 kept_trail kept conn = or_no_trail (lookup (is_conn conn) kept)
 
--- a trail is kept for the connection
-abbrev pub HasTrail : {Z : Type 0} → KeptTrails Z → ConnId → Type 0
-HasTrail kept conn = is_some (lookup (is_conn conn) kept) ≡ true
-
--- a trail with room for one stop more is kept for the connection
-abbrev pub HasRoom : {Z : Type 0} → KeptTrails Z → ConnId → Type 0
-HasRoom {Z} kept conn = (trail : Vec Stop Z) × (lookup (is_conn conn) kept ≡ Some trail) × (vec_len trail < vec_capacity trail)
-
--- the connection's trail has the stop at its end, and every other is as it was
-abbrev pub Extends : {Z : Type 0} → KeptTrails Z → KeptTrails Z → ConnId → Stop → Type 0
-Extends old new conn stop =
-    (c : ConnId) → kept_trail new c ≡ (if is_conn c conn then kept_trail old c ++ stop ∷ [] else kept_trail old c)
-
 -- the kept trails are those that the records make
 abbrev pub AreTrails : {Z : Type 0} → KeptTrails Z → List Record → Type 0
 AreTrails kept records = (conn : ConnId) → IsTrail records conn (kept_trail kept conn)

@@ -1,8 +1,6 @@
 //! The judged entries, and what they come to.
 
-ghost use Rattle.std.specs.Prelude.{List, ℕ, ◌≡◌, ◌≢◌, ◌<◌, ◌≤◌, ◌++◌, ◌∷◌, [], length, take, OnOk, OnErr, IfOk, IfErr, MatchOption, IsOkUnless};
-ghost use Rattle.cpg_record.specs.declared.connections.ConnId.{ConnId};
-ghost use Rattle.cpg_record.specs.Connections.{conn_of};
+ghost use Rattle.std.specs.Prelude.{◌≡◌, ◌≢◌, ◌<◌, ◌≤◌, ◌++◌, ◌∷◌, [], length, take, OnOk, OnErr, IfOk, IfErr, MatchOption, IsOkUnless};
 ghost use Rattle.cpg_record.specs.Events.{events};
 ghost use Rattle.cpg_record.specs.Judging.{judged, most_places, record_of, IsNext};
 ghost use Rattle.cpg_record.specs.Listings.{Answers, AreGroups, listing};
@@ -11,13 +9,11 @@ ghost use Rattle.cpg_record.specs.Membership.{group_of};
 ghost use Rattle.cpg_record.specs.Nexts.{acts_in, is_made_by, IsNextTold, TellsNoMore};
 ghost use Rattle.cpg_record.specs.Places.{places_of, IsNextOf};
 ghost use Rattle.cpg_record.specs.RuleTables.{rules_of};
-ghost use Rattle.cpg_group.specs.Standing.{kept_group, group_past, CanTake};
 ghost use Rattle.cpg_group.specs.Telling.{told};
-ghost use Rattle.cpg_group.specs.Trails.{kept_trail, HasRoom};
 
 use crate::listing::{self, Names, Processes};
 use crate::standing::Groups;
-use crate::trails::{Trail, Trails, stop_of};
+use crate::trails::{Trail, Trails};
 use crate::{judging, nexts, telling, told, trails};
 use cpg_cred::{Refusal, Refused};
 use cpg_entry::{Entry, Name};
@@ -53,20 +49,6 @@ impl Model for Policy {
     ghost view = { λ policy. entries_of policy.records.items };
 
     ghost invariant = { λ policy. AreRecords policy.records.items × AreStanding policy.groups policy.records.items × AreTrails policy.trails.kept.entries policy.records.items };
-}
-
-/// Makes room on the trail of the record's connection, and brings the groups past the record: the growths
-/// that an `apply` needs. A refusal changes no group, and no call changes a trail.
-fn grow(groups: &mut Groups, trails: &mut Trails, place: u32, next: &Record) -> Result<(), Refusal>
-    requires { (g : List ℕ) → CanTake g (kept_group groups.old g) (place, next.now) }
-    ensures ok { OnOk result ((g : List ℕ) → kept_group groups.new g ≡ group_past g (kept_group groups.old g) (place, next.now)) }
-    ensures err { OnErr result ((g : List ℕ) → kept_group groups.new g ≡ kept_group groups.old g) }
-    ensures trails { (c : ConnId) → kept_trail trails.new.kept.entries c ≡ kept_trail trails.old.kept.entries c }
-    ensures room { OnOk result (HasRoom trails.new.kept.entries (conn_of next.now.entry)) }
-    ensures memory { IsOkUnless result Refusal.Memory }
-{
-    trails.make_room(&ConnId::of(&next.entry))?;
-    groups.take_in(place, next)
 }
 
 impl Policy {
@@ -125,11 +107,9 @@ impl Policy {
             });
         }
         let place = self.records.len() as u32 + 1;
-        match grow(&mut self.groups, &mut self.trails, place, &next) {
+        let records = self.records.as_slice();
+        match self.trails.take_in(&mut self.groups, records, place, &next) {
             Ok(()) => {
-                let conn = ConnId::of(&next.entry);
-                let stop = stop_of(self.records.as_slice(), self.trails.of(&conn), place, &next);
-                self.trails.push(&conn, stop);
                 self.records.push_reserved(next);
                 Ok(())
             }

@@ -1,18 +1,21 @@
 //! The trail of each connection, kept beside the records: the places of its own entries, and by which join
 //! it is in a group after each. Between two of them its group stays, so the trail tells its group at any place.
 
-ghost use Rattle.std.specs.Prelude.{◌≡◌, ◌+◌, ◌≤◌, ◌++◌, ◌∷◌, [], ℕ, List, map, take, length, nat_le, true, false, OnOk, IsOkUnless};
+ghost use Rattle.std.specs.Prelude.{◌≡◌, ◌+◌, ◌≤◌, ◌++◌, ◌∷◌, [], ℕ, List, map, take, length, nat_le, true, false, None, OnOk, OnErr, IsOkUnless};
 ghost use Rattle.std.specs.List.Sorted.{IsNonDecreasingBy, IsPartitionPoint};
+ghost use Rattle.std.specs.Map.{lookup};
 ghost use Rattle.std.specs.Option.{option_copied};
 ghost use Rattle.cpg_record.specs.declared.connections.ConnId.{ConnId};
 ghost use Rattle.cpg_record.specs.declared.records.Record.{Record};
-ghost use Rattle.cpg_record.specs.Connections.{conn_of};
+ghost use Rattle.cpg_record.specs.Connections.{conn_of, is_conn};
 ghost use Rattle.cpg_record.specs.Membership.{group_of};
 ghost use Rattle.cpg_record.specs.Nexts.{is_made_by};
 ghost use Rattle.cpg_record.specs.Places.{IsNextOf};
-ghost use Rattle.cpg_group.specs.Trails.{kept_trail, group_at, join_after, joined_by, Extends, HasRoom, HasTrail, IsTrail, StandsBy};
+ghost use Rattle.cpg_group.specs.Standing.{kept_group, group_past, CanTake};
+ghost use Rattle.cpg_group.specs.Trails.{kept_trail, group_at, join_after, joined_by, AreTrails, IsTrail, StandsBy};
 
 use crate::places::{Placed, count_upto, find_record};
+use crate::standing::Groups;
 use cpg_cred::Refusal;
 use cpg_entry::{Call, Name, Op};
 use cpg_record::{ConnId, Record};
@@ -107,7 +110,7 @@ fn next_join(past: &Record, place: u32, group: Option<&Name>, standing: u32) -> 
 }
 
 /// The stop of the record that comes next, at that place, on the trail of its connection.
-pub(crate) fn stop_of(records: &[Record], trail: &[Stop], place: u32, next: &Record) -> Stop
+fn stop_of(records: &[Record], trail: &[Stop], place: u32, next: &Record) -> Stop
     requires next { place ≡ length records.now + 1 }
     requires trail { IsTrail records.now (conn_of next.now.entry) trail.now }
     ensures place { result.place ≡ place }
@@ -116,6 +119,31 @@ pub(crate) fn stop_of(records: &[Record], trail: &[Stop], place: u32, next: &Rec
     let standing = join_upto(trail, records.len());
     let join = next_join(next, place, find_joined(records, standing), standing);
     Stop { place, join }
+}
+
+/// Puts the record's stop at the end of its connection's trail, and brings the groups past the record. The trail
+/// grows first, and then the groups, so that a refusal changes neither.
+fn lengthen(
+    trail: &mut Vec<Stop>,
+    groups: &mut Groups,
+    records: &[Record],
+    place: u32,
+    next: &Record,
+) -> Result<(), Refusal>
+    requires can { (g : List ℕ) → CanTake g (kept_group groups.old g) (place, next.now) }
+    requires place { place ≡ length records.now + 1 }
+    requires trail { IsTrail records.now (conn_of next.now.entry) trail.old.items }
+    ensures ok { OnOk result ((g : List ℕ) → kept_group groups.new g ≡ group_past g (kept_group groups.old g) (place, next.now)) }
+    ensures err { OnErr result ((g : List ℕ) → kept_group groups.new g ≡ kept_group groups.old g) }
+    ensures longer { OnOk result (IsTrail (records.now ++ next.now ∷ []) (conn_of next.now.entry) trail.new.items) }
+    ensures same { OnErr result (trail.new.items ≡ trail.old.items) }
+    ensures memory { IsOkUnless result Refusal.Memory }
+{
+    trail.reserve(1)?;
+    groups.take_in(place, next)?;
+    let stop = stop_of(records, trail.as_slice(), place, next);
+    trail.push_reserved(stop);
+    Ok(())
 }
 
 /// What a connection did, looked up once: its own places and its groups. Contracts see it as the records and
@@ -192,54 +220,53 @@ impl Trails {
         }
     }
 
-    /// Makes a trail for the connection, which changes no trail.
-    fn make(&mut self, conn: &ConnId) -> Result<(), Refusal>
-        ensures same { (c : ConnId) → kept_trail self.new.kept.entries c ≡ kept_trail self.old.kept.entries c }
-        ensures ok { OnOk result (HasTrail self.new.kept.entries conn.now) }
+    /// Keeps a trail of the record's connection, which has none, with the record's stop, and brings the groups
+    /// past the record. All that takes memory comes before the first change.
+    fn add(
+        &mut self,
+        groups: &mut Groups,
+        records: &[Record],
+        place: u32,
+        next: &Record,
+    ) -> Result<(), Refusal>
+        requires absent { lookup (is_conn (conn_of next.now.entry)) self.old.kept.entries ≡ None }
+        requires can { (g : List ℕ) → CanTake g (kept_group groups.old g) (place, next.now) }
+        requires place { place ≡ length records.now + 1 }
+        requires trails { AreTrails self.old.kept.entries records.now }
+        ensures ok { OnOk result ((g : List ℕ) → kept_group groups.new g ≡ group_past g (kept_group groups.old g) (place, next.now)) }
+        ensures err { OnErr result ((g : List ℕ) → kept_group groups.new g ≡ kept_group groups.old g) }
+        ensures longer { OnOk result (AreTrails self.new.kept.entries (records.now ++ next.now ∷ [])) }
+        ensures same { OnErr result (AreTrails self.new.kept.entries records.now) }
         ensures memory { IsOkUnless result Refusal.Memory }
     {
-        if self.kept.contains_key(conn) {
-            return Ok(());
-        }
-        let alloc = *self.kept.allocator();
-        self.kept.insert(*conn, Vec::new(alloc))?;
+        let mut trail = Vec::new(*self.kept.allocator());
+        self.kept.reserve(1)?;
+        lengthen(&mut trail, groups, records, place, next)?;
+        self.kept.insert(ConnId::of(&next.entry), trail)?;
         Ok(())
     }
 
-    /// Makes room for one stop more on the trail of the connection, which changes no trail.
-    fn widen(&mut self, conn: &ConnId) -> Result<(), Refusal>
-        requires { HasTrail self.old.kept.entries conn.now }
-        ensures same { (c : ConnId) → kept_trail self.new.kept.entries c ≡ kept_trail self.old.kept.entries c }
-        ensures ok { OnOk result (HasRoom self.new.kept.entries conn.now) }
+    /// Puts the record's stop at the end of its connection's trail, and brings the groups past the record. A
+    /// refusal changes no trail and no group.
+    pub(crate) fn take_in(
+        &mut self,
+        groups: &mut Groups,
+        records: &[Record],
+        place: u32,
+        next: &Record,
+    ) -> Result<(), Refusal>
+        requires can { (g : List ℕ) → CanTake g (kept_group groups.old g) (place, next.now) }
+        requires place { place ≡ length records.now + 1 }
+        requires trails { AreTrails self.old.kept.entries records.now }
+        ensures ok { OnOk result ((g : List ℕ) → kept_group groups.new g ≡ group_past g (kept_group groups.old g) (place, next.now)) }
+        ensures err { OnErr result ((g : List ℕ) → kept_group groups.new g ≡ kept_group groups.old g) }
+        ensures longer { OnOk result (AreTrails self.new.kept.entries (records.now ++ next.now ∷ [])) }
+        ensures same { OnErr result (AreTrails self.new.kept.entries records.now) }
         ensures memory { IsOkUnless result Refusal.Memory }
     {
-        match self.kept.get_mut(conn) {
-            None => Ok(()),
-            Some(trail) => {
-                trail.reserve(1)?;
-                Ok(())
-            }
-        }
-    }
-
-    /// Makes all room that a stop more of the connection needs, which changes no trail.
-    pub(crate) fn make_room(&mut self, conn: &ConnId) -> Result<(), Refusal>
-        ensures same { (c : ConnId) → kept_trail self.new.kept.entries c ≡ kept_trail self.old.kept.entries c }
-        ensures ok { OnOk result (HasRoom self.new.kept.entries conn.now) }
-        ensures memory { IsOkUnless result Refusal.Memory }
-    {
-        self.make(conn)?;
-        self.widen(conn)
-    }
-
-    /// Puts the stop at the end of the connection's trail, which has room for it.
-    pub(crate) fn push(&mut self, conn: &ConnId, stop: Stop)
-        requires { HasRoom self.old.kept.entries conn.now }
-        ensures { Extends self.old.kept.entries self.new.kept.entries conn.now stop }
-    {
-        match self.kept.get_mut(conn) {
-            Some(trail) => trail.push_reserved(stop),
-            None => {}
+        match self.kept.get_mut(&ConnId::of(&next.entry)) {
+            Some(trail) => lengthen(trail, groups, records, place, next),
+            None => self.add(groups, records, place, next),
         }
     }
 }

@@ -1,24 +1,18 @@
 use Rattle.std.proofs.Common.{◌≡◌, ◌+◌, ◌≤◌, ◌++◌, ◌∷◌, [], length, sym, ap, subst, ◌∙◌, arith, List}
 use Rattle.std.proofs.lemmas.List.{length_push, length-map}
-use Rattle.cpg_record.specs.declared.connections.ConnId.{ConnId}
 use Rattle.cpg_record.specs.declared.records.Record.{Record}
-use Rattle.cpg_record.specs.Connections.{conn_of}
 use Rattle.cpg_record.specs.Judging.{judged, record_of, entries_of, AreRecords, most_places}
 use Rattle.cpg_group.specs.Standing.{AreStanding}
-use Rattle.cpg_group.specs.Trails.{AreTrails, Extends, HasRoom, IsTrail, StandsBy}
+use Rattle.cpg_group.specs.Trails.{AreTrails}
 use Rattle.cpg_group.proofs.Applying.{AreJudged-push, AreStanding-push, can_take}
-use Rattle.cpg_group.proofs.Stops.{AreTrails-push}
 use Rattle.cpg_group.proofs.policies.Policy.apply.Goals as goal
 
-pub grow-requires : goal.grow-requires
-grow-requires c =
+pub take_in-requires-clause-can : goal.take_in-requires-clause-can
+take_in-requires-clause-can c =
     let same : judged c.args.self.now ≡ c.self.inside.records.items = ap judged (sym c.self.view_is) ∙ sym c.self.invariant.0.1 in
     let here : c.len.result + 1 ≡ length c.self.inside.records.items + 1 = omega arith in
     can_take c.self.inside.groups c.self.inside.records.items c.args.next (c.len.result + 1) c.self.invariant.1 c.self.invariant.0.1 here
     (c.requires.1 ∙ ap (λ (rs : List Record). record_of rs c.args.next.entry) same)
-
-pub push-requires : goal.push-requires
-push-requires c = subst (HasRoom c.grow.new.trails.kept.entries) (sym c.of-conn.ensures) c.in-Ok.ensures.room
 
 pub invariant_of-self-in-Ok : goal.invariant_of-self-in-Ok
 invariant_of-self-in-Ok c =
@@ -33,15 +27,11 @@ invariant_of-self-in-Ok c =
     c.requires.1 ∙ ap (λ (rs : List Record). record_of rs c.args.next.entry) same in
     let few : length (c.self.inside.records.items ++ c.args.next ∷ []) ≤ most_places =
     omega (arith, length_push c.self.inside.records.items c.args.next, c.requires.0, ap length c.self.view_is, length-map c.self.inside.records.items (λ (r : Record). r.entry)) in
-    let by : StandsBy (c.self.inside.records.items ++ c.args.next ∷ []) (conn_of c.args.next.entry) c.stop_of-stop.result =
-    subst (λ (rs : List Record). StandsBy (rs ++ c.args.next ∷ []) (conn_of c.args.next.entry) c.stop_of-stop.result) (c.as_slice.ensures.value ∙ c.reserve.ensures.items) c.stop_of-stop.ensures.join in
-    let extends : Extends c.grow.new.trails.kept.entries c.push.new.self.kept.entries (conn_of c.args.next.entry) c.stop_of-stop.result =
-    subst (λ (conn : ConnId). Extends c.grow.new.trails.kept.entries c.push.new.self.kept.entries conn c.stop_of-stop.result) c.of-conn.ensures c.push.ensures in
-    let P : List Record → Type 0 = λ (rs : List Record). AreRecords rs × AreStanding c.grow.new.groups rs × AreTrails c.push.new.self.kept.entries rs in
+    let trails : AreTrails c.take_in.new.self.kept.entries (c.self.inside.records.items ++ c.args.next ∷ []) =
+    subst (λ (rs : List Record). AreTrails c.take_in.new.self.kept.entries (rs ++ c.args.next ∷ [])) (c.as_slice-records.ensures.value ∙ c.reserve.ensures.items) c.in-Ok.ensures.longer in
+    let P : List Record → Type 0 = λ (rs : List Record). AreRecords rs × AreStanding c.take_in.new.groups rs × AreTrails c.take_in.new.self.kept.entries rs in
     subst P (sym longer) (
       (few, AreJudged-push c.self.inside.records.items c.args.next c.self.invariant.0.1 judgement),
-      AreStanding-push c.self.inside.groups c.grow.new.groups c.self.inside.records.items c.args.next (c.len.result + 1) c.self.invariant.1 c.self.invariant.0.1 here over c.in-Ok.ensures.ok,
-      AreTrails-push c.grow.new.trails.kept.entries c.push.new.self.kept.entries c.self.inside.records.items c.args.next c.stop_of-stop.result
-          (λ q. subst (IsTrail c.self.inside.records.items q) (sym (c.in-Ok.ensures.trails q)) (c.self.invariant.2 q))
-          (c.stop_of-stop.ensures.place ∙ here) by extends,
+      AreStanding-push c.self.inside.groups c.take_in.new.groups c.self.inside.records.items c.args.next (c.len.result + 1) c.self.invariant.1 c.self.invariant.0.1 here over c.in-Ok.ensures.ok,
+      trails,
     )
