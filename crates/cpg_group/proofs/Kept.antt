@@ -1,6 +1,6 @@
 -- What a value that is set, or a key that is new, does to what is found in a map.
 use Rattle.std.proofs.Math.Seq.{take-nil}
-use Rattle.std.proofs.Common.{◌≡◌, ◌≤◌, zero, suc, length, take, arith, ℕ, nat_eq, Bool, true, false, cond, List, [], ◌∷◌, ◌++◌, map, refl, sym, ap, ◌∙◌, Option, Some, None}
+use Rattle.std.proofs.Common.{◌≡◌, ◌≤◌, zero, suc, length, take, arith, ℕ, nat_eq, Bool, true, false, cond, List, [], ◌∷◌, ◌++◌, map, refl, sym, ap, ◌∙◌, Some, None}
 use Rattle.std.specs.Prelude.{◌↔◌, is_some, Result, Ok, Err, OnOk, OnErr}
 use Rattle.std.specs.List.{AllByRecursion, IsDistinct}
 use Rattle.std.specs.Map.{keys_of}
@@ -12,7 +12,7 @@ use Rattle.std.specs.declared.vec.Vec.{Vec}
 use Rattle.std.proofs.lemmas.List.{map-append}
 use Rattle.cpg_group.specs.Standing.{GroupValue}
 use Rattle.std.proofs.lemmas.Slice.Eq.{bytes_eq-Decides}
-use Rattle.cpg_group.specs.Standing.{Kept, named, or_none, no_group, kept_group, changed, names_of}
+use Rattle.cpg_group.specs.Standing.{Kept, named, or_none, kept_group, changed, names_of}
 
 module _ {K X : Type 0} (eq : K → K → Bool) (decides : (x y : K) → (eq x y ≡ true) ↔ (x ≡ y)) where
   -- the value that is set at a key that is there is found for it, and nothing else changes

@@ -1,7 +1,6 @@
 -- the trails of connections, as they are kept beside the records: each one's own places, with its groups
-use Rattle.std.specs.Prelude.{ℕ, ◌≡◌, ◌<◌, ◌≤◌, true, List, [], ◌∷◌, ◌++◌, map, take, All, Option, Some, None, is_some, if◌then◌else◌}
+use Rattle.std.specs.Prelude.{ℕ, ◌≡◌, ◌≤◌, List, [], map, take, All, Option, Some, None, if◌then◌else◌}
 use Rattle.std.specs.Map.{lookup}
-use Rattle.std.specs.Vec.{vec_len, vec_capacity}
 use Rattle.std.specs.declared.vec.Vec.{Vec}
 use Rattle.cpg_entry.specs.declared.calls.Call.TheVariants.{Join, Leave}
 use Rattle.cpg_entry.specs.declared.calls.Op.{Op}
