@@ -1,13 +1,14 @@
 -- What the trails of connections tell, and what one record more does to them.
-use Rattle.std.proofs.Common.{◌≡◌, ℕ, zero, suc, ◌+◌, ◌≤◌, leb, Bool, true, false, ◌&&◌, cond, List, [], ◌∷◌, ◌++◌, length, take, get_or, All, Option, Some, None, refl, sym, ap, subst, ◌∙◌, arith}
+use Rattle.std.proofs.Common.{◌≡◌, ℕ, zero, suc, ◌+◌, ◌-◌, ◌≤◌, leb, Bool, true, false, ◌&&◌, cond, List, [], ◌∷◌, ◌++◌, length, take, get_or, All, Option, Some, None, refl, sym, ap, subst, ◌∙◌, arith}
 use Rattle.std.specs.Prelude.{◌↔◌, is_some, option_map}
 use Rattle.std.specs.List.{slice_get}
 use Rattle.std.specs.List.Sorted.{IsPartitionPoint}
 use Rattle.std.specs.Map.{lookup, set_value}
 use Rattle.std.specs.declared.vec.Vec.{Vec}
-use Rattle.std.proofs.lemmas.List.{append-nil, map-append, take-append-le}
+use Rattle.std.proofs.lemmas.Bool.{le-leb}
+use Rattle.std.proofs.lemmas.List.{append-nil, map-append, take-append-le, take_all}
 use Rattle.std.proofs.lemmas.List.Elements.{All-append, All-cons}
-use Rattle.std.proofs.lemmas.Option.{slice_get-map, slice_get-get_or, slice_get_within, get_or_from_slice_get}
+use Rattle.std.proofs.lemmas.Option.{slice_get-map, slice_get-get_or, slice_get_within, get_or_from_slice_get, none-some}
 use Rattle.cpg_entry.specs.declared.calls.Call.TheVariants.{Join, Leave, Send, Insert, Remove}
 use Rattle.cpg_entry.specs.declared.calls.Op.{Op}
 use Rattle.cpg_entry.specs.declared.calls.Op.TheVariants.{Act, Gone}
@@ -139,6 +140,30 @@ stops_within rs conn trail are k d below =
     ap (λ (ps : List ℕ). slice_get ps k) (sym are.0) ∙ slice_get-map place_of trail k ∙ ap (option_map place_of) (slice_get-get_or trail k d below) in
     let there = sound (is_made_by conn) 1 rs k (get_or trail k d).place stands in
     omega (arith, there.counted, slice_get_within rs there.index there.r there.stands)
+
+-- a trail ends at the records' end
+all_passed : (rs : List Record) (conn : ConnId) (trail : List Stop) → IsTrail rs conn trail →
+    IsPartitionPoint (λ (stop : Stop). leb stop.place (length rs) ≡ true) (λ (stop : Stop). leb stop.place (length rs) ≡ false) trail (length trail)
+all_passed rs conn trail are = (
+  (λ i d low within. le-leb _ _ (stops_within rs conn trail are i d within)),
+  (λ i d above within. absurd (omega (arith, above, within))),
+)
+
+all_past : (rs : List Record) (conn : ConnId) → group_of (take (length rs) rs) conn ≡ group_of rs conn
+all_past rs conn = ap (λ (past : List Record). group_of past conn) (take_all (length rs) rs (omega arith))
+
+-- so its last stop has the join that the connection stands by after all records
+pub last_none : (rs : List Record) (conn : ConnId) (trail : List Stop) → IsTrail rs conn trail → None ≡ slice_get trail (length trail - 1) → group_at rs 0 ≡ group_of rs conn
+last_none rs conn [] are none = join_none rs conn [] (length rs) 0 are (all_passed rs conn [] are) refl ∙ all_past rs conn
+last_none rs conn (stop ∷ trail) are none =
+    absurd (none-some _ (none ∙ slice_get-get_or (stop ∷ trail) (length (stop ∷ trail) - 1) stop (omega arith)))
+
+pub last_some : (rs : List Record) (conn : ConnId) (trail : List Stop) (stop : Stop) → IsTrail rs conn trail → Some stop ≡ slice_get trail (length trail - 1) →
+    (stop.join ≤ length rs) × (group_at rs stop.join ≡ group_of rs conn)
+last_some rs conn trail stop are stands =
+    let within = slice_get_within trail (length trail - 1) stop (sym stands) in
+    let by = join_some rs conn trail (length rs) (length trail) (length trail - 1) stop are (all_passed rs conn trail are) (omega (arith, within)) (sym stands) in
+    (by.0, by.1 ∙ all_past rs conn)
 
 all_kept : (rs : List Record) (r : Record) (conn : ConnId) (trail : List Stop) → IsTrail rs conn trail → All (StandsBy (rs ++ r ∷ []) conn) trail
 all_kept rs r conn trail are k d below = kept_by rs r conn (get_or trail k d) (stops_within rs conn trail are k d below) (are.1 k d below)

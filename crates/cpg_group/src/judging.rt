@@ -10,7 +10,7 @@ ghost use Rattle.cpg_group.specs.Standing.{standing, standing_for, AreStanding};
 ghost use Rattle.cpg_group.specs.Trails.{IsTrail};
 
 use crate::standing::{Group, Groups};
-use crate::trails::{Stop, find_group};
+use crate::trails::{Stop, group_now};
 use cpg_cred::{By, Refusal, Refused};
 use cpg_entry::{Call, Entry, Name, Op};
 use cpg_record::{MOST_MEMBERS, Members, Reason, Record, Verdict};
@@ -194,7 +194,7 @@ pub(crate) fn judge(
     ensures ok { IfOk result (λ next. next ≡ record_of records.now entry) }
     ensures err { IfErr result (λ refused. refused ≡ record { refusal = Refusal.Memory; back = entry }) }
 {
-    let seat = find_group(records, trail, records.len());
+    let seat = group_now(records, trail);
     let name = find_entry_group(records, seat, &entry);
     let standing = groups.of_name(name);
     let verdict = judge_entry(records, standing, seat, &entry);

@@ -52,6 +52,18 @@ fn join_upto(trail: &[Stop], last: usize) -> u32
     }
 }
 
+/// The place of the join by which the connection is in a group after all records, 0 where it is in none: its
+/// last stop has it.
+fn join_last(trail: &[Stop]) -> u32
+    ensures early { (records : List Record) (conn : ConnId) → IsTrail records conn trail.now → result ≤ length records }
+    ensures group { (records : List Record) (conn : ConnId) → IsTrail records conn trail.now → group_at records result ≡ group_of records conn }
+{
+    match trail.last() {
+        None => 0,
+        Some(stop) => stop.join,
+    }
+}
+
 /// The group that the record joins, if it joins one.
 fn group_joined(past: &Record) -> Option<&Name>
     ensures { option_copied result ≡ joined_by past.now.entry.op }
@@ -77,6 +89,13 @@ pub(crate) fn find_group<'a>(records: &'a [Record], trail: &[Stop], last: usize)
     ensures { (conn : ConnId) → IsTrail records.now conn trail.now → option_copied result ≡ group_of (take last records.now) conn }
 {
     find_joined(records, join_upto(trail, last))
+}
+
+/// The group that the connection of the trail is in after all records.
+pub(crate) fn group_now<'a>(records: &'a [Record], trail: &[Stop]) -> Option<&'a Name>
+    ensures { (conn : ConnId) → IsTrail records.now conn trail.now → option_copied result ≡ group_of records.now conn }
+{
+    find_joined(records, join_last(trail))
 }
 
 /// The next own place of the connection of the trail above the last one, by a binary search.
@@ -116,7 +135,7 @@ fn stop_of(records: &[Record], trail: &[Stop], place: u32, next: &Record) -> Sto
     ensures place { result.place ≡ place }
     ensures join { StandsBy (records.now ++ next.now ∷ []) (conn_of next.now.entry) result }
 {
-    let standing = join_upto(trail, records.len());
+    let standing = join_last(trail);
     let join = next_join(next, place, find_joined(records, standing), standing);
     Stop { place, join }
 }

@@ -1,17 +1,13 @@
-use Rattle.std.proofs.Common.{ℕ, List, [], ◌∷◌, ◌++◌, length, sym, ap, subst, ◌∙◌, arith, Option}
-use Rattle.std.proofs.lemmas.List.{take_all}
-use Rattle.cpg_record.specs.declared.records.Record.{Record}
+use Rattle.std.proofs.Common.{ℕ, List, [], ◌∷◌, ◌++◌, sym, ap, subst, ◌∙◌, Option}
 use Rattle.cpg_record.specs.Connections.{conn_of}
-use Rattle.cpg_record.specs.Membership.{group_of}
 use Rattle.cpg_group.specs.Trails.{join_after, StandsBy}
 use Rattle.cpg_group.proofs.Stops.{stop_stands}
 use Rattle.cpg_group.proofs.trails.stop_of.Goals as goal
 
 pub returns-clause-join : goal.returns-clause-join
 returns-clause-join c =
-    let here = c.join_upto-standing.ensures.group c.args.records.now (conn_of c.args.next.now.entry) c.requires.trail
-    ∙ ap (λ (past : List Record). group_of past (conn_of c.args.next.now.entry)) (take_all (length c.args.records.now) c.args.records.now (omega arith)) in
-    let join = c.next_join-join.ensures ∙ ap (λ (o : Option (List ℕ)). join_after c.args.next.now c.args.place o c.join_upto-standing.result) c.find_joined.ensures in
+    let join = c.next_join-join.ensures ∙ ap (λ (o : Option (List ℕ)). join_after c.args.next.now c.args.place o c.join_last-standing.result) c.find_joined.ensures in
     subst (λ (k : ℕ). StandsBy (c.args.records.now ++ c.args.next.now ∷ []) (conn_of c.args.next.now.entry) (record { place = c.args.place; join = k })) (sym join)
-    (stop_stands c.args.records.now c.args.next.now c.args.place c.requires.next c.join_upto-standing.result
-    (c.join_upto-standing.ensures.early c.args.records.now (conn_of c.args.next.now.entry) c.requires.trail) here)
+    (stop_stands c.args.records.now c.args.next.now c.args.place c.requires.next c.join_last-standing.result
+    (c.join_last-standing.ensures.early c.args.records.now (conn_of c.args.next.now.entry) c.requires.trail)
+    (c.join_last-standing.ensures.group c.args.records.now (conn_of c.args.next.now.entry) c.requires.trail))
