@@ -110,16 +110,16 @@ pub(crate) fn next_own(trail: &[Stop], last: usize) -> Option<u32>
     }
 }
 
-/// The place of the join by which a connection of that group is in a group after its record at the place,
-/// where it stood by that one before.
-fn next_join(past: &Record, place: u32, group: Option<&Name>, standing: u32) -> u32
-    ensures { result ≡ join_after past.now place (option_copied group.entry) standing }
+/// The place of the join by which a connection is in a group after its record at the place, where it stood by
+/// that one before.
+fn next_join(records: &[Record], past: &Record, place: u32, standing: u32) -> u32
+    ensures { result ≡ join_after past.now place (group_at records.now standing) standing }
 {
     if !past.verdict.is_allowed() {
         return standing;
     }
     match &past.entry.op {
-        Op::Act(Call::Join(_)) => match group {
+        Op::Act(Call::Join(_)) => match find_joined(records, standing) {
             None => place,
             Some(_) => standing,
         },
@@ -136,7 +136,7 @@ fn stop_of(records: &[Record], trail: &[Stop], place: u32, next: &Record) -> Sto
     ensures join { StandsBy (records.now ++ next.now ∷ []) (conn_of next.now.entry) result }
 {
     let standing = join_last(trail);
-    let join = next_join(next, place, find_joined(records, standing), standing);
+    let join = next_join(records, next, place, standing);
     Stop { place, join }
 }
 

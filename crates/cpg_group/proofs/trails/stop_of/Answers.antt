@@ -1,13 +1,12 @@
-use Rattle.std.proofs.Common.{ℕ, List, [], ◌∷◌, ◌++◌, sym, ap, subst, ◌∙◌, Option}
+use Rattle.std.proofs.Common.{ℕ, [], ◌∷◌, ◌++◌, sym, subst}
 use Rattle.cpg_record.specs.Connections.{conn_of}
-use Rattle.cpg_group.specs.Trails.{join_after, StandsBy}
+use Rattle.cpg_group.specs.Trails.{StandsBy}
 use Rattle.cpg_group.proofs.Stops.{stop_stands}
 use Rattle.cpg_group.proofs.trails.stop_of.Goals as goal
 
 pub returns-clause-join : goal.returns-clause-join
 returns-clause-join c =
-    let join = c.next_join-join.ensures ∙ ap (λ (o : Option (List ℕ)). join_after c.args.next.now c.args.place o c.join_last-standing.result) c.find_joined.ensures in
-    subst (λ (k : ℕ). StandsBy (c.args.records.now ++ c.args.next.now ∷ []) (conn_of c.args.next.now.entry) (record { place = c.args.place; join = k })) (sym join)
+    subst (λ (k : ℕ). StandsBy (c.args.records.now ++ c.args.next.now ∷ []) (conn_of c.args.next.now.entry) (record { place = c.args.place; join = k })) (sym c.next_join-join.ensures)
     (stop_stands c.args.records.now c.args.next.now c.args.place c.requires.next c.join_last-standing.result
     (c.join_last-standing.ensures.early c.args.records.now (conn_of c.args.next.now.entry) c.requires.trail)
     (c.join_last-standing.ensures.group c.args.records.now (conn_of c.args.next.now.entry) c.requires.trail))
