@@ -32,8 +32,8 @@ pub enum Ask<'a> {
     Join(&'a str),
     Leave,
     Send(&'a str),
-    /// To put the rule at the front of the group's table.
-    Insert(&'a str, Rule),
+    /// To put the rule into the group's table at that index.
+    Insert(&'a str, u8, Rule),
     /// To take the rule of that id out of the group's table.
     Remove(&'a str, u32),
     /// Nothing more: the connection has ended.
@@ -47,7 +47,7 @@ pub fn deny(group: &str, right: Right, who: Who) -> Ask<'_> {
         right,
         who,
     };
-    Ask::Insert(group, rule)
+    Ask::Insert(group, 0, rule)
 }
 
 /// The name of those characters.
@@ -61,7 +61,9 @@ fn op(alloc: Global, ask: &Ask) -> Result<Op, Refusal> {
         Ask::Join(group) => Op::Act(Call::Join(name(alloc, group)?)),
         Ask::Leave => Op::Act(Call::Leave),
         Ask::Send(text) => Op::Act(Call::Send(Message::from_slice(alloc, text.as_bytes())?)),
-        Ask::Insert(group, rule) => Op::Act(Call::Insert(name(alloc, group)?, 0, *rule)),
+        Ask::Insert(group, index, rule) => {
+            Op::Act(Call::Insert(name(alloc, group)?, *index, *rule))
+        }
         Ask::Remove(group, id) => Op::Act(Call::Remove(name(alloc, group)?, *id)),
         Ask::Gone => Op::Gone,
     })

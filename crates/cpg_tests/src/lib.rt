@@ -3,7 +3,11 @@
 #![tactic(auto)]
 
 #[cfg(test)]
+mod comparing;
+#[cfg(test)]
 mod copies;
+#[cfg(test)]
+mod drawing;
 #[cfg(test)]
 mod entering;
 #[cfg(test)]
@@ -20,6 +24,8 @@ mod nodes;
 mod ordering;
 #[cfg(test)]
 mod plain;
+#[cfg(test)]
+mod plain_events;
 #[cfg(test)]
 mod rejoining;
 #[cfg(test)]

@@ -1,6 +1,6 @@
-//! The next place that tells a connection anything, by hand and beside a plain search.
+//! The next place that tells a connection anything, by hand.
 
-use crate::entering::{Ask, answer, client, node};
+use crate::entering::{Ask, answer, client};
 use crate::rejoining::{events_at, member_conn, rejoin};
 use cpg_entry::Refusal;
 use cpg_group::{ConnId, Policy};
@@ -53,53 +53,6 @@ fn tells_far(alloc: Global, policy: &mut Policy) -> Result<bool, Refusal> {
 fn far_places_are_found(rt: HostRuntime) {
     let mut policy = Policy::new(rt.alloc());
     let answer = tells_far(rt.alloc(), &mut policy);
-    drop(policy);
-    assert!(rt; answer == Ok(true));
-}
-
-/// The next place that tells the connection anything, found by asking for the events of each.
-fn scan_next(policy: &Policy, after: u32, conn: &ConnId) -> Result<Option<u32>, Refusal> {
-    for index in after as usize..policy.len() {
-        let place = index as u32 + 1;
-        if count_told(policy, place, conn)? > 0 {
-            return Ok(Some(place));
-        }
-    }
-    Ok(None)
-}
-
-/// Whether the search finds what the scan finds, from each of the first places on.
-fn finds_alike(policy: &Policy, conn: ConnId) -> Result<bool, Refusal> {
-    for after in 0..8u32 {
-        if policy.next_event(after, conn) != scan_next(policy, after, &conn)? {
-            return Ok(false);
-        }
-    }
-    Ok(true)
-}
-
-/// The connection of that number of node 1.
-fn conn_of(number: u16) -> Result<ConnId, Refusal> {
-    Ok(ConnId {
-        node: node(1)?,
-        conn: number,
-    })
-}
-
-/// Whether search and scan find the same for the member, for user 0 and for a connection without an entry.
-fn finds_all_alike(alloc: Global, policy: &mut Policy) -> Result<bool, Refusal> {
-    rejoin(alloc, policy)?;
-    Ok(
-        finds_alike(policy, conn_of(1)?)?
-            && finds_alike(policy, conn_of(2)?)?
-            && finds_alike(policy, conn_of(3)?)?,
-    )
-}
-
-#[test]
-fn search_and_scan_find_the_same(rt: HostRuntime) {
-    let mut policy = Policy::new(rt.alloc());
-    let answer = finds_all_alike(rt.alloc(), &mut policy);
     drop(policy);
     assert!(rt; answer == Ok(true));
 }
