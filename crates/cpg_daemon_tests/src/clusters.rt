@@ -59,39 +59,75 @@ fn counts_of<B: BoardName>(ends: Ends<B>) -> (usize, usize) {
     (ends.stations.len(), ends.links.len())
 }
 
-/// Whether a cluster of one node gets safe, and leaves one station and one link.
-fn one_goes<B, R>(rt: R, alloc: Global, board: Board) -> Result<bool, Refusal>
+/// Whether the cluster of one node gets safe, and leaves one station and one link.
+fn one_runs<B, R: Threads + Wait>(rt: &R, cluster: Cluster<B, PassAll>, node: NodeId) -> bool
+where
+    B: BoardName + Send + Sync + 'static,
+    requires { node ≤ cluster.nodes }
+{
+    let safe = cluster.nodes() == 1 && leaves_and_gets_safe(rt, &cluster, node);
+    counts_of(cluster.stop(rt)) == (1, 1) && safe
+}
+
+/// Whether a cluster of that node does so.
+fn one_starts<B, R>(rt: R, alloc: Global, board: Board, list: &AcceptList, node: NodeId) -> bool
+where
+    B: BoardName + Send + Sync + 'static,
+    R: Threads + Wait + Clock + Copy + Send + 'static,
+    requires board { board ≡ B.cells }
+    requires node { node ≤ 1 }
+{
+    match Cluster::<B, PassAll>::start(rt, alloc, settings_of(1), board, list, PassAll) {
+        Ok(cluster) => one_runs(&rt, cluster, node),
+        Err(_) => false,
+    }
+}
+
+/// Whether a cluster of node 1 does so, with that list.
+fn one_goes<B, R>(rt: R, alloc: Global, board: Board, list: &AcceptList) -> bool
 where
     B: BoardName + Send + Sync + 'static,
     R: Threads + Wait + Clock + Copy + Send + 'static,
     requires { board ≡ B.cells }
 {
-    let node = node_of(1)?;
-    let list = AcceptList::new(alloc);
-    let cluster = Cluster::<B, PassAll>::start(rt, alloc, settings_of(1), board, &list, PassAll)?;
-    let safe = cluster.nodes() == 1 && leaves_and_gets_safe(&rt, &cluster, node);
-    Ok(counts_of(cluster.stop(&rt)) == (1, 1) && safe)
+    match node_of(1) {
+        Ok(node) => one_starts::<B, R>(rt, alloc, board, list, node),
+        Err(_) => false,
+    }
 }
 
 #[test]
 fn a_cluster_of_one_gets_safe(rt: HostRuntime) -> Result<(), Fail> {
     let board = Board::new(rt.alloc(), 4_096)?;
     let alloc = rt.alloc();
-    assert!(rt; one_goes::<Brand, HostRuntime>(rt, alloc, board) == Ok(true));
+    assert!(rt; one_goes::<Brand, HostRuntime>(rt, alloc, board, &AcceptList::new(alloc)));
     Ok(())
 }
 
+/// Stops the cluster, and lets go of what it leaves.
+fn stop<B, R: Threads + Wait>(rt: &R, cluster: Cluster<B, PassAll>)
+where
+    B: BoardName + Send + Sync + 'static,
+{
+    drop(cluster.stop(rt));
+}
+
 /// What refuses to start a cluster of those settings, if anything does.
-fn refusal_of<B, R>(rt: R, alloc: Global, board: Board, settings: Settings) -> Option<Refusal>
+fn refusal_of<B, R>(
+    rt: R,
+    alloc: Global,
+    board: Board,
+    settings: Settings,
+    list: &AcceptList,
+) -> Option<Refusal>
 where
     B: BoardName + Send + Sync + 'static,
     R: Threads + Wait + Clock + Copy + Send + 'static,
     requires { board ≡ B.cells }
 {
-    let list = AcceptList::new(alloc);
-    match Cluster::<B, PassAll>::start(rt, alloc, settings, board, &list, PassAll) {
+    match Cluster::<B, PassAll>::start(rt, alloc, settings, board, list, PassAll) {
         Ok(cluster) => {
-            drop(cluster.stop(&rt));
+            stop(&rt, cluster);
             None
         }
         Err(refusal) => Some(refusal),
@@ -123,7 +159,8 @@ fn settings_have_ranges(rt: HostRuntime) -> Result<(), Fail> {
         let board = Board::new(rt.alloc(), 10)?;
         let alloc = rt.alloc();
         assert!(rt;
-            refusal_of::<Brand, HostRuntime>(rt, alloc, board, settings) == Some(Refusal::Range)
+            refusal_of::<Brand, HostRuntime>(rt, alloc, board, settings, &AcceptList::new(alloc))
+                == Some(Refusal::Range)
         );
     }
     Ok(())

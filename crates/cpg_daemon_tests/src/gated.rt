@@ -4,7 +4,7 @@ ghost use Rattle.std.specs.Prelude.{◌≡◌, ◌≤◌, IfOk};
 
 use crate::sharing::{Told, ask, join, list_of_seven, next_told, node_of, refusal_in, settings_of};
 use cpg_board::Board;
-use cpg_cred::{By, Cred, NodeId, Refusal};
+use cpg_cred::{AcceptList, By, Cred, NodeId, Refusal};
 use cpg_daemon::{BoardName, Cluster, Ends, Fate, Gate, Running, Session, Station};
 use cpg_entry::Call;
 use cpg_record::Verdict;
@@ -77,29 +77,64 @@ impl Gate for Meeting {
     }
 }
 
-/// Whether the two nodes of a cluster meet.
-fn two_meet<B, R>(rt: R, alloc: Global, board: Board) -> Result<bool, Refusal>
+/// Whether the two nodes of the cluster meet.
+fn two_run<B, R: Threads + Wait>(rt: &R, cluster: Cluster<B, Meeting>, marks: &Marks) -> bool
+where
+    B: BoardName + Send + Sync + 'static,
+{
+    let met = is_seen(&marks.first) && is_seen(&marks.second);
+    drop(cluster.stop(rt));
+    met && !marks.failed.load(Ordering::SeqCst)
+}
+
+/// Whether the two nodes of a cluster with that gate meet.
+fn two_start<B, R>(
+    rt: R,
+    alloc: Global,
+    board: Board,
+    list: &AcceptList,
+    gate: Meeting,
+    marks: &Marks,
+) -> bool
 where
     B: BoardName + Send + Sync + 'static,
     R: Threads + Wait + Clock + Copy + Send + 'static,
     requires { board ≡ B.cells }
 {
+    match Cluster::<B, Meeting>::start(rt, alloc, settings_of(2), board, list, gate) {
+        Ok(cluster) => two_run(&rt, cluster, marks),
+        Err(_) => false,
+    }
+}
+
+/// New marks, and the gate that sets them.
+fn new_meeting(alloc: Global) -> Result<(Arc<Marks, Global>, Meeting), Refusal> {
     let marks = new_marks(alloc)?;
     let gate = Meeting {
         marks: Arc::try_clone(&marks)?,
     };
-    let list = list_of_seven(alloc)?;
-    let cluster = Cluster::<B, Meeting>::start(rt, alloc, settings_of(2), board, &list, gate)?;
-    let met = is_seen(&marks.first) && is_seen(&marks.second);
-    drop(cluster.stop(&rt));
-    Ok(met && !marks.failed.load(Ordering::SeqCst))
+    Ok((marks, gate))
+}
+
+/// Whether the two nodes of a cluster meet, with that list.
+fn two_meet<B, R>(rt: R, alloc: Global, board: Board, list: &AcceptList) -> bool
+where
+    B: BoardName + Send + Sync + 'static,
+    R: Threads + Wait + Clock + Copy + Send + 'static,
+    requires { board ≡ B.cells }
+{
+    match new_meeting(alloc) {
+        Ok((marks, gate)) => two_start::<B, R>(rt, alloc, board, list, gate, &marks),
+        Err(_) => false,
+    }
 }
 
 #[test]
 fn two_nodes_run_at_once(rt: HostRuntime) -> Result<(), Fail> {
     let board = Board::new(rt.alloc(), 10)?;
     let alloc = rt.alloc();
-    assert!(rt; two_meet::<Brand, HostRuntime>(rt, alloc, board) == Ok(true));
+    let list = list_of_seven(alloc)?;
+    assert!(rt; two_meet::<Brand, HostRuntime>(rt, alloc, board, &list));
     Ok(())
 }
 
@@ -131,6 +166,22 @@ fn connect<B: BoardName, R: Wait>(
     running.connect(rt, node, 40, Cred { uid: 7, gid: 100 })
 }
 
+/// Whether a join of `db` is put among those that wait.
+fn submits_join<B: BoardName, R: Wait>(
+    rt: &R,
+    alloc: Global,
+    running: &Running<B, Holding>,
+    session: &mut Session<B>,
+) -> bool
+    requires { session.old.who.id.node ≤ running.now.nodes }
+    ensures { session.new ≡ session.old }
+{
+    match join(alloc) {
+        Ok(call) => refusal_in(running.submit(rt, session, call)) == None,
+        Err(_) => false,
+    }
+}
+
 /// Whether the session joins `db`, and then, the gate being open, is allowed at place 1.
 fn joins<B: BoardName, R: Wait>(
     rt: &R,
@@ -138,14 +189,13 @@ fn joins<B: BoardName, R: Wait>(
     running: &Running<B, Holding>,
     session: &mut Session<B>,
     open: &AtomicBool,
-) -> Result<bool, Refusal>
+) -> bool
     requires { session.old.who.id.node ≤ running.now.nodes }
     ensures { session.new.who.id.node ≡ session.old.who.id.node }
 {
-    let refusal = refusal_in(running.submit(rt, session, join(alloc)?));
+    let submits = submits_join(rt, alloc, running, session);
     open.store(true, Ordering::SeqCst);
-    let told = next_told(rt, running, session);
-    Ok(refusal == None && told == Told::Verdict(1, Verdict::Allowed(By::Default)))
+    submits && next_told(rt, running, session) == Told::Verdict(1, Verdict::Allowed(By::Default))
 }
 
 /// Whether that refuses all that the session asks for.
@@ -209,6 +259,44 @@ fn is_stopped<B: BoardName, R: Wait>(
     connects && submits && asks && closes_stopped(rt, running, session)
 }
 
+/// Whether the second session, behind the first, is refused, and then all are.
+fn refuses_behind<B: BoardName, R: Wait>(
+    rt: &R,
+    alloc: Global,
+    running: &Running<B, Holding>,
+    node: NodeId,
+    mut one: Session<B>,
+    two: &mut Session<B>,
+    open: &AtomicBool,
+) -> bool
+    requires node { node ≤ running.now.nodes }
+    requires one { one.who.id.node ≤ running.now.nodes }
+    requires two { two.old.who.id.node ≤ running.now.nodes }
+{
+    let joined = joins(rt, alloc, running, &mut one, open);
+    let behind = is_behind(rt, running, &one, two);
+    let stopped = is_stopped(rt, running, node, one);
+    joined && behind && stopped
+}
+
+/// Whether a session at the second node is refused so.
+fn refuses_second<B: BoardName, R: Wait>(
+    rt: &R,
+    alloc: Global,
+    running: &Running<B, Holding>,
+    nodes: (NodeId, NodeId),
+    one: Session<B>,
+    open: &AtomicBool,
+) -> bool
+    requires nodes { (nodes.0 ≤ running.now.nodes) × (nodes.1 ≤ running.now.nodes) }
+    requires one { one.who.id.node ≤ running.now.nodes }
+{
+    match connect(rt, running, nodes.1) {
+        Ok(mut two) => refuses_behind(rt, alloc, running, nodes.0, one, &mut two, open),
+        Err(_) => false,
+    }
+}
+
 /// Whether a session ahead of its node is refused, and then all are.
 fn refuses<B: BoardName, R: Wait>(
     rt: &R,
@@ -216,15 +304,13 @@ fn refuses<B: BoardName, R: Wait>(
     running: &Running<B, Holding>,
     nodes: (NodeId, NodeId),
     open: &AtomicBool,
-) -> Result<bool, Refusal>
+) -> bool
     requires { (nodes.0 ≤ running.now.nodes) × (nodes.1 ≤ running.now.nodes) }
 {
-    let mut one = connect(rt, running, nodes.0)?;
-    let mut two = connect(rt, running, nodes.1)?;
-    let joined = joins(rt, alloc, running, &mut one, open)?;
-    let behind = is_behind(rt, running, &one, &mut two);
-    drop(two);
-    Ok(joined && behind && is_stopped(rt, running, nodes.0, one))
+    match connect(rt, running, nodes.0) {
+        Ok(one) => refuses_second(rt, alloc, running, nodes, one, open),
+        Err(_) => false,
+    }
 }
 
 /// The number of the node whose station it is, by its first connection.
@@ -245,31 +331,105 @@ fn are_left<B: BoardName>(ends: &Ends<B>) -> bool {
     }
 }
 
-/// Whether a cluster whose node 2 is held does so.
-fn held_goes<B, R>(rt: R, alloc: Global, board: Board) -> Result<bool, Refusal>
+/// Whether what is left is so, which is let go.
+fn leaves_two<B: BoardName>(ends: Ends<B>) -> bool {
+    let left = are_left(&ends);
+    drop(ends);
+    left
+}
+
+/// Whether the cluster, whose node 2 is held, does so.
+fn held_runs<B, R: Threads + Wait>(
+    rt: &R,
+    alloc: Global,
+    cluster: Cluster<B, Holding>,
+    nodes: (NodeId, NodeId),
+    open: &AtomicBool,
+) -> bool
+where
+    B: BoardName + Send + Sync + 'static,
+    requires { (nodes.0 ≤ cluster.nodes) × (nodes.1 ≤ cluster.nodes) }
+{
+    let refused = refuses(rt, alloc, &cluster, nodes, open);
+    leaves_two(cluster.stop(rt)) && refused
+}
+
+/// Nodes 1 and 2.
+fn two_nodes() -> Result<(NodeId, NodeId), Refusal>
+    ensures { IfOk result (λ nodes. (nodes.0 ≤ 2) × (nodes.1 ≤ 2)) }
+{
+    Ok((node_of(1)?, node_of(2)?))
+}
+
+/// Whether a cluster of those nodes with that gate does so.
+fn held_starts<B, R>(
+    rt: R,
+    alloc: Global,
+    board: Board,
+    list: &AcceptList,
+    gate: Holding,
+    open: &AtomicBool,
+    nodes: (NodeId, NodeId),
+) -> bool
+where
+    B: BoardName + Send + Sync + 'static,
+    R: Threads + Wait + Clock + Copy + Send + 'static,
+    requires board { board ≡ B.cells }
+    requires nodes { (nodes.0 ≤ 2) × (nodes.1 ≤ 2) }
+{
+    match Cluster::<B, Holding>::start(rt, alloc, settings_of(2), board, list, gate) {
+        Ok(cluster) => held_runs(&rt, alloc, cluster, nodes, open),
+        Err(_) => false,
+    }
+}
+
+/// The gate, and what opens it.
+fn new_holding(alloc: Global) -> Result<(Arc<AtomicBool, Global>, Holding), Refusal> {
+    let open = Arc::new(alloc, AtomicBool::new(false))?;
+    let gate = Holding {
+        open: Arc::try_clone(&open)?,
+    };
+    Ok((open, gate))
+}
+
+/// Whether a cluster of those nodes does so, with that list.
+fn held_gated<B, R>(
+    rt: R,
+    alloc: Global,
+    board: Board,
+    list: &AcceptList,
+    nodes: (NodeId, NodeId),
+) -> bool
+where
+    B: BoardName + Send + Sync + 'static,
+    R: Threads + Wait + Clock + Copy + Send + 'static,
+    requires board { board ≡ B.cells }
+    requires nodes { (nodes.0 ≤ 2) × (nodes.1 ≤ 2) }
+{
+    match new_holding(alloc) {
+        Ok((open, gate)) => held_starts::<B, R>(rt, alloc, board, list, gate, &open, nodes),
+        Err(_) => false,
+    }
+}
+
+/// Whether a cluster whose node 2 is held does so, with that list.
+fn held_goes<B, R>(rt: R, alloc: Global, board: Board, list: &AcceptList) -> bool
 where
     B: BoardName + Send + Sync + 'static,
     R: Threads + Wait + Clock + Copy + Send + 'static,
     requires { board ≡ B.cells }
 {
-    let nodes = (node_of(1)?, node_of(2)?);
-    let open = Arc::new(alloc, AtomicBool::new(false))?;
-    let gate = Holding {
-        open: Arc::try_clone(&open)?,
-    };
-    let list = list_of_seven(alloc)?;
-    let cluster = Cluster::<B, Holding>::start(rt, alloc, settings_of(2), board, &list, gate)?;
-    let refused = refuses(&rt, alloc, &cluster, nodes, &open);
-    let ends = cluster.stop(&rt);
-    let left = are_left(&ends);
-    drop(ends);
-    Ok(refused == Ok(true) && left)
+    match two_nodes() {
+        Ok(nodes) => held_gated::<B, R>(rt, alloc, board, list, nodes),
+        Err(_) => false,
+    }
 }
 
 #[test]
 fn a_held_node_is_behind(rt: HostRuntime) -> Result<(), Fail> {
     let board = Board::new(rt.alloc(), 100)?;
     let alloc = rt.alloc();
-    assert!(rt; held_goes::<Brand, HostRuntime>(rt, alloc, board) == Ok(true));
+    let list = list_of_seven(alloc)?;
+    assert!(rt; held_goes::<Brand, HostRuntime>(rt, alloc, board, &list));
     Ok(())
 }

@@ -84,6 +84,16 @@ pub enum Told {
     Refused(Refusal),
 }
 
+/// What the event is, which is let go.
+fn told_by(event: Event) -> Told {
+    let told = match verdict_in(&event) {
+        Some((place, verdict)) => Told::Verdict(place, verdict),
+        None => Told::Other,
+    };
+    drop(event);
+    told
+}
+
 /// The session asks for its next event once.
 pub fn ask<B: BoardName, G: Gate, R: Wait>(
     rt: &R,
@@ -95,10 +105,7 @@ pub fn ask<B: BoardName, G: Gate, R: Wait>(
 {
     match running.take(rt, session) {
         Ok(None) => Told::Nothing,
-        Ok(Some(event)) => match verdict_in(&event) {
-            Some((place, verdict)) => Told::Verdict(place, verdict),
-            None => Told::Other,
-        },
+        Ok(Some(event)) => told_by(event),
         Err(refusal) => Told::Refused(refusal),
     }
 }

@@ -224,6 +224,20 @@ fn audited<B: BoardName>(
     if caught { copies } else { Err(Refusal::Memory) }
 }
 
+/// What an auditor knows that caught up with the three sessions, if all are there.
+fn audited_all<B: BoardName>(
+    alloc: Global,
+    running: &Running<B, PassAll>,
+    one: &Option<Session<B>>,
+    two: &Option<Session<B>>,
+    three: &Option<Session<B>>,
+) -> Result<Vec<Record>, Refusal> {
+    match (one, two, three) {
+        (Some(one), Some(two), Some(three)) => audited(alloc, running, one, two, three),
+        _ => Err(Refusal::Stopped),
+    }
+}
+
 /// What the sessions of three clients saw, once all have gone.
 fn seen_by_three<B: BoardName + Send + Sync, R: Threads + Wait + Sync>(
     rt: &R,
@@ -233,16 +247,7 @@ fn seen_by_three<B: BoardName + Send + Sync, R: Threads + Wait + Sync>(
     requires { 3 ≤ running.now.nodes }
 {
     let (one, (two, three)) = three_clients(rt, alloc, running);
-    let Some(one) = one else {
-        return Err(Refusal::Stopped);
-    };
-    let Some(two) = two else {
-        return Err(Refusal::Stopped);
-    };
-    let Some(three) = three else {
-        return Err(Refusal::Stopped);
-    };
-    audited(alloc, running, &one, &two, &three)
+    audited_all(alloc, running, &one, &two, &three)
 }
 
 /// Whether the record is of the removal of that rule.
@@ -298,30 +303,56 @@ fn are_left<B: BoardName>(ends: &Ends<B>, records: &[Record]) -> bool {
     }
 }
 
-/// Whether a cluster of three nodes serves three clients so.
-fn three_go<B, R>(rt: R, alloc: Global, board: Board) -> Result<bool, Refusal>
+/// Whether the records are sound, and what is left, which is let go, begins them.
+fn are_right<B: BoardName>(alloc: Global, ends: Ends<B>, records: &[Record]) -> bool {
+    let left = are_left(&ends, records);
+    drop(ends);
+    left && are_sound(alloc, records)
+}
+
+/// Whether the cluster, which has stopped, was seen to serve three clients so.
+fn are_served<B: BoardName>(
+    alloc: Global,
+    ends: Ends<B>,
+    seen: Result<Vec<Record>, Refusal>,
+) -> bool {
+    match seen {
+        Ok(records) => are_right(alloc, ends, records.as_slice()),
+        Err(_) => false,
+    }
+}
+
+/// Whether the cluster serves three clients so.
+fn three_run<B, R: Threads + Wait + Sync>(
+    rt: &R,
+    alloc: Global,
+    cluster: Cluster<B, PassAll>,
+) -> bool
+where
+    B: BoardName + Send + Sync + 'static,
+    requires { 3 ≤ cluster.nodes }
+{
+    let seen = seen_by_three(rt, alloc, &cluster);
+    are_served(alloc, cluster.stop(rt), seen)
+}
+
+/// Whether a cluster of three nodes serves three clients so, with that list.
+fn three_go<B, R>(rt: R, alloc: Global, board: Board, list: &AcceptList) -> bool
 where
     B: BoardName + Send + Sync + 'static,
     R: Threads + Wait + Clock + Copy + Send + Sync + 'static,
     requires { board ≡ B.cells }
 {
-    let list = AcceptList::new(alloc);
-    let cluster = Cluster::<B, PassAll>::start(rt, alloc, settings_of(3), board, &list, PassAll)?;
-    let seen = seen_by_three(&rt, alloc, &cluster);
-    let ends = cluster.stop(&rt);
-    let right = match &seen {
-        Ok(records) => are_sound(alloc, records.as_slice()) && are_left(&ends, records.as_slice()),
+    match Cluster::<B, PassAll>::start(rt, alloc, settings_of(3), board, list, PassAll) {
+        Ok(cluster) => three_run(&rt, alloc, cluster),
         Err(_) => false,
-    };
-    drop(ends);
-    drop(seen);
-    Ok(right)
+    }
 }
 
 #[test]
 fn three_threads_are_served(rt: HostRuntime) -> Result<(), Fail> {
     let board = Board::new(rt.alloc(), 4_096)?;
     let alloc = rt.alloc();
-    assert!(rt; three_go::<Brand, HostRuntime>(rt, alloc, board) == Ok(true));
+    assert!(rt; three_go::<Brand, HostRuntime>(rt, alloc, board, &AcceptList::new(alloc)));
     Ok(())
 }
