@@ -16,8 +16,11 @@ fn is_entry(copy: Entry, entry: &Entry) -> bool {
 }
 
 /// Whether a copy of the entry equals it.
-fn copies_entry(alloc: Global, entry: &Entry) -> Result<bool, Refusal> {
-    Ok(is_entry(entry.copy(alloc)?, entry))
+fn copies_entry(alloc: Global, entry: &Entry) -> bool {
+    match entry.copy(alloc) {
+        Ok(copy) => is_entry(copy, entry),
+        Err(_) => false,
+    }
 }
 
 /// Whether the copy equals the call.
@@ -27,11 +30,19 @@ fn is_call(copy: Call, call: &Call) -> bool {
     answer
 }
 
+/// Whether a copy of the call equals it.
+fn has_copy(alloc: Global, call: &Call) -> bool {
+    match call.copy(alloc) {
+        Ok(copy) => is_call(copy, call),
+        Err(_) => false,
+    }
+}
+
 /// Whether a copy of the op's call, if it has one, equals it.
-fn copies_call(alloc: Global, op: &Op) -> Result<bool, Refusal> {
+fn copies_call(alloc: Global, op: &Op) -> bool {
     match op {
-        Op::Act(call) => Ok(is_call(call.copy(alloc)?, call)),
-        Op::Gone => Ok(true),
+        Op::Act(call) => has_copy(alloc, call),
+        Op::Gone => true,
     }
 }
 
@@ -52,12 +63,15 @@ fn is_packet(copy: Packet, packet: &Packet) -> bool {
 }
 
 /// Whether a copy of the packet equals it.
-fn copies_packet(alloc: Global, packet: &Packet) -> Result<bool, Refusal> {
-    Ok(is_packet(packet.copy(alloc)?, packet))
+fn copies_packet(alloc: Global, packet: &Packet) -> bool {
+    match packet.copy(alloc) {
+        Ok(copy) => is_packet(copy, packet),
+        Err(_) => false,
+    }
 }
 
 /// Whether a copy of a packet of the entry equals it.
-fn copies_packet_with(alloc: Global, entry: Entry) -> Result<bool, Refusal> {
+fn copies_packet_with(alloc: Global, entry: Entry) -> bool {
     let packet = packet_of(entry);
     let answer = copies_packet(alloc, &packet);
     drop(packet);
@@ -65,8 +79,11 @@ fn copies_packet_with(alloc: Global, entry: Entry) -> Result<bool, Refusal> {
 }
 
 /// Whether a copy of a packet with the entry equals it.
-fn copies_packet_of(alloc: Global, entry: &Entry) -> Result<bool, Refusal> {
-    copies_packet_with(alloc, entry.copy(alloc)?)
+fn copies_packet_of(alloc: Global, entry: &Entry) -> bool {
+    match entry.copy(alloc) {
+        Ok(copy) => copies_packet_with(alloc, copy),
+        Err(_) => false,
+    }
 }
 
 /// Whether the copy equals the record.
@@ -77,21 +94,27 @@ fn is_record(copy: Record, past: &Record) -> bool {
 }
 
 /// Whether a copy of the record equals it.
-fn copies_record(alloc: Global, past: &Record) -> Result<bool, Refusal> {
-    Ok(is_record(past.copy(alloc)?, past))
+fn copies_record(alloc: Global, past: &Record) -> bool {
+    match past.copy(alloc) {
+        Ok(copy) => is_record(copy, past),
+        Err(_) => false,
+    }
 }
 
 /// Whether a copy of the list equals those members.
-fn copies_list(alloc: Global, list: &Members, members: &Members) -> Result<bool, Refusal> {
-    Ok(list.copy(alloc)?.equals(members))
+fn copies_list(alloc: Global, list: &Members, members: &Members) -> bool {
+    match list.copy(alloc) {
+        Ok(copy) => copy.equals(members),
+        Err(_) => false,
+    }
 }
 
 /// Whether a copy of a list of those members equals it.
-fn copies_members(alloc: Global, members: &Members) -> Result<bool, Refusal> {
-    let list = Members::from_slice(alloc, members.as_slice())?;
-    let answer = copies_list(alloc, &list, members);
-    drop(list);
-    answer
+fn copies_members(alloc: Global, members: &Members) -> bool {
+    match Members::from_slice(alloc, members.as_slice()) {
+        Ok(list) => copies_list(alloc, &list, members),
+        Err(_) => false,
+    }
 }
 
 /// Puts copies of the records, one by one, behind those that are there.
@@ -108,21 +131,20 @@ fn are_five(list: &[Record], records: &[Record]) -> bool {
 }
 
 /// Whether a copy of the copies equals the records, and there are five.
-fn copies_list_of(alloc: Global, copies: &Records, records: &[Record]) -> Result<bool, Refusal> {
-    let list = copies.copy(alloc)?;
-    let answer = are_five(list.as_slice(), records);
-    drop(list);
-    Ok(answer)
+fn copies_list_of(alloc: Global, copies: &Records, records: &[Record]) -> bool {
+    match copies.copy(alloc) {
+        Ok(list) => are_five(list.as_slice(), records),
+        Err(_) => false,
+    }
 }
 
 /// Whether a copy of a list of the records, which is put together here, equals it, and there are five.
-fn copies_all(alloc: Global, copies: &mut Records, records: &[Record]) -> Result<bool, Refusal> {
-    copy_each(alloc, copies, records)?;
-    copies_list_of(alloc, copies, records)
+fn copies_all(alloc: Global, copies: &mut Records, records: &[Record]) -> bool {
+    copy_each(alloc, copies, records).is_ok() && copies_list_of(alloc, copies, records)
 }
 
 /// Whether a copy of a list of the records equals it, and there are five.
-fn copies_records(alloc: Global, records: &[Record]) -> Result<bool, Refusal> {
+fn copies_records(alloc: Global, records: &[Record]) -> bool {
     let mut copies = Records::new(alloc);
     let answer = copies_all(alloc, &mut copies, records);
     drop(copies);
@@ -130,37 +152,32 @@ fn copies_records(alloc: Global, records: &[Record]) -> Result<bool, Refusal> {
 }
 
 /// Whether copies of the entry and of all its parts equal their sources.
-fn copies_entry_parts(alloc: Global, entry: &Entry) -> Result<bool, Refusal> {
-    Ok(
-        copies_entry(alloc, entry)?
-            && copies_call(alloc, &entry.op)?
-            && copies_packet_of(alloc, entry)?,
-    )
+fn copies_entry_parts(alloc: Global, entry: &Entry) -> bool {
+    copies_entry(alloc, entry) && copies_call(alloc, &entry.op) && copies_packet_of(alloc, entry)
 }
 
 /// Whether copies of the record and of all its parts equal their sources.
-fn copies_parts(alloc: Global, past: &Record) -> Result<bool, Refusal> {
-    Ok(
-        copies_entry_parts(alloc, &past.entry)?
-            && copies_record(alloc, past)?
-            && copies_members(alloc, &past.members)?,
-    )
+fn copies_parts(alloc: Global, past: &Record) -> bool {
+    copies_entry_parts(alloc, &past.entry)
+        && copies_record(alloc, past)
+        && copies_members(alloc, &past.members)
 }
 
 /// Whether copies of each of the records and of its parts equal their sources.
-fn copies_all_parts(alloc: Global, records: &[Record]) -> Result<bool, Refusal> {
+fn copies_all_parts(alloc: Global, records: &[Record]) -> bool {
     for past in records {
-        if !copies_parts(alloc, past)? {
-            return Ok(false);
+        if !copies_parts(alloc, past) {
+            return false;
         }
     }
-    Ok(true)
+    true
 }
 
 /// Whether copies of the records of the rejoining, one by one and as a list, equal their sources.
-fn copies_rejoining(alloc: Global, policy: &mut Policy) -> Result<bool, Refusal> {
-    rejoin(alloc, policy)?;
-    Ok(copies_all_parts(alloc, policy.records())? && copies_records(alloc, policy.records())?)
+fn copies_rejoining(alloc: Global, policy: &mut Policy) -> bool {
+    rejoin(alloc, policy)
+        && copies_all_parts(alloc, policy.records())
+        && copies_records(alloc, policy.records())
 }
 
 #[test]
@@ -168,7 +185,7 @@ fn entries_packets_calls_and_records(rt: HostRuntime) {
     let mut policy = Policy::new(rt.alloc());
     let answer = copies_rejoining(rt.alloc(), &mut policy);
     drop(policy);
-    assert!(rt; answer == Ok(true));
+    assert!(rt; answer);
 }
 
 /// Whether the events have the same place and the same contents as far as they are shown here.
@@ -228,63 +245,76 @@ fn is_event(copy: Event, other: &Event) -> bool {
 }
 
 /// Whether the event, and a copy of it, is the same as the other.
-fn copies_event(alloc: Global, event: &Event, other: &Event) -> Result<bool, Refusal> {
-    let copied = is_event(event.copy(alloc)?, other);
-    Ok(copied && same_event(event, other))
+fn copies_event(alloc: Global, event: &Event, other: &Event) -> bool {
+    match event.copy(alloc) {
+        Ok(copy) => is_event(copy, other) && same_event(event, other),
+        Err(_) => false,
+    }
 }
 
 /// Whether the events, and a copy of each, are the same as the others.
-fn same_events(alloc: Global, events: &[Event], others: &[Event]) -> Result<bool, Refusal> {
+fn same_events(alloc: Global, events: &[Event], others: &[Event]) -> bool {
     for (event, other) in events.iter().zip(others) {
-        if !copies_event(alloc, event, other)? {
-            return Ok(false);
+        if !copies_event(alloc, event, other) {
+            return false;
         }
     }
-    Ok(events.len() == others.len())
+    events.len() == others.len()
 }
 
 /// Whether a copy of the events, and a copy of each event in it, is the same.
-fn copies_events(alloc: Global, events: &Events) -> Result<bool, Refusal> {
-    let copy = events.copy(alloc)?;
-    let answer = same_events(alloc, copy.as_slice(), events.as_slice());
-    drop(copy);
-    answer
+fn copies_events(alloc: Global, events: &Events) -> bool {
+    match events.copy(alloc) {
+        Ok(copy) => same_events(alloc, copy.as_slice(), events.as_slice()),
+        Err(_) => false,
+    }
 }
 
 /// Whether copies of what the place tells the connection are the same.
-fn copies_told(alloc: Global, policy: &Policy, place: u32, conn: &ConnId) -> Result<bool, Refusal> {
-    let events = events_at(policy, place, conn)?;
-    let answer = copies_events(alloc, &events);
-    drop(events);
-    answer
+fn copies_told(alloc: Global, policy: &Policy, place: u32, conn: &ConnId) -> bool {
+    match events_at(policy, place, conn) {
+        Ok(events) => copies_events(alloc, &events),
+        Err(_) => false,
+    }
 }
 
 /// Whether copies of what the first five places tell the member are the same.
-fn copies_all_events(alloc: Global, policy: &Policy) -> Result<bool, Refusal> {
-    let conn = member_conn()?;
+fn copies_all_events(alloc: Global, policy: &Policy, conn: &ConnId) -> bool {
     for place in 1..6u32 {
-        if !copies_told(alloc, policy, place, &conn)? {
-            return Ok(false);
+        if !copies_told(alloc, policy, place, conn) {
+            return false;
         }
     }
-    Ok(true)
+    true
+}
+
+/// Whether copies of what those places tell connection 1 of node 1 are the same.
+fn copies_events_of_member(alloc: Global, policy: &Policy) -> bool {
+    match member_conn() {
+        Ok(conn) => copies_all_events(alloc, policy, &conn),
+        Err(_) => false,
+    }
 }
 
 /// Whether a copy of the moves is no moves.
-fn copies_moves(alloc: Global, moves: &Moves) -> Result<bool, Refusal> {
-    Ok(moves.copy(alloc)?.equals(&Moves::new(alloc)))
+fn copies_moves(alloc: Global, moves: &Moves) -> bool {
+    match moves.copy(alloc) {
+        Ok(copy) => copy.equals(moves) && copy.as_slice().is_empty(),
+        Err(_) => false,
+    }
 }
 
 /// Whether a copy of no moves is no moves.
-fn copies_no_moves(alloc: Global) -> Result<bool, Refusal> {
-    let moves = Moves::from_slice(alloc, &[])?;
-    copies_moves(alloc, &moves)
+fn copies_no_moves(alloc: Global) -> bool {
+    match Moves::from_slice(alloc, &[]) {
+        Ok(moves) => copies_moves(alloc, &moves),
+        Err(_) => false,
+    }
 }
 
 /// Whether copies of what the rejoining tells the member are the same.
-fn copies_what_is_told(alloc: Global, policy: &mut Policy) -> Result<bool, Refusal> {
-    rejoin(alloc, policy)?;
-    copies_all_events(alloc, policy)
+fn copies_what_is_told(alloc: Global, policy: &mut Policy) -> bool {
+    rejoin(alloc, policy) && copies_events_of_member(alloc, policy)
 }
 
 #[test]
@@ -292,26 +322,40 @@ fn events(rt: HostRuntime) {
     let mut policy = Policy::new(rt.alloc());
     let answer = copies_what_is_told(rt.alloc(), &mut policy);
     drop(policy);
-    assert!(rt; answer == Ok(true));
+    assert!(rt; answer);
 }
 
 #[test]
 fn no_moves(rt: HostRuntime) {
-    assert!(rt; copies_no_moves(rt.alloc()) == Ok(true));
+    assert!(rt; copies_no_moves(rt.alloc()));
 }
 
-/// Whether a copy of a token that asks for place 1 equals it, and asks for that place.
-fn copies_token(alloc: Global) -> Result<bool, Refusal> {
-    let token = Token {
+/// A token that asks for those places.
+fn token_of(rtr: Places) -> Token {
+    Token {
         ring: 1,
         hop: 2,
         seq: 2,
         aru: 0,
         aru_id: NodeId::new(2),
-        rtr: Places::from_slice(alloc, &[1])?,
-    };
-    let copy = token.copy(alloc)?;
-    Ok(copy == token && copy.rtr.as_slice() == [1].as_slice())
+        rtr,
+    }
+}
+
+/// Whether a copy of the token, which is let go, equals it, and asks for place 1.
+fn copies_token(alloc: Global, token: Token) -> bool {
+    match token.copy(alloc) {
+        Ok(copy) => copy == token && copy.rtr.as_slice() == [1].as_slice(),
+        Err(_) => false,
+    }
+}
+
+/// Whether that is so of a token that asks for place 1.
+fn copies_new_token(alloc: Global) -> bool {
+    match Places::from_slice(alloc, &[1]) {
+        Ok(rtr) => copies_token(alloc, token_of(rtr)),
+        Err(_) => false,
+    }
 }
 
 /// How the list accepts user 7.
@@ -337,7 +381,7 @@ fn copied_acceptance(alloc: Global) -> Result<Via, Refusal> {
 
 #[test]
 fn tokens(rt: HostRuntime) {
-    assert!(rt; copies_token(rt.alloc()) == Ok(true));
+    assert!(rt; copies_new_token(rt.alloc()));
 }
 
 #[test]

@@ -120,16 +120,14 @@ pub fn answer(
     answer
 }
 
-/// Judges those rows, from the first on.
-pub fn enter_rows(
-    alloc: Global,
-    policy: &mut Policy,
-    rows: &[(Source, Ask)],
-) -> Result<(), Refusal> {
+/// Judges those rows, from the first on, and says whether all were judged.
+pub fn enter_rows(alloc: Global, policy: &mut Policy, rows: &[(Source, Ask)]) -> bool {
     for (from, ask) in rows {
-        answer(alloc, policy, from, ask)?;
+        if answer(alloc, policy, from, ask).is_err() {
+            return false;
+        }
     }
-    Ok(())
+    true
 }
 
 /// What is changed in a record.

@@ -6,24 +6,27 @@ use cpg_group::{Policy, Reason, Verdict};
 use cpg_rules::{Right, Who};
 use std::alloc::Global;
 
+/// Whether the answer is that it is allowed.
+fn is_allowed(answer: Result<Verdict, Refusal>) -> bool {
+    matches!(answer, Ok(Verdict::Allowed(_)))
+}
+
 /// Whether 128 connections may join the group.
-fn lets_128_join(alloc: Global, policy: &mut Policy) -> Result<bool, Refusal> {
+fn lets_128_join(alloc: Global, policy: &mut Policy) -> bool {
     for number in 1..129u16 {
         let member = client(1, number, u32::from(number), 7);
-        if !answer(alloc, policy, &member, &Ask::Join("db"))?.is_allowed() {
-            return Ok(false);
+        if !is_allowed(answer(alloc, policy, &member, &Ask::Join("db"))) {
+            return false;
         }
     }
-    Ok(true)
+    true
 }
 
 /// Whether 128 connections may join the group, and the next is denied since it is full.
-fn lets_128_join_alone(alloc: Global, policy: &mut Policy) -> Result<bool, Refusal> {
+fn lets_128_join_alone(alloc: Global, policy: &mut Policy) -> bool {
     let late = client(2, 1, 129, 7);
-    Ok(
-        lets_128_join(alloc, policy)?
-            && answer(alloc, policy, &late, &Ask::Join("db"))? == Verdict::Denied(Reason::Full),
-    )
+    lets_128_join(alloc, policy)
+        && answer(alloc, policy, &late, &Ask::Join("db")) == Ok(Verdict::Denied(Reason::Full))
 }
 
 #[test]
@@ -31,7 +34,7 @@ fn the_129th_join_is_denied(rt: HostRuntime) {
     let mut policy = Policy::new(rt.alloc());
     let answer = lets_128_join_alone(rt.alloc(), &mut policy);
     drop(policy);
-    assert!(rt; answer == Ok(true));
+    assert!(rt; answer);
 }
 
 /// The user who may edit every table.
@@ -50,21 +53,19 @@ fn insert(alloc: Global, policy: &mut Policy) -> Result<Verdict, Refusal> {
 }
 
 /// Whether 64 rules may be put into the group's table.
-fn lets_64_rules_in(alloc: Global, policy: &mut Policy) -> Result<bool, Refusal> {
+fn lets_64_rules_in(alloc: Global, policy: &mut Policy) -> bool {
     for _ in 0..64 {
-        if !insert(alloc, policy)?.is_allowed() {
-            return Ok(false);
+        if !is_allowed(insert(alloc, policy)) {
+            return false;
         }
     }
-    Ok(true)
+    true
 }
 
 /// Whether 64 rules may be put into the group's table, and the next is denied since it is full.
-fn lets_64_rules_in_alone(alloc: Global, policy: &mut Policy) -> Result<bool, Refusal> {
-    Ok(
-        lets_64_rules_in(alloc, policy)?
-            && insert(alloc, policy)? == Verdict::Denied(Reason::TableFull),
-    )
+fn lets_64_rules_in_alone(alloc: Global, policy: &mut Policy) -> bool {
+    lets_64_rules_in(alloc, policy)
+        && insert(alloc, policy) == Ok(Verdict::Denied(Reason::TableFull))
 }
 
 #[test]
@@ -72,7 +73,7 @@ fn the_65th_rule_is_denied(rt: HostRuntime) {
     let mut policy = Policy::new(rt.alloc());
     let answer = lets_64_rules_in_alone(rt.alloc(), &mut policy);
     drop(policy);
-    assert!(rt; answer == Ok(true));
+    assert!(rt; answer);
 }
 
 /// What user 0 is answered who takes the rule of id 5 out of the group's table.
@@ -81,17 +82,15 @@ fn remove(alloc: Global, policy: &mut Policy) -> Result<Verdict, Refusal> {
 }
 
 /// Whether that rule is taken out once, is absent the second time, and 63 are left.
-fn removes_once(alloc: Global, policy: &mut Policy) -> Result<bool, Refusal> {
-    Ok(
-        remove(alloc, policy)? == Verdict::Allowed(By::Root)
-            && remove(alloc, policy)? == Verdict::Denied(Reason::Absent)
-            && count_rules(policy, b"db") == 63,
-    )
+fn removes_once(alloc: Global, policy: &mut Policy) -> bool {
+    remove(alloc, policy) == Ok(Verdict::Allowed(By::Root))
+        && remove(alloc, policy) == Ok(Verdict::Denied(Reason::Absent))
+        && count_rules(policy, b"db") == 63
 }
 
 /// Whether that is so of a table of 64 rules.
-fn removes_from_full(alloc: Global, policy: &mut Policy) -> Result<bool, Refusal> {
-    Ok(lets_64_rules_in(alloc, policy)? && removes_once(alloc, policy)?)
+fn removes_from_full(alloc: Global, policy: &mut Policy) -> bool {
+    lets_64_rules_in(alloc, policy) && removes_once(alloc, policy)
 }
 
 #[test]
@@ -99,5 +98,5 @@ fn a_full_table_can_be_removed_from(rt: HostRuntime) {
     let mut policy = Policy::new(rt.alloc());
     let answer = removes_from_full(rt.alloc(), &mut policy);
     drop(policy);
-    assert!(rt; answer == Ok(true));
+    assert!(rt; answer);
 }

@@ -1,26 +1,34 @@
 //! The next place that tells a connection anything, by hand.
 
 use crate::entering::{Ask, answer, client};
-use crate::rejoining::{events_at, member_conn, rejoin};
-use cpg_entry::Refusal;
+use crate::rejoining::{events_at, member_conn};
 use cpg_group::{ConnId, Policy};
 use std::alloc::Global;
 
-/// A member joins, another connection is refused 198 leaves, and the member leaves.
-fn enter_far(alloc: Global, policy: &mut Policy) -> Result<(), Refusal> {
-    let member = client(1, 1, 40, 7);
-    answer(alloc, policy, &member, &Ask::Join("db"))?;
+/// A connection asks 198 times for a leave.
+fn enter_leaves(alloc: Global, policy: &mut Policy) -> bool {
     for _ in 0..198 {
-        answer(alloc, policy, &client(1, 2, 41, 7), &Ask::Leave)?;
+        if answer(alloc, policy, &client(1, 2, 41, 7), &Ask::Leave).is_err() {
+            return false;
+        }
     }
-    answer(alloc, policy, &member, &Ask::Leave)?;
-    Ok(())
+    true
 }
 
-/// How many events the place tells the connection.
-fn count_told(policy: &Policy, place: u32, conn: &ConnId) -> Result<usize, Refusal> {
-    let told = events_at(policy, place, conn)?;
-    Ok(told.as_slice().len())
+/// A member joins, another connection is refused 198 leaves, and the member leaves.
+fn enter_far(alloc: Global, policy: &mut Policy) -> bool {
+    let member = client(1, 1, 40, 7);
+    answer(alloc, policy, &member, &Ask::Join("db")).is_ok()
+        && enter_leaves(alloc, policy)
+        && answer(alloc, policy, &member, &Ask::Leave).is_ok()
+}
+
+/// Whether the place tells the connection two events.
+fn tells_two(policy: &Policy, place: u32, conn: &ConnId) -> bool {
+    match events_at(policy, place, conn) {
+        Ok(told) => told.len() == 2,
+        Err(_) => false,
+    }
 }
 
 /// Whether that place is the next after the other.
@@ -39,14 +47,18 @@ fn finds_far(policy: &Policy, conn: &ConnId) -> bool {
 }
 
 /// Whether the member is told two events at place 1 and two at place 200, and finds them.
-fn tells_far(alloc: Global, policy: &mut Policy) -> Result<bool, Refusal> {
-    enter_far(alloc, policy)?;
-    let conn = member_conn()?;
-    Ok(
-        finds_far(policy, &conn)
-            && count_told(policy, 1, &conn)? == 2
-            && count_told(policy, 200, &conn)? == 2,
-    )
+fn member_finds_far(policy: &Policy) -> bool {
+    match member_conn() {
+        Ok(conn) => {
+            finds_far(policy, &conn) && tells_two(policy, 1, &conn) && tells_two(policy, 200, &conn)
+        }
+        Err(_) => false,
+    }
+}
+
+/// Whether that is so once all is judged.
+fn tells_far(alloc: Global, policy: &mut Policy) -> bool {
+    enter_far(alloc, policy) && member_finds_far(policy)
 }
 
 #[test]
@@ -54,5 +66,5 @@ fn far_places_are_found(rt: HostRuntime) {
     let mut policy = Policy::new(rt.alloc());
     let answer = tells_far(rt.alloc(), &mut policy);
     drop(policy);
-    assert!(rt; answer == Ok(true));
+    assert!(rt; answer);
 }

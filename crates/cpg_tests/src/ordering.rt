@@ -1,7 +1,7 @@
 //! The members of a group stand in the order of their joins.
 
-use crate::entering::{Ask, Source, answer, client, enter_rows};
-use cpg_entry::{By, Refusal};
+use crate::entering::{Ask, Source, client, enter_rows};
+use cpg_entry::By;
 use cpg_group::{Member, Policy, Verdict};
 use std::alloc::Global;
 
@@ -23,8 +23,16 @@ fn lists_last(policy: &Policy, processes: &[(u8, u32)]) -> bool {
     }
 }
 
+/// Whether the last record has that verdict.
+fn is_last(policy: &Policy, verdict: Verdict) -> bool {
+    match policy.records().last() {
+        None => false,
+        Some(past) => past.verdict == verdict,
+    }
+}
+
 /// Three join, and the second leaves and joins again.
-fn rejoin_second(alloc: Global, policy: &mut Policy) -> Result<(), Refusal> {
+fn rejoin_second(alloc: Global, policy: &mut Policy) -> bool {
     let second = client(2, 1, 50, 7);
     let rows = [
         (client(1, 1, 40, 7), Ask::Join("db")),
@@ -37,9 +45,8 @@ fn rejoin_second(alloc: Global, policy: &mut Policy) -> Result<(), Refusal> {
 }
 
 /// Whether the second stands last then.
-fn puts_second_last(alloc: Global, policy: &mut Policy) -> Result<bool, Refusal> {
-    rejoin_second(alloc, policy)?;
-    Ok(lists_last(policy, &[(1, 40), (3, 60), (2, 50)]))
+fn puts_second_last(alloc: Global, policy: &mut Policy) -> bool {
+    rejoin_second(alloc, policy) && lists_last(policy, &[(1, 40), (3, 60), (2, 50)])
 }
 
 /// The second connection of the process that was the first member.
@@ -48,15 +55,16 @@ fn late() -> Source {
 }
 
 /// Whether the process of a member whose connection ended may join by another, and stands last then.
-fn lets_process_back(alloc: Global, policy: &mut Policy) -> Result<bool, Refusal> {
-    answer(alloc, policy, &client(1, 1, 40, 7), &Ask::Gone)?;
-    let verdict = answer(alloc, policy, &late(), &Ask::Join("db"))?;
-    Ok(verdict == Verdict::Allowed(By::Default) && lists_last(policy, &[(3, 60), (2, 50), (1, 40)]))
+fn lets_process_back(alloc: Global, policy: &mut Policy) -> bool {
+    let rows = [(client(1, 1, 40, 7), Ask::Gone), (late(), Ask::Join("db"))];
+    enter_rows(alloc, policy, rows.as_slice())
+        && lists_last(policy, &[(3, 60), (2, 50), (1, 40)])
+        && is_last(policy, Verdict::Allowed(By::Default))
 }
 
 /// Whether members stand in the order of their joins through all of that.
-fn keeps_order(alloc: Global, policy: &mut Policy) -> Result<bool, Refusal> {
-    Ok(puts_second_last(alloc, policy)? && lets_process_back(alloc, policy)?)
+fn keeps_order(alloc: Global, policy: &mut Policy) -> bool {
+    puts_second_last(alloc, policy) && lets_process_back(alloc, policy)
 }
 
 #[test]
@@ -64,5 +72,5 @@ fn members_stand_in_the_order_of_their_joins(rt: HostRuntime) {
     let mut policy = Policy::new(rt.alloc());
     let answer = keeps_order(rt.alloc(), &mut policy);
     drop(policy);
-    assert!(rt; answer == Ok(true));
+    assert!(rt; answer);
 }

@@ -51,20 +51,21 @@ fn told_by(event: Event) -> Told {
 
 /// The next event of the node's connection 1, if there is one.
 fn take(node: &mut Node) -> Result<Option<Told>, Refusal> {
-    match node.take(1)? {
-        Some(event) => Ok(Some(told_by(event))),
-        None => Ok(None),
+    match node.take(1) {
+        Ok(Some(event)) => Ok(Some(told_by(event))),
+        Ok(None) => Ok(None),
+        Err(refusal) => Err(refusal),
     }
 }
 
 /// Whether connection 1 of the node is told just that.
-fn tells(node: &mut Node, expected: &[Told]) -> Result<bool, Refusal> {
+fn tells(node: &mut Node, expected: &[Told]) -> bool {
     for told in expected {
-        if take(node)? != Some(*told) {
-            return Ok(false);
+        if take(node) != Ok(Some(*told)) {
+            return false;
         }
     }
-    Ok(take(node)?.is_none())
+    take(node) == Ok(None)
 }
 
 /// One of the frames.
@@ -95,40 +96,37 @@ enum Way {
 
 /// Judges the next place and takes it as delivered, by one call for each. Gives whether it is held.
 fn commit_next(node: &mut Node) -> Result<bool, Refusal> {
-    match node.judge_next()? {
-        None => Ok(false),
-        Some(next) => match node.commit(next) {
+    match node.judge_next() {
+        Ok(None) => Ok(false),
+        Ok(Some(next)) => match node.commit(next) {
             Ok(()) => Ok(true),
             Err(refused) => Err(refused.refusal),
         },
+        Err(refusal) => Err(refusal),
     }
 }
 
 /// The node delivers the next place. Gives whether it is held.
 fn deliver_next(node: &mut Node, way: Way) -> Result<bool, Refusal> {
     match way {
-        Way::Whole => Ok(node.deliver()?.is_some()),
+        Way::Whole => node.deliver().map(|place| place.is_some()),
         Way::InTwo => commit_next(node),
     }
 }
 
-/// How many places the node has delivered after the next one, or none where it isn't held.
-fn deliver(node: &mut Node, way: Way) -> Result<Option<usize>, Refusal> {
-    if deliver_next(node, way)? {
-        Ok(Some(node.audit().len()))
-    } else {
-        Ok(None)
-    }
+/// Whether the node delivers the next place, as that one.
+fn delivers_one(node: &mut Node, way: Way, place: usize) -> bool {
+    deliver_next(node, way) == Ok(true) && node.audit().len() == place
 }
 
 /// Whether the node delivers that many places now, and then no more.
-fn delivers(node: &mut Node, way: Way, first: usize, last: usize) -> Result<bool, Refusal> {
+fn delivers(node: &mut Node, way: Way, first: usize, last: usize) -> bool {
     for place in first..=last {
-        if deliver(node, way)? != Some(place) {
-            return Ok(false);
+        if !delivers_one(node, way, place) {
+            return false;
         }
     }
-    Ok(deliver(node, way)?.is_none())
+    deliver_next(node, way) == Ok(false)
 }
 
 fn join_db(alloc: Global) -> Result<Call, Refusal> {
@@ -171,26 +169,38 @@ fn hi(alloc: Global) -> Result<Call, Refusal> {
 }
 
 /// Whether node 2 hears the first of the two frames.
-fn hears_of_two(two: &mut Node, frames: &[Bytes]) -> Result<bool, Refusal> {
-    let sent = hear_one(two, frames, 0)?;
-    Ok(sent == 0 && frames.len() == 2)
+fn hears_of_two(two: &mut Node, frames: &[Bytes]) -> bool {
+    hear_one(two, frames, 0) == Ok(0) && frames.len() == 2
 }
 
 /// Whether node 1 hears the token and sends its packet and the token, of which node 2 hears the packet.
-fn pass_on(one: &mut Node, two: &mut Node, token: &[u8]) -> Result<bool, Refusal> {
-    hears_of_two(two, one.frame(token)?.as_slice())
+fn pass_on(one: &mut Node, two: &mut Node, token: &[u8]) -> bool {
+    match one.frame(token) {
+        Ok(frames) => hears_of_two(two, frames.as_slice()),
+        Err(_) => false,
+    }
+}
+
+/// Whether node 1's process may send `hi`.
+fn submits_hi(alloc: Global, one: &mut Node) -> bool {
+    match hi(alloc) {
+        Ok(call) => submit(one, 1, call).is_ok(),
+        Err(_) => false,
+    }
 }
 
 /// Whether node 1's process sends `hi`, which takes two frames and node 2 hears.
-fn says_hi(alloc: Global, one: &mut Node, two: &mut Node, back: &[Bytes]) -> Result<bool, Refusal> {
-    submit(one, 1, hi(alloc)?)?;
-    pass_on(one, two, frame_at(back, 1)?)
+fn says_hi(alloc: Global, one: &mut Node, two: &mut Node, back: &[Bytes]) -> bool {
+    match frame_at(back, 1) {
+        Ok(token) => submits_hi(alloc, one) && pass_on(one, two, token),
+        Err(_) => false,
+    }
 }
 
 const ALLOWED: Verdict = Verdict::Allowed(By::Default);
 
 /// Whether node 1's connection was told what it has to be.
-fn tells_one(one: &mut Node, first: NodeId) -> Result<bool, Refusal> {
+fn tells_one(one: &mut Node, first: NodeId) -> bool {
     let expected = [
         Told::Verdict(1, ALLOWED),
         Told::Change(1, 1, 0, 1),
@@ -202,7 +212,7 @@ fn tells_one(one: &mut Node, first: NodeId) -> Result<bool, Refusal> {
 }
 
 /// Whether node 2's connection was told what it has to be.
-fn tells_two(two: &mut Node, first: NodeId) -> Result<bool, Refusal> {
+fn tells_two(two: &mut Node, first: NodeId) -> bool {
     let expected = [
         Told::Verdict(2, ALLOWED),
         Told::Change(2, 2, 0, 1),
@@ -212,69 +222,58 @@ fn tells_two(two: &mut Node, first: NodeId) -> Result<bool, Refusal> {
 }
 
 /// Whether both connections were told what they have to be.
-fn tells_both(one: &mut Node, two: &mut Node) -> Result<bool, Refusal> {
-    let first = node(1)?;
-    Ok(tells_one(one, first)? && tells_two(two, first)?)
+fn tells_both(one: &mut Node, two: &mut Node) -> bool {
+    match node(1) {
+        Ok(first) => tells_one(one, first) && tells_two(two, first),
+        Err(_) => false,
+    }
 }
 
 /// Whether both nodes deliver those places now, and then no more.
-fn deliver_both(
-    one: &mut Node,
-    two: &mut Node,
-    way: Way,
-    first: usize,
-    last: usize,
-) -> Result<bool, Refusal> {
-    let by_one = delivers(one, way, first, last)?;
-    let by_two = delivers(two, way, first, last)?;
-    Ok(by_one && by_two)
+fn deliver_both(one: &mut Node, two: &mut Node, way: Way, first: usize, last: usize) -> bool {
+    delivers(one, way, first, last) && delivers(two, way, first, last)
 }
 
 /// What is left to do once the first token went round, and whether all of it goes as it has to.
-fn go_on(
-    alloc: Global,
-    one: &mut Node,
-    two: &mut Node,
-    way: Way,
-    back: &[Bytes],
-) -> Result<bool, Refusal> {
-    hear_one(one, back, 0)?;
-    let joined = deliver_both(one, two, way, 1, 2)?;
-    let said = says_hi(alloc, one, two, back)?;
-    let heard = deliver_both(one, two, way, 3, 3)?;
-    let told = tells_both(one, two)?;
-    Ok(joined && said && heard && told)
+fn go_on(alloc: Global, one: &mut Node, two: &mut Node, way: Way, back: &[Bytes]) -> bool {
+    hear_one(one, back, 0).is_ok()
+        && deliver_both(one, two, way, 1, 2)
+        && says_hi(alloc, one, two, back)
+        && deliver_both(one, two, way, 3, 3)
+        && tells_both(one, two)
 }
 
-fn meet(alloc: Global, one: &mut Node, two: &mut Node, way: Way) -> Result<bool, Refusal> {
-    let back = join_both(alloc, one, two)?;
-    go_on(alloc, one, two, way, back.as_slice())
+fn meet(alloc: Global, one: &mut Node, two: &mut Node, way: Way) -> bool {
+    match join_both(alloc, one, two) {
+        Ok(back) => go_on(alloc, one, two, way, back.as_slice()),
+        Err(_) => false,
+    }
 }
 
 /// Whether the node and a new second one tell their connections alike what was placed.
-fn agrees(alloc: Global, one: &mut Node, way: Way) -> Result<bool, Refusal> {
-    let mut two = node_with(alloc, settings(1, 2), 2, &[7])?;
-    let answer = meet(alloc, one, &mut two, way);
-    drop(two);
-    answer
+fn agrees(alloc: Global, one: &mut Node, way: Way) -> bool {
+    match node_with(alloc, settings(1, 2), 2, &[7]) {
+        Ok(mut two) => meet(alloc, one, &mut two, way),
+        Err(_) => false,
+    }
 }
 
 /// Whether two new nodes do so.
-fn agree(alloc: Global, way: Way) -> Result<bool, Refusal> {
-    let mut one = node_with(alloc, settings(1, 2), 1, &[7])?;
-    let answer = agrees(alloc, &mut one, way);
-    drop(one);
-    answer
+fn agree(alloc: Global, way: Way) -> bool {
+    match node_with(alloc, settings(1, 2), 1, &[7]) {
+        Ok(mut one) => agrees(alloc, &mut one, way),
+        Err(_) => false,
+    }
 }
 
 #[test]
 fn two_nodes_by_deliver(rt: HostRuntime) {
-    assert!(rt; agree(rt.alloc(), Way::Whole) == Ok(true));
+    assert!(rt; agree(rt.alloc(), Way::Whole));
 }
 
 #[test]
 fn two_nodes_by_judge_next_and_commit(rt: HostRuntime) {
-    assert!(rt; agree(rt.alloc(), Way::InTwo) == Ok(true));
+    assert!(rt; agree(rt.alloc(), Way::InTwo));
 }
 
 /// A join of `db` at place 1 by connection 1 of node 1, whose process is 40.
@@ -295,31 +294,35 @@ const DENY_LIST: [u8; 39] = [
     b'b', 0, 2, 3, 1, 1, 0, 0, 0, 8,
 ];
 
-/// The node hears a frame and delivers its place.
-fn hear_and_deliver(one: &mut Node, bytes: &[u8]) -> Result<(), Refusal> {
-    hear(one, bytes)?;
-    one.deliver()?;
-    Ok(())
+/// Whether the node hears a frame and delivers its place.
+fn hears_and_delivers(one: &mut Node, bytes: &[u8]) -> bool {
+    hear(one, bytes).is_ok() && one.deliver().is_ok()
 }
 
-/// Node 1 of 2 hears and delivers these entries, and then a process of user 8 and one of user 7 connect.
-fn prepare(one: &mut Node) -> Result<(), Refusal> {
-    hear_and_deliver(one, JOIN_DB.as_slice())?;
-    hear_and_deliver(one, JOIN_APP.as_slice())?;
-    hear_and_deliver(one, DENY_LIST.as_slice())?;
-    one.connect(60, user(8))?;
-    one.connect(61, user(7))?;
-    Ok(())
+/// Whether node 1 of 2 hears and delivers these entries, and then a process of user 8 and one of user 7
+/// connect.
+fn prepares(one: &mut Node) -> bool {
+    hears_and_delivers(one, JOIN_DB.as_slice())
+        && hears_and_delivers(one, JOIN_APP.as_slice())
+        && hears_and_delivers(one, DENY_LIST.as_slice())
+        && one.connect(60, user(8)).is_ok()
+        && one.connect(61, user(7)).is_ok()
 }
 
 /// Whether the connection sees the groups of those names.
-fn sees(one: &Node, conn: u16, names: &[&[u8]]) -> Result<bool, Refusal> {
-    Ok(are_named(one.groups(conn)?.as_slice(), names))
+fn sees(one: &Node, conn: u16, names: &[&[u8]]) -> bool {
+    match one.groups(conn) {
+        Ok(list) => are_named(list.as_slice(), names),
+        Err(_) => false,
+    }
 }
 
 /// Whether user 7 is shown those members of the group.
-fn shows(one: &Node, group: &[u8], members: &[(NodeId, u32)]) -> Result<bool, Refusal> {
-    Ok(one.list(2, group)?.as_slice() == members)
+fn shows(one: &Node, group: &[u8], members: &[(NodeId, u32)]) -> bool {
+    match one.list(2, group) {
+        Ok(list) => list.as_slice() == members,
+        Err(_) => false,
+    }
 }
 
 /// Whether user 8 is refused the members of `db` by the rule.
@@ -328,38 +331,37 @@ fn denies(one: &Node) -> bool {
 }
 
 /// Whether user 8 sees one group and user 7 both.
-fn sees_as_ruled(one: &Node) -> Result<bool, Refusal> {
-    Ok(
-        sees(one, 1, [b"app".as_slice()].as_slice())?
-            && sees(one, 2, [b"app".as_slice(), b"db".as_slice()].as_slice())?,
-    )
+fn sees_as_ruled(one: &Node) -> bool {
+    sees(one, 1, [b"app".as_slice()].as_slice())
+        && sees(one, 2, [b"app".as_slice(), b"db".as_slice()].as_slice())
 }
 
 /// Whether user 7 is shown the member of `db`, and nobody in a group that is not there.
-fn shows_as_ruled(one: &Node) -> Result<bool, Refusal> {
-    let member = [(node(1)?, 40)];
-    Ok(shows(one, b"db", member.as_slice())? && shows(one, b"zz", &[])?)
+fn shows_as_ruled(one: &Node) -> bool {
+    match node(1) {
+        Ok(node) => shows(one, b"db", [(node, 40)].as_slice()) && shows(one, b"zz", &[]),
+        Err(_) => false,
+    }
 }
 
 /// Whether the node lists as its rules say.
-fn lists_as_ruled(one: &Node) -> Result<bool, Refusal> {
-    Ok(sees_as_ruled(one)? && shows_as_ruled(one)? && denies(one))
+fn lists_as_ruled(one: &Node) -> bool {
+    sees_as_ruled(one) && shows_as_ruled(one) && denies(one)
 }
 
 /// Whether the node does so once it heard them.
-fn lists_what_it_heard(one: &mut Node) -> Result<bool, Refusal> {
-    prepare(one)?;
-    lists_as_ruled(one)
+fn lists_what_it_heard(one: &mut Node) -> bool {
+    prepares(one) && lists_as_ruled(one)
 }
 
-fn lists_for_its_connections(alloc: Global) -> Result<bool, Refusal> {
-    let mut one = node_with(alloc, settings(1, 2), 1, &[7, 8])?;
-    let answer = lists_what_it_heard(&mut one);
-    drop(one);
-    answer
+fn lists_for_its_connections(alloc: Global) -> bool {
+    match node_with(alloc, settings(1, 2), 1, &[7, 8]) {
+        Ok(mut one) => lists_what_it_heard(&mut one),
+        Err(_) => false,
+    }
 }
 
 #[test]
 fn listings_over_what_was_heard(rt: HostRuntime) {
-    assert!(rt; lists_for_its_connections(rt.alloc()) == Ok(true));
+    assert!(rt; lists_for_its_connections(rt.alloc()));
 }
