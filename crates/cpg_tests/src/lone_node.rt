@@ -56,14 +56,16 @@ fn sends_the_first(node: &mut Node) -> bool {
 }
 
 /// Whether it does, and user 0 alone is let in.
-fn stands(node: &mut Node) -> bool {
-    sends_the_first(node) && lets_root_in(node)
+fn stands(mut node: Node) -> bool {
+    let answer = sends_the_first(&mut node) && lets_root_in(&mut node);
+    drop(node);
+    answer
 }
 
 /// Both of a node that is alone in ring 7.
 fn stands_alone(alloc: Global) -> bool {
     match node_with(alloc, settings(7, 1), 1, &[]) {
-        Ok(mut node) => stands(&mut node),
+        Ok(node) => stands(node),
         Err(_) => false,
     }
 }
@@ -98,24 +100,26 @@ fn join(alloc: Global, node: &mut Node, count: usize) -> Result<(), Refusal> {
 }
 
 /// Whether messages of up to 8,192 bytes and names of up to 128 are taken.
-fn takes_calls(alloc: Global, node: &mut Node) -> bool {
+fn takes_calls(alloc: Global, mut node: Node) -> bool {
     let root = node.connect(40, ROOT);
-    let empty = send(alloc, node, 0);
-    let longest = send(alloc, node, 8192);
-    let longer = send(alloc, node, 8193);
-    let name = join(alloc, node, 128);
-    let longer_name = join(alloc, node, 129);
-    root == Ok(1)
+    let empty = send(alloc, &mut node, 0);
+    let longest = send(alloc, &mut node, 8192);
+    let longer = send(alloc, &mut node, 8193);
+    let name = join(alloc, &mut node, 128);
+    let longer_name = join(alloc, &mut node, 129);
+    let answer = root == Ok(1)
         && empty.is_ok()
         && longest.is_ok()
         && longer == Err(Refusal::TooLong)
         && name.is_ok()
-        && longer_name == Err(Refusal::BadName)
+        && longer_name == Err(Refusal::BadName);
+    drop(node);
+    answer
 }
 
 fn takes_calls_within_limits(alloc: Global) -> bool {
     match node_with(alloc, settings(1, 1), 1, &[]) {
-        Ok(mut node) => takes_calls(alloc, &mut node),
+        Ok(node) => takes_calls(alloc, node),
         Err(_) => false,
     }
 }
@@ -173,15 +177,17 @@ fn connect_often(node: &mut Node) -> bool {
 }
 
 /// Whether the node then lets nobody in, and tells user 0 apart from a stranger.
-fn is_full_then(node: &mut Node) -> bool {
-    connect_often(node)
+fn is_full_then(mut node: Node) -> bool {
+    let answer = connect_often(&mut node)
         && node.connect(1, ROOT) == Err(Refusal::ConnectionsFull)
-        && node.connect(1, Cred { uid: 9, gid: 9 }) == Err(Refusal::Access)
+        && node.connect(1, Cred { uid: 9, gid: 9 }) == Err(Refusal::Access);
+    drop(node);
+    answer
 }
 
 fn fills_up(alloc: Global) -> bool {
     match node_with(alloc, settings(1, 1), 1, &[]) {
-        Ok(mut node) => is_full_then(&mut node),
+        Ok(node) => is_full_then(node),
         Err(_) => false,
     }
 }
@@ -223,38 +229,49 @@ fn answers(node: &mut Node, heard: &[u8], sent: &[u8]) -> bool {
 }
 
 /// Whether the node takes hop 98, sends hop 99 alone, and then finds the first token stale.
-fn leaps(node: &mut Node) -> bool {
-    answers(node, token(0, 98).as_slice(), token(0, 99).as_slice())
-        && hear_hop(node, 0, 0) == Err(Refusal::Stale)
+fn leaps(mut node: Node) -> bool {
+    let answer = answers(&mut node, token(0, 98).as_slice(), token(0, 99).as_slice())
+        && hear_hop(&mut node, 0, 0) == Err(Refusal::Stale);
+    drop(node);
+    answer
 }
 
 /// Whether node 1 of 2 does so.
 fn leaps_ahead(alloc: Global) -> bool {
     match node_with(alloc, settings(1, 2), 1, &[]) {
-        Ok(mut node) => leaps(&mut node),
+        Ok(node) => leaps(node),
         Err(_) => false,
     }
+}
+
+/// Whether the node, which is let go, refuses the hop 2^62.
+fn ends(mut node: Node) -> bool {
+    let answer = hear_hop(&mut node, 0x40, 0);
+    drop(node);
+    answer == Err(Refusal::RingEnd)
 }
 
 /// Whether node 1 of 2 refuses the hop 2^62, which is past the ring's end.
 fn meets_the_end(alloc: Global) -> bool {
     match node_with(alloc, settings(1, 2), 1, &[]) {
-        Ok(mut node) => hear_hop(&mut node, 0x40, 0) == Err(Refusal::RingEnd),
+        Ok(node) => ends(node),
         Err(_) => false,
     }
 }
 
 /// Whether the node holds the stray entry, and then finds a token implausible that is behind it.
-fn finds_behind(node: &mut Node) -> bool {
-    let held = hear(node, STRAY.as_slice());
-    let behind = hear_hop(node, 0, 1);
-    held == Ok(0) && behind == Err(Refusal::Implausible)
+fn finds_behind(mut node: Node) -> bool {
+    let held = hear(&mut node, STRAY.as_slice());
+    let behind = hear_hop(&mut node, 0, 1);
+    let answer = held == Ok(0) && behind == Err(Refusal::Implausible);
+    drop(node);
+    answer
 }
 
 /// Whether node 2 of 2 does so.
 fn holds_a_stray(alloc: Global) -> bool {
     match node_with(alloc, settings(1, 2), 2, &[]) {
-        Ok(mut node) => finds_behind(&mut node),
+        Ok(node) => finds_behind(node),
         Err(_) => false,
     }
 }
@@ -268,16 +285,18 @@ fn are_one_allowed(records: &[Record]) -> bool {
 }
 
 /// Whether the node judges the stray join as any.
-fn judges(node: &mut Node) -> bool {
-    hear(node, STRAY_JOIN.as_slice()).is_ok()
+fn judges(mut node: Node) -> bool {
+    let answer = hear(&mut node, STRAY_JOIN.as_slice()).is_ok()
         && node.deliver() == Ok(Some(1))
-        && are_one_allowed(node.audit())
+        && are_one_allowed(node.audit());
+    drop(node);
+    answer
 }
 
 /// Whether node 2 of 2 does so.
 fn judges_a_stray(alloc: Global) -> bool {
     match node_with(alloc, settings(1, 2), 2, &[]) {
-        Ok(mut node) => judges(&mut node),
+        Ok(node) => judges(node),
         Err(_) => false,
     }
 }

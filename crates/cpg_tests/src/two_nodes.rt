@@ -250,18 +250,32 @@ fn meet(alloc: Global, one: &mut Node, two: &mut Node, way: Way) -> bool {
     }
 }
 
+/// Whether the two nodes, of which the second is let go, do so.
+fn meets(alloc: Global, one: &mut Node, mut two: Node, way: Way) -> bool {
+    let answer = meet(alloc, one, &mut two, way);
+    drop(two);
+    answer
+}
+
 /// Whether the node and a new second one tell their connections alike what was placed.
-fn agrees(alloc: Global, one: &mut Node, way: Way) -> bool {
+fn agrees_with_second(alloc: Global, one: &mut Node, way: Way) -> bool {
     match node_with(alloc, settings(1, 2), 2, &[7]) {
-        Ok(mut two) => meet(alloc, one, &mut two, way),
+        Ok(two) => meets(alloc, one, two, way),
         Err(_) => false,
     }
+}
+
+/// Whether the node, which is let go, and a new second one do so.
+fn agrees(alloc: Global, mut one: Node, way: Way) -> bool {
+    let answer = agrees_with_second(alloc, &mut one, way);
+    drop(one);
+    answer
 }
 
 /// Whether two new nodes do so.
 fn agree(alloc: Global, way: Way) -> bool {
     match node_with(alloc, settings(1, 2), 1, &[7]) {
-        Ok(mut one) => agrees(alloc, &mut one, way),
+        Ok(one) => agrees(alloc, one, way),
         Err(_) => false,
     }
 }
@@ -350,13 +364,15 @@ fn lists_as_ruled(one: &Node) -> bool {
 }
 
 /// Whether the node does so once it heard them.
-fn lists_what_it_heard(one: &mut Node) -> bool {
-    prepares(one) && lists_as_ruled(one)
+fn lists_what_it_heard(mut one: Node) -> bool {
+    let answer = prepares(&mut one) && lists_as_ruled(&one);
+    drop(one);
+    answer
 }
 
 fn lists_for_its_connections(alloc: Global) -> bool {
     match node_with(alloc, settings(1, 2), 1, &[7, 8]) {
-        Ok(mut one) => lists_what_it_heard(&mut one),
+        Ok(one) => lists_what_it_heard(one),
         Err(_) => false,
     }
 }
