@@ -83,15 +83,15 @@ where
     }
 }
 
-/// Whether a cluster of node 1 does so, with that list.
-fn one_goes<B, R>(rt: R, alloc: Global, board: Board, list: &AcceptList) -> bool
+/// Whether a cluster of node 1 does so.
+fn one_goes<B, R>(rt: R, alloc: Global, board: Board) -> bool
 where
     B: BoardName + Send + Sync + 'static,
     R: Threads + Wait + Clock + Copy + Send + 'static,
     requires { board ≡ B.cells }
 {
     match node_of(1) {
-        Ok(node) => one_starts::<B, R>(rt, alloc, board, list, node),
+        Ok(node) => one_starts::<B, R>(rt, alloc, board, &AcceptList::new(alloc), node),
         Err(_) => false,
     }
 }
@@ -100,7 +100,7 @@ where
 fn a_cluster_of_one_gets_safe(rt: HostRuntime) -> Result<(), Fail> {
     let board = Board::new(rt.alloc(), 4_096)?;
     let alloc = rt.alloc();
-    assert!(rt; one_goes::<Brand, HostRuntime>(rt, alloc, board, &AcceptList::new(alloc)));
+    assert!(rt; one_goes::<Brand, HostRuntime>(rt, alloc, board));
     Ok(())
 }
 
@@ -112,8 +112,8 @@ where
     drop(cluster.stop(rt));
 }
 
-/// What refuses to start a cluster of those settings, if anything does.
-fn refusal_of<B, R>(
+/// What refuses to start a cluster of those settings with that list, if anything does.
+fn refusal_with<B, R>(
     rt: R,
     alloc: Global,
     board: Board,
@@ -132,6 +132,17 @@ where
         }
         Err(refusal) => Some(refusal),
     }
+}
+
+/// Whether a cluster of those settings is out of range.
+fn is_out_of_range<B, R>(rt: R, alloc: Global, board: Board, settings: Settings) -> bool
+where
+    B: BoardName + Send + Sync + 'static,
+    R: Threads + Wait + Clock + Copy + Send + 'static,
+    requires { board ≡ B.cells }
+{
+    let list = AcceptList::new(alloc);
+    refusal_with::<B, R>(rt, alloc, board, settings, &list) == Some(Refusal::Range)
 }
 
 /// Settings of which one is out of its range.
@@ -158,10 +169,7 @@ fn settings_have_ranges(rt: HostRuntime) -> Result<(), Fail> {
     for settings in bad_settings() {
         let board = Board::new(rt.alloc(), 10)?;
         let alloc = rt.alloc();
-        assert!(rt;
-            refusal_of::<Brand, HostRuntime>(rt, alloc, board, settings, &AcceptList::new(alloc))
-                == Some(Refusal::Range)
-        );
+        assert!(rt; is_out_of_range::<Brand, HostRuntime>(rt, alloc, board, settings));
     }
     Ok(())
 }

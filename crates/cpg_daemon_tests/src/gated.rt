@@ -117,7 +117,7 @@ fn new_meeting(alloc: Global) -> Result<(Arc<Marks, Global>, Meeting), Refusal> 
 }
 
 /// Whether the two nodes of a cluster meet, with that list.
-fn two_meet<B, R>(rt: R, alloc: Global, board: Board, list: &AcceptList) -> bool
+fn two_gated<B, R>(rt: R, alloc: Global, board: Board, list: &AcceptList) -> bool
 where
     B: BoardName + Send + Sync + 'static,
     R: Threads + Wait + Clock + Copy + Send + 'static,
@@ -129,12 +129,24 @@ where
     }
 }
 
+/// Whether the two nodes of a cluster meet.
+fn two_meet<B, R>(rt: R, alloc: Global, board: Board) -> bool
+where
+    B: BoardName + Send + Sync + 'static,
+    R: Threads + Wait + Clock + Copy + Send + 'static,
+    requires { board ≡ B.cells }
+{
+    match list_of_seven(alloc) {
+        Ok(list) => two_gated::<B, R>(rt, alloc, board, &list),
+        Err(_) => false,
+    }
+}
+
 #[test]
 fn two_nodes_run_at_once(rt: HostRuntime) -> Result<(), Fail> {
     let board = Board::new(rt.alloc(), 10)?;
     let alloc = rt.alloc();
-    let list = list_of_seven(alloc)?;
-    assert!(rt; two_meet::<Brand, HostRuntime>(rt, alloc, board, &list));
+    assert!(rt; two_meet::<Brand, HostRuntime>(rt, alloc, board));
     Ok(())
 }
 
@@ -338,30 +350,37 @@ fn leaves_two<B: BoardName>(ends: Ends<B>) -> bool {
     left
 }
 
+/// Whether the running nodes 1 and 2 do so.
+fn two_refuse<B: BoardName, R: Wait>(
+    rt: &R,
+    alloc: Global,
+    running: &Running<B, Holding>,
+    open: &AtomicBool,
+) -> bool
+    requires { 2 ≤ running.now.nodes }
+{
+    match (node_of(1), node_of(2)) {
+        (Ok(one), Ok(two)) => refuses(rt, alloc, running, (one, two), open),
+        _ => false,
+    }
+}
+
 /// Whether the cluster, whose node 2 is held, does so.
 fn held_runs<B, R: Threads + Wait>(
     rt: &R,
     alloc: Global,
     cluster: Cluster<B, Holding>,
-    nodes: (NodeId, NodeId),
     open: &AtomicBool,
 ) -> bool
 where
     B: BoardName + Send + Sync + 'static,
-    requires { (nodes.0 ≤ cluster.nodes) × (nodes.1 ≤ cluster.nodes) }
+    requires { 2 ≤ cluster.nodes }
 {
-    let refused = refuses(rt, alloc, &cluster, nodes, open);
+    let refused = two_refuse(rt, alloc, &cluster, open);
     leaves_two(cluster.stop(rt)) && refused
 }
 
-/// Nodes 1 and 2.
-fn two_nodes() -> Result<(NodeId, NodeId), Refusal>
-    ensures { IfOk result (λ nodes. (nodes.0 ≤ 2) × (nodes.1 ≤ 2)) }
-{
-    Ok((node_of(1)?, node_of(2)?))
-}
-
-/// Whether a cluster of those nodes with that gate does so.
+/// Whether a cluster with that gate does so.
 fn held_starts<B, R>(
     rt: R,
     alloc: Global,
@@ -369,16 +388,14 @@ fn held_starts<B, R>(
     list: &AcceptList,
     gate: Holding,
     open: &AtomicBool,
-    nodes: (NodeId, NodeId),
 ) -> bool
 where
     B: BoardName + Send + Sync + 'static,
     R: Threads + Wait + Clock + Copy + Send + 'static,
-    requires board { board ≡ B.cells }
-    requires nodes { (nodes.0 ≤ 2) × (nodes.1 ≤ 2) }
+    requires { board ≡ B.cells }
 {
     match Cluster::<B, Holding>::start(rt, alloc, settings_of(2), board, list, gate) {
-        Ok(cluster) => held_runs(&rt, alloc, cluster, nodes, open),
+        Ok(cluster) => held_runs(&rt, alloc, cluster, open),
         Err(_) => false,
     }
 }
@@ -392,35 +409,28 @@ fn new_holding(alloc: Global) -> Result<(Arc<AtomicBool, Global>, Holding), Refu
     Ok((open, gate))
 }
 
-/// Whether a cluster of those nodes does so, with that list.
-fn held_gated<B, R>(
-    rt: R,
-    alloc: Global,
-    board: Board,
-    list: &AcceptList,
-    nodes: (NodeId, NodeId),
-) -> bool
-where
-    B: BoardName + Send + Sync + 'static,
-    R: Threads + Wait + Clock + Copy + Send + 'static,
-    requires board { board ≡ B.cells }
-    requires nodes { (nodes.0 ≤ 2) × (nodes.1 ≤ 2) }
-{
-    match new_holding(alloc) {
-        Ok((open, gate)) => held_starts::<B, R>(rt, alloc, board, list, gate, &open, nodes),
-        Err(_) => false,
-    }
-}
-
 /// Whether a cluster whose node 2 is held does so, with that list.
-fn held_goes<B, R>(rt: R, alloc: Global, board: Board, list: &AcceptList) -> bool
+fn held_gated<B, R>(rt: R, alloc: Global, board: Board, list: &AcceptList) -> bool
 where
     B: BoardName + Send + Sync + 'static,
     R: Threads + Wait + Clock + Copy + Send + 'static,
     requires { board ≡ B.cells }
 {
-    match two_nodes() {
-        Ok(nodes) => held_gated::<B, R>(rt, alloc, board, list, nodes),
+    match new_holding(alloc) {
+        Ok((open, gate)) => held_starts::<B, R>(rt, alloc, board, list, gate, &open),
+        Err(_) => false,
+    }
+}
+
+/// Whether a cluster whose node 2 is held does so.
+fn held_goes<B, R>(rt: R, alloc: Global, board: Board) -> bool
+where
+    B: BoardName + Send + Sync + 'static,
+    R: Threads + Wait + Clock + Copy + Send + 'static,
+    requires { board ≡ B.cells }
+{
+    match list_of_seven(alloc) {
+        Ok(list) => held_gated::<B, R>(rt, alloc, board, &list),
         Err(_) => false,
     }
 }
@@ -429,7 +439,6 @@ where
 fn a_held_node_is_behind(rt: HostRuntime) -> Result<(), Fail> {
     let board = Board::new(rt.alloc(), 100)?;
     let alloc = rt.alloc();
-    let list = list_of_seven(alloc)?;
-    assert!(rt; held_goes::<Brand, HostRuntime>(rt, alloc, board, &list));
+    assert!(rt; held_goes::<Brand, HostRuntime>(rt, alloc, board));
     Ok(())
 }

@@ -336,14 +336,15 @@ where
     are_served(alloc, cluster.stop(rt), seen)
 }
 
-/// Whether a cluster of three nodes serves three clients so, with that list.
-fn three_go<B, R>(rt: R, alloc: Global, board: Board, list: &AcceptList) -> bool
+/// Whether a cluster of three nodes serves three clients so.
+fn three_go<B, R>(rt: R, alloc: Global, board: Board) -> bool
 where
     B: BoardName + Send + Sync + 'static,
     R: Threads + Wait + Clock + Copy + Send + Sync + 'static,
     requires { board ≡ B.cells }
 {
-    match Cluster::<B, PassAll>::start(rt, alloc, settings_of(3), board, list, PassAll) {
+    let list = AcceptList::new(alloc);
+    match Cluster::<B, PassAll>::start(rt, alloc, settings_of(3), board, &list, PassAll) {
         Ok(cluster) => three_run(&rt, alloc, cluster),
         Err(_) => false,
     }
@@ -353,6 +354,6 @@ where
 fn three_threads_are_served(rt: HostRuntime) -> Result<(), Fail> {
     let board = Board::new(rt.alloc(), 4_096)?;
     let alloc = rt.alloc();
-    assert!(rt; three_go::<Brand, HostRuntime>(rt, alloc, board, &AcceptList::new(alloc)));
+    assert!(rt; three_go::<Brand, HostRuntime>(rt, alloc, board));
     Ok(())
 }
