@@ -59,41 +59,50 @@ fn counts_of<B: BoardName>(ends: Ends<B>) -> (usize, usize) {
     (ends.stations.len(), ends.links.len())
 }
 
-/// Whether the cluster of one node gets safe, and leaves one station and one link.
-fn one_runs<B, R: Threads + Wait>(rt: &R, cluster: Cluster<B, PassAll>, node: NodeId) -> bool
-where
-    B: BoardName + Send + Sync + 'static,
-    requires { node ≤ cluster.nodes }
+/// Whether a process at node 1 leaves, in no group, and then all nodes hold place 1.
+fn first_gets_safe<B: BoardName, R: Wait>(rt: &R, running: &Running<B, PassAll>) -> bool
+    requires { 1 ≤ running.now.nodes }
 {
-    let safe = cluster.nodes() == 1 && leaves_and_gets_safe(rt, &cluster, node);
-    counts_of(cluster.stop(rt)) == (1, 1) && safe
-}
-
-/// Whether a cluster of that node does so.
-fn one_starts<B, R>(rt: R, alloc: Global, board: Board, list: &AcceptList, node: NodeId) -> bool
-where
-    B: BoardName + Send + Sync + 'static,
-    R: Threads + Wait + Clock + Copy + Send + 'static,
-    requires board { board ≡ B.cells }
-    requires node { node ≤ 1 }
-{
-    match Cluster::<B, PassAll>::start(rt, alloc, settings_of(1), board, list, PassAll) {
-        Ok(cluster) => one_runs(&rt, cluster, node),
+    match node_of(1) {
+        Ok(node) => leaves_and_gets_safe(rt, running, node),
         Err(_) => false,
     }
 }
 
-/// Whether a cluster of node 1 does so.
+/// Whether the cluster of one node gets safe, and leaves one station and one link.
+fn one_runs<B, R: Threads + Wait>(rt: &R, cluster: Cluster<B, PassAll>) -> bool
+where
+    B: BoardName + Send + Sync + 'static,
+    requires { 1 ≤ cluster.nodes }
+{
+    let safe = cluster.nodes() == 1 && first_gets_safe(rt, &cluster);
+    counts_of(cluster.stop(rt)) == (1, 1) && safe
+}
+
+/// Whether a cluster of one node does so, with that list.
+fn one_starts<B, R>(rt: R, alloc: Global, board: Board, list: &AcceptList) -> bool
+where
+    B: BoardName + Send + Sync + 'static,
+    R: Threads + Wait + Clock + Copy + Send + 'static,
+    requires { board ≡ B.cells }
+{
+    match Cluster::<B, PassAll>::start(rt, alloc, settings_of(1), board, list, PassAll) {
+        Ok(cluster) => one_runs(&rt, cluster),
+        Err(_) => false,
+    }
+}
+
+/// Whether a cluster of one node does so.
 fn one_goes<B, R>(rt: R, alloc: Global, board: Board) -> bool
 where
     B: BoardName + Send + Sync + 'static,
     R: Threads + Wait + Clock + Copy + Send + 'static,
     requires { board ≡ B.cells }
 {
-    match node_of(1) {
-        Ok(node) => one_starts::<B, R>(rt, alloc, board, &AcceptList::new(alloc), node),
-        Err(_) => false,
-    }
+    let list = AcceptList::new(alloc);
+    let answer = one_starts::<B, R>(rt, alloc, board, &list);
+    drop(list);
+    answer
 }
 
 #[test]
@@ -142,7 +151,9 @@ where
     requires { board ≡ B.cells }
 {
     let list = AcceptList::new(alloc);
-    refusal_with::<B, R>(rt, alloc, board, settings, &list) == Some(Refusal::Range)
+    let refusal = refusal_with::<B, R>(rt, alloc, board, settings, &list);
+    drop(list);
+    refusal == Some(Refusal::Range)
 }
 
 /// Settings of which one is out of its range.

@@ -107,26 +107,34 @@ where
     }
 }
 
-/// New marks, and the gate that sets them.
-fn new_meeting(alloc: Global) -> Result<(Arc<Marks, Global>, Meeting), Refusal> {
+/// New marks, the gate that sets them, and a list of user 7.
+fn new_meeting(alloc: Global) -> Result<(Arc<Marks, Global>, Meeting, AcceptList), Refusal> {
+    let list = list_of_seven(alloc)?;
     let marks = new_marks(alloc)?;
     let gate = Meeting {
         marks: Arc::try_clone(&marks)?,
     };
-    Ok((marks, gate))
+    Ok((marks, gate, list))
 }
 
-/// Whether the two nodes of a cluster meet, with that list.
-fn two_gated<B, R>(rt: R, alloc: Global, board: Board, list: &AcceptList) -> bool
+/// Whether the two nodes of a cluster with that gate and list meet.
+fn two_gated<B, R>(
+    rt: R,
+    alloc: Global,
+    board: Board,
+    marks: Arc<Marks, Global>,
+    gate: Meeting,
+    list: AcceptList,
+) -> bool
 where
     B: BoardName + Send + Sync + 'static,
     R: Threads + Wait + Clock + Copy + Send + 'static,
     requires { board ≡ B.cells }
 {
-    match new_meeting(alloc) {
-        Ok((marks, gate)) => two_start::<B, R>(rt, alloc, board, list, gate, &marks),
-        Err(_) => false,
-    }
+    let answer = two_start::<B, R>(rt, alloc, board, &list, gate, &marks);
+    drop(list);
+    drop(marks);
+    answer
 }
 
 /// Whether the two nodes of a cluster meet.
@@ -136,8 +144,8 @@ where
     R: Threads + Wait + Clock + Copy + Send + 'static,
     requires { board ≡ B.cells }
 {
-    match list_of_seven(alloc) {
-        Ok(list) => two_gated::<B, R>(rt, alloc, board, &list),
+    match new_meeting(alloc) {
+        Ok((marks, gate, list)) => two_gated::<B, R>(rt, alloc, board, marks, gate, list),
         Err(_) => false,
     }
 }
@@ -278,15 +286,16 @@ fn refuses_behind<B: BoardName, R: Wait>(
     running: &Running<B, Holding>,
     node: NodeId,
     mut one: Session<B>,
-    two: &mut Session<B>,
+    mut two: Session<B>,
     open: &AtomicBool,
 ) -> bool
     requires node { node ≤ running.now.nodes }
     requires one { one.who.id.node ≤ running.now.nodes }
-    requires two { two.old.who.id.node ≤ running.now.nodes }
+    requires two { two.who.id.node ≤ running.now.nodes }
 {
     let joined = joins(rt, alloc, running, &mut one, open);
-    let behind = is_behind(rt, running, &one, two);
+    let behind = is_behind(rt, running, &one, &mut two);
+    drop(two);
     let stopped = is_stopped(rt, running, node, one);
     joined && behind && stopped
 }
@@ -304,7 +313,7 @@ fn refuses_second<B: BoardName, R: Wait>(
     requires one { one.who.id.node ≤ running.now.nodes }
 {
     match connect(rt, running, nodes.1) {
-        Ok(mut two) => refuses_behind(rt, alloc, running, nodes.0, one, &mut two, open),
+        Ok(two) => refuses_behind(rt, alloc, running, nodes.0, one, two, open),
         Err(_) => false,
     }
 }
@@ -400,26 +409,34 @@ where
     }
 }
 
-/// The gate, and what opens it.
-fn new_holding(alloc: Global) -> Result<(Arc<AtomicBool, Global>, Holding), Refusal> {
+/// What opens the gate, the gate, and a list of user 7.
+fn new_holding(alloc: Global) -> Result<(Arc<AtomicBool, Global>, Holding, AcceptList), Refusal> {
+    let list = list_of_seven(alloc)?;
     let open = Arc::new(alloc, AtomicBool::new(false))?;
     let gate = Holding {
         open: Arc::try_clone(&open)?,
     };
-    Ok((open, gate))
+    Ok((open, gate, list))
 }
 
-/// Whether a cluster whose node 2 is held does so, with that list.
-fn held_gated<B, R>(rt: R, alloc: Global, board: Board, list: &AcceptList) -> bool
+/// Whether a cluster with that gate and list does so.
+fn held_gated<B, R>(
+    rt: R,
+    alloc: Global,
+    board: Board,
+    open: Arc<AtomicBool, Global>,
+    gate: Holding,
+    list: AcceptList,
+) -> bool
 where
     B: BoardName + Send + Sync + 'static,
     R: Threads + Wait + Clock + Copy + Send + 'static,
     requires { board ≡ B.cells }
 {
-    match new_holding(alloc) {
-        Ok((open, gate)) => held_starts::<B, R>(rt, alloc, board, list, gate, &open),
-        Err(_) => false,
-    }
+    let answer = held_starts::<B, R>(rt, alloc, board, &list, gate, &open);
+    drop(list);
+    drop(open);
+    answer
 }
 
 /// Whether a cluster whose node 2 is held does so.
@@ -429,8 +446,8 @@ where
     R: Threads + Wait + Clock + Copy + Send + 'static,
     requires { board ≡ B.cells }
 {
-    match list_of_seven(alloc) {
-        Ok(list) => held_gated::<B, R>(rt, alloc, board, &list),
+    match new_holding(alloc) {
+        Ok((open, gate, list)) => held_gated::<B, R>(rt, alloc, board, open, gate, list),
         Err(_) => false,
     }
 }

@@ -336,6 +336,19 @@ where
     are_served(alloc, cluster.stop(rt), seen)
 }
 
+/// Whether a cluster of three nodes serves three clients so, with that list.
+fn three_start<B, R>(rt: R, alloc: Global, board: Board, list: &AcceptList) -> bool
+where
+    B: BoardName + Send + Sync + 'static,
+    R: Threads + Wait + Clock + Copy + Send + Sync + 'static,
+    requires { board ≡ B.cells }
+{
+    match Cluster::<B, PassAll>::start(rt, alloc, settings_of(3), board, list, PassAll) {
+        Ok(cluster) => three_run(&rt, alloc, cluster),
+        Err(_) => false,
+    }
+}
+
 /// Whether a cluster of three nodes serves three clients so.
 fn three_go<B, R>(rt: R, alloc: Global, board: Board) -> bool
 where
@@ -344,10 +357,9 @@ where
     requires { board ≡ B.cells }
 {
     let list = AcceptList::new(alloc);
-    match Cluster::<B, PassAll>::start(rt, alloc, settings_of(3), board, &list, PassAll) {
-        Ok(cluster) => three_run(&rt, alloc, cluster),
-        Err(_) => false,
-    }
+    let answer = three_start::<B, R>(rt, alloc, board, &list);
+    drop(list);
+    answer
 }
 
 #[test]
