@@ -1,6 +1,7 @@
 pub mod Audits
 pub mod Ends
 pub mod Gathered
+pub mod Heard
 pub mod Keeping
 pub mod Lined
 pub mod Own

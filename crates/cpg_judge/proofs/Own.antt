@@ -31,9 +31,9 @@ use Rattle.cpg_record.proofs.Growing.{group_of_push, is_conn-true}
 use Rattle.cpg_record.proofs.Told.{group_is, record_is}
 use Rattle.cpg_group.specs.Telling.{told, told_by, told_from, told_in}
 use Rattle.cpg_print.specs.Events.{event_line}
-use Rattle.cpg_judge.proofs.Gathered.{one_between, places_between, stands}
-use Rattle.cpg_judge.proofs.Telling.{counts_within, places_parted, texts_cut}
-use Rattle.cpg_judge.specs.Texts.{hears_own, lines_at, told_lines, texts_upto, Holds, Makes, TextValue}
+use Rattle.cpg_judge.proofs.Gathered.{one_between, stands}
+use Rattle.cpg_judge.specs.Inboxes.{told_between}
+use Rattle.cpg_judge.specs.Texts.{hears_own, lines_at, told_lines, Makes}
 
 -- ---- who hears an own record
 
@@ -98,18 +98,12 @@ news_of_own es conn place r g is own of allowed =
 
 -- ---- the lines of an own record
 
--- the record that is read at an own place stands there, and the connection made it
-pub record OwnThere (rs : List Record) (conn : ConnId) (place : ℕ) (r : Record) : Type 0 where
-  pub at : record_at rs place ≡ Some r
-  pub own : is_made_by conn r ≡ true
-
-pub own_there : (rs list : List Record) (conn : ConnId) (place : ℕ) (r : Record) → Makes rs conn place → 1 ≤ place → place ≤ length rs →
-    r ≡ get_or list (place - 1) r → list ≡ rs → OwnThere rs conn place r
-own_there rs list conn place r (q, here, made) some within is same =
-    let found : record_at rs place ≡ Some r = stands rs place r some within (is ∙ ap (λ (l : List Record). get_or l (place - 1) r) same) in
+-- the connection made the record that stands at an own place
+pub own_there : (rs : List Record) (conn : ConnId) (place : ℕ) (r : Record) → Makes rs conn place → record_at rs place ≡ Some r → is_made_by conn r ≡ true
+own_there rs conn place r (q, here, made) found =
     let alike : Some q ≡ Some r = sym here ∙ found in
     let one : q ≡ r = cc in
-    record { at = found; own = ap (is_made_by conn) (sym one) ∙ made }
+    ap (is_made_by conn) (sym one) ∙ made
 
 module _ (rs : List Record) (conn : ConnId) (place : ℕ) (r : Record) (is : record_at rs place ≡ Some r) (own : is_made_by conn r ≡ true) where
   lines_of_own : lines_at rs conn place ≡ event_line (event.Verdict place r.verdict) ∷ map event_line (option_to_list (news place (records_before rs place) r conn r.group))
@@ -160,30 +154,10 @@ module _ (es : List Entry) (conn : ConnId) (place : ℕ) (r : Record) (g : List 
       by_case true allowed h = ap (λ (b : Bool). b && is_named r.group g) allowed ∙ ap (λ (o : Option (List ℕ)). is_named o g) of ∙ named_itself g
       by_case false refused h = absurd (cc)
 
--- ---- where that line stands among the texts of the group
+-- ---- that line as what the group's places tell
 
-module _ (rs : List Record) (place : ℕ) (r : Record) (g : List ℕ) (is : record_at rs place ≡ Some r) (some : 1 ≤ place) (within : place ≤ length rs) (acts : acts_in g r ≡ true) where
-  between : places_between rs g place ≡ place ∷ []
-  between = one_between rs place r some is g ∙ ap (λ (b : Bool). cond b (place ∷ []) []) acts
-
-  -- it is the last up to the place
-  one_more : length (places_of (acts_in g) (take place rs)) ≡ length (places_of (acts_in g) (take (place - 1) rs)) + 1
-  one_more =
-      ap length (places_parted (acts_in g) rs (place - 1) place (omega arith) (omega (arith, within)) ∙ ap (λ ps. places_of (acts_in g) (take (place - 1) rs) ++ ps) between)
-      ∙ length-append (places_of (acts_in g) (take (place - 1) rs)) (place ∷ [])
-
-  pub counted : (count : ℕ) → count ≡ length (places_of (acts_in g) (take place rs)) → 1 ≤ count
-  counted count is_count = omega (arith, is_count, one_more)
-
-  pub line_of_place : (value : TextValue) (text : List ℕ) (count : ℕ) → count ≡ length (places_of (acts_in g) (take place rs)) →
-      Holds value (texts_upto rs g (length rs)) →
-      ((texts : List (List ℕ)) → Holds value texts → count - 1 ≤ count → count ≤ length texts → text ≡ concat (drop (count - 1) (take count texts))) →
-      text ≡ concat (told_lines rs place)
-  line_of_place value text count is_count holds cut =
-      let earlier : count - 1 ≡ length (places_of (acts_in g) (take (place - 1) rs)) = omega (arith, is_count, one_more) in
-      cut (texts_upto rs g (length rs)) holds (omega arith) (omega (arith, is_count, counts_within rs g (place - 1) place (omega arith) within))
-      ∙ ap (λ n. concat (drop n (take count (texts_upto rs g (length rs))))) earlier
-      ∙ ap (λ n. concat (drop (length (places_of (acts_in g) (take (place - 1) rs))) (take n (texts_upto rs g (length rs))))) is_count
-      ∙ texts_cut rs g (place - 1) place (omega arith) within
-      ∙ ap (λ ps. concat (flat_map (told_lines rs) ps)) between
-      ∙ ap concat (append-nil (told_lines rs place))
+-- between a place before it and the place itself a group's place tells its own lines
+pub told_alone : (rs : List Record) (place : ℕ) (r : Record) (g : List ℕ) → record_at rs place ≡ Some r → 1 ≤ place → acts_in g r ≡ true → told_between rs g (place - 1) place ≡ concat (told_lines rs place)
+told_alone rs place r g is some acts =
+    ap (λ ps. concat (flat_map (told_lines rs) ps)) (one_between rs place r some is g ∙ ap (λ (b : Bool). cond b (place ∷ []) []) acts)
+    ∙ ap concat (append-nil (told_lines rs place))

@@ -19,6 +19,7 @@ use Rattle.cpg_record.proofs.Growing.{group_of_push}
 use Rattle.cpg_record.proofs.Nexts.{groups_stay, same_either_way, same_group}
 use Rattle.cpg_group.specs.Telling.{told_by, told_in, told_from}
 use Rattle.cpg_print.specs.Events.{event_line}
+use Rattle.cpg_judge.specs.Inboxes.{told_between}
 use Rattle.cpg_judge.specs.Texts.{lines_at, lines_between, told_lines, told_text, texts_upto, Holds, MakesNone, TextValue}
 
 -- ---- one place
@@ -206,16 +207,21 @@ heard_nothing rs conn after last low within quiet none =
     nowhere m [] = refl
     nowhere m (r ∷ past) = nowhere (suc m) past
 
--- one that is in a group hears the texts of the group
-pub heard_in : (rs : List Record) (conn : ConnId) (g : List ℕ) (after last : ℕ) (value : TextValue) (text : List ℕ) (from to : ℕ) → after ≤ last → last ≤ length rs → MakesNone rs conn after last →
-    group_of (take after rs) conn ≡ Some g → from ≡ length (places_of (acts_in g) (take after rs)) → to ≡ length (places_of (acts_in g) (take last rs)) →
+-- what a cut of a group's texts holds, from the count of its places up to one to that up to another
+pub told_cut : (rs : List Record) (g : List ℕ) (after last : ℕ) (value : TextValue) (text : List ℕ) (from to : ℕ) → after ≤ last → last ≤ length rs →
+    from ≡ length (places_of (acts_in g) (take after rs)) → to ≡ length (places_of (acts_in g) (take last rs)) →
     Holds value (texts_upto rs g (length rs)) →
     ((texts : List (List ℕ)) → Holds value texts → from ≤ to → to ≤ length texts → text ≡ concat (drop from (take to texts))) →
-    text ≡ concat (lines_between rs conn after last)
-heard_in rs conn g after last value text from to low within quiet there from_is to_is holds cut =
+    text ≡ told_between rs g after last
+told_cut rs g after last value text from to low within from_is to_is holds cut =
     cut (texts_upto rs g (length rs)) holds (omega (arith, from_is, to_is, counts_ascend rs g after last low within)) (omega (arith, to_is, counts_within rs g after last low within))
     ∙ ap (λ n. concat (drop n (take to (texts_upto rs g (length rs))))) from_is
     ∙ ap (λ n. concat (drop (length (places_of (acts_in g) (take after rs))) (take n (texts_upto rs g (length rs))))) to_is
     ∙ texts_cut rs g after last low within
-    ∙ ap (λ (o : Option (List ℕ)). concat (flat_map (told_lines rs) (places_from (reaches o) (suc after) (take (last - after) (drop after rs))))) (sym there)
+
+-- one that is in a group hears what its places tell the group
+pub heard_in : (rs : List Record) (conn : ConnId) (g : List ℕ) (after last : ℕ) → after ≤ last → last ≤ length rs → MakesNone rs conn after last →
+    group_of (take after rs) conn ≡ Some g → told_between rs g after last ≡ concat (lines_between rs conn after last)
+heard_in rs conn g after last low within quiet there =
+    ap (λ (o : Option (List ℕ)). concat (flat_map (told_lines rs) (places_from (reaches o) (suc after) (take (last - after) (drop after rs))))) (sym there)
     ∙ ap concat (sym (heard_between rs conn after last low within quiet))

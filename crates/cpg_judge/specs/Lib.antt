@@ -1,3 +1,4 @@
+pub mod Inboxes
 pub mod Judging
 pub mod Scripts
 pub mod Texts

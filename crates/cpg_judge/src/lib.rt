@@ -4,6 +4,7 @@
 //! `specs/`, byte for byte, where the reader and the writer tell their bytes.
 #![tactic(auto)]
 
+mod inboxes;
 mod judging;
 mod output;
 mod printing;

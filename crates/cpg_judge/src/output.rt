@@ -2,27 +2,27 @@
 //!
 //! Proved: each function writes its lines, or after a refusal what `LeavesLines` says of them.
 
-ghost use Rattle.std.specs.Prelude.{◌≡◌, ◌&&◌, ◌∷◌, ◌≤◌, ℕ, List, [], Some, drop, length, map, OnOk, IfErr};
+ghost use Rattle.std.specs.Prelude.{◌≡◌, ◌∷◌, ◌≤◌, ◌-◌, ◌++◌, ℕ, List, [], None, Some, length, map, take, OnOk, IfErr, IfOk, IfSome, MatchOption, IsOkUnless};
 ghost use Rattle.std.specs.List.{concat, flat_map};
 ghost use Rattle.std.specs.Io.KnownBytes.{Appends};
-ghost use Rattle.cpg_record.specs.declared.events.Event.TheVariants as Event;
-ghost use Rattle.cpg_record.specs.Events.{inbox};
+ghost use Rattle.cpg_record.specs.Events as events;
 ghost use Rattle.cpg_record.specs.Judging.{judged};
-ghost use Rattle.cpg_record.specs.Membership.{group_of, is_allowed, is_member};
+ghost use Rattle.cpg_record.specs.Membership.{group_of};
 ghost use Rattle.cpg_record.specs.Nexts.{is_made_by};
-ghost use Rattle.cpg_record.specs.Places.{records_before, IsNextOf};
+ghost use Rattle.cpg_record.specs.Places.{IsNextOf};
 ghost use Rattle.cpg_script.specs.Written.{LeavesLines};
 ghost use Rattle.cpg_print.specs.Events.{event_line, inbox_line};
-ghost use Rattle.cpg_judge.specs.Judging.{inbox_lines};
 ghost use Rattle.cpg_print.specs.Records.{count_line};
-ghost use Rattle.cpg_judge.specs.Texts.{hears_own, lines_at, lines_between, AreTexts, Makes, MakesNone};
+ghost use Rattle.cpg_judge.specs.Inboxes.{IsTold};
+ghost use Rattle.cpg_judge.specs.Judging.{inbox_lines};
+ghost use Rattle.cpg_judge.specs.Texts.{lines_at, lines_between, AreTexts, Makes, MakesNone};
 
+use crate::inboxes::{Inbox, Told, lines_of_group};
 use crate::texts::Texts;
 use cpg_cred::Refusal;
-use cpg_entry::{Call, Op};
 use cpg_group::Policy;
 use cpg_print::{put_count, put_inbox, put_verdict_line};
-use cpg_record::{ConnId, Record, Verdict};
+use cpg_record::ConnId;
 use cpg_script::write_line;
 use cpg_text::write_whole;
 use std::alloc::Global;
@@ -49,22 +49,6 @@ fn write_head<W: Write>(writer: &mut W, line: &mut Vec<u8>, conn: &ConnId) -> Re
     write_line(writer, line.as_slice())
 }
 
-/// Writes the line of what the entry of a place was answered.
-#[tactic(auto, using(crate::proofs::Lined::none_written))]
-fn write_verdict<W: Write>(
-    writer: &mut W,
-    line: &mut Vec<u8>,
-    place: u32,
-    verdict: Verdict,
-) -> Result<(), Refusal>
-    ensures ok { OnOk result (Appends (W.contents writer.old) (W.contents writer.new) (event_line (Event.Verdict place verdict))) }
-    ensures err { IfErr result (λ refusal. LeavesLines (event_line (Event.Verdict place verdict) ∷ []) refusal (W.contents writer.old) (W.contents writer.new)) }
-{
-    line.clear();
-    put_verdict_line(line, place, verdict)?;
-    write_line(writer, line.as_slice())
-}
-
 /// Writes a text of whole lines.
 fn write_text<W: Write>(writer: &mut W, text: &[u8]) -> Result<(), Refusal>
     ensures ok { OnOk result (Appends (W.contents writer.old) (W.contents writer.new) text.now) }
@@ -76,165 +60,104 @@ fn write_text<W: Write>(writer: &mut W, text: &[u8]) -> Result<(), Refusal>
     }
 }
 
-/// The lines of the places above `after` up to the last one, at which the connection made no entry, as one
-/// text: they are lines that its group was told one after the other.
-fn find_lines<'a>(
-    policy: &Policy,
-    texts: &'a Texts,
-    conn: &ConnId,
-    after: u32,
-    last: u32,
-) -> &'a [u8]
-    requires texts { AreTexts texts.now (judged policy.now) (length (judged policy.now)) }
-    requires places { (after ≤ last) × (last ≤ length (judged policy.now)) }
-    requires others { MakesNone (judged policy.now) conn.now after last }
-    ensures { result.now ≡ concat (lines_between (judged policy.now) conn.now after last) }
-{
-    match policy.group_after(after, *conn) {
-        None => &[],
-        Some(group) => {
-            let name = group.as_slice();
-            let from = policy.count_upto(name, after);
-            let to = policy.count_upto(name, last);
-            texts.of(name).range(from, to)
-        }
-    }
-}
-
-/// Writes what the places above `after` up to the last one, at which the connection made no entry, tell it.
+/// Writes what the places above `after` up to the last one, at which the connection made no entry, tell it: what
+/// the group tells that it is in after the first of them.
 fn write_stretch<W: Write>(
     writer: &mut W,
-    policy: &Policy,
-    texts: &Texts,
-    conn: &ConnId,
+    inbox: &Inbox<'_>,
+    told: &Option<Told<'_>>,
     after: u32,
     last: u32,
 ) -> Result<(), Refusal>
-    requires texts { AreTexts texts.now (judged policy.now) (length (judged policy.now)) }
-    requires places { (after ≤ last) × (last ≤ length (judged policy.now)) }
-    requires others { MakesNone (judged policy.now) conn.now after last }
-    ensures ok { OnOk result (Appends (W.contents writer.old) (W.contents writer.new) (concat (lines_between (judged policy.now) conn.now after last))) }
-    ensures err { IfErr result (λ refusal. LeavesLines (lines_between (judged policy.now) conn.now after last) refusal (W.contents writer.old) (W.contents writer.new)) }
+    requires told { MatchOption told.now (group_of (take after (judged inbox.now.entries)) inbox.now.conn ≡ None) (λ told. (group_of (take after (judged inbox.now.entries)) inbox.now.conn ≡ Some told.group) × IsTold (judged inbox.now.entries) told) }
+    requires places { (after ≤ last) × (last ≤ length (judged inbox.now.entries)) }
+    requires others { MakesNone (judged inbox.now.entries) inbox.now.conn after last }
+    ensures ok { OnOk result (Appends (W.contents writer.old) (W.contents writer.new) (concat (lines_between (judged inbox.now.entries) inbox.now.conn after last))) }
+    ensures err { IfErr result (λ refusal. LeavesLines (lines_between (judged inbox.now.entries) inbox.now.conn after last) refusal (W.contents writer.old) (W.contents writer.new)) }
 {
-    write_text(writer, find_lines(policy, texts, conn, after, last))
+    write_text(writer, lines_of_group(told, after, last))
 }
 
-/// Whether the connection was in the group before the place.
-fn was_in(policy: &Policy, conn: &ConnId, place: u32, group: &[u8]) -> bool
-    requires { 1 ≤ place }
-    ensures { result ≡ is_member (records_before (judged policy.now) place) conn.now group.now }
+/// Puts what a place tells the connection that made its entry at the line's end: the verdict, and what it tells
+/// its group.
+fn put_own(
+    line: &mut Vec<u8>,
+    inbox: &Inbox<'_>,
+    told: &Option<Told<'_>>,
+    place: u32,
+) -> Result<(), Refusal>
+    requires told { IfSome told.now (IsTold (judged inbox.now.entries)) }
+    requires own { Makes (judged inbox.now.entries) inbox.now.conn place }
+    requires place { (1 ≤ place) × (place ≤ length (judged inbox.now.entries)) }
+    ensures ok { OnOk result (line.new.items ≡ line.old.items ++ concat (lines_at (judged inbox.now.entries) inbox.now.conn place)) }
+    ensures memory { IsOkUnless result Refusal.Memory }
 {
-    match policy.group_after(place - 1, *conn) {
-        None => false,
-        Some(before) => before.is(group),
-    }
+    put_verdict_line(line, place, inbox.record(place).verdict)?;
+    line.extend_from_slice(inbox.own_line(told, place))?;
+    Ok(())
 }
 
-/// Whether the connection hears what its own allowed op tells the group: what changes the rules of another
-/// group it does not.
-fn hears(policy: &Policy, conn: &ConnId, place: u32, group: &[u8], op: &Op) -> bool
-    requires { 1 ≤ place }
-    ensures { result ≡ hears_own (group_of (records_before (judged policy.now) place) conn.now) group.now op.now }
-{
-    match op {
-        Op::Act(Call::Insert(_, _, _)) | Op::Act(Call::Remove(_, _)) => {
-            was_in(policy, conn, place, group)
-        }
-        _ => true,
-    }
-}
-
-/// Whether the connection is told what its own record tells the group.
-fn is_told(policy: &Policy, conn: &ConnId, place: u32, group: &[u8], past: &Record) -> bool
-    requires { 1 ≤ place }
-    ensures { result ≡ (is_allowed past.now.verdict && hears_own (group_of (records_before (judged policy.now) place) conn.now) group.now past.now.entry.op) }
-{
-    past.verdict.is_allowed() && hears(policy, conn, place, group, &past.entry.op)
-}
-
-/// What the place tells the connection that made its entry beside the verdict: the line that it tells its
-/// group, where the connection hears it.
-fn find_own<'a>(policy: &Policy, texts: &'a Texts, conn: &ConnId, place: u32) -> &'a [u8]
-    requires texts { AreTexts texts.now (judged policy.now) (length (judged policy.now)) }
-    requires own { Makes (judged policy.now) conn.now place }
-    requires place { (1 ≤ place) × (place ≤ length (judged policy.now)) }
-    ensures { result.now ≡ concat (drop 1 (lines_at (judged policy.now) conn.now place)) }
-{
-    let past = &policy.records()[place as usize - 1];
-    match &past.group {
-        None => &[],
-        Some(group) => {
-            let name = group.as_slice();
-            if is_told(policy, conn, place, name, past) {
-                let count = policy.count_upto(name, place);
-                texts.of(name).range(count - 1, count)
-            } else {
-                &[]
-            }
-        }
-    }
-}
-
-/// Writes what a place tells the connection that made its entry: the verdict, and what it tells its group.
+/// Writes what a place tells the connection that made its entry.
+#[tactic(auto, using(crate::proofs::Lined::none_written))]
 fn write_own<W: Write>(
     writer: &mut W,
     line: &mut Vec<u8>,
-    policy: &Policy,
-    texts: &Texts,
-    conn: &ConnId,
+    inbox: &Inbox<'_>,
+    told: &Option<Told<'_>>,
     place: u32,
 ) -> Result<(), Refusal>
-    requires texts { AreTexts texts.now (judged policy.now) (length (judged policy.now)) }
-    requires own { Makes (judged policy.now) conn.now place }
-    requires place { (1 ≤ place) × (place ≤ length (judged policy.now)) }
-    ensures ok { OnOk result (Appends (W.contents writer.old) (W.contents writer.new) (concat (lines_at (judged policy.now) conn.now place))) }
-    ensures err { IfErr result (λ refusal. LeavesLines (lines_at (judged policy.now) conn.now place) refusal (W.contents writer.old) (W.contents writer.new)) }
+    requires told { IfSome told.now (IsTold (judged inbox.now.entries)) }
+    requires own { Makes (judged inbox.now.entries) inbox.now.conn place }
+    requires place { (1 ≤ place) × (place ≤ length (judged inbox.now.entries)) }
+    ensures ok { OnOk result (Appends (W.contents writer.old) (W.contents writer.new) (concat (lines_at (judged inbox.now.entries) inbox.now.conn place))) }
+    ensures err { IfErr result (λ refusal. LeavesLines (lines_at (judged inbox.now.entries) inbox.now.conn place) refusal (W.contents writer.old) (W.contents writer.new)) }
 {
-    let past = &policy.records()[place as usize - 1];
-    write_verdict(writer, line, place, past.verdict)?;
-    write_text(writer, find_own(policy, texts, conn, place))
+    line.clear();
+    put_own(line, inbox, told, place)?;
+    write_text(writer, line.as_slice())
 }
 
-/// Writes what the places above `after` tell the connection, up to the next at which it made the entry.
+/// Writes what the places above `after` tell the connection, up to the next at which it made the entry, from
+/// what the group tells that it is in up to there.
 fn write_upto<W: Write>(
     writer: &mut W,
     line: &mut Vec<u8>,
-    policy: &Policy,
-    texts: &Texts,
-    conn: &ConnId,
+    inbox: &Inbox<'_>,
+    told: &Option<Told<'_>>,
     after: u32,
     place: u32,
 ) -> Result<(), Refusal>
-    requires texts { AreTexts texts.now (judged policy.now) (length (judged policy.now)) }
-    requires next { IsNextOf (is_made_by conn.now) (judged policy.now) after (Some place) }
-    ensures ok { OnOk result (Appends (W.contents writer.old) (W.contents writer.new) (concat (lines_between (judged policy.now) conn.now after place))) }
-    ensures err { IfErr result (λ refusal. LeavesLines (lines_between (judged policy.now) conn.now after place) refusal (W.contents writer.old) (W.contents writer.new)) }
+    requires told { MatchOption told.now (group_of (take after (judged inbox.now.entries)) inbox.now.conn ≡ None) (λ told. (group_of (take after (judged inbox.now.entries)) inbox.now.conn ≡ Some told.group) × IsTold (judged inbox.now.entries) told) }
+    requires next { IsNextOf (is_made_by inbox.now.conn) (judged inbox.now.entries) after (Some place) }
+    ensures ok { OnOk result (Appends (W.contents writer.old) (W.contents writer.new) (concat (lines_between (judged inbox.now.entries) inbox.now.conn after place))) }
+    ensures err { IfErr result (λ refusal. LeavesLines (lines_between (judged inbox.now.entries) inbox.now.conn after place) refusal (W.contents writer.old) (W.contents writer.new)) }
 {
-    write_stretch(writer, policy, texts, conn, after, place - 1)?;
-    write_own(writer, line, policy, texts, conn, place)
+    write_stretch(writer, inbox, told, after, place - 1)?;
+    write_own(writer, line, inbox, told, place)
 }
 
 /// Writes what the judged places tell the connection, from one at which it made the entry to the next.
 fn write_places<W: Write>(
     writer: &mut W,
     line: &mut Vec<u8>,
-    policy: &Policy,
-    texts: &Texts,
-    conn: &ConnId,
+    inbox: &Inbox<'_>,
 ) -> Result<(), Refusal>
-    requires { AreTexts texts.now (judged policy.now) (length (judged policy.now)) }
-    ensures ok { OnOk result (Appends (W.contents writer.old) (W.contents writer.new) (concat (map event_line (inbox (judged policy.now) conn.now)))) }
-    ensures err { IfErr result (λ refusal. LeavesLines (map event_line (inbox (judged policy.now) conn.now)) refusal (W.contents writer.old) (W.contents writer.new)) }
+    ensures ok { OnOk result (Appends (W.contents writer.old) (W.contents writer.new) (concat (map event_line (events.inbox (judged inbox.now.entries) inbox.now.conn)))) }
+    ensures err { IfErr result (λ refusal. LeavesLines (map event_line (events.inbox (judged inbox.now.entries) inbox.now.conn)) refusal (W.contents writer.old) (W.contents writer.new)) }
 {
     let mut after = 0;
-    while let Some(place) = policy.next_own(after, *conn) {
-        match write_upto(writer, line, policy, texts, conn, after, place) {
+    let mut last = None;
+    while let Some(place) = inbox.next_own(after) {
+        let told = inbox.told_after(last, after);
+        match write_upto(writer, line, inbox, &told, after, place) {
             Ok(()) => {}
             Err(refusal) => return Err(refusal),
         }
+        last = told;
         after = place;
     }
-    write_stretch(writer, policy, texts, conn, after, policy.len() as u32)
+    let told = inbox.told_after(last, after);
+    write_stretch(writer, inbox, &told, after, inbox.last())
 }
 
 /// Writes the inbox of a connection: a line that names it, and its events by place.
@@ -250,7 +173,7 @@ fn write_inbox<W: Write>(
     ensures err { IfErr result (λ refusal. LeavesLines (inbox_lines (judged policy.now) conn.now) refusal (W.contents writer.old) (W.contents writer.new)) }
 {
     write_head(writer, line, conn)?;
-    write_places(writer, line, policy, texts, conn)
+    write_places(writer, line, &Inbox::of(policy, texts, *conn))
 }
 
 /// Writes the inboxes of the connections, one after the other.

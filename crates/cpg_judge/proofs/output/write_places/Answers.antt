@@ -3,10 +3,10 @@ use Rattle.cpg_entry.specs.declared.entries.Entry.{Entry}
 use Rattle.cpg_record.specs.declared.connections.ConnId.{ConnId}
 use Rattle.cpg_record.specs.Events.{inbox}
 use Rattle.cpg_record.specs.Judging.{judged}
-use Rattle.cpg_record.proofs.Denials.{each_entry_is_judged}
 use Rattle.cpg_script.proofs.Lined.{leaves_amid, lines_after, ok_after, err_after}
 use Rattle.cpg_print.specs.Events.{event_line}
 use Rattle.cpg_judge.specs.Texts.{lines_between}
+use Rattle.cpg_judge.proofs.Heard.{told_is}
 use Rattle.cpg_judge.proofs.Places.{between_parted, inbox_by_place, own_next}
 use Rattle.cpg_judge.proofs.output.write_places.Goals as goal
 
@@ -19,39 +19,40 @@ parted_at policy conn after last within is =
 
 pub returns-in-Err-clause-err : goal.returns-in-Err-clause-err
 returns-in-Err-clause-err g c =
-    let next = own_next (judged c.args.policy.now) c.args.conn.now c.loop-place.after c.in-Some.place c.in-Some.ensures in
+    let next = own_next (judged c.args.inbox.now.entries) c.args.inbox.now.conn c.loop-place.after c.in-Some.place c.in-Some.ensures in
     let above = next.above in
-    leaves_amid _ _ _ _ (lines_between (judged c.args.policy.now) c.args.conn.now 0 c.loop-place.after) (lines_between (judged c.args.policy.now) c.args.conn.now c.loop-place.after c.in-Some.place)
-    (lines_between (judged c.args.policy.now) c.args.conn.now c.in-Some.place (length (judged c.args.policy.now))) _
-    (inbox_by_place (judged c.args.policy.now) c.args.conn.now
-    ∙ between_parted (judged c.args.policy.now) c.args.conn.now 0 c.loop-place.after (length (judged c.args.policy.now)) (omega arith) c.loop-place.invariant.within
-    ∙ ap (λ l. lines_between (judged c.args.policy.now) c.args.conn.now 0 c.loop-place.after ++ l)
-    (between_parted (judged c.args.policy.now) c.args.conn.now c.loop-place.after c.in-Some.place (length (judged c.args.policy.now)) (omega (arith, next.above)) next.within))
+    leaves_amid _ _ _ _ (lines_between (judged c.args.inbox.now.entries) c.args.inbox.now.conn 0 c.loop-place.after) (lines_between (judged c.args.inbox.now.entries) c.args.inbox.now.conn c.loop-place.after c.in-Some.place)
+    (lines_between (judged c.args.inbox.now.entries) c.args.inbox.now.conn c.in-Some.place (length (judged c.args.inbox.now.entries))) _
+    (inbox_by_place (judged c.args.inbox.now.entries) c.args.inbox.now.conn
+    ∙ between_parted (judged c.args.inbox.now.entries) c.args.inbox.now.conn 0 c.loop-place.after (length (judged c.args.inbox.now.entries)) (omega arith) c.loop-place.invariant.within
+    ∙ ap (λ l. lines_between (judged c.args.inbox.now.entries) c.args.inbox.now.conn 0 c.loop-place.after ++ l)
+    (between_parted (judged c.args.inbox.now.entries) c.args.inbox.now.conn c.loop-place.after c.in-Some.place (length (judged c.args.inbox.now.entries)) (omega (arith, next.above)) next.within))
     c.loop-place.invariant.written c.in-Err.ensures.err
 
 pub loop-place-preserved : goal.loop-place-preserved
 loop-place-preserved g c =
-    let next = own_next (judged c.args.policy.now) c.args.conn.now c.loop-place.after c.in-Some.place c.in-Some.ensures in
-    let more = between_parted (judged c.args.policy.now) c.args.conn.now 0 c.loop-place.after c.in-Some.place (omega arith) (omega (arith, next.above)) in
+    let next = own_next (judged c.args.inbox.now.entries) c.args.inbox.now.conn c.loop-place.after c.in-Some.place c.in-Some.ensures in
+    let more = between_parted (judged c.args.inbox.now.entries) c.args.inbox.now.conn 0 c.loop-place.after c.in-Some.place (omega arith) (omega (arith, next.above)) in
     record {
       within = next.within;
-      written = rw more (lines_after _ _ _ (lines_between (judged c.args.policy.now) c.args.conn.now 0 c.loop-place.after) (lines_between (judged c.args.policy.now) c.args.conn.now c.loop-place.after c.in-Some.place) c.loop-place.invariant.written c.in-Ok.ensures.ok);
+      told = told_is _ _ (judged c.args.inbox.now.entries) c.told_after-told.result c.told_after-told.ensures;
+      written = rw more (lines_after _ _ _ (lines_between (judged c.args.inbox.now.entries) c.args.inbox.now.conn 0 c.loop-place.after) (lines_between (judged c.args.inbox.now.entries) c.args.inbox.now.conn c.loop-place.after c.in-Some.place) c.loop-place.invariant.written c.in-Ok.ensures.ok);
     }
 
+pub write_upto-requires-clause-told : goal.write_upto-requires-clause-told
+write_upto-requires-clause-told g c = c.told_after-told.ensures
+
 pub write_stretch-requires-clause-places : goal.write_stretch-requires-clause-places
-write_stretch-requires-clause-places g c =
-    (omega (arith, c.loop-place.invariant.within, c.len.ensures.value, (each_entry_is_judged c.args.policy.now).0), omega (arith, c.len.ensures.value, (each_entry_is_judged c.args.policy.now).0))
+write_stretch-requires-clause-places g c = (omega (arith, c.loop-place.invariant.within, c.last.ensures), omega (arith, c.last.ensures))
 
 pub returns-clause-ok : goal.returns-clause-ok
 returns-clause-ok g c =
-    let all : c.len.result ≡ length (judged c.args.policy.now) = c.len.ensures.value ∙ sym (each_entry_is_judged c.args.policy.now).0 in
-    ok_after c.write_stretch.result _ _ _ (map event_line (inbox (judged c.args.policy.now) c.args.conn.now)) (lines_between (judged c.args.policy.now) c.args.conn.now 0 c.loop-place.after)
-    (lines_between (judged c.args.policy.now) c.args.conn.now c.loop-place.after c.len.result)
-    (parted_at c.args.policy.now c.args.conn.now c.loop-place.after c.len.result c.loop-place.invariant.within all) c.loop-place.invariant.written c.write_stretch.ensures.ok
+    ok_after c.write_stretch.result _ _ _ (map event_line (inbox (judged c.args.inbox.now.entries) c.args.inbox.now.conn)) (lines_between (judged c.args.inbox.now.entries) c.args.inbox.now.conn 0 c.loop-place.after)
+    (lines_between (judged c.args.inbox.now.entries) c.args.inbox.now.conn c.loop-place.after c.last.result)
+    (parted_at c.args.inbox.now.entries c.args.inbox.now.conn c.loop-place.after c.last.result c.loop-place.invariant.within c.last.ensures) c.loop-place.invariant.written c.write_stretch.ensures.ok
 
 pub returns-clause-err : goal.returns-clause-err
 returns-clause-err g c =
-    let all : c.len.result ≡ length (judged c.args.policy.now) = c.len.ensures.value ∙ sym (each_entry_is_judged c.args.policy.now).0 in
-    err_after c.write_stretch.result _ _ _ (map event_line (inbox (judged c.args.policy.now) c.args.conn.now)) (lines_between (judged c.args.policy.now) c.args.conn.now 0 c.loop-place.after)
-    (lines_between (judged c.args.policy.now) c.args.conn.now c.loop-place.after c.len.result)
-    (parted_at c.args.policy.now c.args.conn.now c.loop-place.after c.len.result c.loop-place.invariant.within all) c.loop-place.invariant.written c.write_stretch.ensures.err
+    err_after c.write_stretch.result _ _ _ (map event_line (inbox (judged c.args.inbox.now.entries) c.args.inbox.now.conn)) (lines_between (judged c.args.inbox.now.entries) c.args.inbox.now.conn 0 c.loop-place.after)
+    (lines_between (judged c.args.inbox.now.entries) c.args.inbox.now.conn c.loop-place.after c.last.result)
+    (parted_at c.args.inbox.now.entries c.args.inbox.now.conn c.loop-place.after c.last.result c.loop-place.invariant.within c.last.ensures) c.loop-place.invariant.written c.write_stretch.ensures.err

@@ -1,15 +1,18 @@
 use Rattle.std.proofs.Common.{◌-◌, ◌≤◌, length}
+use Rattle.std.specs.Prelude.{IfSome}
 use Rattle.std.specs.List.{concat}
 use Rattle.std.specs.Io.KnownBytes.{Appends}
 use Rattle.cpg_record.specs.Judging.{judged}
+use Rattle.cpg_judge.specs.Inboxes.{IsTold}
 use Rattle.cpg_judge.specs.Texts.{lines_between}
 use Rattle.cpg_judge.proofs.output.write_places.Given as goal
 
 abbrev pub invariant-loop-place : goal.invariant-loop-place
 invariant-loop-place g l = record {
-  within : l.after ≤ length (judged l.policy);
-  written : Appends (g.W.Write.contents l.initial.writer) (g.W.Write.contents l.writer) (concat (lines_between (judged l.policy) l.conn 0 l.after));
+  within : l.after ≤ length (judged l.inbox.entries);
+  told : IfSome l.last (IsTold (judged l.inbox.entries));
+  written : Appends (g.W.Write.contents l.initial.writer) (g.W.Write.contents l.writer) (concat (lines_between (judged l.inbox.entries) l.inbox.conn 0 l.after));
 }
 
 abbrev pub decreases-loop-place : goal.decreases-loop-place
-decreases-loop-place g l = length (judged l.policy) - l.after
+decreases-loop-place g l = length (judged l.inbox.entries) - l.after

@@ -1,0 +1,28 @@
+-- what an inbox is made of: the entries and the connection, and what the groups tell
+use Rattle.std.specs.Prelude.{ℕ, ◌≡◌, ◌-◌, suc, List, length, take, drop}
+use Rattle.std.specs.List.{concat, flat_map}
+use Rattle.cpg_entry.specs.declared.entries.Entry.{Entry}
+use Rattle.cpg_record.specs.declared.connections.ConnId.{ConnId}
+use Rattle.cpg_record.specs.declared.records.Record.{Record}
+use Rattle.cpg_record.specs.Nexts.{acts_in}
+use Rattle.cpg_record.specs.Places.{places_from, places_of}
+use Rattle.cpg_judge.specs.Texts.{Holds, TextValue, texts_upto, told_lines}
+
+-- the judged entries, and the connection whose inbox it is
+pub record InboxValue : Type 0 where
+  pub entries : List Entry
+  pub conn : ConnId
+
+-- a group's name, the places of its allowed entries, and their texts
+pub record ToldValue : Type 0 where
+  pub group : List ℕ
+  pub places : List ℕ
+  pub text : TextValue
+
+-- these are the group's places and texts
+abbrev pub IsTold : List Record → ToldValue → Type 0
+IsTold records told = (told.places ≡ places_of (acts_in told.group) records) × Holds told.text (texts_upto records told.group (length records))
+
+-- what the places of a group above one tell it, up to another
+abbrev pub told_between : List Record → List ℕ → ℕ → ℕ → List ℕ
+told_between records g after last = concat (flat_map (told_lines records) (places_from (acts_in g) (suc after) (take (last - after) (drop after records))))

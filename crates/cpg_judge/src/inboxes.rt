@@ -1,0 +1,247 @@
+//! What an inbox is made of: what its connection did, and what the groups tell, each looked up once for as long
+//! as it serves.
+//!
+//! Proved: the bytes that are found for places are the lines that these places tell the connection.
+
+ghost use Rattle.std.specs.Prelude.{true, ◌≡◌, ◌≤◌, ◌-◌, ◌&&◌, List, drop, length, take, IfSome, MatchOption, Some};
+ghost use Rattle.std.specs.List.{concat};
+ghost use Rattle.std.specs.Option.{option_copied};
+ghost use Rattle.std.specs.Str.{bytes_eq};
+ghost use Rattle.cpg_record.specs.declared.records.Record.{Record};
+ghost use Rattle.cpg_record.specs.Judging.{judged};
+ghost use Rattle.cpg_record.specs.Membership.{group_of, is_allowed, is_member};
+ghost use Rattle.cpg_record.specs.Nexts.{is_made_by};
+ghost use Rattle.cpg_record.specs.Places.{record_at, records_before, IsNextOf};
+ghost use Rattle.cpg_judge.specs.Inboxes.{told_between, IsTold};
+ghost use Rattle.cpg_judge.specs.Texts.{hears_own, lines_at, lines_between, AreTexts, Makes, MakesNone};
+
+use crate::texts::{Text, Texts};
+use cpg_entry::{Call, Name, Op};
+use cpg_group::{Policy, Trail, count_upto};
+use cpg_record::{ConnId, Record};
+use std::marker::Model;
+
+/// What a group tells: the places of its allowed entries, and the lines of these places. Contracts see it as
+/// these two and the group's name.
+#[derive(Drop)]
+pub(crate) struct Told<'a> {
+    group: &'a [u8],
+    places: &'a [u32],
+    text: &'a Text,
+}
+
+impl<'a> Model for Told<'a> {
+    ghost use Rattle.cpg_judge.specs.Inboxes.{ToldValue};
+
+    ghost Value = { ToldValue };
+
+    ghost view = { λ told. record { group = told.group.now; places = told.places.now; text = told.text.now } };
+}
+
+impl<'a> Told<'a> {
+    /// Whether it is what the group of that name tells.
+    fn is_of(&self, group: &[u8]) -> bool
+        ensures { result ≡ bytes_eq self.now.group group.now }
+    {
+        self.group == group
+    }
+
+    /// What the group's places above `after` tell it, up to the last one, as one text.
+    fn between(&self, after: u32, last: u32) -> &'a [u8]
+        ensures { (records : List Record) → IsTold records self.now → after ≤ last → last ≤ length records → result.now ≡ told_between records self.now.group after last }
+    {
+        let from = count_upto(self.places, after);
+        let to = count_upto(self.places, last);
+        self.text.range(from, to)
+    }
+}
+
+/// What the inbox of a connection is made of. Contracts see it as the judged entries and the connection.
+#[derive(Drop)]
+pub(crate) struct Inbox<'a> {
+    policy: &'a Policy,
+    texts: &'a Texts,
+    trail: Trail<'a>,
+}
+
+impl<'a> Model for Inbox<'a> {
+    ghost use Rattle.std.specs.Prelude.{◌≡◌, length};
+    ghost use Rattle.cpg_record.specs.Judging.{judged};
+    ghost use Rattle.cpg_judge.specs.Inboxes.{InboxValue};
+    ghost use Rattle.cpg_judge.specs.Texts.{AreTexts};
+
+    ghost Value = { InboxValue };
+
+    ghost view = { λ inbox. record { entries = inbox.policy.now; conn = inbox.trail.conn } };
+
+    ghost invariant = { λ inbox. (inbox.trail.records ≡ judged inbox.policy.now) × AreTexts inbox.texts.now (judged inbox.policy.now) (length (judged inbox.policy.now)) };
+}
+
+impl<'a> Inbox<'a> {
+    /// The inbox of the connection.
+    pub(crate) fn of(policy: &'a Policy, texts: &'a Texts, conn: ConnId) -> Inbox<'a>
+        requires { AreTexts texts.now (judged policy.now) (length (judged policy.now)) }
+        ensures { result ≡ record { entries = policy.now; conn = conn } }
+    {
+        Inbox {
+            policy,
+            texts,
+            trail: policy.trail(conn),
+        }
+    }
+
+    /// The next place above `after` at which the connection made the entry.
+    pub(crate) fn next_own(&self, after: u32) -> Option<u32>
+        ensures { IsNextOf (is_made_by self.now.conn) (judged self.now.entries) after result }
+    {
+        self.trail.next_own(after)
+    }
+
+    /// How many places there are.
+    pub(crate) fn last(&self) -> u32
+        ensures { result ≡ length (judged self.now.entries) }
+    {
+        self.policy.len() as u32
+    }
+
+    /// The record at the place.
+    pub(crate) fn record(&self, place: u32) -> &'a Record
+        requires { (1 ≤ place) × (place ≤ length (judged self.now.entries)) }
+        ensures { record_at (judged self.now.entries) place ≡ Some result.now }
+    {
+        &self.policy.records()[place as usize - 1]
+    }
+
+    /// The group that the connection is in after the last place.
+    fn group_after(&self, last: u32) -> Option<&'a Name>
+        ensures { option_copied result ≡ group_of (take last (judged self.now.entries)) self.now.conn }
+    {
+        self.trail.group_after(last)
+    }
+
+    /// What the group of that name tells.
+    fn look_up(&self, group: &'a [u8]) -> Told<'a>
+        ensures name { result.group ≡ group.now }
+        ensures told { IsTold (judged self.now.entries) result }
+    {
+        Told {
+            group,
+            places: self.policy.places_in(group),
+            text: self.texts.of(group),
+        }
+    }
+
+    /// What the group of that name tells: what was looked up last, where it is of that group.
+    fn told_of(&self, last: Option<Told<'a>>, group: &'a [u8]) -> Told<'a>
+        requires { IfSome last (IsTold (judged self.now.entries)) }
+        ensures name { result.group ≡ group.now }
+        ensures told { IsTold (judged self.now.entries) result }
+    {
+        match last {
+            None => self.look_up(group),
+            Some(told) => {
+                if told.is_of(group) {
+                    told
+                } else {
+                    self.look_up(group)
+                }
+            }
+        }
+    }
+
+    /// What the group tells that the connection is in after the place, if it is in one: what was looked up last,
+    /// where it is of that group.
+    pub(crate) fn told_after(&self, last: Option<Told<'a>>, after: u32) -> Option<Told<'a>>
+        requires { IfSome last (IsTold (judged self.now.entries)) }
+        ensures { MatchOption result (group_of (take after (judged self.now.entries)) self.now.conn ≡ None) (λ told. (group_of (take after (judged self.now.entries)) self.now.conn ≡ Some told.group) × IsTold (judged self.now.entries) told) }
+    {
+        match self.group_after(after) {
+            None => None,
+            Some(group) => Some(self.told_of(last, group.as_slice())),
+        }
+    }
+
+    /// Whether the connection was in the group before the place.
+    fn was_in(&self, place: u32, group: &[u8]) -> bool
+        requires { 1 ≤ place }
+        ensures { result ≡ is_member (records_before (judged self.now.entries) place) self.now.conn group.now }
+    {
+        match self.group_after(place - 1) {
+            None => false,
+            Some(before) => before.is(group),
+        }
+    }
+
+    /// Whether the connection hears what its own allowed op tells the group: what changes the rules of another
+    /// group it does not.
+    fn hears(&self, place: u32, group: &[u8], op: &Op) -> bool
+        requires { 1 ≤ place }
+        ensures { result ≡ hears_own (group_of (records_before (judged self.now.entries) place) self.now.conn) group.now op.now }
+    {
+        match op {
+            Op::Act(Call::Insert(_, _, _)) | Op::Act(Call::Remove(_, _)) => {
+                self.was_in(place, group)
+            }
+            _ => true,
+        }
+    }
+
+    /// Whether the connection is told what its own record tells the group.
+    fn is_told(&self, place: u32, group: &[u8], past: &Record) -> bool
+        requires { 1 ≤ place }
+        ensures { result ≡ (is_allowed past.now.verdict && hears_own (group_of (records_before (judged self.now.entries) place) self.now.conn) group.now past.now.entry.op) }
+    {
+        past.verdict.is_allowed() && self.hears(place, group, &past.entry.op)
+    }
+
+    /// What a place tells the group of that name, from what was looked up last where it is of that group.
+    fn told_at(&self, last: &Option<Told<'a>>, group: &'a [u8], place: u32) -> &'a [u8]
+        requires last { IfSome last.now (IsTold (judged self.now.entries)) }
+        requires place { (1 ≤ place) × (place ≤ length (judged self.now.entries)) }
+        ensures { result.now ≡ told_between (judged self.now.entries) group.now (place - 1) place }
+    {
+        match last {
+            None => self.look_up(group).between(place - 1, place),
+            Some(told) => {
+                if told.is_of(group) {
+                    told.between(place - 1, place)
+                } else {
+                    self.look_up(group).between(place - 1, place)
+                }
+            }
+        }
+    }
+
+    /// What the place tells the connection that made its entry beside the verdict: the line that it tells its
+    /// group, where the connection hears it.
+    pub(crate) fn own_line(&self, last: &Option<Told<'a>>, place: u32) -> &'a [u8]
+        requires last { IfSome last.now (IsTold (judged self.now.entries)) }
+        requires own { Makes (judged self.now.entries) self.now.conn place }
+        requires place { (1 ≤ place) × (place ≤ length (judged self.now.entries)) }
+        ensures { result.now ≡ concat (drop 1 (lines_at (judged self.now.entries) self.now.conn place)) }
+    {
+        let past = self.record(place);
+        match &past.group {
+            None => &[],
+            Some(group) => {
+                let name = group.as_slice();
+                if self.is_told(place, name, past) {
+                    self.told_at(last, name, place)
+                } else {
+                    &[]
+                }
+            }
+        }
+    }
+}
+
+/// The lines of the places above `after` up to the last one, at which the connection made no entry, as one
+/// text: they are lines that its group was told one after the other.
+pub(crate) fn lines_of_group<'a>(told: &Option<Told<'a>>, after: u32, last: u32) -> &'a [u8]
+    ensures { (records : List Record) (conn : ConnId) → MatchOption told.now (group_of (take after records) conn ≡ None) (λ told. (group_of (take after records) conn ≡ Some told.group) × IsTold records told) → after ≤ last → last ≤ length records → MakesNone records conn after last → result.now ≡ concat (lines_between records conn after last) }
+{
+    match told {
+        None => &[],
+        Some(told) => told.between(after, last),
+    }
+}
