@@ -28,7 +28,7 @@ place_of_next : (policy : List Entry) → 1 + length (judged policy) ≡ length 
 place_of_next policy = omega (arith, (each_entry_is_judged policy).0)
 
 -- one entry more is one record more
-judged_more : (policy : List Entry) (entry : Entry) → judged (policy ++ entry ∷ []) ≡ judged policy ++ (record_of (judged policy) entry ∷ [])
+pub judged_more : (policy : List Entry) (entry : Entry) → judged (policy ++ entry ∷ []) ≡ judged policy ++ (record_of (judged policy) entry ∷ [])
 judged_more policy entry = fold-append with_judgement [] policy (entry ∷ [])
 
 -- one entry more is one line more

@@ -1,9 +1,10 @@
 -- Texts as one, and where each of them ends.
-use Rattle.std.proofs.Common.{◌≡◌, ℕ, zero, suc, ◌+◌, ◌-◌, ◌<◌, ◌≤◌, List, [], ◌∷◌, ◌++◌, length, take, drop, get_or, refl, sym, ap, ◌∙◌, append_assoc, append-nil, zero-add, arith}
+use Rattle.std.proofs.Common.{◌≡◌, ℕ, zero, suc, Bool, true, false, cond, ◌+◌, ◌-◌, ◌<◌, ◌≤◌, List, [], ◌∷◌, ◌++◌, length, take, drop, get_or, refl, sym, ap, ◌∙◌, append_assoc, append-nil, zero-add, arith}
 use Rattle.std.specs.List.{concat}
 use Rattle.std.proofs.lemmas.List.{length-append, take-append-drop, take-take, take_at, drop_at}
 use Rattle.std.proofs.lemmas.List.Folds.{concat-append}
-use Rattle.cpg_judge.specs.Texts.{TextValue, Holds, ends_from, with_text}
+use Rattle.cpg_record.specs.declared.records.Record.{Record}
+use Rattle.cpg_judge.specs.Texts.{TextValue, Holds, ends_from, is_move, showing, with_place, with_text}
 
 -- there is an end for each text
 pub ends_length : (start : ℕ) (texts : List (List ℕ)) → length (ends_from start texts) ≡ length texts
@@ -33,6 +34,14 @@ holds_more value texts text h =
       ap (λ l. l ++ text) h.0 ∙ ap (λ l. concat texts ++ l) (sym (append-nil text)) ∙ sym (concat-append texts (text ∷ [])),
       ap (λ l. l ++ length (value.text ++ text) ∷ []) h.1 ∙ ap (λ n. ends_from 0 texts ++ n ∷ []) sum ∙ sym (ends_more 0 texts text),
     )
+
+-- and so for a record's text, whomever the record moves
+pub holds_place : (value : TextValue) (texts : List (List ℕ)) (text : List ℕ) (r : Record) → Holds value texts → Holds (with_place r text value) (texts ++ text ∷ [])
+holds_place value texts text r h = by_case (is_move r.entry.op)
+  where
+    by_case : (b : Bool) → Holds (with_text text (cond b (showing r.members value) value)) (texts ++ text ∷ [])
+    by_case true = holds_more (showing r.members value) texts text h
+    by_case false = holds_more value texts text h
 
 -- the end of the first so many
 pub end_at : (value : TextValue) (texts : List (List ℕ)) (count : ℕ) (d : ℕ) → Holds value texts → 0 < count → count ≤ length texts

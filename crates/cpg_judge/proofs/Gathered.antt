@@ -10,8 +10,8 @@ use Rattle.cpg_record.specs.Nexts.{acts_in}
 use Rattle.cpg_record.specs.Places.{places_from, places_of, record_at}
 use Rattle.cpg_record.proofs.Nexts.{and_false}
 use Rattle.cpg_record.proofs.Placing.{record_at-index}
-use Rattle.cpg_judge.specs.Texts.{kept_text, told_text, texts_upto, with_text, AreTexts, Holds, KeptTexts}
-use Rattle.cpg_judge.proofs.Ends.{holds_more}
+use Rattle.cpg_judge.specs.Texts.{kept_text, told_text, texts_upto, with_place, AreTexts, Holds, KeptTexts}
+use Rattle.cpg_judge.proofs.Ends.{holds_place}
 use Rattle.cpg_judge.proofs.Telling.{places_parted, record_there}
 
 -- the record that is read at a place stands there
@@ -67,22 +67,18 @@ module _ (rs : List Record) (place : ℕ) (r : Record) (some : 1 ≤ place) (is 
 
     -- an allowed one of a group
     pub one_told : (new : KeptTexts) (name : List ℕ) → r.group ≡ Some name → is_allowed r.verdict ≡ true →
-        ((g : List ℕ) → kept_text new g ≡ cond (bytes_eq name g) (with_text (told_text rs place) (kept_text kept g)) (kept_text kept g)) → AreTexts new rs place
+        ((g : List ℕ) → kept_text new g ≡ cond (bytes_eq name g) (with_place r (told_text rs place) (kept_text kept g)) (kept_text kept g)) → AreTexts new rs place
     one_told new name of allowed grown = λ g.
         let acts : acts_in g r ≡ bytes_eq name g =
         ap (λ (b : Bool). b && is_named r.group g) allowed ∙ ap (λ (o : Option (List ℕ)). is_named o g) of in
         subst (λ value. Holds value (texts_upto rs g place)) (sym (grown g)) (for g (bytes_eq name g) acts)
       where
-        for : (g : List ℕ) (b : Bool) → acts_in g r ≡ b → Holds (cond b (with_text (told_text rs place) (kept_text kept g)) (kept_text kept g)) (texts_upto rs g place)
+        for : (g : List ℕ) (b : Bool) → acts_in g r ≡ b → Holds (cond b (with_place r (told_text rs place) (kept_text kept g)) (kept_text kept g)) (texts_upto rs g place)
         for g true acts =
-            subst (Holds (with_text (told_text rs place) (kept_text kept g)))
+            subst (Holds (with_place r (told_text rs place) (kept_text kept g)))
             (ap (λ (b : Bool). texts_upto rs g (place - 1) ++ cond b (told_text rs place ∷ []) []) (sym acts) ∙ sym (texts_more g))
-            (holds_more (kept_text kept g) (texts_upto rs g (place - 1)) (told_text rs place) (are g))
+            (holds_place (kept_text kept g) (texts_upto rs g (place - 1)) (told_text rs place) r (are g))
         for g false acts =
             subst (Holds (kept_text kept g))
             (sym (append-nil (texts_upto rs g (place - 1))) ∙ ap (λ (b : Bool). texts_upto rs g (place - 1) ++ cond b (told_text rs place ∷ []) []) (sym acts) ∙ sym (texts_more g))
             (are g)
-
--- before the first place there are no texts
-pub no_texts : (kept : KeptTexts) (rs : List Record) → ((g : List ℕ) → kept_text kept g ≡ record { text = []; ends = [] }) → AreTexts kept rs 0
-no_texts kept rs none = λ g. subst (λ value. Holds value []) (sym (none g)) (refl, refl)

@@ -7,7 +7,7 @@ use Rattle.std.specs.Str.{bytes_eq}
 use Rattle.std.specs.declared.vec.Vec.{Vec}
 use Rattle.std.proofs.lemmas.List.{map-append}
 use Rattle.std.proofs.lemmas.Slice.Eq.{bytes_eq-Decides}
-use Rattle.cpg_judge.specs.Texts.{TextValue, KeptTexts, named, or_no_text, no_text, kept_text, with_text}
+use Rattle.cpg_judge.specs.Texts.{TextValue, KeptTexts, named, or_no_text, no_text, kept_text}
 
 module _ {K X : Type 0} (eq : K → K → Bool) (decides : (x y : K) → (eq x y ≡ true) ↔ (x ≡ y)) where
   -- the value that is set at a key that is there is found for it, and nothing else changes
@@ -97,15 +97,15 @@ made_named entries kept name key group w same spelled is =
     ∙ ap (λ (bytes : List ℕ). kept ++ (bytes, group) ∷ []) spelled
     ∙ ap (λ (g : TextValue). kept ++ (name, g) ∷ []) is
 
--- which has the first text of that group
-pub text_begun : (kept : KeptTexts) (name g line : List ℕ) → lookup (bytes_eq name) kept ≡ None →
-    kept_text (kept ++ (name, with_text line no_text) ∷ []) g ≡ cond (bytes_eq name g) (with_text line (kept_text kept g)) (kept_text kept g)
-text_begun kept name g line none =
-    ap or_no_text (lookup-push bytes_eq bytes_eq-Decides kept name (with_text line no_text) g none) ∙ by_case (bytes_eq name g) refl
+-- which has what is made of no texts
+pub text_begun : (kept : KeptTexts) (name g : List ℕ) (grow : TextValue → TextValue) → lookup (bytes_eq name) kept ≡ None →
+    kept_text (kept ++ (name, grow no_text) ∷ []) g ≡ cond (bytes_eq name g) (grow (kept_text kept g)) (kept_text kept g)
+text_begun kept name g grow none =
+    ap or_no_text (lookup-push bytes_eq bytes_eq-Decides kept name (grow no_text) g none) ∙ by_case (bytes_eq name g) refl
   where
-    by_case : (b : Bool) → bytes_eq name g ≡ b → or_no_text (cond b (Some (with_text line no_text)) (lookup (bytes_eq g) kept)) ≡ cond b (with_text line (kept_text kept g)) (kept_text kept g)
+    by_case : (b : Bool) → bytes_eq name g ≡ b → or_no_text (cond b (Some (grow no_text)) (lookup (bytes_eq g) kept)) ≡ cond b (grow (kept_text kept g)) (kept_text kept g)
     by_case false is = refl
-    by_case true is = sym (ap (λ (o : Option TextValue). with_text line (or_no_text o)) (ap (λ (n : List ℕ). lookup (bytes_eq n) kept) (sym ((bytes_eq-Decides name g).0 is)) ∙ none))
+    by_case true is = sym (ap (λ (o : Option TextValue). grow (or_no_text o)) (ap (λ (n : List ℕ). lookup (bytes_eq n) kept) (sym ((bytes_eq-Decides name g).0 is)) ∙ none))
 
 -- a group that is there and set
 pub text_set : (kept : KeptTexts) (name : List ℕ) (w : TextValue) (g : List ℕ) → is_some (lookup (bytes_eq name) kept) ≡ true →
@@ -118,15 +118,19 @@ text_set kept name w g there =
     by_case false = refl
 
 -- set texts are their name's
-pub text_changed : (kept : KeptTexts) (name g : List ℕ) (x w : TextValue) (line : List ℕ) → x ≡ kept_text kept name → w ≡ with_text line x →
-    cond (bytes_eq name g) w (kept_text kept g) ≡ cond (bytes_eq name g) (with_text line (kept_text kept g)) (kept_text kept g)
-text_changed kept name g x w line found is = by_case (bytes_eq name g) refl
+pub text_changed : (kept : KeptTexts) (name g : List ℕ) (x w : TextValue) (grow : TextValue → TextValue) → x ≡ kept_text kept name → w ≡ grow x →
+    cond (bytes_eq name g) w (kept_text kept g) ≡ cond (bytes_eq name g) (grow (kept_text kept g)) (kept_text kept g)
+text_changed kept name g x w grow found is = by_case (bytes_eq name g) refl
   where
-    by_case : (b : Bool) → bytes_eq name g ≡ b → cond b w (kept_text kept g) ≡ cond b (with_text line (kept_text kept g)) (kept_text kept g)
+    by_case : (b : Bool) → bytes_eq name g ≡ b → cond b w (kept_text kept g) ≡ cond b (grow (kept_text kept g)) (kept_text kept g)
     by_case false at = refl
-    by_case true at = is ∙ ap (with_text line) (found ∙ ap (kept_text kept) ((bytes_eq-Decides name g).0 at))
+    by_case true at = is ∙ ap grow (found ∙ ap (kept_text kept) ((bytes_eq-Decides name g).0 at))
 
 -- what holds after success, or after a refusal, as it follows from what does
 pub on_ok : {X E : Type 0} (r : Result X E) {P Q : Type 0} → (P → Q) → OnOk r P → OnOk r Q
 on_ok (Ok x) f p = f p
 on_ok (Err e) f p = tt
+
+pub on_both : {X E : Type 0} (r : Result X E) {P Q S : Type 0} → (P → Q → S) → OnOk r P → OnOk r Q → OnOk r S
+on_both (Ok x) f p q = f p q
+on_both (Err e) f p q = tt

@@ -7,4 +7,5 @@ pub mod Lined
 pub mod Own
 pub mod Places
 pub mod Reading
+pub mod Shown
 pub mod Telling

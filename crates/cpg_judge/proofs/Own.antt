@@ -1,9 +1,8 @@
 -- What places tell the connection that made the entry: the verdict, and what they tell the group that it is in.
-use Rattle.std.proofs.Common.{◌≡◌, ℕ, ◌+◌, ◌-◌, ◌≤◌, Bool, true, false, ◌&&◌, ◌||◌, cond, List, [], ◌∷◌, ◌++◌, length, map, take, drop, get_or, Option, Some, None, refl, sym, ap, ◌∙◌, append-nil, arith}
+use Rattle.std.proofs.Common.{◌≡◌, ℕ, ◌-◌, ◌≤◌, Bool, true, false, ◌&&◌, ◌||◌, cond, List, [], ◌∷◌, ◌++◌, map, drop, Option, Some, None, refl, sym, ap, ◌∙◌, append-nil}
 use Rattle.std.specs.Prelude.{is_some, option_to_list}
 use Rattle.std.specs.List.{concat, flat_map}
 use Rattle.std.specs.Str.{bytes_eq}
-use Rattle.std.proofs.lemmas.List.{length-append}
 use Rattle.std.proofs.lemmas.Slice.Eq.{bytes_eq-Decides}
 use Rattle.cpg_cred.specs.declared.bases.By.{By}
 use Rattle.cpg_entry.specs.declared.calls.Call.TheVariants.{Join, Leave, Send, Insert, Remove}
@@ -24,14 +23,14 @@ use Rattle.cpg_record.specs.Events.{events_by, hears_change, news, news_by}
 use Rattle.cpg_record.specs.Judging.{judged, entry_group}
 use Rattle.cpg_record.specs.Membership.{group_of, is_allowed, is_member, is_named}
 use Rattle.cpg_record.specs.Nexts.{acts_in, is_made_by}
-use Rattle.cpg_record.specs.Places.{places_of, record_at, records_before}
+use Rattle.cpg_record.specs.Places.{record_at, records_before}
 use Rattle.cpg_record.specs.Steps.{group_after, group_by}
 use Rattle.cpg_record.specs.Verdicts.{decided, op_verdict}
 use Rattle.cpg_record.proofs.Growing.{group_of_push, is_conn-true}
 use Rattle.cpg_record.proofs.Told.{group_is, record_is}
 use Rattle.cpg_group.specs.Telling.{told, told_by, told_from, told_in}
 use Rattle.cpg_print.specs.Events.{event_line}
-use Rattle.cpg_judge.proofs.Gathered.{one_between, stands}
+use Rattle.cpg_judge.proofs.Gathered.{one_between}
 use Rattle.cpg_judge.specs.Inboxes.{told_between}
 use Rattle.cpg_judge.specs.Texts.{hears_own, lines_at, told_lines, Makes}
 

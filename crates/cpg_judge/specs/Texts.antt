@@ -1,20 +1,22 @@
 -- the lines that places tell their groups, kept as one text for each group
-use Rattle.std.specs.Prelude.{ℕ, Bool, ◌≡◌, ◌+◌, ◌<◌, ◌≤◌, ◌-◌, false, true, List, [], ◌∷◌, ◌++◌, length, map, take, Option, Some, None, option_to_list}
+use Rattle.std.specs.Prelude.{ℕ, Bool, ◌≡◌, ◌+◌, ◌<◌, ◌≤◌, ◌-◌, false, true, List, [], ◌∷◌, ◌++◌, length, map, take, Option, Some, None, option_to_list, if◌then◌else◌}
 use Rattle.std.specs.List.{concat, flat_map, range_with_len}
 use Rattle.std.specs.Map.{lookup}
 use Rattle.std.specs.Str.{bytes_eq}
 use Rattle.std.specs.declared.vec.Vec.{Vec}
-use Rattle.cpg_entry.specs.declared.calls.Call.TheVariants.{Insert, Remove}
+use Rattle.cpg_entry.specs.declared.calls.Call.TheVariants.{Insert, Join, Leave, Remove}
 use Rattle.cpg_entry.specs.declared.calls.Op.{Op}
-use Rattle.cpg_entry.specs.declared.calls.Op.TheVariants.{Act}
+use Rattle.cpg_entry.specs.declared.calls.Op.TheVariants.{Act, Gone}
 use Rattle.cpg_record.specs.declared.connections.ConnId.{ConnId}
+use Rattle.cpg_record.specs.declared.memberships.Member.{Member}
 use Rattle.cpg_record.specs.declared.records.Record.{Record}
 use Rattle.cpg_record.specs.Events.{events}
-use Rattle.cpg_record.specs.Membership.{is_named}
+use Rattle.cpg_record.specs.Membership.{is_named, members}
 use Rattle.cpg_record.specs.Nexts.{acts_in, is_made_by}
 use Rattle.cpg_record.specs.Places.{places_of, record_at}
 use Rattle.cpg_group.specs.Telling.{told}
 use Rattle.cpg_print.specs.Events.{event_line}
+use Rattle.cpg_print.specs.Records.{members_text}
 
 -- the lines of a place for a connection
 abbrev pub lines_at : List Record → ConnId → ℕ → List (List ℕ)
@@ -52,14 +54,16 @@ told_text records place = concat (told_lines records place)
 abbrev pub texts_upto : List Record → List ℕ → ℕ → List (List ℕ)
 texts_upto records g last = map (told_text records) (places_of (acts_in g) (take last records))
 
--- texts as one, with where each of them ends
+-- what is kept for a group: the text of its members, and what its places tell it as one text, with where each of
+-- these ends
 pub record TextValue : Type 0 where
+  pub members : List ℕ
   pub text : List ℕ
   pub ends : List ℕ
 
--- no texts
+-- no texts, and nobody
 abbrev pub no_text : TextValue
-no_text = record { text = []; ends = [] }
+no_text = record { members = members_text []; text = []; ends = [] }
 
 -- where each of the texts ends, the first of which starts there
 abbrev pub ends_from : ℕ → List (List ℕ) → List ℕ
@@ -72,7 +76,22 @@ Holds value texts = (value.text ≡ concat texts) × (value.ends ≡ ends_from 0
 
 -- with one text more at the end
 abbrev pub with_text : List ℕ → TextValue → TextValue
-with_text text value = record { text = value.text ++ text; ends = value.ends ++ length (value.text ++ text) ∷ [] }
+with_text text value = record { members = value.members; text = value.text ++ text; ends = value.ends ++ length (value.text ++ text) ∷ [] }
+
+-- with those members
+abbrev pub showing : List Member → TextValue → TextValue
+showing members value = record { members = members_text members; text = value.text; ends = value.ends }
+
+-- a join, a leave and an end move a member
+abbrev pub is_move : Op → Bool
+is_move (Act (Join g)) = true
+is_move (Act Leave) = true
+is_move Gone = true
+is_move _ = false
+
+-- what is kept for a group after its allowed record, which tells it that text
+abbrev pub with_place : Record → List ℕ → TextValue → TextValue
+with_place r text value = with_text text (if is_move r.entry.op then showing r.members value else value)
 
 -- names with texts
 abbrev pub KeptTexts : Type 0
@@ -98,3 +117,11 @@ LacksText kept g = lookup (bytes_eq g) kept ≡ None
 -- for each group the texts of its places up to the last one are kept
 abbrev pub AreTexts : KeptTexts → List Record → ℕ → Type 0
 AreTexts kept records last = (g : List ℕ) → Holds (kept_text kept g) (texts_upto records g last)
+
+-- and the text of its members after that place
+abbrev pub AreShown : KeptTexts → List Record → ℕ → Type 0
+AreShown kept records last = (g : List ℕ) → (kept_text kept g).members ≡ members_text (members (take last records) g)
+
+-- the texts that are kept are those after all the records
+abbrev pub AreCurrent : KeptTexts → List Record → Type 0
+AreCurrent kept records = AreTexts kept records (length records) × AreShown kept records (length records)

@@ -10,17 +10,18 @@ ghost use Rattle.cpg_record.specs.Judging.{entries_of, judged, most_places, reco
 ghost use Rattle.cpg_script.specs.Written.{LeavesLines, WritesLate};
 ghost use Rattle.cpg_print.specs.Records.{audit_lines};
 ghost use Rattle.cpg_judge.specs.Judging.{with_conn, conns_of, judge_lines, EndsJudging, IsWritten, Leaves};
-ghost use Rattle.cpg_print.specs.Records.{audit_line, members_text};
+ghost use Rattle.cpg_print.specs.Records.{audit_line};
 ghost use Rattle.cpg_judge.specs.Scripts.{entries_of_script};
+ghost use Rattle.cpg_judge.specs.Texts.{AreCurrent};
 
 use crate::output::{write_count, write_inboxes};
-use crate::printing::put_audit;
+use crate::printing::put_last_audit;
 use crate::scripts::read_entries;
+use crate::texts::Texts;
 use cpg_cred::Refusal;
 use cpg_entry::Entry;
 use cpg_group::Policy;
-use cpg_print::put_members;
-use cpg_record::{ConnId, Members, Record};
+use cpg_record::{ConnId, Record};
 use cpg_script::{Fault, write_line};
 use cpg_text::{MOST_BYTES, read_whole};
 use indexmap::IndexSet;
@@ -72,6 +73,7 @@ fn judge_whole<R: Read, W: Write>(
 }
 
 /// Judges the entries, and writes what is printed of them.
+#[tactic(auto, using(crate::proofs::Lined::none_written))]
 fn write_judgement<W: Write>(
     alloc: Global,
     writer: &mut W,
@@ -83,51 +85,30 @@ fn write_judgement<W: Write>(
 {
     let mut line = Vec::new(alloc);
     let mut policy = Policy::new(alloc);
-    judge_entries(alloc, writer, &mut line, &mut policy, entries)?;
+    let mut texts = Texts::new(alloc)?;
+    judge_entries(writer, &mut line, &mut texts, &mut policy, entries)?;
     write_count(writer, &mut line, policy.len() as u32)?;
     let conns = list_conns(alloc, policy.records())?;
-    write_inboxes(alloc, writer, &mut line, &policy, conns.as_slice())
+    write_inboxes(writer, &mut line, &policy, &texts, conns.as_slice())
 }
 
 /// Judges the entries one after the other, and writes the line of each.
-#[tactic(auto, using(crate::proofs::Lined::none_written))]
 fn judge_entries<W: Write>(
-    alloc: Global,
     writer: &mut W,
     line: &mut Vec<u8>,
+    texts: &mut Texts,
     policy: &mut Policy,
     entries: Vec<Entry>,
 ) -> Result<(), Refusal>
     requires few { length entries.items ≤ most_places }
     requires fresh { policy.old ≡ [] }
+    requires texts { AreCurrent texts.old (judged policy.old) }
     ensures ok { OnOk result ((policy.new ≡ entries.items) × Appends (W.contents writer.old) (W.contents writer.new) (concat (audit_lines (judged entries.items)))) }
-    ensures err { IfErr result (λ refusal. LeavesLines (audit_lines (judged entries.items)) refusal (W.contents writer.old) (W.contents writer.new)) }
-{
-    let mut shown = Members::new(alloc);
-    let mut text = Vec::new(alloc);
-    put_members(&mut text, shown.as_slice())?;
-    judge_each(alloc, writer, line, &mut shown, &mut text, policy, entries)
-}
-
-/// Judges the entries one after the other, and writes the line of each, with the members that were printed last
-/// and their text.
-fn judge_each<W: Write>(
-    alloc: Global,
-    writer: &mut W,
-    line: &mut Vec<u8>,
-    shown: &mut Members,
-    text: &mut Vec<u8>,
-    policy: &mut Policy,
-    entries: Vec<Entry>,
-) -> Result<(), Refusal>
-    requires few { length entries.items ≤ most_places }
-    requires fresh { policy.old ≡ [] }
-    requires text { text.old.items ≡ members_text shown.old }
-    ensures ok { OnOk result ((policy.new ≡ entries.items) × Appends (W.contents writer.old) (W.contents writer.new) (concat (audit_lines (judged entries.items)))) }
+    ensures texts { OnOk result (AreCurrent texts.new (judged policy.new)) }
     ensures err { IfErr result (λ refusal. LeavesLines (audit_lines (judged entries.items)) refusal (W.contents writer.old) (W.contents writer.new)) }
 {
     for entry in entries {
-        match judge_entry(alloc, writer, line, shown, text, policy, entry) {
+        match judge_entry(writer, line, texts, policy, entry) {
             Ok(()) => {}
             Err(refusal) => return Err(refusal),
         }
@@ -147,28 +128,43 @@ fn judge_next(policy: &Policy, entry: Entry) -> Result<Record, Refusal>
     }
 }
 
-/// Judges one entry more, and then writes its line.
-#[tactic(auto, using(crate::proofs::Lined::none_written))]
-fn judge_entry<W: Write>(
-    alloc: Global,
-    writer: &mut W,
+/// Judges one entry more, and takes in what it tells its group; the line is written over.
+fn take_entry(
     line: &mut Vec<u8>,
-    shown: &mut Members,
-    text: &mut Vec<u8>,
+    texts: &mut Texts,
     policy: &mut Policy,
     entry: Entry,
 ) -> Result<(), Refusal>
     requires few { length policy.old < most_places }
-    requires text { text.old.items ≡ members_text shown.old }
-    ensures ok { OnOk result ((policy.new ≡ policy.old ++ entry ∷ []) × Appends (W.contents writer.old) (W.contents writer.new) (audit_line (length policy.old + 1) (record_of (judged policy.old) entry))) }
-    ensures text { OnOk result (text.new.items ≡ members_text shown.new) }
-    ensures err { IfErr result (λ refusal. LeavesLines (audit_line (length policy.old + 1) (record_of (judged policy.old) entry) ∷ []) refusal (W.contents writer.old) (W.contents writer.new)) }
+    requires texts { AreCurrent texts.old (judged policy.old) }
+    ensures ok { OnOk result (policy.new ≡ policy.old ++ entry ∷ []) }
+    ensures texts { OnOk result (AreCurrent texts.new (judged policy.new)) }
+    ensures memory { IsOkUnless result Refusal.Memory }
 {
     let next = judge_next(policy, entry)?;
-    let place = policy.len() as u32 + 1;
-    line.clear();
-    put_audit(alloc, line, shown, text, place, &next)?;
     apply(policy, next)?;
+    let place = policy.len() as u32;
+    texts.add_place(line, policy, place)
+}
+
+/// Judges one entry more, and then writes its line.
+#[tactic(auto, using(crate::proofs::Lined::none_written))]
+fn judge_entry<W: Write>(
+    writer: &mut W,
+    line: &mut Vec<u8>,
+    texts: &mut Texts,
+    policy: &mut Policy,
+    entry: Entry,
+) -> Result<(), Refusal>
+    requires few { length policy.old < most_places }
+    requires texts { AreCurrent texts.old (judged policy.old) }
+    ensures ok { OnOk result ((policy.new ≡ policy.old ++ entry ∷ []) × Appends (W.contents writer.old) (W.contents writer.new) (audit_line (length policy.old + 1) (record_of (judged policy.old) entry))) }
+    ensures texts { OnOk result (AreCurrent texts.new (judged policy.new)) }
+    ensures err { IfErr result (λ refusal. LeavesLines (audit_line (length policy.old + 1) (record_of (judged policy.old) entry) ∷ []) refusal (W.contents writer.old) (W.contents writer.new)) }
+{
+    take_entry(line, texts, policy, entry)?;
+    line.clear();
+    put_last_audit(line, texts, policy)?;
     write_line(writer, line.as_slice())
 }
 

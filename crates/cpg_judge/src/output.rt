@@ -25,7 +25,6 @@ use cpg_print::{put_count, put_inbox, put_verdict_line};
 use cpg_record::ConnId;
 use cpg_script::write_line;
 use cpg_text::write_whole;
-use std::alloc::Global;
 use std::io::Write;
 
 /// Writes how many records there are.
@@ -177,7 +176,7 @@ fn write_inbox<W: Write>(
 }
 
 /// Writes the inboxes of the connections, one after the other.
-fn write_each_inbox<W: Write>(
+pub fn write_inboxes<W: Write>(
     writer: &mut W,
     line: &mut Vec<u8>,
     policy: &Policy,
@@ -195,20 +194,4 @@ fn write_each_inbox<W: Write>(
         }
     }
     Ok(())
-}
-
-/// Writes the inboxes of the connections, one after the other, from what places tell their groups.
-#[tactic(auto, using(crate::proofs::Lined::none_written))]
-pub fn write_inboxes<W: Write>(
-    alloc: Global,
-    writer: &mut W,
-    line: &mut Vec<u8>,
-    policy: &Policy,
-    conns: &[ConnId],
-) -> Result<(), Refusal>
-    ensures ok { OnOk result (Appends (W.contents writer.old) (W.contents writer.new) (concat (flat_map (inbox_lines (judged policy.now)) conns.now))) }
-    ensures err { IfErr result (λ refusal. LeavesLines (flat_map (inbox_lines (judged policy.now)) conns.now) refusal (W.contents writer.old) (W.contents writer.new)) }
-{
-    let texts = Texts::collect(alloc, policy)?;
-    write_each_inbox(writer, line, policy, &texts, conns)
 }

@@ -1,47 +1,57 @@
-//! Audit lines, one after the other: the text of the members that were printed last is kept, since it is that of
-//! the next line wherever the members are the same.
+//! Audit lines: the members' text of each group is kept beside what its places tell it, and put where the line
+//! has it.
 
-ghost use Rattle.std.specs.Prelude.{◌≡◌, ◌++◌, OnOk, IsOkUnless};
-ghost use Rattle.cpg_print.specs.Records.{audit_line, members_text};
+ghost use Rattle.std.specs.Prelude.{◌≡◌, ◌≤◌, ◌+◌, ◌++◌, ◌∷◌, [], List, Some, length, OnOk, IsOkUnless};
+ghost use Rattle.cpg_entry.specs.declared.entries.Entry.{Entry};
+ghost use Rattle.cpg_record.specs.declared.records.Record.{Record};
+ghost use Rattle.cpg_record.specs.Judging.{judged, record_of};
+ghost use Rattle.cpg_record.specs.Places.{record_at};
+ghost use Rattle.cpg_print.specs.Records.{audit_line};
+ghost use Rattle.cpg_judge.specs.Texts.{AreCurrent, AreShown};
 
+use crate::texts::Texts;
 use cpg_cred::Refusal;
-use cpg_print::{put_audit_with, put_members};
-use cpg_record::{Members, Record};
-use std::alloc::Global;
+use cpg_group::Policy;
+use cpg_print::{put_audit, put_audit_with};
+use cpg_record::Record;
 
-/// Brings the kept members, and their text, to these members.
-fn show(
-    alloc: Global,
-    members: &Members,
-    shown: &mut Members,
-    text: &mut Vec<u8>,
-) -> Result<(), Refusal>
-    requires { text.old.items ≡ members_text shown.old }
-    ensures ok { OnOk result ((shown.new ≡ members.now) × (text.new.items ≡ members_text members.now)) }
-    ensures memory { IsOkUnless result Refusal.Memory }
-{
-    if shown.equals(members) {
-        return Ok(());
-    }
-    text.clear();
-    put_members(text, members.as_slice())?;
-    *shown = members.copy(alloc)?;
-    Ok(())
-}
-
-/// Puts the audit line of a record, which stands at that place, at the line's end.
-pub(crate) fn put_audit(
-    alloc: Global,
+/// Puts the audit line of the record of the place at the line's end.
+fn put_audit_of(
     line: &mut Vec<u8>,
-    shown: &mut Members,
-    text: &mut Vec<u8>,
+    texts: &Texts,
+    policy: &Policy,
     place: u32,
     past: &Record,
 ) -> Result<(), Refusal>
-    requires { text.old.items ≡ members_text shown.old }
-    ensures ok { OnOk result ((text.new.items ≡ members_text shown.new) × (line.new.items ≡ line.old.items ++ audit_line place past.now)) }
+    requires place { 1 ≤ place }
+    requires stands { record_at (judged policy.now) place ≡ Some past.now }
+    requires shown { AreShown texts.now (judged policy.now) place }
+    ensures ok { OnOk result (line.new.items ≡ line.old.items ++ audit_line place past.now) }
     ensures memory { IsOkUnless result Refusal.Memory }
 {
-    show(alloc, &past.members, shown, text)?;
-    put_audit_with(line, place, past, text.as_slice())
+    match &past.group {
+        None => put_audit(line, place, past),
+        Some(group) => put_audit_with(line, place, past, texts.of(group.as_slice()).members()),
+    }
+}
+
+/// Puts the audit line of the last record at the line's end.
+pub(crate) fn put_last_audit(
+    line: &mut Vec<u8>,
+    texts: &Texts,
+    policy: &Policy,
+) -> Result<(), Refusal>
+    requires some { 1 ≤ length policy.now }
+    requires texts { AreCurrent texts.now (judged policy.now) }
+    ensures ok { OnOk result ((before : List Entry) (entry : Entry) → policy.now ≡ before ++ entry ∷ [] → line.new.items ≡ line.old.items ++ audit_line (length before + 1) (record_of (judged before) entry)) }
+    ensures memory { IsOkUnless result Refusal.Memory }
+{
+    let place = policy.len();
+    put_audit_of(
+        line,
+        texts,
+        policy,
+        place as u32,
+        &policy.records()[place - 1],
+    )
 }

@@ -1,5 +1,6 @@
 //! What places tell their groups, as it is printed: each place's line is put once, into the text of its group,
-//! so that the lines of places that follow each other in a group are one slice.
+//! so that the lines of places that follow each other in a group are one slice. The text of a group's members
+//! stands beside it, and is put again where a record moves one.
 
 ghost use Rattle.std.specs.Prelude.{true, ◌≡◌, ◌≤◌, ◌+◌, ◌-◌, ◌++◌, ℕ, List, [], Some, length, take, drop, if◌then◌else◌, IfOk, OnOk, IsOkUnless};
 ghost use Rattle.std.specs.List.{concat};
@@ -7,13 +8,13 @@ ghost use Rattle.std.specs.Str.{bytes_eq};
 ghost use Rattle.cpg_record.specs.Judging.{judged};
 ghost use Rattle.cpg_record.specs.Membership.{is_allowed};
 ghost use Rattle.cpg_record.specs.Places.{record_at};
-ghost use Rattle.cpg_judge.specs.Texts.{kept_text, no_text, told_text, with_text, AreTexts, LacksText, Holds};
+ghost use Rattle.cpg_judge.specs.Texts.{is_move, kept_text, no_text, showing, told_text, with_place, with_text, AreCurrent, AreShown, AreTexts, Holds, LacksText};
 
 use cpg_cred::Refusal;
 use cpg_entry::{Call, Op};
 use cpg_group::Policy;
-use cpg_print::{put_event, put_message_line};
-use cpg_record::Record;
+use cpg_print::{put_event, put_members, put_message_line};
+use cpg_record::{Member, Record};
 use indexmap::IndexMap;
 use std::alloc::Global;
 use std::marker::Model;
@@ -46,9 +47,21 @@ fn put_told(
     }
 }
 
-/// Texts put one after the other, with where each of them ends.
+/// Whether the op moves a member of a group, where it is allowed.
+fn is_move(op: &Op) -> bool
+    ensures { result ≡ is_move op.now }
+{
+    match op {
+        Op::Act(Call::Join(_)) | Op::Act(Call::Leave) | Op::Gone => true,
+        _ => false,
+    }
+}
+
+/// The text of a group's members, and what its places tell it, put one after the other, with where each of
+/// these ends.
 #[derive(Debug, Drop)]
 pub(crate) struct Text {
+    members: Vec<u8>,
     text: Vec<u8>,
     ends: Vec<usize>,
 }
@@ -58,18 +71,38 @@ impl Model for Text {
 
     ghost Value = { TextValue };
 
-    ghost view = { λ text. record { text = text.text.items; ends = text.ends.items } };
+    ghost view = { λ text. record { members = text.members.items; text = text.text.items; ends = text.ends.items } };
 }
 
 impl Text {
-    /// No texts.
-    fn new(alloc: Global) -> Text
-        ensures { result ≡ no_text }
+    /// No texts, and nobody.
+    fn new(alloc: Global) -> Result<Text, Refusal>
+        ensures ok { IfOk result (λ text. text ≡ no_text) }
+        ensures memory { IsOkUnless result Refusal.Memory }
     {
-        Text {
+        let mut members = Vec::new(alloc);
+        put_members(&mut members, &[])?;
+        Ok(Text {
+            members,
             text: Vec::new(alloc),
             ends: Vec::new(alloc),
-        }
+        })
+    }
+
+    /// The text of the members.
+    pub(crate) fn members(&self) -> &[u8]
+        ensures { result.now ≡ self.now.members }
+    {
+        self.members.as_slice()
+    }
+
+    /// Puts the text of those members in place of the one before.
+    fn show(&mut self, members: &[Member]) -> Result<(), Refusal>
+        ensures ok { OnOk result (self.new ≡ showing members.now self.old) }
+        ensures memory { IsOkUnless result Refusal.Memory }
+    {
+        self.members.clear();
+        put_members(&mut self.members, members)
     }
 
     /// Puts the line last.
@@ -81,6 +114,17 @@ impl Text {
         let end = self.text.len();
         self.ends.push(end)?;
         Ok(())
+    }
+
+    /// Takes in an allowed record of the group, which tells it that line.
+    fn take_in(&mut self, past: &Record, line: &[u8]) -> Result<(), Refusal>
+        ensures ok { OnOk result (self.new ≡ with_place past.now line.now self.old) }
+        ensures memory { IsOkUnless result Refusal.Memory }
+    {
+        if is_move(&past.entry.op) {
+            self.show(past.members.as_slice())?;
+        }
+        self.push(line)
     }
 
     /// Where the first so many texts end.
@@ -132,13 +176,14 @@ impl Model for Texts {
 
 impl Texts {
     /// No texts.
-    fn new(alloc: Global) -> Texts
-        ensures { (g : List ℕ) → kept_text result g ≡ no_text }
+    pub(crate) fn new(alloc: Global) -> Result<Texts, Refusal>
+        ensures ok { IfOk result (λ texts. AreCurrent texts []) }
+        ensures memory { IsOkUnless result Refusal.Memory }
     {
-        Texts {
+        Ok(Texts {
             kept: IndexMap::new(alloc),
-            none: Text::new(alloc),
-        }
+            none: Text::new(alloc)?,
+        })
     }
 
     /// The texts of the group of that name.
@@ -151,36 +196,43 @@ impl Texts {
         }
     }
 
-    /// Makes a place for the texts of the group of that name, which has none, with the line as the first.
-    fn begin(&mut self, name: &[u8], line: &[u8]) -> Result<(), Refusal>
+    /// Makes a place for the texts of the group of that name, which has none, with the record as the first.
+    fn begin(&mut self, name: &[u8], past: &Record, line: &[u8]) -> Result<(), Refusal>
         requires { LacksText self.old name.now }
-        ensures ok { OnOk result ((g : List ℕ) → kept_text self.new g ≡ (if bytes_eq name.now g then with_text line.now (kept_text self.old g) else kept_text self.old g)) }
+        ensures ok { OnOk result ((g : List ℕ) → kept_text self.new g ≡ (if bytes_eq name.now g then with_place past.now line.now (kept_text self.old g) else kept_text self.old g)) }
         ensures memory { IsOkUnless result Refusal.Memory }
     {
         let alloc = *self.kept.allocator();
         let key = Vec::from_slice(alloc, name)?;
-        let mut text = Text::new(alloc);
-        text.push(line)?;
+        let mut text = Text::new(alloc)?;
+        text.take_in(past, line)?;
         self.kept.insert(key, text)?;
         Ok(())
     }
 
-    /// Puts the line last in the texts of the group of that name.
-    fn add(&mut self, name: &[u8], line: &[u8]) -> Result<(), Refusal>
-        ensures ok { OnOk result ((g : List ℕ) → kept_text self.new g ≡ (if bytes_eq name.now g then with_text line.now (kept_text self.old g) else kept_text self.old g)) }
+    /// Takes in an allowed record of the group of that name, which tells it that line.
+    fn add(&mut self, name: &[u8], past: &Record, line: &[u8]) -> Result<(), Refusal>
+        ensures ok { OnOk result ((g : List ℕ) → kept_text self.new g ≡ (if bytes_eq name.now g then with_place past.now line.now (kept_text self.old g) else kept_text self.old g)) }
         ensures memory { IsOkUnless result Refusal.Memory }
     {
         match self.kept.get_mut(name) {
-            Some(text) => text.push(line),
-            None => self.begin(name, line),
+            Some(text) => text.take_in(past, line),
+            None => self.begin(name, past, line),
         }
     }
 
-    /// Puts what the next place tells its group; the line is written over.
-    fn add_place(&mut self, line: &mut Vec<u8>, policy: &Policy, place: u32) -> Result<(), Refusal>
+    /// Takes in the record of the place, the one after those that were taken in; the line is written over.
+    pub(crate) fn add_place(
+        &mut self,
+        line: &mut Vec<u8>,
+        policy: &Policy,
+        place: u32,
+    ) -> Result<(), Refusal>
         requires place { (1 ≤ place) × (place ≤ length policy.now) }
         requires texts { AreTexts self.old (judged policy.now) (place - 1) }
+        requires shown { AreShown self.old (judged policy.now) (place - 1) }
         ensures ok { OnOk result (AreTexts self.new (judged policy.now) place) }
+        ensures shown { OnOk result (AreShown self.new (judged policy.now) place) }
         ensures memory { IsOkUnless result Refusal.Memory }
     {
         let past = &policy.records()[place as usize - 1];
@@ -192,21 +244,8 @@ impl Texts {
                 }
                 line.clear();
                 put_told(line, policy, place, past, group.as_slice())?;
-                self.add(group.as_slice(), line.as_slice())
+                self.add(group.as_slice(), past, line.as_slice())
             }
         }
-    }
-
-    /// What all judged places tell their groups.
-    pub(crate) fn collect(alloc: Global, policy: &Policy) -> Result<Texts, Refusal>
-        ensures ok { IfOk result (λ texts. AreTexts texts (judged policy.now) (length (judged policy.now))) }
-        ensures memory { IsOkUnless result Refusal.Memory }
-    {
-        let mut texts = Texts::new(alloc);
-        let mut line = Vec::new(alloc);
-        for index in 0..policy.len() as u32 {
-            texts.add_place(&mut line, policy, index + 1)?;
-        }
-        Ok(texts)
     }
 }

@@ -36,7 +36,7 @@ conns_alike rs policy entries is same = ap conns_of (ap entries_of is ∙ (each_
 
 pub returns-in_err-judge_entries-clause-err : goal.returns-in_err-judge_entries-clause-err
 returns-in_err-judge_entries-clause-err g c =
-    let failed = err_from_is_err_and c.from_residual.result c.from_residual.ensures.1 in
+    let failed = err_from_is_err_and c.from_residual-in_err-judge_entries.result c.from_residual-in_err-judge_entries.ensures.1 in
     rw (failed.1, failed.2) (leaves_first _ _ (audit_lines (judged c.args.entries.items)) (count_line (length c.args.entries.items) ∷ inboxes c.args.entries.items) _ c.in_err-judge_entries.ensures.err)
 
 pub returns-in_err-write_count-clause-err : goal.returns-in_err-write_count-clause-err

@@ -3,7 +3,7 @@ use Rattle.std.specs.List.{concat, flat_map}
 use Rattle.std.specs.Io.KnownBytes.{Appends}
 use Rattle.cpg_record.specs.Judging.{judged}
 use Rattle.cpg_judge.specs.Judging.{inbox_lines}
-use Rattle.cpg_judge.proofs.output.write_each_inbox.Given as goal
+use Rattle.cpg_judge.proofs.output.write_inboxes.Given as goal
 
 abbrev pub invariant-loop-conn : goal.invariant-loop-conn
 invariant-loop-conn g l =

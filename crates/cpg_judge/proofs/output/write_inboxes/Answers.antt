@@ -3,7 +3,7 @@ use Rattle.std.specs.List.{flat_map}
 use Rattle.cpg_record.specs.Judging.{judged}
 use Rattle.cpg_script.proofs.Lined.{leaves_amid, flat_around, flat_one_more, lines_after}
 use Rattle.cpg_judge.specs.Judging.{inbox_lines}
-use Rattle.cpg_judge.proofs.output.write_each_inbox.Goals as goal
+use Rattle.cpg_judge.proofs.output.write_inboxes.Goals as goal
 
 pub returns-in-Err-clause-err : goal.returns-in-Err-clause-err
 returns-in-Err-clause-err g c =

@@ -4,7 +4,7 @@ use Rattle.cpg_record.specs.Judging.{judged}
 use Rattle.cpg_script.proofs.Lined.{leaves_amid, lines_after, text_of_line}
 use Rattle.cpg_print.specs.Records.{audit_lines}
 use Rattle.cpg_judge.proofs.Audits.{audits_around, audits_more, next_line}
-use Rattle.cpg_judge.proofs.judging.judge_each.Goals as goal
+use Rattle.cpg_judge.proofs.judging.judge_entries.Goals as goal
 
 pub returns-in-Err-clause-err : goal.returns-in-Err-clause-err
 returns-in-Err-clause-err g c =
@@ -28,5 +28,5 @@ loop-entry-preserved g c =
       left = omega arith;
       seen = ok.0 ∙ ap (λ l. l ++ c.in-Some.entry ∷ []) c.loop-entry.invariant.seen;
       written = rw (ok.0, audits_more) grown;
-      shown = c.in-Ok.ensures.text;
+      current = c.in-Ok.ensures.texts;
     }

@@ -3,8 +3,9 @@ use Rattle.std.specs.List.{concat}
 use Rattle.std.specs.Io.KnownBytes.{Appends}
 use Rattle.std.specs.Vec.Iter.{into_iter_items, into_iter_len}
 use Rattle.cpg_record.specs.Judging.{judged}
-use Rattle.cpg_print.specs.Records.{audit_lines, members_text}
-use Rattle.cpg_judge.proofs.judging.judge_each.Given as goal
+use Rattle.cpg_print.specs.Records.{audit_lines}
+use Rattle.cpg_judge.specs.Texts.{AreCurrent}
+use Rattle.cpg_judge.proofs.judging.judge_entries.Given as goal
 
 abbrev pub invariant-loop-entry : goal.invariant-loop-entry
 invariant-loop-entry g l = record {
@@ -12,5 +13,5 @@ invariant-loop-entry g l = record {
   left : into_iter_len l.entry-iterator ≡ length (into_iter_items l.entry-iterator);
   seen : l.policy ≡ l.yielded;
   written : Appends (g.W.Write.contents l.initial.writer) (g.W.Write.contents l.writer) (concat (audit_lines (judged l.policy)));
-  shown : l.text.items ≡ members_text l.shown;
+  current : AreCurrent l.texts (judged l.policy);
 }
