@@ -1,8 +1,9 @@
 -- What places tell the connection that made the entry: the verdict, and what they tell the group that it is in.
-use Rattle.std.proofs.Common.{◌≡◌, ℕ, ◌-◌, ◌≤◌, Bool, true, false, ◌&&◌, ◌||◌, cond, List, [], ◌∷◌, ◌++◌, map, drop, Option, Some, None, refl, sym, ap, ◌∙◌, append-nil}
+use Rattle.std.proofs.Common.{◌≡◌, ℕ, ◌+◌, ◌-◌, ◌≤◌, Bool, true, false, ◌&&◌, ◌||◌, cond, List, [], ◌∷◌, ◌++◌, length, map, take, drop, Option, Some, None, refl, sym, ap, ◌∙◌, append-nil, arith}
 use Rattle.std.specs.Prelude.{is_some, option_to_list}
 use Rattle.std.specs.List.{concat, flat_map}
 use Rattle.std.specs.Str.{bytes_eq}
+use Rattle.std.proofs.lemmas.List.{length-append}
 use Rattle.std.proofs.lemmas.Slice.Eq.{bytes_eq-Decides}
 use Rattle.cpg_cred.specs.declared.bases.By.{By}
 use Rattle.cpg_entry.specs.declared.calls.Call.TheVariants.{Join, Leave, Send, Insert, Remove}
@@ -23,16 +24,17 @@ use Rattle.cpg_record.specs.Events.{events_by, hears_change, news, news_by}
 use Rattle.cpg_record.specs.Judging.{judged, entry_group}
 use Rattle.cpg_record.specs.Membership.{group_of, is_allowed, is_member, is_named}
 use Rattle.cpg_record.specs.Nexts.{acts_in, is_made_by}
-use Rattle.cpg_record.specs.Places.{record_at, records_before}
+use Rattle.cpg_record.specs.Places.{places_of, record_at, records_before}
 use Rattle.cpg_record.specs.Steps.{group_after, group_by}
 use Rattle.cpg_record.specs.Verdicts.{decided, op_verdict}
 use Rattle.cpg_record.proofs.Growing.{group_of_push, is_conn-true}
+use Rattle.cpg_record.proofs.Inboxes.{place_within}
 use Rattle.cpg_record.proofs.Told.{group_is, record_is}
 use Rattle.cpg_group.specs.Telling.{told, told_by, told_from, told_in}
 use Rattle.cpg_print.specs.Events.{event_line}
-use Rattle.cpg_judge.proofs.Gathered.{one_between}
-use Rattle.cpg_judge.specs.Inboxes.{told_between}
-use Rattle.cpg_judge.specs.Texts.{hears_own, lines_at, told_lines, Makes}
+use Rattle.cpg_judge.proofs.Gathered.{one_between, places_between}
+use Rattle.cpg_judge.proofs.Telling.{places_parted, told_cut}
+use Rattle.cpg_judge.specs.Texts.{hears_own, lines_at, told_lines, texts_upto, Holds, Makes, TextValue}
 
 -- ---- who hears an own record
 
@@ -153,10 +155,32 @@ module _ (es : List Entry) (conn : ConnId) (place : ℕ) (r : Record) (g : List 
       by_case true allowed h = ap (λ (b : Bool). b && is_named r.group g) allowed ∙ ap (λ (o : Option (List ℕ)). is_named o g) of ∙ named_itself g
       by_case false refused h = absurd (cc)
 
--- ---- that line as what the group's places tell
+-- ---- that line among the texts of the group
 
--- between a place before it and the place itself a group's place tells its own lines
-pub told_alone : (rs : List Record) (place : ℕ) (r : Record) (g : List ℕ) → record_at rs place ≡ Some r → 1 ≤ place → acts_in g r ≡ true → told_between rs g (place - 1) place ≡ concat (told_lines rs place)
-told_alone rs place r g is some acts =
-    ap (λ ps. concat (flat_map (told_lines rs) ps)) (one_between rs place r some is g ∙ ap (λ (b : Bool). cond b (place ∷ []) []) acts)
-    ∙ ap concat (append-nil (told_lines rs place))
+module _ (rs : List Record) (place : ℕ) (r : Record) (g : List ℕ) (is : record_at rs place ≡ Some r) (acts : acts_in g r ≡ true) where
+  some : 1 ≤ place
+  some = (place_within rs place r is).0
+
+  within : place ≤ length rs
+  within = (place_within rs place r is).1
+
+  between : places_between rs g place ≡ place ∷ []
+  between = one_between rs place r some is g ∙ ap (λ (b : Bool). cond b (place ∷ []) []) acts
+
+  -- it is the last up to the place
+  one_more : length (places_of (acts_in g) (take place rs)) ≡ length (places_of (acts_in g) (take (place - 1) rs)) + 1
+  one_more =
+      ap length (places_parted (acts_in g) rs (place - 1) place (omega arith) (omega (arith, within)) ∙ ap (λ ps. places_of (acts_in g) (take (place - 1) rs) ++ ps) between)
+      ∙ length-append (places_of (acts_in g) (take (place - 1) rs)) (place ∷ [])
+
+  pub counted : (count : ℕ) → count ≡ length (places_of (acts_in g) (take place rs)) → 1 ≤ count
+  counted count is_count = omega (arith, is_count, one_more)
+
+  pub line_of_place : (value : TextValue) (text : List ℕ) (count : ℕ) → count ≡ length (places_of (acts_in g) (take place rs)) →
+      Holds value (texts_upto rs g (length rs)) →
+      ((texts : List (List ℕ)) → Holds value texts → count - 1 ≤ count → count ≤ length texts → text ≡ concat (drop (count - 1) (take count texts))) →
+      text ≡ concat (told_lines rs place)
+  line_of_place value text count is_count holds cut =
+      told_cut rs g (place - 1) place value text (count - 1) count (omega arith) within (omega (arith, is_count, one_more)) is_count holds cut
+      ∙ ap (λ ps. concat (flat_map (told_lines rs) ps)) between
+      ∙ ap concat (append-nil (told_lines rs place))

@@ -3,17 +3,17 @@
 //!
 //! Proved: the bytes that are found for places are the lines that these places tell the connection.
 
-ghost use Rattle.std.specs.Prelude.{true, ◌≡◌, ◌≤◌, ◌-◌, ◌&&◌, List, drop, length, take, IfSome, MatchOption, Some};
+ghost use Rattle.std.specs.Prelude.{true, ◌≡◌, ◌≤◌, ◌&&◌, List, drop, length, take, IfSome, MatchOption, Some};
 ghost use Rattle.std.specs.List.{concat};
 ghost use Rattle.std.specs.Option.{option_copied};
 ghost use Rattle.std.specs.Str.{bytes_eq};
 ghost use Rattle.cpg_record.specs.declared.records.Record.{Record};
 ghost use Rattle.cpg_record.specs.Judging.{judged};
 ghost use Rattle.cpg_record.specs.Membership.{group_of, is_allowed, is_member};
-ghost use Rattle.cpg_record.specs.Nexts.{is_made_by};
+ghost use Rattle.cpg_record.specs.Nexts.{acts_in, is_made_by};
 ghost use Rattle.cpg_record.specs.Places.{record_at, records_before, IsNextOf};
 ghost use Rattle.cpg_judge.specs.Inboxes.{told_between, IsTold};
-ghost use Rattle.cpg_judge.specs.Texts.{hears_own, lines_at, lines_between, AreTexts, Makes, MakesNone};
+ghost use Rattle.cpg_judge.specs.Texts.{hears_own, lines_at, lines_between, told_lines, AreTexts, Makes, MakesNone};
 
 use crate::texts::{Text, Texts};
 use cpg_entry::{Call, Name, Op};
@@ -53,6 +53,17 @@ impl<'a> Told<'a> {
         let from = count_upto(self.places, after);
         let to = count_upto(self.places, last);
         self.text.range(from, to)
+    }
+
+    /// What a place of the group tells it.
+    fn at(&self, place: u32) -> &'a [u8]
+        ensures { (records : List Record) (past : Record) → IsTold records self.now → record_at records place ≡ Some past → acts_in self.now.group past ≡ true → result.now ≡ concat (told_lines records place) }
+    {
+        let count = count_upto(self.places, place);
+        if count == 0 {
+            return &[];
+        }
+        self.text.range(count - 1, count)
     }
 }
 
@@ -194,19 +205,18 @@ impl<'a> Inbox<'a> {
         past.verdict.is_allowed() && self.hears(place, group, &past.entry.op)
     }
 
-    /// What a place tells the group of that name, from what was looked up last where it is of that group.
+    /// What a place of the group of that name tells it, from what was looked up last where it is of that group.
     fn told_at(&self, last: &Option<Told<'a>>, group: &'a [u8], place: u32) -> &'a [u8]
-        requires last { IfSome last.now (IsTold (judged self.now.entries)) }
-        requires place { (1 ≤ place) × (place ≤ length (judged self.now.entries)) }
-        ensures { result.now ≡ told_between (judged self.now.entries) group.now (place - 1) place }
+        requires { IfSome last.now (IsTold (judged self.now.entries)) }
+        ensures { (past : Record) → record_at (judged self.now.entries) place ≡ Some past → acts_in group.now past ≡ true → result.now ≡ concat (told_lines (judged self.now.entries) place) }
     {
         match last {
-            None => self.look_up(group).between(place - 1, place),
+            None => self.look_up(group).at(place),
             Some(told) => {
                 if told.is_of(group) {
-                    told.between(place - 1, place)
+                    told.at(place)
                 } else {
-                    self.look_up(group).between(place - 1, place)
+                    self.look_up(group).at(place)
                 }
             }
         }

@@ -5,6 +5,8 @@
 ghost use Rattle.std.specs.Prelude.{true, ◌≡◌, ◌≤◌, ◌+◌, ◌-◌, ◌++◌, ℕ, List, [], Some, length, take, drop, if◌then◌else◌, IfOk, OnOk, IsOkUnless};
 ghost use Rattle.std.specs.List.{concat};
 ghost use Rattle.std.specs.Str.{bytes_eq};
+ghost use Rattle.cpg_record.specs.declared.moves.Cause.TheVariants as Cause;
+ghost use Rattle.cpg_record.specs.Connections.{member_of};
 ghost use Rattle.cpg_record.specs.Judging.{judged};
 ghost use Rattle.cpg_record.specs.Membership.{is_allowed};
 ghost use Rattle.cpg_record.specs.Places.{record_at};
@@ -13,14 +15,24 @@ ghost use Rattle.cpg_judge.specs.Texts.{is_move, kept_text, no_text, showing, to
 use cpg_cred::Refusal;
 use cpg_entry::{Call, Op};
 use cpg_group::Policy;
-use cpg_print::{put_event, put_members, put_message_line};
-use cpg_record::{Member, Record};
+use cpg_print::{put_change_line, put_event, put_members, put_message_line, put_rules_line};
+use cpg_record::{Cause, Member, Move, Record};
 use indexmap::IndexMap;
 use std::alloc::Global;
 use std::marker::Model;
 
-/// Puts the line that the allowed record of the place tells its group at the line's end. A message's is put
-/// from the record.
+/// The move of the member that the entry's connection becomes.
+fn join_of(past: &Record) -> Move
+    ensures { result ≡ record { member = member_of past.now.entry; cause = Cause.Join } }
+{
+    Move {
+        member: Member::of(&past.entry),
+        cause: Cause::Join,
+    }
+}
+
+/// Puts the line that the allowed record of the place tells its group at the line's end. But for an end of a
+/// membership, whose member is sought among the group's, it is put from the record.
 fn put_told(
     line: &mut Vec<u8>,
     policy: &Policy,
@@ -39,6 +51,13 @@ fn put_told(
         Op::Act(Call::Send(message)) => {
             let node = past.entry.node;
             put_message_line(line, place, group, node, past.entry.pid, message.as_slice())
+        }
+        Op::Act(Call::Join(_)) => {
+            let members = past.members.as_slice();
+            put_change_line(line, place, group, members, &[], &[join_of(past)])
+        }
+        Op::Act(Call::Insert(_, _, _)) | Op::Act(Call::Remove(_, _)) => {
+            put_rules_line(line, place, group)
         }
         _ => match policy.told_at(place)? {
             None => Ok(()),

@@ -174,7 +174,8 @@ fn with_member(
     ensures ok { IfOk result (λ list. arc_slice_items list ≡ members.now ++ member ∷ []) }
     ensures memory { IsOkUnless result Refusal.Memory }
 {
-    let mut list = Vec::from_slice(alloc, members)?;
+    let mut list = Vec::with_capacity(alloc, members.len() + 1)?;
+    list.extend_from_slice(members)?;
     list.push(member)?;
     Ok(ArcSlice::from_vec(list)?)
 }

@@ -8,6 +8,8 @@ ghost use Rattle.std.specs.List.{position};
 ghost use Rattle.std.specs.Iterator.{YieldsFirstRef, item_count};
 ghost use Rattle.cpg_text.specs.Lines.{is_line_feed, is_blank, is_edge, lines_of, lines_left, trimmed_front, trimmed_end, trimmed, is_ignored};
 
+use memchr::memchr;
+
 /// The lines of a text, first to last, without their line feeds.
 #[derive(Drop)]
 pub struct Lines<'a> {
@@ -49,10 +51,11 @@ fn first_line(text: &[u8]) -> (&[u8], Option<&[u8]>)
     }
 }
 
+#[tactic(auto, using(crate::proofs::Feeds::first_feed))]
 fn line_end(text: &[u8]) -> Option<usize>
     ensures { result ≡ position is_line_feed text.now }
 {
-    text.iter().position(|byte| *byte == b'\n')
+    memchr(b'\n', text)
 }
 
 /// The line without the space, tab and CR at both ends.
@@ -97,7 +100,15 @@ fn is_edge(byte: u8) -> bool
 pub fn is_blank(byte: u8) -> bool
     ensures { result ≡ is_blank byte }
 {
-    byte <= b' ' && (byte == b' ' || byte == b'\t')
+    byte <= b' ' && is_space_or_tab(byte)
+}
+
+/// It stands apart, so that most bytes are told by one test.
+#[inline(never)]
+fn is_space_or_tab(byte: u8) -> bool
+    ensures { result ≡ is_blank byte }
+{
+    byte == b' ' || byte == b'\t'
 }
 
 /// Whether a trimmed line says nothing: it is empty, or begins with `#`.

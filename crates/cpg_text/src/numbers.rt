@@ -3,7 +3,7 @@
 //! A number is ASCII digits alone, leading zeros allowed. Proved: `read_number` is the definition
 //! `number_in`, however long the word; `push_number` prints a number without leading zeros.
 
-ghost use Rattle.std.specs.Prelude.{◌≡◌, ◌<◌, ◌≤◌, ◌+◌, ◌%◌, ◌++◌, length, decimal, Some, OnOk, IsOkUnless};
+ghost use Rattle.std.specs.Prelude.{◌≡◌, ◌<◌, ◌≤◌, ◌++◌, length, decimal, Some, OnOk, IsOkUnless};
 ghost use Rattle.std.specs.Char.{is_ascii_digit};
 ghost use Rattle.std.specs.List.{list_all};
 ghost use Rattle.cpg_text.specs.Numbers.{is_number, number_in};
@@ -118,39 +118,9 @@ pub fn push_number(line: &mut Vec<u8>, number: u64) -> Result<(), Refusal>
     Ok(())
 }
 
-/// The same of two digits or more. It stands apart, so that what a number of one digit costs stays small.
+/// The same by a buffer. It stands apart, so that what a number of one digit costs stays small.
 #[inline(never)]
-#[tactic(auto, using(crate::proofs::Decimals::two_digits, crate::proofs::Decimals::three_digits, crate::proofs::Decimals::four_digits))]
 fn push_digits(line: &mut Vec<u8>, number: u64) -> Result<(), Refusal>
-    requires { 10 ≤ number }
-    ensures ok { OnOk result (line.new.items ≡ line.old.items ++ decimal number) }
-    ensures memory { IsOkUnless result Refusal.Memory }
-{
-    if number >= 10_000 {
-        return push_long(line, number);
-    }
-    let last = last_digit(number);
-    let tens = last_digit(number / 10);
-    let hundreds = last_digit(number / 100);
-    if number < 100 {
-        line.extend_from_slice(&[tens, last])?;
-    } else if number < 1000 {
-        line.extend_from_slice(&[hundreds, tens, last])?;
-    } else {
-        line.extend_from_slice(&[last_digit(number / 1000), hundreds, tens, last])?;
-    }
-    Ok(())
-}
-
-fn last_digit(number: u64) -> u8
-    ensures { result ≡ 48 + number % 10 }
-{
-    b'0' + (number % 10) as u8
-}
-
-/// The same by a buffer. It stands apart, so that what a number of fewer digits costs stays small.
-#[inline(never)]
-fn push_long(line: &mut Vec<u8>, number: u64) -> Result<(), Refusal>
     ensures ok { OnOk result (line.new.items ≡ line.old.items ++ decimal number) }
     ensures memory { IsOkUnless result Refusal.Memory }
 {

@@ -1,7 +1,7 @@
 use Rattle.std.proofs.Common.{true, false, Some, ap, sym, ◌∙◌}
 use Rattle.std.specs.List.{concat}
 use Rattle.cpg_record.specs.Judging.{judged}
-use Rattle.cpg_judge.proofs.Own.{told_alone, no_group, own_acts, own_line, own_there}
+use Rattle.cpg_judge.proofs.Own.{no_group, own_acts, own_line, own_there}
 use Rattle.cpg_judge.proofs.inboxes.Inbox.own_line.Goals as goal
 
 pub returns-in-None : goal.returns-in-None
@@ -15,8 +15,7 @@ returns-then-is_told c =
     let of = c.in-Some.is ∙ ap Some (sym c.as_slice-name.ensures) in
     let tells = sym c.is_told.ensures ∙ c.if-is_told.true in
     let acts = own_acts c.args.self.now.entries c.args.self.now.conn c.args.place c.record-past.result.now c.as_slice-name.result.now c.record-past.ensures made of tells in
-    c.told_at.ensures
-    ∙ told_alone (judged c.args.self.now.entries) c.args.place c.record-past.result.now c.as_slice-name.result.now c.record-past.ensures c.requires.place.0 acts
+    c.told_at.ensures c.record-past.result.now c.record-past.ensures acts
     ∙ ap concat (sym (own_line c.args.self.now.entries c.args.self.now.conn c.args.place c.record-past.result.now c.as_slice-name.result.now c.record-past.ensures made of true tells))
 
 pub returns-else-is_told : goal.returns-else-is_told
