@@ -2,7 +2,7 @@
 
 use crate::{
     Lines, Words, first_words, is_ignored, push_message, push_number, read_message, read_number,
-    read_whole, trim, write_whole,
+    read_whole, take_words, trim, write_whole,
 };
 use cpg_cred::Refusal;
 use std::io::{self, Error, ErrorKind, Read, Write};
@@ -150,6 +150,9 @@ fn takes_lines_and_words_apart(rt: HostRuntime) -> Result<(), Fail> {
     assert_eq!(rt; words.len(), 2);
     assert_eq!(rt; words[0], b"one".as_slice());
     assert_eq!(rt; words[1], b"two".as_slice());
+    let words = take_words::<2>(line);
+    assert_eq!(rt; words.as_slice().len(), 2);
+    assert_eq!(rt; words.as_slice()[1], b"two".as_slice());
     assert_eq!(rt; Words::of(line).count(), 3);
     assert_eq!(rt; Words::of(b" \t").count(), 0);
     let mut words = Words::of(b"\t one  two");
@@ -189,6 +192,13 @@ fn spells_messages(rt: HostRuntime) -> Result<(), Fail> {
         line.as_slice(),
         b"hello%20all-%2D-%25%FF4294967295".as_slice()
     );
+    let mut digits = Vec::new(rt.alloc());
+    for number in [7, 45, 678, 9_012, 34_567, 890_123] {
+        push_number(&mut digits, number)?;
+    }
+    assert_eq!(rt; digits.as_slice(), b"745678901234567890123".as_slice());
+    let read = read_message(rt.alloc(), b"hello")?.ok_or("a message")?;
+    assert_eq!(rt; read.as_slice(), b"hello".as_slice());
     let read = read_message(rt.alloc(), b"-%2d%fF~")?.ok_or("a message")?;
     assert_eq!(rt; read.as_slice(), b"--\xFF~".as_slice());
     assert!(rt; read_message(rt.alloc(), b"%2")?.is_none());
