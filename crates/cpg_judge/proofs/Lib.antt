@@ -5,6 +5,7 @@ pub mod Heard
 pub mod Keeping
 pub mod Lined
 pub mod Own
+pub mod Passing
 pub mod Places
 pub mod Reading
 pub mod Shown

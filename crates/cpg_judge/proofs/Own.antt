@@ -1,9 +1,9 @@
 -- What places tell the connection that made the entry: the verdict, and what they tell the group that it is in.
-use Rattle.std.proofs.Common.{◌≡◌, ℕ, ◌+◌, ◌-◌, ◌≤◌, Bool, true, false, ◌&&◌, ◌||◌, cond, List, [], ◌∷◌, ◌++◌, length, map, take, drop, Option, Some, None, refl, sym, ap, ◌∙◌, append-nil, arith}
+use Rattle.std.proofs.Common.{◌≡◌, ℕ, ◌+◌, ◌-◌, ◌<◌, ◌≤◌, Bool, true, false, ◌&&◌, ◌||◌, cond, List, [], ◌∷◌, ◌++◌, length, map, take, drop, Option, Some, None, refl, sym, ap, ◌∙◌, append-nil, arith}
 use Rattle.std.specs.Prelude.{is_some, option_to_list}
 use Rattle.std.specs.List.{concat, flat_map}
 use Rattle.std.specs.Str.{bytes_eq}
-use Rattle.std.proofs.lemmas.List.{length-append}
+use Rattle.std.proofs.lemmas.List.{length-append, take_all}
 use Rattle.std.proofs.lemmas.Slice.Eq.{bytes_eq-Decides}
 use Rattle.cpg_cred.specs.declared.bases.By.{By}
 use Rattle.cpg_entry.specs.declared.calls.Call.TheVariants.{Join, Leave, Send, Insert, Remove}
@@ -33,6 +33,7 @@ use Rattle.cpg_record.proofs.Told.{group_is, record_is}
 use Rattle.cpg_group.specs.Telling.{told, told_by, told_from, told_in}
 use Rattle.cpg_print.specs.Events.{event_line}
 use Rattle.cpg_judge.proofs.Gathered.{one_between, places_between}
+use Rattle.cpg_judge.proofs.Passing.{counts_grow}
 use Rattle.cpg_judge.proofs.Telling.{places_parted, told_cut}
 use Rattle.cpg_judge.specs.Texts.{hears_own, lines_at, told_lines, texts_upto, Holds, Makes, TextValue}
 
@@ -173,14 +174,22 @@ module _ (rs : List Record) (place : ℕ) (r : Record) (g : List ℕ) (is : reco
       ap length (places_parted (acts_in g) rs (place - 1) place (omega arith) (omega (arith, within)) ∙ ap (λ ps. places_of (acts_in g) (take (place - 1) rs) ++ ps) between)
       ∙ length-append (places_of (acts_in g) (take (place - 1) rs)) (place ∷ [])
 
-  pub counted : (count : ℕ) → count ≡ length (places_of (acts_in g) (take place rs)) → 1 ≤ count
-  counted count is_count = omega (arith, is_count, one_more)
+  -- so one place of the group at least comes after those before it
+  pub place_left : length (places_of (acts_in g) (take (place - 1) rs)) < length (places_of (acts_in g) rs)
+  place_left =
+      omega (
+        arith,
+        one_more,
+        counts_grow (acts_in g) rs place (length rs) within (omega arith),
+        ap (λ (past : List Record). length (places_of (acts_in g) past)) (take_all (length rs) rs (omega arith)),
+      )
 
-  pub line_of_place : (value : TextValue) (text : List ℕ) (count : ℕ) → count ≡ length (places_of (acts_in g) (take place rs)) →
+  -- and the text after those before it is that of the place
+  pub line_after : (value : TextValue) (text : List ℕ) (passed : ℕ) → passed ≡ length (places_of (acts_in g) (take (place - 1) rs)) →
       Holds value (texts_upto rs g (length rs)) →
-      ((texts : List (List ℕ)) → Holds value texts → count - 1 ≤ count → count ≤ length texts → text ≡ concat (drop (count - 1) (take count texts))) →
+      ((texts : List (List ℕ)) → Holds value texts → passed ≤ passed + 1 → passed + 1 ≤ length texts → text ≡ concat (drop passed (take (passed + 1) texts))) →
       text ≡ concat (told_lines rs place)
-  line_of_place value text count is_count holds cut =
-      told_cut rs g (place - 1) place value text (count - 1) count (omega arith) within (omega (arith, is_count, one_more)) is_count holds cut
+  line_after value text passed is_passed holds cut =
+      told_cut rs g (place - 1) place value text passed (passed + 1) (omega arith) within is_passed (omega (arith, is_passed, one_more)) holds cut
       ∙ ap (λ ps. concat (flat_map (told_lines rs) ps)) between
       ∙ ap concat (append-nil (told_lines rs place))

@@ -1,5 +1,5 @@
 -- what an inbox is made of: the entries and the connection, and what the groups tell
-use Rattle.std.specs.Prelude.{ℕ, ◌≡◌, ◌-◌, suc, List, length, take, drop}
+use Rattle.std.specs.Prelude.{ℕ, ◌≡◌, ◌≤◌, ◌-◌, suc, List, length, take, drop}
 use Rattle.std.specs.List.{concat, flat_map}
 use Rattle.cpg_entry.specs.declared.entries.Entry.{Entry}
 use Rattle.cpg_record.specs.declared.connections.ConnId.{ConnId}
@@ -13,15 +13,28 @@ pub record InboxValue : Type 0 where
   pub entries : List Entry
   pub conn : ConnId
 
--- a group's name, the places of its allowed entries, and their texts
+-- a group's name, the places of its allowed entries, their texts, and how many of them were passed
 pub record ToldValue : Type 0 where
   pub group : List ℕ
   pub places : List ℕ
   pub text : TextValue
+  pub passed : ℕ
 
 -- these are the group's places and texts
 abbrev pub IsTold : List Record → ToldValue → Type 0
 IsTold records told = (told.places ≡ places_of (acts_in told.group) records) × Holds told.text (texts_upto records told.group (length records))
+
+-- how many of the group's places come up to the last one
+abbrev pub count_at : List Record → List ℕ → ℕ → ℕ
+count_at records g last = length (places_of (acts_in g) (take last records))
+
+-- the same, and those up to that place were passed
+abbrev pub IsPast : List Record → ℕ → ToldValue → Type 0
+IsPast records last told = IsTold records told × (told.passed ≡ count_at records told.group last)
+
+-- those up to some place that is no later were passed
+abbrev pub IsWithin : List Record → ℕ → ToldValue → Type 0
+IsWithin records bound told = (last : ℕ) × (last ≤ bound) × IsPast records last told
 
 -- what the places of a group above one tell it, up to another
 abbrev pub told_between : List Record → List ℕ → ℕ → ℕ → List ℕ

@@ -3,16 +3,16 @@
 //!
 //! Proved: the bytes that are found for places are the lines that these places tell the connection.
 
-ghost use Rattle.std.specs.Prelude.{true, ◌≡◌, ◌≤◌, ◌&&◌, List, drop, length, take, IfSome, MatchOption, Some};
-ghost use Rattle.std.specs.List.{concat};
+ghost use Rattle.std.specs.Prelude.{true, false, ◌≡◌, ◌≤◌, ◌-◌, ◌&&◌, ℕ, Bool, List, drop, length, nat_le, take, IfSome, MatchOption, Some};
+ghost use Rattle.std.specs.List.{concat, slice_get};
 ghost use Rattle.std.specs.Option.{option_copied};
 ghost use Rattle.std.specs.Str.{bytes_eq};
 ghost use Rattle.cpg_record.specs.declared.records.Record.{Record};
 ghost use Rattle.cpg_record.specs.Judging.{judged};
 ghost use Rattle.cpg_record.specs.Membership.{group_of, is_allowed, is_member};
 ghost use Rattle.cpg_record.specs.Nexts.{acts_in, is_made_by};
-ghost use Rattle.cpg_record.specs.Places.{record_at, records_before, IsNextOf};
-ghost use Rattle.cpg_judge.specs.Inboxes.{told_between, IsTold};
+ghost use Rattle.cpg_record.specs.Places.{places_of, record_at, records_before, IsNextOf};
+ghost use Rattle.cpg_judge.specs.Inboxes.{count_at, told_between, IsPast, IsWithin};
 ghost use Rattle.cpg_judge.specs.Texts.{hears_own, lines_at, lines_between, told_lines, AreTexts, Makes, MakesNone};
 
 use crate::texts::{Text, Texts};
@@ -21,13 +21,40 @@ use cpg_group::{Policy, Trail, count_upto};
 use cpg_record::{ConnId, Record};
 use std::marker::Model;
 
-/// What a group tells: the places of its allowed entries, and the lines of these places. Contracts see it as
-/// these two and the group's name.
+/// Whether a place up to the last one stands there among the places.
+fn is_upto(places: &[u32], index: usize, last: u32) -> bool
+    ensures { MatchOption (slice_get places.now index) (result ≡ false) (λ place. result ≡ nat_le place last) }
+{
+    match places.get(index) {
+        None => false,
+        Some(place) => *place <= last,
+    }
+}
+
+/// How many of a group's places come up to the last one, where so many come up to one before it. Most often
+/// that is none or one more; else they are searched by halving.
+fn count_on(places: &[u32], passed: usize, last: u32) -> usize
+    ensures { (test : Record → Bool) (records : List Record) (after : ℕ) → places.now ≡ places_of test records → passed ≡ length (places_of test (take after records)) → after ≤ last → last ≤ length records → result ≡ length (places_of test (take last records)) }
+{
+    if !is_upto(places, passed, last) {
+        return passed;
+    }
+    let next = passed + 1;
+    if is_upto(places, next, last) {
+        count_upto(places, last)
+    } else {
+        next
+    }
+}
+
+/// What a group tells: the places of its allowed entries, the lines of these places, and how many of them an
+/// inbox has passed. Contracts see it as these three and the group's name.
 #[derive(Drop)]
 pub(crate) struct Told<'a> {
     group: &'a [u8],
     places: &'a [u32],
     text: &'a Text,
+    passed: usize,
 }
 
 impl<'a> Model for Told<'a> {
@@ -35,7 +62,7 @@ impl<'a> Model for Told<'a> {
 
     ghost Value = { ToldValue };
 
-    ghost view = { λ told. record { group = told.group.now; places = told.places.now; text = told.text.now } };
+    ghost view = { λ told. record { group = told.group.now; places = told.places.now; text = told.text.now; passed = told.passed } };
 }
 
 impl<'a> Told<'a> {
@@ -46,24 +73,41 @@ impl<'a> Told<'a> {
         self.group == group
     }
 
-    /// What the group's places above `after` tell it, up to the last one, as one text.
-    fn between(&self, after: u32, last: u32) -> &'a [u8]
-        ensures { (records : List Record) → IsTold records self.now → after ≤ last → last ≤ length records → result.now ≡ told_between records self.now.group after last }
+    /// How many of the places were passed.
+    fn passed(&self) -> usize
+        ensures { result ≡ self.now.passed }
     {
-        let from = count_upto(self.places, after);
-        let to = count_upto(self.places, last);
-        self.text.range(from, to)
+        self.passed
     }
 
-    /// What a place of the group tells it.
-    fn at(&self, place: u32) -> &'a [u8]
-        ensures { (records : List Record) (past : Record) → IsTold records self.now → record_at records place ≡ Some past → acts_in self.now.group past ≡ true → result.now ≡ concat (told_lines records place) }
+    /// The same, with the places up to the last one passed.
+    fn brought_to(self, last: u32) -> Told<'a>
+        ensures { (records : List Record) (after : ℕ) → IsPast records after self.entry → after ≤ last → last ≤ length records → (result.group ≡ self.entry.group) × IsPast records last result }
     {
-        let count = count_upto(self.places, place);
-        if count == 0 {
-            return &[];
+        Told {
+            group: self.group,
+            places: self.places,
+            text: self.text,
+            passed: count_on(self.places, self.passed, last),
         }
-        self.text.range(count - 1, count)
+    }
+
+    /// What the places tell the group, from those that an earlier one had passed on, as one text.
+    fn since(&self, passed: usize) -> &'a [u8]
+        ensures { (records : List Record) (after last : ℕ) → IsPast records last self.now → passed ≡ count_at records self.now.group after → after ≤ last → last ≤ length records → result.now ≡ told_between records self.now.group after last }
+    {
+        self.text.range(passed, self.passed)
+    }
+
+    /// What the next place tells the group.
+    fn next(&self) -> &'a [u8]
+        ensures { (records : List Record) (place : ℕ) (past : Record) → IsPast records (place - 1) self.now → record_at records place ≡ Some past → acts_in self.now.group past ≡ true → result.now ≡ concat (told_lines records place) }
+    {
+        if self.passed < self.places.len() {
+            self.text.range(self.passed, self.passed + 1)
+        } else {
+            &[]
+        }
     }
 }
 
@@ -130,45 +174,49 @@ impl<'a> Inbox<'a> {
         self.trail.group_after(last)
     }
 
-    /// What the group of that name tells.
-    fn look_up(&self, group: &'a [u8]) -> Told<'a>
+    /// What the group of that name tells, with the places up to that one passed.
+    fn look_up(&self, group: &'a [u8], after: u32) -> Told<'a>
         ensures name { result.group ≡ group.now }
-        ensures told { IsTold (judged self.now.entries) result }
+        ensures past { IsPast (judged self.now.entries) after result }
     {
+        let places = self.policy.places_in(group);
         Told {
             group,
-            places: self.policy.places_in(group),
+            places,
             text: self.texts.of(group),
+            passed: count_upto(places, after),
         }
     }
 
-    /// What the group of that name tells: what was looked up last, where it is of that group.
-    fn told_of(&self, last: Option<Told<'a>>, group: &'a [u8]) -> Told<'a>
-        requires { IfSome last (IsTold (judged self.now.entries)) }
+    /// The same, from what was looked up last where it is of that group.
+    fn told_of(&self, last: Option<Told<'a>>, group: &'a [u8], after: u32) -> Told<'a>
+        requires last { IfSome last (IsWithin (judged self.now.entries) after) }
+        requires place { after ≤ length (judged self.now.entries) }
         ensures name { result.group ≡ group.now }
-        ensures told { IsTold (judged self.now.entries) result }
+        ensures past { IsPast (judged self.now.entries) after result }
     {
         match last {
-            None => self.look_up(group),
+            None => self.look_up(group, after),
             Some(told) => {
                 if told.is_of(group) {
-                    told
+                    told.brought_to(after)
                 } else {
-                    self.look_up(group)
+                    self.look_up(group, after)
                 }
             }
         }
     }
 
-    /// What the group tells that the connection is in after the place, if it is in one: what was looked up last,
-    /// where it is of that group.
+    /// What the group tells that the connection is in after the place, if it is in one, with the places up to
+    /// there passed: what was looked up last, where it is of that group.
     pub(crate) fn told_after(&self, last: Option<Told<'a>>, after: u32) -> Option<Told<'a>>
-        requires { IfSome last (IsTold (judged self.now.entries)) }
-        ensures { MatchOption result (group_of (take after (judged self.now.entries)) self.now.conn ≡ None) (λ told. (group_of (take after (judged self.now.entries)) self.now.conn ≡ Some told.group) × IsTold (judged self.now.entries) told) }
+        requires last { IfSome last (IsWithin (judged self.now.entries) after) }
+        requires place { after ≤ length (judged self.now.entries) }
+        ensures { MatchOption result (group_of (take after (judged self.now.entries)) self.now.conn ≡ None) (λ told. (group_of (take after (judged self.now.entries)) self.now.conn ≡ Some told.group) × IsPast (judged self.now.entries) after told) }
     {
         match self.group_after(after) {
             None => None,
-            Some(group) => Some(self.told_of(last, group.as_slice())),
+            Some(group) => Some(self.told_of(last, group.as_slice(), after)),
         }
     }
 
@@ -207,16 +255,17 @@ impl<'a> Inbox<'a> {
 
     /// What a place of the group of that name tells it, from what was looked up last where it is of that group.
     fn told_at(&self, last: &Option<Told<'a>>, group: &'a [u8], place: u32) -> &'a [u8]
-        requires { IfSome last.now (IsTold (judged self.now.entries)) }
+        requires last { IfSome last.now (IsPast (judged self.now.entries) (place - 1)) }
+        requires place { 1 ≤ place }
         ensures { (past : Record) → record_at (judged self.now.entries) place ≡ Some past → acts_in group.now past ≡ true → result.now ≡ concat (told_lines (judged self.now.entries) place) }
     {
         match last {
-            None => self.look_up(group).at(place),
+            None => self.look_up(group, place - 1).next(),
             Some(told) => {
                 if told.is_of(group) {
-                    told.at(place)
+                    told.next()
                 } else {
-                    self.look_up(group).at(place)
+                    self.look_up(group, place - 1).next()
                 }
             }
         }
@@ -225,7 +274,7 @@ impl<'a> Inbox<'a> {
     /// What the place tells the connection that made its entry beside the verdict: the line that it tells its
     /// group, where the connection hears it.
     pub(crate) fn own_line(&self, last: &Option<Told<'a>>, place: u32) -> &'a [u8]
-        requires last { IfSome last.now (IsTold (judged self.now.entries)) }
+        requires last { IfSome last.now (IsPast (judged self.now.entries) (place - 1)) }
         requires own { Makes (judged self.now.entries) self.now.conn place }
         requires place { (1 ≤ place) × (place ≤ length (judged self.now.entries)) }
         ensures { result.now ≡ concat (drop 1 (lines_at (judged self.now.entries) self.now.conn place)) }
@@ -245,13 +294,18 @@ impl<'a> Inbox<'a> {
     }
 }
 
-/// The lines of the places above `after` up to the last one, at which the connection made no entry, as one
-/// text: they are lines that its group was told one after the other.
-pub(crate) fn lines_of_group<'a>(told: &Option<Told<'a>>, after: u32, last: u32) -> &'a [u8]
-    ensures { (records : List Record) (conn : ConnId) → MatchOption told.now (group_of (take after records) conn ≡ None) (λ told. (group_of (take after records) conn ≡ Some told.group) × IsTold records told) → after ≤ last → last ≤ length records → MakesNone records conn after last → result.now ≡ concat (lines_between records conn after last) }
+/// The lines of the places above those that were passed up to the last one, at which the connection made no
+/// entry, as one text: they are lines that its group was told one after the other. These places are passed then.
+pub(crate) fn pass<'a>(told: Option<Told<'a>>, last: u32) -> (&'a [u8], Option<Told<'a>>)
+    ensures text { (records : List Record) (conn : ConnId) (after : ℕ) → MatchOption told.entry (group_of (take after records) conn ≡ None) (λ told. (group_of (take after records) conn ≡ Some told.group) × IsPast records after told) → after ≤ last → last ≤ length records → MakesNone records conn after last → result.0.now ≡ concat (lines_between records conn after last) }
+    ensures told { (records : List Record) (after : ℕ) → IfSome told.entry (IsPast records after) → after ≤ last → last ≤ length records → IfSome result.1 (IsPast records last) }
 {
     match told {
-        None => &[],
-        Some(told) => told.between(after, last),
+        None => (&[], None),
+        Some(told) => {
+            let passed = told.passed();
+            let told = told.brought_to(last);
+            (told.since(passed), Some(told))
+        }
     }
 }

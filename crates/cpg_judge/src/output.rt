@@ -13,11 +13,11 @@ ghost use Rattle.cpg_record.specs.Places.{IsNextOf};
 ghost use Rattle.cpg_script.specs.Written.{LeavesLines};
 ghost use Rattle.cpg_print.specs.Events.{event_line, inbox_line};
 ghost use Rattle.cpg_print.specs.Records.{count_line};
-ghost use Rattle.cpg_judge.specs.Inboxes.{IsTold};
+ghost use Rattle.cpg_judge.specs.Inboxes.{IsPast};
 ghost use Rattle.cpg_judge.specs.Judging.{inbox_lines};
 ghost use Rattle.cpg_judge.specs.Texts.{lines_at, lines_between, AreTexts, Makes, MakesNone};
 
-use crate::inboxes::{Inbox, Told, lines_of_group};
+use crate::inboxes::{Inbox, Told, pass};
 use crate::texts::Texts;
 use cpg_cred::Refusal;
 use cpg_group::Policy;
@@ -59,24 +59,6 @@ fn write_text<W: Write>(writer: &mut W, text: &[u8]) -> Result<(), Refusal>
     }
 }
 
-/// Writes what the places above `after` up to the last one, at which the connection made no entry, tell it: what
-/// the group tells that it is in after the first of them.
-fn write_stretch<W: Write>(
-    writer: &mut W,
-    inbox: &Inbox<'_>,
-    told: &Option<Told<'_>>,
-    after: u32,
-    last: u32,
-) -> Result<(), Refusal>
-    requires told { MatchOption told.now (group_of (take after (judged inbox.now.entries)) inbox.now.conn ≡ None) (λ told. (group_of (take after (judged inbox.now.entries)) inbox.now.conn ≡ Some told.group) × IsTold (judged inbox.now.entries) told) }
-    requires places { (after ≤ last) × (last ≤ length (judged inbox.now.entries)) }
-    requires others { MakesNone (judged inbox.now.entries) inbox.now.conn after last }
-    ensures ok { OnOk result (Appends (W.contents writer.old) (W.contents writer.new) (concat (lines_between (judged inbox.now.entries) inbox.now.conn after last))) }
-    ensures err { IfErr result (λ refusal. LeavesLines (lines_between (judged inbox.now.entries) inbox.now.conn after last) refusal (W.contents writer.old) (W.contents writer.new)) }
-{
-    write_text(writer, lines_of_group(told, after, last))
-}
-
 /// Puts what a place tells the connection that made its entry at the line's end: the verdict, and what it tells
 /// its group.
 fn put_own(
@@ -85,7 +67,7 @@ fn put_own(
     told: &Option<Told<'_>>,
     place: u32,
 ) -> Result<(), Refusal>
-    requires told { IfSome told.now (IsTold (judged inbox.now.entries)) }
+    requires told { IfSome told.now (IsPast (judged inbox.now.entries) (place - 1)) }
     requires own { Makes (judged inbox.now.entries) inbox.now.conn place }
     requires place { (1 ≤ place) × (place ≤ length (judged inbox.now.entries)) }
     ensures ok { OnOk result (line.new.items ≡ line.old.items ++ concat (lines_at (judged inbox.now.entries) inbox.now.conn place)) }
@@ -105,7 +87,7 @@ fn write_own<W: Write>(
     told: &Option<Told<'_>>,
     place: u32,
 ) -> Result<(), Refusal>
-    requires told { IfSome told.now (IsTold (judged inbox.now.entries)) }
+    requires told { IfSome told.now (IsPast (judged inbox.now.entries) (place - 1)) }
     requires own { Makes (judged inbox.now.entries) inbox.now.conn place }
     requires place { (1 ≤ place) × (place ≤ length (judged inbox.now.entries)) }
     ensures ok { OnOk result (Appends (W.contents writer.old) (W.contents writer.new) (concat (lines_at (judged inbox.now.entries) inbox.now.conn place))) }
@@ -116,22 +98,24 @@ fn write_own<W: Write>(
     write_text(writer, line.as_slice())
 }
 
-/// Writes what the places above `after` tell the connection, up to the next at which it made the entry, from
-/// what the group tells that it is in up to there.
+/// Writes what the places above `after` tell the connection, up to the next at which it made the entry: the text
+/// of those between, and its own place.
 fn write_upto<W: Write>(
     writer: &mut W,
     line: &mut Vec<u8>,
     inbox: &Inbox<'_>,
+    text: &[u8],
     told: &Option<Told<'_>>,
     after: u32,
     place: u32,
 ) -> Result<(), Refusal>
-    requires told { MatchOption told.now (group_of (take after (judged inbox.now.entries)) inbox.now.conn ≡ None) (λ told. (group_of (take after (judged inbox.now.entries)) inbox.now.conn ≡ Some told.group) × IsTold (judged inbox.now.entries) told) }
+    requires text { text.now ≡ concat (lines_between (judged inbox.now.entries) inbox.now.conn after (place - 1)) }
+    requires told { IfSome told.now (IsPast (judged inbox.now.entries) (place - 1)) }
     requires next { IsNextOf (is_made_by inbox.now.conn) (judged inbox.now.entries) after (Some place) }
     ensures ok { OnOk result (Appends (W.contents writer.old) (W.contents writer.new) (concat (lines_between (judged inbox.now.entries) inbox.now.conn after place))) }
     ensures err { IfErr result (λ refusal. LeavesLines (lines_between (judged inbox.now.entries) inbox.now.conn after place) refusal (W.contents writer.old) (W.contents writer.new)) }
 {
-    write_stretch(writer, inbox, told, after, place - 1)?;
+    write_text(writer, text)?;
     write_own(writer, line, inbox, told, place)
 }
 
@@ -147,16 +131,16 @@ fn write_places<W: Write>(
     let mut after = 0;
     let mut last = None;
     while let Some(place) = inbox.next_own(after) {
-        let told = inbox.told_after(last, after);
-        match write_upto(writer, line, inbox, &told, after, place) {
+        let (text, told) = pass(inbox.told_after(last, after), place - 1);
+        match write_upto(writer, line, inbox, text, &told, after, place) {
             Ok(()) => {}
             Err(refusal) => return Err(refusal),
         }
         last = told;
         after = place;
     }
-    let told = inbox.told_after(last, after);
-    write_stretch(writer, inbox, &told, after, inbox.last())
+    let (text, _) = pass(inbox.told_after(last, after), inbox.last());
+    write_text(writer, text)
 }
 
 /// Writes the inbox of a connection: a line that names it, and its events by place.
