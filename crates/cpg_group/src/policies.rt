@@ -78,6 +78,7 @@ impl Policy {
 
     /// The record that the entry would have as the next one, with the entry moved into it. A refusal gives
     /// the entry back.
+    #[inline(always)]
     pub fn judge_owned(&self, entry: Entry) -> Result<Record, Refused<Entry>>
         requires { length self.now < most_places }
         ensures ok { IfOk result (λ next. next ≡ record_of (judged self.now) entry) }
@@ -94,6 +95,7 @@ impl Policy {
 
     /// Puts the entry of a record last, where the record is its judgement here (what `judge` gives). A
     /// refusal changes nothing and gives the record back.
+    #[inline(always)]
     pub fn apply(&mut self, next: Record) -> Result<(), Refused<Record>>
         requires { IsNext self.old next }
         ensures ok { OnOk result (self.new ≡ self.old ++ next.entry ∷ []) }

@@ -75,6 +75,7 @@ fn is_gone(words: &[&[u8]]) -> bool
 }
 
 /// The call that the words of CALL say; names and messages of any length.
+#[inline(always)]
 pub fn read_call(alloc: Global, words: &[&[u8]]) -> Result<Option<Call>, Refusal>
     ensures ok { IfOk result (λ found. found ≡ call_of (texts words.now)) }
     ensures memory { IsOkUnless result Refusal.Memory }
