@@ -1,20 +1,24 @@
 -- What the trails of connections tell, and what one record more does to them.
-use Rattle.std.proofs.Common.{◌≡◌, ℕ, zero, suc, ◌+◌, ◌-◌, ◌≤◌, leb, Bool, true, false, ◌&&◌, cond, List, [], ◌∷◌, ◌++◌, length, take, get_or, All, Option, Some, None, refl, sym, ap, subst, ◌∙◌, arith}
+use Rattle.std.proofs.Common.{◌≡◌, ℕ, zero, suc, ◌+◌, ◌-◌, ◌≤◌, leb, Bool, true, false, ◌&&◌, cond, List, [], ◌∷◌, ◌++◌, length, map, take, get_or, All, Option, Some, None, refl, sym, ap, subst, ◌∙◌, arith}
 use Rattle.std.specs.Prelude.{◌↔◌, is_some, option_map}
-use Rattle.std.specs.List.{slice_get}
+use Rattle.std.specs.List.{fold, slice_get}
 use Rattle.std.specs.List.Sorted.{IsPartitionPoint}
-use Rattle.std.specs.Map.{lookup, set_value}
+use Rattle.std.specs.Map.{keys_of, lookup, set_value}
 use Rattle.std.specs.declared.vec.Vec.{Vec}
 use Rattle.std.proofs.lemmas.Bool.{le-leb}
 use Rattle.std.proofs.lemmas.List.{append-nil, map-append, take-append-le, take_all}
 use Rattle.std.proofs.lemmas.List.Elements.{All-append, All-cons}
+use Rattle.std.proofs.lemmas.List.Sums.{fold_push}
+use Rattle.std.proofs.lemmas.Map.{keys-set_value}
+use Rattle.std.proofs.lemmas.Map.Made.{is_some-lookup}
 use Rattle.std.proofs.lemmas.Option.{slice_get-map, slice_get-get_or, slice_get_within, get_or_from_slice_get, none-some}
 use Rattle.cpg_entry.specs.declared.calls.Call.TheVariants.{Join, Leave, Send, Insert, Remove}
 use Rattle.cpg_entry.specs.declared.calls.Op.{Op}
 use Rattle.cpg_entry.specs.declared.calls.Op.TheVariants.{Act, Gone}
 use Rattle.cpg_record.specs.declared.connections.ConnId.{ConnId}
 use Rattle.cpg_record.specs.declared.records.Record.{Record}
-use Rattle.cpg_record.specs.Connections.{conn_of, is_conn}
+use Rattle.cpg_record.specs.Connections.{conn_of, conns_of, is_conn, with_conn}
+use Rattle.cpg_record.specs.Judging.{entries_of}
 use Rattle.cpg_record.specs.Membership.{group_of, is_allowed}
 use Rattle.cpg_record.specs.Nexts.{is_made_by}
 use Rattle.cpg_record.specs.Places.{places_of, record_at}
@@ -193,15 +197,25 @@ trail_elsewhere rs r conn trail is are = (
   all_kept rs r conn trail are,
 )
 
+-- the connections of one record more
+conns_past : (rs : List Record) (r : Record) → conns_of (entries_of (rs ++ r ∷ [])) ≡ with_conn (conns_of (entries_of rs)) (conn_of r.entry)
+conns_past rs r =
+    ap conns_of (map-append (λ (q : Record). q.entry) rs (r ∷ []))
+    ∙ ap (fold with_conn []) (map-append conn_of (entries_of rs) (r.entry ∷ []))
+    ∙ fold_push with_conn [] (map conn_of (entries_of rs)) (conn_of r.entry)
+
 -- the trails where the maker's alone was set
 pub AreTrails-past : {Y Z : Type 0} (old : KeptTrails Y) (new : KeptTrails Z) (rs : List Record) (r : Record) (trail : List Stop) → AreTrails old rs → IsTrail (rs ++ r ∷ []) (conn_of r.entry) trail →
+    keys_of new ≡ with_conn (keys_of old) (conn_of r.entry) →
     ((c : ConnId) → kept_trail new c ≡ cond (is_conn c (conn_of r.entry)) trail (kept_trail old c)) → AreTrails new (rs ++ r ∷ [])
-AreTrails-past old new rs r trail are own set conn =
-    subst (IsTrail (rs ++ r ∷ []) conn) (sym (set conn)) (by_case (is_conn conn (conn_of r.entry)) refl)
+AreTrails-past old new rs r trail are own keys set = (
+  keys ∙ ap (λ (conns : List ConnId). with_conn conns (conn_of r.entry)) are.0 ∙ sym (conns_past rs r),
+  (λ conn. subst (IsTrail (rs ++ r ∷ []) conn) (sym (set conn)) (by_case conn (is_conn conn (conn_of r.entry)) refl)),
+)
   where
-    by_case : (b : Bool) → is_conn conn (conn_of r.entry) ≡ b → IsTrail (rs ++ r ∷ []) conn (cond b trail (kept_trail old conn))
-    by_case false is = trail_elsewhere rs r conn (kept_trail old conn) is (are conn)
-    by_case true is = subst (λ (c : ConnId). IsTrail (rs ++ r ∷ []) c trail) (sym (is_conn-true conn (conn_of r.entry) is)) own
+    by_case : (conn : ConnId) (b : Bool) → is_conn conn (conn_of r.entry) ≡ b → IsTrail (rs ++ r ∷ []) conn (cond b trail (kept_trail old conn))
+    by_case conn false is = trail_elsewhere rs r conn (kept_trail old conn) is (are.1 conn)
+    by_case conn true is = subst (λ (c : ConnId). IsTrail (rs ++ r ∷ []) c trail) (sym (is_conn-true conn (conn_of r.entry) is)) own
 
 -- ---- trails by connections
 
@@ -220,6 +234,20 @@ flipped a b = by_case (is_conn a b) (is_conn b a) refl refl
     by_case false true p q =
         let t : is_conn a b ≡ true = (is_conn-Decides a b).1 (sym ((is_conn-Decides b a).0 q)) in
         absurd (cc)
+
+-- the connections stay where a trail is set
+pub conns_set : {Z : Type 0} (kept : KeptTrails Z) (conn : ConnId) (w : Vec Stop Z) → is_some (lookup (is_conn conn) kept) ≡ true →
+    keys_of (set_value (is_conn conn) kept w) ≡ with_conn (keys_of kept) conn
+conns_set kept conn w there =
+    keys-set_value (is_conn conn) kept w
+    ∙ ap (λ (b : Bool). cond b (keys_of kept) (keys_of kept ++ conn ∷ [])) (sym there ∙ is_some-lookup (is_conn conn) kept)
+
+-- and that of a trail that is added comes last
+pub conns_added : {Z : Type 0} (kept : KeptTrails Z) (conn : ConnId) (w : Vec Stop Z) → lookup (is_conn conn) kept ≡ None →
+    keys_of (kept ++ (conn, w) ∷ []) ≡ with_conn (keys_of kept) conn
+conns_added kept conn w none =
+    map-append (λ entry. entry.0) kept ((conn, w) ∷ [])
+    ∙ ap (λ (b : Bool). cond b (keys_of kept) (keys_of kept ++ conn ∷ [])) (sym (ap is_some none) ∙ is_some-lookup (is_conn conn) kept)
 
 -- and every other stays
 pub trail_set : {Z : Type 0} (kept : KeptTrails Z) (conn q : ConnId) (w : Vec Stop Z) → is_some (lookup (is_conn conn) kept) ≡ true →

@@ -1,13 +1,14 @@
 -- the trails of connections, as they are kept beside the records: each one's own places, with its groups
 use Rattle.std.specs.Prelude.{ℕ, ◌≡◌, ◌≤◌, List, [], map, take, All, Option, Some, None, if◌then◌else◌}
-use Rattle.std.specs.Map.{lookup}
+use Rattle.std.specs.Map.{keys_of, lookup}
 use Rattle.std.specs.declared.vec.Vec.{Vec}
 use Rattle.cpg_entry.specs.declared.calls.Call.TheVariants.{Join, Leave}
 use Rattle.cpg_entry.specs.declared.calls.Op.{Op}
 use Rattle.cpg_entry.specs.declared.calls.Op.TheVariants.{Act, Gone}
 use Rattle.cpg_record.specs.declared.connections.ConnId.{ConnId}
 use Rattle.cpg_record.specs.declared.records.Record.{Record}
-use Rattle.cpg_record.specs.Connections.{is_conn}
+use Rattle.cpg_record.specs.Connections.{conns_of, is_conn}
+use Rattle.cpg_record.specs.Judging.{entries_of}
 use Rattle.cpg_record.specs.Membership.{group_of, is_allowed}
 use Rattle.cpg_record.specs.Nexts.{is_made_by}
 use Rattle.cpg_record.specs.Places.{places_of, record_at}
@@ -67,6 +68,7 @@ or_no_trail (Some trail) = trail.items
 abbrev pub kept_trail : {Z : Type 0} → KeptTrails Z → ConnId → List Stop
 kept_trail kept conn = or_no_trail (lookup (is_conn conn) kept)
 
--- the kept trails are those that the records make
+-- the kept trails are those that the records make, of the connections of their entries in turn
 abbrev pub AreTrails : {Z : Type 0} → KeptTrails Z → List Record → Type 0
-AreTrails kept records = (conn : ConnId) → IsTrail records conn (kept_trail kept conn)
+AreTrails kept records =
+    (keys_of kept ≡ conns_of (entries_of records)) × ((conn : ConnId) → IsTrail records conn (kept_trail kept conn))

@@ -1,6 +1,7 @@
 //! The judged entries, and what they come to.
 
 ghost use Rattle.std.specs.Prelude.{◌≡◌, ◌≢◌, ◌<◌, ◌≤◌, ◌++◌, ◌∷◌, [], length, take, OnOk, OnErr, IfOk, IfErr, MatchOption, IsOkUnless};
+ghost use Rattle.cpg_record.specs.Connections.{conns_of};
 ghost use Rattle.cpg_record.specs.Events.{events};
 ghost use Rattle.cpg_record.specs.Judging.{judged, most_places, record_of, IsNext};
 ghost use Rattle.cpg_record.specs.Listings.{Answers, AreGroups, listing};
@@ -135,6 +136,13 @@ impl Policy {
         ensures { result.now ≡ judged self.now }
     {
         self.records.as_slice()
+    }
+
+    /// The connections of the entries, each once, in the order of their first entries.
+    pub fn connections(&self) -> &[ConnId]
+        ensures { result.now ≡ conns_of self.now }
+    {
+        self.trails.conns()
     }
 
     /// The node and the pid of each member of a group, in the order of their joins, where the asker may

@@ -3,7 +3,7 @@
 
 ghost use Rattle.std.specs.Prelude.{◌≡◌, ◌+◌, ◌≤◌, ◌++◌, ◌∷◌, [], ℕ, List, map, take, length, nat_le, true, false, None, OnOk, OnErr, IsOkUnless};
 ghost use Rattle.std.specs.List.Sorted.{IsNonDecreasingBy, IsPartitionPoint};
-ghost use Rattle.std.specs.Map.{lookup};
+ghost use Rattle.std.specs.Map.{keys_of, lookup};
 ghost use Rattle.std.specs.Option.{option_copied};
 ghost use Rattle.cpg_record.specs.declared.connections.ConnId.{ConnId};
 ghost use Rattle.cpg_record.specs.declared.records.Record.{Record};
@@ -222,11 +222,19 @@ pub(crate) struct Trails {
 impl Trails {
     /// No trails.
     pub(crate) fn new(alloc: Global) -> Trails
-        ensures { (conn : ConnId) → kept_trail result.kept.entries conn ≡ [] }
+        ensures trails { (conn : ConnId) → kept_trail result.kept.entries conn ≡ [] }
+        ensures conns { keys_of result.kept.entries ≡ [] }
     {
         Trails {
             kept: IndexMap::new(alloc),
         }
+    }
+
+    /// The connections, in the order of their first entries.
+    pub(crate) fn conns(&self) -> &[ConnId]
+        ensures { result.now ≡ keys_of self.now.kept.entries }
+    {
+        self.kept.keys().as_slice()
     }
 
     /// The trail of a connection.

@@ -6,12 +6,11 @@ use Rattle.std.proofs.lemmas.List.Folds.{fold-map}
 use Rattle.std.proofs.lemmas.List.Sums.{fold-append, fold_more}
 use Rattle.cpg_entry.specs.declared.entries.Entry.{Entry}
 use Rattle.cpg_record.specs.declared.records.Record.{Record}
-use Rattle.cpg_record.specs.Connections.{conn_of}
+use Rattle.cpg_record.specs.Connections.{conn_of, conns_of, with_conn}
 use Rattle.cpg_record.specs.Judging.{entries_of, judged, with_judgement, record_of}
 use Rattle.cpg_record.proofs.Denials.{each_entry_is_judged, prefixes_are_judged_alike}
 use Rattle.cpg_script.proofs.Lined.{enumerate_from-append}
 use Rattle.cpg_print.specs.Records.{audit_lines}
-use Rattle.cpg_judge.specs.Judging.{conns_of, with_conn}
 use Rattle.cpg_print.specs.Records.{audit_line}
 
 -- the lines of records, and then those of more records

@@ -1,26 +1,18 @@
 -- what is printed of a script of entries, and what its faults leave
-use Rattle.std.specs.Prelude.{ℕ, ◌≡◌, ⊤, List, [], ◌∷◌, ◌++◌, length, map, if◌then◌else◌, Option, Result, Ok, Err}
-use Rattle.std.specs.List.{concat, flat_map, fold, list_any}
+use Rattle.std.specs.Prelude.{ℕ, ◌≡◌, ⊤, List, ◌∷◌, ◌++◌, length, map, Option, Result, Ok, Err}
+use Rattle.std.specs.List.{concat, flat_map}
 use Rattle.std.specs.Io.KnownBytes.{Appends, Keeps}
 use Rattle.cpg_cred.specs.declared.refusals.Refusal.{Refusal}
 use Rattle.cpg_cred.specs.declared.refusals.Refusal.TheVariants as refusal
 use Rattle.cpg_entry.specs.declared.entries.Entry.{Entry}
 use Rattle.cpg_record.specs.declared.connections.ConnId.{ConnId}
 use Rattle.cpg_record.specs.declared.records.Record.{Record}
-use Rattle.cpg_record.specs.Connections.{conn_of, is_conn}
+use Rattle.cpg_record.specs.Connections.{conns_of}
 use Rattle.cpg_record.specs.Events.{inbox}
 use Rattle.cpg_record.specs.Judging.{judged}
 use Rattle.cpg_script.specs.Written.{LeavesLines}
 use Rattle.cpg_print.specs.Events.{event_line, inbox_line}
 use Rattle.cpg_print.specs.Records.{audit_lines, count_line}
-
--- the connections with one more at the end, if it was absent
-abbrev pub with_conn : List ConnId → ConnId → List ConnId
-with_conn conns conn = if list_any (is_conn conn) conns then conns else conns ++ conn ∷ []
-
--- the connections of entries, each once, in the order of their first entries
-abbrev pub conns_of : List Entry → List ConnId
-conns_of entries = fold with_conn [] (map conn_of entries)
 
 -- the events of a connection, after a line that names it
 abbrev pub inbox_lines : List Record → ConnId → List (List ℕ)

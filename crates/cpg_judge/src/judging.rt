@@ -6,10 +6,11 @@
 ghost use Rattle.std.specs.Prelude.{◌≡◌, ◌+◌, ◌<◌, ◌≤◌, ◌∷◌, ◌++◌, [], None, length, OnOk, IfOk, IfErr, IfSome, IsOkUnless};
 ghost use Rattle.std.specs.List.{concat};
 ghost use Rattle.std.specs.Io.KnownBytes.{Appends};
+ghost use Rattle.cpg_record.specs.Connections.{with_conn, conns_of};
 ghost use Rattle.cpg_record.specs.Judging.{entries_of, judged, most_places, record_of, IsNext};
 ghost use Rattle.cpg_script.specs.Written.{LeavesLines, WritesLate};
 ghost use Rattle.cpg_print.specs.Records.{audit_lines};
-ghost use Rattle.cpg_judge.specs.Judging.{with_conn, conns_of, judge_lines, EndsJudging, IsWritten, Leaves};
+ghost use Rattle.cpg_judge.specs.Judging.{judge_lines, EndsJudging, IsWritten, Leaves};
 ghost use Rattle.cpg_print.specs.Records.{audit_line};
 ghost use Rattle.cpg_judge.specs.Scripts.{entries_of_script};
 ghost use Rattle.cpg_judge.specs.Texts.{AreCurrent};

@@ -5,12 +5,13 @@ use Rattle.std.specs.Io.KnownBytes.{Appends}
 use Rattle.cpg_entry.specs.declared.entries.Entry.{Entry}
 use Rattle.cpg_record.specs.declared.connections.ConnId.{ConnId}
 use Rattle.cpg_record.specs.declared.records.Record.{Record}
+use Rattle.cpg_record.specs.Connections.{conns_of}
 use Rattle.cpg_record.specs.Judging.{entries_of, judged}
 use Rattle.cpg_record.proofs.Denials.{each_entry_is_judged}
 use Rattle.cpg_script.specs.Written.{LeavesLines}
 use Rattle.cpg_script.proofs.Lined.{leaves_first, leaves_amid, memory_amid, lines_after, ok_after, err_after, text_of_line}
 use Rattle.cpg_print.specs.Records.{audit_lines}
-use Rattle.cpg_judge.specs.Judging.{conns_of, inbox_lines, judge_lines}
+use Rattle.cpg_judge.specs.Judging.{inbox_lines, judge_lines}
 use Rattle.cpg_print.specs.Records.{count_line}
 use Rattle.cpg_judge.proofs.judging.write_judgement.Goals as goal
 
