@@ -5,4 +5,4 @@ mod Indexed
 mod Applying
 mod Stops
 mod Latest
-mod Counted
+pub mod Counted

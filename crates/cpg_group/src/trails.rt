@@ -2,6 +2,7 @@
 //! it is in a group after each. Between two of them its group stays, so the trail tells its group at any place.
 
 ghost use Rattle.std.specs.Prelude.{◌≡◌, ◌+◌, ◌≤◌, ◌++◌, ◌∷◌, [], ℕ, List, map, take, length, nat_le, true, false, None, OnOk, OnErr, IsOkUnless};
+ghost use Rattle.std.specs.List.{slice_get};
 ghost use Rattle.std.specs.List.Sorted.{IsNonDecreasingBy, IsPartitionPoint};
 ghost use Rattle.std.specs.Map.{keys_of, lookup};
 ghost use Rattle.std.specs.Option.{option_copied};
@@ -10,7 +11,7 @@ ghost use Rattle.cpg_record.specs.declared.records.Record.{Record};
 ghost use Rattle.cpg_record.specs.Connections.{conn_of, is_conn};
 ghost use Rattle.cpg_record.specs.Membership.{group_of};
 ghost use Rattle.cpg_record.specs.Nexts.{is_made_by};
-ghost use Rattle.cpg_record.specs.Places.{IsNextOf};
+ghost use Rattle.cpg_record.specs.Places.{places_of, IsNextOf};
 ghost use Rattle.cpg_group.specs.Standing.{kept_group, group_past, CanTake};
 ghost use Rattle.cpg_group.specs.Trails.{kept_trail, group_at, join_after, joined_by, AreTrails, IsTrail, StandsBy};
 
@@ -39,17 +40,27 @@ impl Placed for Stop {
     }
 }
 
+/// The place of the join by which the connection is in a group after the last place up to which it has as many
+/// own places, 0 where it is in none.
+fn join_past(trail: &[Stop], count: usize) -> u32
+    ensures early { (records : List Record) (conn : ConnId) (last : ℕ) → IsTrail records conn trail.now → count ≡ length (places_of (is_made_by conn) (take last records)) → result ≤ last }
+    ensures group { (records : List Record) (conn : ConnId) (last : ℕ) → IsTrail records conn trail.now → count ≡ length (places_of (is_made_by conn) (take last records)) → group_at records result ≡ group_of (take last records) conn }
+{
+    if count == 0 {
+        return 0;
+    }
+    match trail.get(count - 1) {
+        None => 0,
+        Some(stop) => stop.join,
+    }
+}
+
 /// The place of the join by which the connection is in a group after the last place, 0 where it is in none.
 fn join_upto(trail: &[Stop], last: usize) -> u32
     ensures early { (records : List Record) (conn : ConnId) → IsTrail records conn trail.now → result ≤ last }
     ensures group { (records : List Record) (conn : ConnId) → IsTrail records conn trail.now → group_at records result ≡ group_of (take last records) conn }
 {
-    let passed = count_upto(trail, last);
-    if passed == 0 {
-        0
-    } else {
-        trail[passed - 1].join
-    }
+    join_past(trail, count_upto(trail, last))
 }
 
 /// The place of the join by which the connection is in a group after all records, 0 where it is in none: its
@@ -203,6 +214,23 @@ impl<'a> Trail<'a> {
         ensures { IsNextOf (is_made_by self.now.conn) self.now.records after result }
     {
         next_own(self.stops, after as usize)
+    }
+
+    /// The own place of that index, from 0. Takes no memory.
+    pub fn own(&self, index: usize) -> Option<u32>
+        ensures { result ≡ slice_get (places_of (is_made_by self.now.conn) self.now.records) index }
+    {
+        match self.stops.get(index) {
+            None => None,
+            Some(stop) => Some(stop.place),
+        }
+    }
+
+    /// The group that the connection is in after its first own places, as many as are counted. Takes no memory.
+    pub fn group_past(&self, count: usize) -> Option<&'a Name>
+        ensures { (last : ℕ) → last ≤ length self.now.records → count ≡ length (places_of (is_made_by self.now.conn) (take last self.now.records)) → option_copied result ≡ group_of (take last self.now.records) self.now.conn }
+    {
+        find_joined(self.records, join_past(self.stops, count))
     }
 
     /// The group that the connection is in after the last place. Takes no memory, and searches by halving.
