@@ -123,6 +123,26 @@ impl Policy {
         }
     }
 
+    /// Judges the entry and puts it last, with its record. A refusal changes nothing and gives the entry back.
+    pub fn enter(&mut self, entry: Entry) -> Result<(), Refused<Entry>>
+        requires { length self.old < most_places }
+        ensures ok { OnOk result (self.new ≡ self.old ++ entry ∷ []) }
+        ensures unchanged { OnErr result (self.new ≡ self.old) }
+        ensures err { IfErr result (λ refused. refused ≡ record { refusal = Refusal.Memory; back = entry }) }
+    {
+        let next = self.judge_owned(entry)?;
+        match self.apply(next) {
+            Ok(()) => Ok(()),
+            Err(refused) => {
+                let Refused { refusal, back } = refused;
+                Err(Refused {
+                    refusal,
+                    back: back.entry,
+                })
+            }
+        }
+    }
+
     /// How many entries were judged, at most 1,048,576.
     pub fn len(&self) -> usize
         ensures value { result ≡ length self.now }
