@@ -131,7 +131,7 @@ fn judge_entry(records: &[Record], group: &Group, seat: Option<&Name>, entry: &E
 }
 
 /// The group that the entry names, else the one that its connection is in.
-fn find_entry_group<'a>(
+pub(crate) fn find_entry_group<'a>(
     records: &[Record],
     seat: Option<&'a Name>,
     entry: &'a Entry,
@@ -180,25 +180,23 @@ fn copy_name(alloc: Global, group: Option<&Name>) -> Result<Option<Name>, Refusa
     }
 }
 
-/// The record of an entry over the records before it, with the entry moved into it. A refusal gives the
-/// entry back.
-pub(crate) fn judge(
+/// The record of an entry of that group, whose connection is in the group `seat`, with the entry moved into
+/// it. A refusal gives the entry back.
+#[inline(always)]
+pub(crate) fn judge_in(
     alloc: Global,
     records: &[Record],
-    groups: &Groups,
-    trail: &[Stop],
+    standing: &Group,
+    seat: Option<&Name>,
     entry: Entry,
 ) -> Result<Record, Refused<Entry>>
-    requires groups { AreStanding groups.now records.now }
-    requires trail { IsTrail records.now (conn_of entry) trail.now }
+    requires group { standing.now ≡ standing_for records.now (entry_group records.now entry entry.op) }
+    requires seat { option_copied seat ≡ group_of records.now (conn_of entry) }
     ensures ok { IfOk result (λ next. next ≡ record_of records.now entry) }
     ensures err { IfErr result (λ refused. refused ≡ record { refusal = Refusal.Memory; back = entry }) }
 {
-    let seat = group_now(records, trail);
-    let name = find_entry_group(records, seat, &entry);
-    let standing = groups.of_name(name);
     let verdict = judge_entry(records, standing, seat, &entry);
-    let group = match copy_name(alloc, name) {
+    let group = match copy_name(alloc, find_entry_group(records, seat, &entry)) {
         Ok(group) => group,
         Err(refusal) => {
             return Err(Refused {
@@ -223,4 +221,23 @@ pub(crate) fn judge(
             back: next.entry,
         }),
     }
+}
+
+/// The record of an entry over the records before it, with the entry moved into it. A refusal gives the
+/// entry back.
+pub(crate) fn judge(
+    alloc: Global,
+    records: &[Record],
+    groups: &Groups,
+    trail: &[Stop],
+    entry: Entry,
+) -> Result<Record, Refused<Entry>>
+    requires groups { AreStanding groups.now records.now }
+    requires trail { IsTrail records.now (conn_of entry) trail.now }
+    ensures ok { IfOk result (λ next. next ≡ record_of records.now entry) }
+    ensures err { IfErr result (λ refused. refused ≡ record { refusal = Refusal.Memory; back = entry }) }
+{
+    let seat = group_now(records, trail);
+    let standing = groups.of_name(find_entry_group(records, seat, &entry));
+    judge_in(alloc, records, standing, seat, entry)
 }

@@ -5,6 +5,7 @@
 //! entries that it has seen.
 #![tactic(auto)]
 
+mod entering;
 mod judging;
 mod listing;
 mod nexts;

@@ -15,7 +15,7 @@ ghost use Rattle.cpg_group.specs.Telling.{told};
 use crate::listing::{self, Names, Processes};
 use crate::standing::Groups;
 use crate::trails::{Trail, Trails};
-use crate::{judging, nexts, telling, told, trails};
+use crate::{entering, judging, nexts, telling, told, trails};
 use cpg_cred::{Refusal, Refused};
 use cpg_entry::{Entry, Name};
 use cpg_record::{ConnId, Event, Events, Record};
@@ -130,16 +130,20 @@ impl Policy {
         ensures unchanged { OnErr result (self.new ≡ self.old) }
         ensures err { IfErr result (λ refused. refused ≡ record { refusal = Refusal.Memory; back = entry }) }
     {
-        let next = self.judge_owned(entry)?;
-        match self.apply(next) {
-            Ok(()) => Ok(()),
-            Err(refused) => {
-                let Refused { refusal, back } = refused;
-                Err(Refused {
-                    refusal,
-                    back: back.entry,
-                })
+        if self.records.reserve(1).is_err() {
+            return Err(Refused {
+                refusal: Refusal::Memory,
+                back: entry,
+            });
+        }
+        let place = self.records.len() as u32 + 1;
+        let records = self.records.as_slice();
+        match entering::enter(&mut self.trails, &mut self.groups, records, place, entry) {
+            Ok(next) => {
+                self.records.push_reserved(next);
+                Ok(())
             }
+            Err(refused) => Err(refused),
         }
     }
 

@@ -94,7 +94,7 @@ impl Group {
     }
 
     /// Brings the group past its allowed record at that place. A refusal changes nothing.
-    fn take_in(&mut self, place: u32, past: &Record) -> Result<(), Refusal>
+    pub(crate) fn take_in(&mut self, place: u32, past: &Record) -> Result<(), Refusal>
         requires { CanChange self.old place past.now }
         ensures ok { OnOk result (self.new ≡ changed place past.now self.old) }
         ensures err { OnErr result (self.new ≡ self.old) }
@@ -116,7 +116,7 @@ impl Group {
 /// has no rules, members and places.
 #[derive(Drop)]
 pub(crate) struct Groups {
-    kept: IndexMap<Vec<u8>, Group>,
+    pub(crate) kept: IndexMap<Vec<u8>, Group>,
     none: Group,
 }
 

@@ -140,7 +140,7 @@ fn next_join(records: &[Record], past: &Record, place: u32, standing: u32) -> u3
 }
 
 /// The stop of the record that comes next, at that place, on the trail of its connection.
-fn stop_of(records: &[Record], trail: &[Stop], place: u32, next: &Record) -> Stop
+pub(crate) fn stop_of(records: &[Record], trail: &[Stop], place: u32, next: &Record) -> Stop
     requires next { place ≡ length records.now + 1 }
     requires trail { IsTrail records.now (conn_of next.now.entry) trail.now }
     ensures place { result.place ≡ place }
@@ -244,7 +244,7 @@ impl<'a> Trail<'a> {
 /// The trails of all connections that made an entry.
 #[derive(Drop)]
 pub(crate) struct Trails {
-    kept: IndexMap<ConnId, Vec<Stop>>,
+    pub(crate) kept: IndexMap<ConnId, Vec<Stop>>,
 }
 
 impl Trails {
@@ -277,7 +277,7 @@ impl Trails {
 
     /// Keeps a trail of the record's connection, which has none, with the record's stop, and brings the groups
     /// past the record. All that takes memory comes before the first change.
-    fn add(
+    pub(crate) fn add(
         &mut self,
         groups: &mut Groups,
         records: &[Record],
