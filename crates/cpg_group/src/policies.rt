@@ -139,8 +139,8 @@ impl Policy {
         let place = self.records.len() as u32 + 1;
         let records = self.records.as_slice();
         match entering::enter(&mut self.trails, &mut self.groups, records, place, entry) {
-            Ok(next) => {
-                self.records.push_reserved(next);
+            Ok(past) => {
+                self.records.push_reserved(past);
                 Ok(())
             }
             Err(refused) => Err(refused),

@@ -21,7 +21,7 @@ invariant_of-self-in-Ok c =
     let here : c.len.result + 1 ≡ length c.self.inside.records.items + 1 = omega arith in
     let lent = c.as_slice-records.ensures.value ∙ c.reserve.ensures.items in
     let longer : c.push_reserved.new.self.items ≡ rs ++ next ∷ [] =
-    c.push_reserved.ensures.items ∙ ap (λ (past : List Record). past ++ c.in-Ok.next ∷ []) c.reserve.ensures.items
+    c.push_reserved.ensures.items ∙ ap (λ (past : List Record). past ++ c.in-Ok.past ∷ []) c.reserve.ensures.items
     ∙ ap (λ (r : Record). c.self.inside.records.items ++ r ∷ []) (c.in-Ok.ensures.ok ∙ ap (λ (past : List Record). record_of past c.args.entry) lent) in
     let judgement : next ≡ record_of (judged (entries_of rs)) c.args.entry = ap (λ (past : List Record). record_of past c.args.entry) c.self.invariant.0.1 in
     let few : length (rs ++ next ∷ []) ≤ most_places =
