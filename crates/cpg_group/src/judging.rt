@@ -1,6 +1,6 @@
 //! The judgement of one entry over the records before it, by the groups and the trail that they come to.
 
-ghost use Rattle.std.specs.Prelude.{◌≡◌, ◌++◌, ◌∷◌, [], IfOk, IfErr, IsOkUnless};
+ghost use Rattle.std.specs.Prelude.{◌≡◌, ◌++◌, ◌∷◌, [], OnOk, OnErr, IfOk, IfErr, IsOkUnless};
 ghost use Rattle.std.specs.Option.{option_copied};
 ghost use Rattle.cpg_record.specs.Connections.{conn_of};
 ghost use Rattle.cpg_record.specs.Judging.{entry_group, record_of};
@@ -180,47 +180,62 @@ fn copy_name(alloc: Global, group: Option<&Name>) -> Result<Option<Name>, Refusa
     }
 }
 
-/// The record of an entry of that group, whose connection is in the group `seat`, with the entry moved into
-/// it. A refusal gives the entry back.
+/// A record of the entry that is not judged yet.
+pub(crate) fn draft_of(alloc: Global, entry: Entry) -> Record
+    ensures entry { result.entry ≡ entry }
+    ensures members { result.members ≡ [] }
+{
+    Record {
+        entry,
+        group: None,
+        verdict: Verdict::Denied(Reason::Closed),
+        members: Members::new(alloc),
+    }
+}
+
+/// Judges the entry of a draft in place, as one of that group, whose connection is in the group `seat`.
 #[inline(always)]
-pub(crate) fn judge_in(
+pub(crate) fn judge_draft_in(
     alloc: Global,
     records: &[Record],
     standing: &Group,
     seat: Option<&Name>,
-    entry: Entry,
-) -> Result<Record, Refused<Entry>>
-    requires group { standing.now ≡ standing_for records.now (entry_group records.now entry entry.op) }
-    requires seat { option_copied seat ≡ group_of records.now (conn_of entry) }
-    ensures ok { IfOk result (λ next. next ≡ record_of records.now entry) }
-    ensures err { IfErr result (λ refused. refused ≡ record { refusal = Refusal.Memory; back = entry }) }
+    next: &mut Record,
+) -> Result<(), Refusal>
+    requires draft { next.old.members ≡ [] }
+    requires group { standing.now ≡ standing_for records.now (entry_group records.now next.old.entry next.old.entry.op) }
+    requires seat { option_copied seat ≡ group_of records.now (conn_of next.old.entry) }
+    ensures ok { OnOk result (next.new ≡ record_of records.now next.old.entry) }
+    ensures err { OnErr result (next.new.entry ≡ next.old.entry) }
+    ensures memory { IsOkUnless result Refusal.Memory }
 {
-    let verdict = judge_entry(records, standing, seat, &entry);
-    let group = match copy_name(alloc, find_entry_group(records, seat, &entry)) {
-        Ok(group) => group,
-        Err(refusal) => {
-            return Err(Refused {
-                refusal,
-                back: entry,
-            });
-        }
-    };
-    let mut next = Record {
-        entry,
-        group,
-        verdict,
-        members: Members::new(alloc),
-    };
-    match collect_members_with(alloc, records, standing, &next) {
-        Ok(members) => {
-            next.members = members;
-            Ok(next)
-        }
-        Err(refusal) => Err(Refused {
-            refusal,
-            back: next.entry,
-        }),
-    }
+    next.verdict = judge_entry(records, standing, seat, &next.entry);
+    let group = copy_name(alloc, find_entry_group(records, seat, &next.entry))?;
+    next.group = group;
+    let members = collect_members_with(alloc, records, standing, next)?;
+    next.members = members;
+    Ok(())
+}
+
+/// Judges the entry of a draft in place, over the records before it.
+#[inline(always)]
+pub(crate) fn judge_draft(
+    alloc: Global,
+    records: &[Record],
+    groups: &Groups,
+    trail: &[Stop],
+    next: &mut Record,
+) -> Result<(), Refusal>
+    requires draft { next.old.members ≡ [] }
+    requires groups { AreStanding groups.now records.now }
+    requires trail { IsTrail records.now (conn_of next.old.entry) trail.now }
+    ensures ok { OnOk result (next.new ≡ record_of records.now next.old.entry) }
+    ensures err { OnErr result (next.new.entry ≡ next.old.entry) }
+    ensures memory { IsOkUnless result Refusal.Memory }
+{
+    let seat = group_now(records, trail);
+    let standing = groups.of_name(find_entry_group(records, seat, &next.entry));
+    judge_draft_in(alloc, records, standing, seat, next)
 }
 
 /// The record of an entry over the records before it, with the entry moved into it. A refusal gives the
@@ -237,7 +252,12 @@ pub(crate) fn judge(
     ensures ok { IfOk result (λ next. next ≡ record_of records.now entry) }
     ensures err { IfErr result (λ refused. refused ≡ record { refusal = Refusal.Memory; back = entry }) }
 {
-    let seat = group_now(records, trail);
-    let standing = groups.of_name(find_entry_group(records, seat, &entry));
-    judge_in(alloc, records, standing, seat, entry)
+    let mut next = draft_of(alloc, entry);
+    match judge_draft(alloc, records, groups, trail, &mut next) {
+        Ok(()) => Ok(next),
+        Err(refusal) => Err(Refused {
+            refusal,
+            back: next.entry,
+        }),
+    }
 }

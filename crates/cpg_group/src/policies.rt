@@ -136,14 +136,24 @@ impl Policy {
                 back: entry,
             });
         }
+        let mut past = judging::draft_of(*self.records.allocator(), entry);
         let place = self.records.len() as u32 + 1;
         let records = self.records.as_slice();
-        match entering::enter(&mut self.trails, &mut self.groups, records, place, entry) {
-            Ok(past) => {
+        match entering::enter(
+            &mut self.trails,
+            &mut self.groups,
+            records,
+            place,
+            &mut past,
+        ) {
+            Ok(()) => {
                 self.records.push_reserved(past);
                 Ok(())
             }
-            Err(refused) => Err(refused),
+            Err(refusal) => Err(Refused {
+                refusal,
+                back: past.entry,
+            }),
         }
     }
 

@@ -117,7 +117,7 @@ impl Group {
 #[derive(Drop)]
 pub(crate) struct Groups {
     pub(crate) kept: IndexMap<Vec<u8>, Group>,
-    none: Group,
+    pub(crate) none: Group,
 }
 
 impl Model for Groups {

@@ -12,7 +12,7 @@ use Rattle.cpg_group.proofs.entering.enter.Goals as goal
 pub enter_trail-requires-clause-trail : goal.enter_trail-requires-clause-trail
 enter_trail-requires-clause-trail c =
     let found = c.in-Some.ensures.value ∙ ap (λ (conn : ConnId). lookup (is_conn conn) c.args.trails.now.kept.entries) c.of.ensures in
-    subst (IsTrail c.args.records.now (conn_of c.args.entry)) (sym (ap or_no_trail found)) (c.requires.trails (conn_of c.args.entry))
+    subst (IsTrail c.args.records.now (conn_of c.args.next.now.entry)) (sym (ap or_no_trail found)) (c.requires.trails (conn_of c.args.next.now.entry))
 
 pub returns-in-Some-clause-longer : goal.returns-in-Some-clause-longer
 returns-in-Some-clause-longer c =
@@ -20,10 +20,10 @@ returns-in-Some-clause-longer c =
     let trail = c.enter_trail.new.trail in
     let found = c.in-Some.ensures.value ∙ ap (λ (conn : ConnId). lookup (is_conn conn) entries) c.of.ensures in
     on_ok c.enter_trail.result
-    (λ longer. AreTrails-past entries (c.get_mut.follows.lender trail).entries c.args.records.now (record_of c.args.records.now c.args.entry) trail.items c.requires.trails longer
+    (λ longer. AreTrails-past entries (c.get_mut.follows.lender trail).entries c.args.records.now (record_of c.args.records.now c.args.next.now.entry) trail.items c.requires.trails longer
     (λ q. ap (λ kept. kept_trail kept q) (c.get_mut.follows.holds trail).0
     ∙ ap (λ (conn : ConnId). kept_trail (set_value (is_conn conn) entries trail) q) c.of.ensures
-    ∙ trail_set entries (conn_of c.args.entry) q trail (ap is_some (sym found))))
+    ∙ trail_set entries (conn_of c.args.next.now.entry) q trail (ap is_some (sym found))))
     c.enter_trail.ensures.longer
 
 pub returns-in-Some-clause-kept : goal.returns-in-Some-clause-kept
@@ -35,6 +35,6 @@ returns-in-Some-clause-kept c =
     (λ same. λ q. subst (IsTrail c.args.records.now q)
     (sym (ap (λ kept. kept_trail kept q) (c.get_mut.follows.holds trail).0
     ∙ ap (λ (conn : ConnId). kept_trail (set_value (is_conn conn) entries trail) q) c.of.ensures
-    ∙ trail_same entries (conn_of c.args.entry) q c.in-Some.trail.now trail (sym found) same))
+    ∙ trail_same entries (conn_of c.args.next.now.entry) q c.in-Some.trail.now trail (sym found) same))
     (c.requires.trails q))
     c.enter_trail.ensures.kept

@@ -11,45 +11,45 @@ use Rattle.cpg_group.proofs.entering.enter_groups.Goals as goal
 pub enter_group-requires-clause-can : goal.enter_group-requires-clause-can
 enter_group-requires-clause-can c allowed =
     let name = c.as_slice.result.now in
-    let found = ap or_none (c.in-Some-get_mut.ensures.value ∙ found_alike name c.groups.inside.kept.entries ∙ ap (lookup (bytes_eq name)) c.groups.view_is) in
+    let found = ap or_none (c.in-Some-get_mut.ensures.value ∙ found_alike name c.groups-in-Some.inside.kept.entries ∙ ap (lookup (bytes_eq name)) c.groups-in-Some.view_is) in
     let called = ap Some c.as_slice.ensures ∙ c.in-Some.ensures in
-    subst (λ (group : GroupValue). CanChange group c.args.place (record_of c.args.records.now c.args.entry)) (sym found)
-    (c.requires.can name allowed ((named_group (entry_group c.args.records.now c.args.entry c.args.entry.op) name).1 (sym called)))
+    subst (λ (group : GroupValue). CanChange group c.args.place (record_of c.args.records.now c.args.next.now.entry)) (sym found)
+    (c.requires.can name allowed ((named_group (entry_group c.args.records.now c.args.next.now.entry c.args.next.now.entry.op) name).1 (sym called)))
 
 pub enter_group-requires-clause-group : goal.enter_group-requires-clause-group
 enter_group-requires-clause-group c =
     let name = c.as_slice.result.now in
-    let found = ap or_none (c.in-Some-get_mut.ensures.value ∙ found_alike name c.groups.inside.kept.entries ∙ ap (lookup (bytes_eq name)) c.groups.view_is) in
+    let found = ap or_none (c.in-Some-get_mut.ensures.value ∙ found_alike name c.groups-in-Some.inside.kept.entries ∙ ap (lookup (bytes_eq name)) c.groups-in-Some.view_is) in
     let called = ap Some c.as_slice.ensures ∙ c.in-Some.ensures in
     found ∙ c.requires.groups name ∙ ap (standing_for c.args.records.now) called
 
 pub returns-in-Some-get_mut-clause-past : goal.returns-in-Some-get_mut-clause-past
 returns-in-Some-get_mut-clause-past c =
     let name = c.as_slice.result.now in
-    let found = c.in-Some-get_mut.ensures.value ∙ found_alike name c.groups.inside.kept.entries ∙ ap (lookup (bytes_eq name)) c.groups.view_is in
+    let found = c.in-Some-get_mut.ensures.value ∙ found_alike name c.groups-in-Some.inside.kept.entries ∙ ap (lookup (bytes_eq name)) c.groups-in-Some.view_is in
     let called = ap Some c.as_slice.ensures ∙ c.in-Some.ensures in
     on_ok c.enter_group.result
     (λ is. λ g.
     ap (λ es. kept_group (named es) g) (c.get_mut.follows.holds c.enter_group.new.group).0
-    ∙ ap (λ (kept : Kept). kept_group kept g) (set_alike name c.groups.inside.kept.entries c.enter_group.new.group ∙ ap (λ (kept : Kept). set_value (bytes_eq name) kept c.enter_group.new.group) c.groups.view_is)
+    ∙ ap (λ (kept : Kept). kept_group kept g) (set_alike name c.groups-in-Some.inside.kept.entries c.enter_group.new.group ∙ ap (λ (kept : Kept). set_value (bytes_eq name) kept c.enter_group.new.group) c.groups-in-Some.view_is)
     ∙ group_set c.args.groups.now name c.enter_group.new.group g (ap is_some (sym found))
-    ∙ group_entered c.args.groups.now name g c.in-Some-get_mut.group.now c.enter_group.new.group c.args.place (record_of c.args.records.now c.args.entry) (ap or_none found) called is)
+    ∙ group_entered c.args.groups.now name g c.in-Some-get_mut.group.now c.enter_group.new.group c.args.place (record_of c.args.records.now c.args.next.now.entry) (ap or_none found) called is)
     c.enter_group.ensures.past
 
 pub returns-in-Some-get_mut-clause-same : goal.returns-in-Some-get_mut-clause-same
 returns-in-Some-get_mut-clause-same c =
     let name = c.as_slice.result.now in
-    let found = c.in-Some-get_mut.ensures.value ∙ found_alike name c.groups.inside.kept.entries ∙ ap (lookup (bytes_eq name)) c.groups.view_is in
+    let found = c.in-Some-get_mut.ensures.value ∙ found_alike name c.groups-in-Some.inside.kept.entries ∙ ap (lookup (bytes_eq name)) c.groups-in-Some.view_is in
     on_err c.enter_group.result
     (λ is. λ g.
     ap (λ es. kept_group (named es) g) (c.get_mut.follows.holds c.enter_group.new.group).0
-    ∙ ap (λ (kept : Kept). kept_group kept g) (set_alike name c.groups.inside.kept.entries c.enter_group.new.group ∙ ap (λ (kept : Kept). set_value (bytes_eq name) kept c.enter_group.new.group) c.groups.view_is)
+    ∙ ap (λ (kept : Kept). kept_group kept g) (set_alike name c.groups-in-Some.inside.kept.entries c.enter_group.new.group ∙ ap (λ (kept : Kept). set_value (bytes_eq name) kept c.enter_group.new.group) c.groups-in-Some.view_is)
     ∙ group_set c.args.groups.now name c.enter_group.new.group g (ap is_some (sym found))
     ∙ same_group c.args.groups.now name g c.enter_group.new.group (is ∙ ap or_none found))
     c.enter_group.ensures.same
 
 pub returns-in-None-get_mut-clause-same : goal.returns-in-None-get_mut-clause-same
 returns-in-None-get_mut-clause-same c =
-    on_err c.enter_apart-in-None-get_mut.result
-    (λ is. λ g. is g ∙ ap (λ kept. kept_group (named kept.entries) g) c.get_mut.follows.holds-at-none ∙ ap (λ (kept : Kept). kept_group kept g) c.groups.view_is)
-    c.enter_apart-in-None-get_mut.ensures.same
+    on_err c.enter_apart.result
+    (λ is. λ g. is g ∙ ap (λ kept. kept_group (named kept.entries) g) c.get_mut.follows.holds-at-none ∙ ap (λ (kept : Kept). kept_group kept g) c.groups-in-Some.view_is)
+    c.enter_apart.ensures.same

@@ -10,9 +10,9 @@ use Rattle.cpg_group.proofs.entering.enter_trail.Goals as goal
 pub returns-clause-longer : goal.returns-clause-longer
 returns-clause-longer c =
     let rs : List Record = c.args.records.now in
-    let next : Record = record_of c.args.records.now c.args.entry in
+    let next : Record = record_of c.args.records.now c.args.next.now.entry in
     let stops = c.push_reserved.ensures.items ∙ ap (λ (stops : List Stop). stops ++ c.stop_of-stop.result ∷ []) c.reserve.ensures.items in
-    let by : StandsBy (rs ++ next ∷ []) (conn_of c.args.entry) c.stop_of-stop.result =
-    subst (λ (r : Record). StandsBy (c.args.records.now ++ r ∷ []) (conn_of r.entry) c.stop_of-stop.result) c.in_ok-next.ensures.ok c.stop_of-stop.ensures.join in
-    subst (IsTrail (rs ++ next ∷ []) (conn_of c.args.entry)) (sym stops)
+    let by : StandsBy (rs ++ next ∷ []) (conn_of c.args.next.now.entry) c.stop_of-stop.result =
+    subst (λ (r : Record). StandsBy (c.args.records.now ++ r ∷ []) (conn_of r.entry) c.stop_of-stop.result) c.in_ok-enter_groups.ensures.ok c.stop_of-stop.ensures.join in
+    subst (IsTrail (rs ++ next ∷ []) (conn_of c.args.next.now.entry)) (sym stops)
     (trail_longer c.args.records.now next c.stop_of-stop.result c.args.trail.now.items (c.stop_of-stop.ensures.place ∙ c.requires.place) by c.requires.trail)

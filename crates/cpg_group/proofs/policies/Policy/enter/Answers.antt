@@ -10,25 +10,25 @@ use Rattle.cpg_group.proofs.policies.Policy.enter.Goals as goal
 pub enter-requires-clause-can : goal.enter-requires-clause-can
 enter-requires-clause-can c =
     let here : c.len.result + 1 ≡ length c.self.inside.records.items + 1 = omega arith in
-    let P : List Record → Type 0 = λ (rs : List Record). (g : List ℕ) → CanTake g (kept_group c.self.inside.groups g) (c.len.result + 1, record_of rs c.args.entry) in
+    let P : List Record → Type 0 = λ (rs : List Record). (g : List ℕ) → CanTake g (kept_group c.self.inside.groups g) (c.len.result + 1, record_of rs c.draft_of-past.result.entry) in
     subst P (sym (c.as_slice-records.ensures.value ∙ c.reserve.ensures.items))
-    (can_take c.self.inside.groups c.self.inside.records.items (record_of c.self.inside.records.items c.args.entry) (c.len.result + 1) c.self.invariant.1 c.self.invariant.0.1 here refl)
+    (can_take c.self.inside.groups c.self.inside.records.items (record_of c.self.inside.records.items c.draft_of-past.result.entry) (c.len.result + 1) c.self.invariant.1 c.self.invariant.0.1 here refl)
 
 pub invariant_of-self-in-Ok : goal.invariant_of-self-in-Ok
 invariant_of-self-in-Ok c =
     let rs : List Record = c.self.inside.records.items in
-    let next : Record = record_of c.self.inside.records.items c.args.entry in
+    let next : Record = record_of c.self.inside.records.items c.draft_of-past.result.entry in
     let here : c.len.result + 1 ≡ length c.self.inside.records.items + 1 = omega arith in
     let lent = c.as_slice-records.ensures.value ∙ c.reserve.ensures.items in
     let longer : c.push_reserved.new.self.items ≡ rs ++ next ∷ [] =
-    c.push_reserved.ensures.items ∙ ap (λ (past : List Record). past ++ c.in-Ok.past ∷ []) c.reserve.ensures.items
-    ∙ ap (λ (r : Record). c.self.inside.records.items ++ r ∷ []) (c.in-Ok.ensures.ok ∙ ap (λ (past : List Record). record_of past c.args.entry) lent) in
-    let judgement : next ≡ record_of (judged (entries_of rs)) c.args.entry = ap (λ (past : List Record). record_of past c.args.entry) c.self.invariant.0.1 in
+    c.push_reserved.ensures.items ∙ ap (λ (past : List Record). past ++ c.enter.new.next ∷ []) c.reserve.ensures.items
+    ∙ ap (λ (r : Record). c.self.inside.records.items ++ r ∷ []) (c.in-Ok.ensures.ok ∙ ap (λ (past : List Record). record_of past c.draft_of-past.result.entry) lent) in
+    let judgement : next ≡ record_of (judged (entries_of rs)) c.draft_of-past.result.entry = ap (λ (past : List Record). record_of past c.draft_of-past.result.entry) c.self.invariant.0.1 in
     let few : length (rs ++ next ∷ []) ≤ most_places =
     omega (arith, length_push c.self.inside.records.items next, c.requires, ap length c.self.view_is, length-map c.self.inside.records.items (λ (r : Record). r.entry)) in
     let trails : AreTrails c.enter.new.trails.kept.entries (rs ++ next ∷ []) =
-    subst (λ (past : List Record). AreTrails c.enter.new.trails.kept.entries (past ++ record_of past c.args.entry ∷ [])) lent c.in-Ok.ensures.longer in
-    let Past : List Record → Type 0 = λ (past : List Record). (g : List ℕ) → kept_group c.enter.new.groups g ≡ group_past g (kept_group c.self.inside.groups g) (c.len.result + 1, record_of past c.args.entry) in
+    subst (λ (past : List Record). AreTrails c.enter.new.trails.kept.entries (past ++ record_of past c.draft_of-past.result.entry ∷ [])) lent c.in-Ok.ensures.longer in
+    let Past : List Record → Type 0 = λ (past : List Record). (g : List ℕ) → kept_group c.enter.new.groups g ≡ group_past g (kept_group c.self.inside.groups g) (c.len.result + 1, record_of past c.draft_of-past.result.entry) in
     let P : List Record → Type 0 = λ (past : List Record). AreRecords past × AreStanding c.enter.new.groups past × AreTrails c.enter.new.trails.kept.entries past in
     subst P (sym longer) (
       (few, AreJudged-push c.self.inside.records.items next c.self.invariant.0.1 judgement),
