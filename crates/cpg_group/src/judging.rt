@@ -115,6 +115,7 @@ fn judge_remove(rules: &Table, entry: &Entry, id: u32) -> Verdict
 }
 
 /// The verdict on an entry of that group whose connection is in the group `seat`.
+#[inline(always)]
 fn judge_entry(records: &[Record], group: &Group, seat: Option<&Name>, entry: &Entry) -> Verdict
     requires group { group.now ≡ standing_for records.now (entry_group records.now entry.now entry.now.op) }
     requires seat { option_copied seat ≡ group_of records.now (conn_of entry.now) }
@@ -148,6 +149,7 @@ pub(crate) fn find_entry_group<'a>(
 }
 
 /// The members of the record's group with that record, from the group as it stood.
+#[inline(always)]
 #[tactic(auto, using(crate::proofs::Passed::members_push))]
 fn collect_members_with(
     alloc: Global,
@@ -218,7 +220,6 @@ pub(crate) fn judge_draft_in(
 }
 
 /// Judges the entry of a draft in place, over the records before it.
-#[inline(always)]
 pub(crate) fn judge_draft(
     alloc: Global,
     records: &[Record],
