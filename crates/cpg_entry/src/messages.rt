@@ -3,16 +3,20 @@
 ghost use Rattle.std.specs.Prelude.{◌≡◌, ◌↔◌, IsTrue, IfOk, IsOkUnless};
 
 use cpg_rules::Refusal;
+use smallvec::SmallVec;
 use std::alloc::Global;
 use std::marker::Model;
 
 /// How many bytes a message has at most.
 pub const MOST_MESSAGE_BYTES: usize = 8192;
 
+/// How many bytes a message keeps in itself: a longer one has memory of its own.
+const KEPT_INSIDE: usize = 16;
+
 /// What a member sends. Contracts see it as the list of its bytes.
 #[derive(Debug, Drop)]
 pub struct Message {
-    bytes: Vec<u8>,
+    bytes: SmallVec<u8, KEPT_INSIDE>,
 }
 
 impl Model for Message {
@@ -30,7 +34,7 @@ impl Message {
         ensures memory { IsOkUnless result Refusal.Memory }
     {
         Ok(Message {
-            bytes: Vec::from_slice(alloc, bytes)?,
+            bytes: SmallVec::from_slice(alloc, bytes)?,
         })
     }
 
@@ -38,7 +42,9 @@ impl Message {
     pub fn from_vec(bytes: Vec<u8>) -> Message
         ensures { result ≡ bytes.items }
     {
-        Message { bytes }
+        Message {
+            bytes: SmallVec::from_vec(bytes),
+        }
     }
 
     /// A message of the same bytes.

@@ -3,13 +3,14 @@
 ghost use Rattle.std.specs.Prelude.{◌≡◌, ◌<◌, ◌++◌, codes, OnOk, IfOk, IfSome, IsOkUnless};
 ghost use Rattle.cpg_print.specs.Calls.{call_text, op_text, join_of, leave_of, send_of, insert_at, insert_of, remove_of, call_of, is_gone, op_of, is_within_limits, is_enterable};
 ghost use Rattle.cpg_print.specs.Words.{texts};
+ghost use Rattle.cpg_text.specs.Percent.{message_of};
 
 use crate::rules::{put_rule, read_rule};
 use cpg_cred::Refusal;
 use cpg_entry::{Call, MOST_MESSAGE_BYTES, Message, Name, Op, accepts_name};
 use cpg_rules::Rule;
 use cpg_script::{is, put, put_bytes, read_u32};
-use cpg_text::{push_message, push_number, read_message};
+use cpg_text::{plain_message, push_message, push_number, read_message};
 use std::alloc::Global;
 
 /// Puts a space and CALL, or `gone`, at the line's end.
@@ -124,11 +125,19 @@ fn read_send(alloc: Global, arguments: &[&[u8]]) -> Result<Option<Call>, Refusal
     ensures memory { IsOkUnless result Refusal.Memory }
 {
     match arguments {
-        [text] => {
-            let message = read_message(alloc, text)?;
-            Ok(message.map(|bytes| Call::Send(Message::from_vec(bytes))))
-        }
+        [text] => Ok(read_text(alloc, text)?.map(|message| Call::Send(message))),
         _ => Ok(None),
+    }
+}
+
+/// The message that the word spells, copied at once where it does so by its own bytes.
+fn read_text(alloc: Global, text: &[u8]) -> Result<Option<Message>, Refusal>
+    ensures ok { IfOk result (λ found. found ≡ message_of text.now) }
+    ensures memory { IsOkUnless result Refusal.Memory }
+{
+    match plain_message(text) {
+        Some(bytes) => Ok(Some(Message::from_slice(alloc, bytes)?)),
+        None => Ok(read_message(alloc, text)?.map(|bytes| Message::from_vec(bytes))),
     }
 }
 

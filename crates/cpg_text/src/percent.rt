@@ -2,7 +2,7 @@
 //!
 //! Proved: both directions are the definitions `message_of` and `text_of`.
 
-ghost use Rattle.std.specs.Prelude.{◌≡◌, ◌<◌, ◌==◌, ◌++◌, not, length, OnOk, IfOk, IfSome, MatchOption, IsOkUnless, None, true, option_map};
+ghost use Rattle.std.specs.Prelude.{◌≡◌, ◌<◌, ◌==◌, ◌++◌, not, length, OnOk, IfOk, IfSome, MatchOption, IsOkUnless, None, Some, true, option_map};
 ghost use Rattle.std.specs.Fmt.{digit_glyph};
 ghost use Rattle.std.specs.List.{list_all};
 ghost use Rattle.cpg_text.specs.Percent.{decoded, before, message_of, is_plain, encoded_byte, encoded, text_of};
@@ -23,16 +23,21 @@ pub fn read_message(alloc: Global, word: &[u8]) -> Result<Option<Vec<u8>>, Refus
     }
 }
 
-/// The bytes that the text stands for, taken over all at once where each stands for itself.
+/// The message that the word spells by its own bytes, where it does so. Takes no memory.
 #[tactic(auto, using(crate::proofs::Plain::plain_decoded))]
-fn decode(alloc: Global, text: &[u8]) -> Result<Option<Vec<u8>>, Refusal>
-    ensures ok { IfOk result (λ found. option_map (λ bytes. bytes.items) found ≡ decoded text.now) }
-    ensures memory { IsOkUnless result Refusal.Memory }
+pub fn plain_message(word: &[u8]) -> Option<&[u8]>
+    ensures { IfSome result (λ message. message_of word.now ≡ Some message.now) }
 {
-    if has_no_percent(text) {
-        return Ok(Some(Vec::from_slice(alloc, text)?));
+    match word {
+        [] | [b'-'] => None,
+        _ => {
+            if has_no_percent(word) {
+                Some(word)
+            } else {
+                None
+            }
+        }
     }
-    decode_each(alloc, text)
 }
 
 fn has_no_percent(text: &[u8]) -> bool
@@ -43,7 +48,7 @@ fn has_no_percent(text: &[u8]) -> bool
 
 /// The bytes that the text stands for, one after the other.
 #[tactic(auto, using(crate::proofs::Texts::after_push))]
-fn decode_each(alloc: Global, text: &[u8]) -> Result<Option<Vec<u8>>, Refusal>
+fn decode(alloc: Global, text: &[u8]) -> Result<Option<Vec<u8>>, Refusal>
     ensures ok { IfOk result (λ found. option_map (λ bytes. bytes.items) found ≡ decoded text.now) }
     ensures memory { IsOkUnless result Refusal.Memory }
 {
