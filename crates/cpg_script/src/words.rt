@@ -9,7 +9,9 @@ ghost use Rattle.cpg_script.specs.Words.{after_name, cut_at};
 use cpg_cred::Refusal;
 use cpg_text::read_number;
 
-/// Puts the text at the line's end.
+/// Puts the text at the line's end. Most texts are a few bytes that stand in the program, so that it is inlined
+/// where it is called.
+#[inline(always)]
 pub fn put(line: &mut Vec<u8>, text: &str) -> Result<(), Refusal>
     ensures ok { OnOk result (line.new.items ≡ line.old.items ++ text.now) }
     ensures memory { IsOkUnless result Refusal.Memory }
