@@ -130,7 +130,3 @@ text_changed kept name g x w grow found is = by_case (bytes_eq name g) refl
 pub on_ok : {X E : Type 0} (r : Result X E) {P Q : Type 0} → (P → Q) → OnOk r P → OnOk r Q
 on_ok (Ok x) f p = f p
 on_ok (Err e) f p = tt
-
-pub on_both : {X E : Type 0} (r : Result X E) {P Q S : Type 0} → (P → Q → S) → OnOk r P → OnOk r Q → OnOk r S
-on_both (Ok x) f p q = f p q
-on_both (Err e) f p q = tt

@@ -1,4 +1,5 @@
 pub mod Audits
+pub mod Behind
 pub mod Ends
 pub mod Gathered
 pub mod Heard

@@ -1,13 +1,14 @@
 -- the lines of places, one stretch after the other
-use Rattle.std.proofs.Common.{◌≡◌, ℕ, ◌+◌, ◌-◌, ◌<◌, ◌≤◌, suc, List, [], ◌∷◌, ◌++◌, length, map, Some, None, refl, ap, ◌∙◌, append-nil, zero-add, add-zero, zero, arith}
+use Rattle.std.proofs.Common.{◌≡◌, ℕ, ◌+◌, ◌-◌, ◌<◌, ◌≤◌, suc, List, [], ◌∷◌, ◌++◌, length, map, Some, None, refl, ap, ◌∙◌, append-nil, zero-add, add-zero, zero, Bool, true, false, cond, take, arith}
 use Rattle.std.specs.List.{flat_map, range_with_len}
 use Rattle.std.proofs.lemmas.List.Concat.{flat_map-append}
+use Rattle.std.proofs.lemmas.List.{length-take}
 use Rattle.std.proofs.lemmas.Option.{slice_get_within}
 use Rattle.cpg_record.specs.declared.connections.ConnId.{ConnId}
 use Rattle.cpg_record.specs.declared.records.Record.{Record}
 use Rattle.cpg_record.specs.Events.{events, inbox}
 use Rattle.cpg_record.specs.Nexts.{is_made_by}
-use Rattle.cpg_record.specs.Places.{record_at, IsNextOf}
+use Rattle.cpg_record.specs.Places.{places_from, places_of, record_at, IsNextOf}
 use Rattle.cpg_script.proofs.Lined.{map-flat_map}
 use Rattle.cpg_print.specs.Events.{event_line}
 use Rattle.cpg_judge.specs.Texts.{lines_at, lines_between, MakesNone}
@@ -68,3 +69,15 @@ own_next rs conn after place next = record {
 -- after the last own place there is none
 pub none_more : (rs : List Record) (conn : ConnId) (after : ℕ) → IsNextOf (is_made_by conn) rs after None → MakesNone rs conn after (length rs)
 none_more rs conn after none = λ place r above within is. none place r above is
+
+-- up to a place there are at most as many places
+places_within : (q : Record → Bool) (m : ℕ) (rs : List Record) → length (places_from q m rs) ≤ length rs
+places_within q m [] = omega arith
+places_within q m (r ∷ rs) = by_case (q r) (places_within q (suc m) rs)
+  where
+    by_case : (b : Bool) → length (places_from q (suc m) rs) ≤ length rs → length (cond b (m ∷ places_from q (suc m) rs) (places_from q (suc m) rs)) ≤ suc (length rs)
+    by_case true few = omega (arith, few)
+    by_case false few = omega (arith, few)
+
+pub places_few : (q : Record → Bool) (rs : List Record) (last : ℕ) → length (places_of q (take last rs)) ≤ last
+places_few q rs last = omega (arith, places_within q 1 (take last rs), length-take last rs)

@@ -1,3 +1,4 @@
+pub mod Gathering
 pub mod Inboxes
 pub mod Judging
 pub mod Scripts

@@ -121,7 +121,3 @@ AreTexts kept records last = (g : List ℕ) → Holds (kept_text kept g) (texts_
 -- and the text of its members after that place
 abbrev pub AreShown : KeptTexts → List Record → ℕ → Type 0
 AreShown kept records last = (g : List ℕ) → (kept_text kept g).members ≡ members_text (members (take last records) g)
-
--- the texts that are kept are those after all the records
-abbrev pub AreCurrent : KeptTexts → List Record → Type 0
-AreCurrent kept records = AreTexts kept records (length records) × AreShown kept records (length records)

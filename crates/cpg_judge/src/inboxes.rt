@@ -11,7 +11,7 @@ ghost use Rattle.cpg_record.specs.declared.records.Record.{Record};
 ghost use Rattle.cpg_record.specs.Judging.{judged};
 ghost use Rattle.cpg_record.specs.Membership.{group_of, is_allowed, is_member};
 ghost use Rattle.cpg_record.specs.Nexts.{acts_in, is_made_by};
-ghost use Rattle.cpg_record.specs.Places.{places_of, record_at, records_before, IsNextOf};
+ghost use Rattle.cpg_record.specs.Places.{places_of, record_at, records_before};
 ghost use Rattle.cpg_judge.specs.Inboxes.{count_at, told_between, IsPast, IsWithin};
 ghost use Rattle.cpg_judge.specs.Texts.{hears_own, lines_at, lines_between, told_lines, AreTexts, Makes, MakesNone};
 
@@ -145,11 +145,11 @@ impl<'a> Inbox<'a> {
         }
     }
 
-    /// The next place above `after` at which the connection made the entry.
-    pub(crate) fn next_own(&self, after: u32) -> Option<u32>
-        ensures { IsNextOf (is_made_by self.now.conn) (judged self.now.entries) after result }
+    /// The place of that index, from 0, among those at which the connection made the entry.
+    pub(crate) fn own(&self, index: usize) -> Option<u32>
+        ensures { result ≡ slice_get (places_of (is_made_by self.now.conn) (judged self.now.entries)) index }
     {
-        self.trail.next_own(after)
+        self.trail.own(index)
     }
 
     /// How many places there are.
@@ -207,14 +207,20 @@ impl<'a> Inbox<'a> {
         }
     }
 
-    /// What the group tells that the connection is in after the place, if it is in one, with the places up to
-    /// there passed: what was looked up last, where it is of that group.
-    pub(crate) fn told_after(&self, last: Option<Told<'a>>, after: u32) -> Option<Told<'a>>
+    /// What the group tells that the connection is in after the place, up to which it made so many entries, if it
+    /// is in one, with the places up to there passed: what was looked up last, where it is of that group.
+    pub(crate) fn told_after(
+        &self,
+        last: Option<Told<'a>>,
+        count: usize,
+        after: u32,
+    ) -> Option<Told<'a>>
         requires last { IfSome last (IsWithin (judged self.now.entries) after) }
+        requires count { count ≡ length (places_of (is_made_by self.now.conn) (take after (judged self.now.entries))) }
         requires place { after ≤ length (judged self.now.entries) }
         ensures { MatchOption result (group_of (take after (judged self.now.entries)) self.now.conn ≡ None) (λ told. (group_of (take after (judged self.now.entries)) self.now.conn ≡ Some told.group) × IsPast (judged self.now.entries) after told) }
     {
-        match self.group_after(after) {
+        match self.trail.group_past(count) {
             None => None,
             Some(group) => Some(self.told_of(last, group.as_slice(), after)),
         }

@@ -4,10 +4,10 @@
 //! `specs/`, byte for byte, where the reader and the writer tell their bytes.
 #![tactic(auto)]
 
+mod gathering;
 mod inboxes;
 mod judging;
 mod output;
-mod printing;
 mod scripts;
 #[cfg(test)]
 mod tests;

@@ -1,45 +1,72 @@
-//! Scripts of entries, read and checked whole.
+//! Scripts of entries, read, checked and judged whole.
 
-ghost use Rattle.std.specs.Prelude.{◌≡◌, ◌≤◌, Ok, length, IfOk, IfErr};
+ghost use Rattle.std.specs.Prelude.{◌≡◌, ◌≤◌, ◌<◌, ◌+◌, ◌++◌, ◌∷◌, [], ℕ, List, Ok, length, IfOk, IfErr, IfSome, OnOk, IsOkUnless};
 ghost use Rattle.cpg_record.specs.Judging.{most_places};
 ghost use Rattle.cpg_script.specs.Reading.{FailsAs};
-ghost use Rattle.cpg_judge.specs.Scripts.{entries_of_script};
+ghost use Rattle.cpg_script.specs.Steps.{items_with};
+ghost use Rattle.cpg_judge.specs.Scripts.{entry_in, entries_of_script};
 
 use cpg_cred::Refusal;
 use cpg_entry::{Entry, MOST_PLACES};
+use cpg_group::Policy;
 use cpg_print::entry_in_line;
-use cpg_script::{ReadsLine, read_script};
-use cpg_text::MOST_BYTES;
+use cpg_text::{Lines, MOST_BYTES, is_ignored, trim};
 use std::alloc::Global;
 
-/// Reads entries while there is room for one more.
-#[derive(Debug, Clone, Copy)]
-struct EntryReader;
+/// The entry of a trimmed line that follows so many entries, if there is room for one.
+fn read_entry(alloc: Global, before: usize, line: &[u8]) -> Result<Option<Entry>, Refusal>
+    ensures entry { IfOk result (λ found. found ≡ entry_in before line.now) }
+    ensures few { IfOk result (λ found. IfSome found (λ entry. before < most_places)) }
+    ensures memory { IsOkUnless result Refusal.Memory }
+{
+    if before >= MOST_PLACES as usize {
+        return Ok(None);
+    }
+    entry_in_line(alloc, line)
+}
 
-impl ReadsLine for EntryReader {
-    type Item = Entry;
-
-    ghost use Rattle.std.specs.Prelude.{⊤};
-    ghost use Rattle.cpg_judge.specs.Scripts.{entry_in};
-
-    ghost meaning = { λ reader before line. entry_in before line };
-
-    ghost holds = { λ reader entry. ⊤ };
-
-    fn read(&self, alloc: Global, before: usize, line: &[u8]) -> Result<Option<Entry>, Refusal> {
-        if before >= MOST_PLACES as usize {
-            return Ok(None);
-        }
-        entry_in_line(alloc, line)
+/// Judges the entry, and puts it last.
+fn enter(policy: &mut Policy, entry: Entry) -> Result<(), Refusal>
+    requires { length policy.old < most_places }
+    ensures ok { OnOk result (policy.new ≡ policy.old ++ entry ∷ []) }
+    ensures memory { IsOkUnless result Refusal.Memory }
+{
+    match policy.enter(entry) {
+        Ok(()) => Ok(()),
+        Err(refused) => Err(refused.refusal),
     }
 }
 
-/// The entries of a script, or `BadCommand` with its first bad line.
-pub fn read_entries(alloc: Global, script: &[u8]) -> Result<Vec<Entry>, Refusal>
+/// Judges the entry of a line of that number, of which the lines before were judged.
+fn judge_line(alloc: Global, policy: &mut Policy, number: u32, line: &[u8]) -> Result<(), Refusal>
+    ensures ok { OnOk result ((lines : List (List ℕ)) → items_with entry_in policy.old number (line.now ∷ lines) ≡ items_with entry_in policy.new (number + 1) lines) }
+    ensures err { IfErr result (λ refusal. (lines : List (List ℕ)) → FailsAs (items_with entry_in policy.old number (line.now ∷ lines)) refusal) }
+{
+    let line = trim(line);
+    if is_ignored(line) {
+        return Ok(());
+    }
+    match read_entry(alloc, policy.len(), line)? {
+        None => Err(Refusal::BadCommand(number)),
+        Some(entry) => {
+            enter(policy, entry)?;
+            Ok(())
+        }
+    }
+}
+
+/// The entries of a script, each judged as it is read, or `BadCommand` with its first bad line.
+#[tactic(auto, using(cpg_script::proofs::Lengths::lines_few, cpg_script::proofs::Reading::items_with_none))]
+pub fn judge_lines(alloc: Global, script: &[u8]) -> Result<Policy, Refusal>
     requires { length script.now ≤ MOST_BYTES }
-    ensures ok { IfOk result (λ entries. entries_of_script script.now ≡ Ok entries.items) }
-    ensures few { IfOk result (λ entries. length entries.items ≤ most_places) }
+    ensures ok { IfOk result (λ policy. entries_of_script script.now ≡ Ok policy) }
     ensures err { IfErr result (λ refusal. FailsAs (entries_of_script script.now) refusal) }
 {
-    read_script(alloc, &EntryReader, script)
+    let mut policy = Policy::new(alloc);
+    let mut number = 0u32;
+    for line in Lines::of(script) {
+        number += 1;
+        judge_line(alloc, &mut policy, number, line)?;
+    }
+    Ok(policy)
 }

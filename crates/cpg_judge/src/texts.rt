@@ -6,16 +6,21 @@ ghost use Rattle.std.specs.Prelude.{true, ◌≡◌, ◌≤◌, ◌+◌, ◌-◌
 ghost use Rattle.std.specs.List.{concat};
 ghost use Rattle.std.specs.Str.{bytes_eq};
 ghost use Rattle.cpg_record.specs.declared.moves.Cause.TheVariants as Cause;
+ghost use Rattle.cpg_record.specs.declared.records.Record.{Record};
 ghost use Rattle.cpg_record.specs.Connections.{member_of};
 ghost use Rattle.cpg_record.specs.Judging.{judged};
 ghost use Rattle.cpg_record.specs.Membership.{is_allowed};
 ghost use Rattle.cpg_record.specs.Places.{record_at};
-ghost use Rattle.cpg_judge.specs.Texts.{is_move, kept_text, no_text, showing, told_text, with_place, with_text, AreCurrent, AreShown, AreTexts, Holds, LacksText};
+ghost use Rattle.cpg_print.specs.Records.{audit_line, members_text};
+ghost use Rattle.cpg_judge.specs.Texts.{is_move, kept_text, no_text, showing, told_text, with_place, AreShown, AreTexts, Holds, LacksText};
 
 use cpg_cred::Refusal;
 use cpg_entry::{Call, Op};
 use cpg_group::Policy;
-use cpg_print::{put_change_line, put_event, put_members, put_message_line, put_rules_line};
+use cpg_print::{
+    put_audit, put_audit_with, put_change_line, put_event, put_members, put_message_line,
+    put_rules_line,
+};
 use cpg_record::{Cause, Member, Move, Record};
 use indexmap::IndexMap;
 use std::alloc::Global;
@@ -86,6 +91,7 @@ pub(crate) struct Text {
 }
 
 impl Model for Text {
+    ghost use Rattle.cpg_print.specs.Records.{audit_line, members_text};
     ghost use Rattle.cpg_judge.specs.Texts.{TextValue};
 
     ghost Value = { TextValue };
@@ -124,26 +130,51 @@ impl Text {
         put_members(&mut self.members, members)
     }
 
-    /// Puts the line last.
-    fn push(&mut self, line: &[u8]) -> Result<(), Refusal>
-        ensures ok { OnOk result (self.new ≡ with_text line.now self.old) }
-        ensures memory { IsOkUnless result Refusal.Memory }
-    {
-        self.text.extend_from_slice(line)?;
-        let end = self.text.len();
-        self.ends.push(end)?;
-        Ok(())
-    }
-
-    /// Takes in an allowed record of the group, which tells it that line.
-    fn take_in(&mut self, past: &Record, line: &[u8]) -> Result<(), Refusal>
-        ensures ok { OnOk result (self.new ≡ with_place past.now line.now self.old) }
+    /// Takes in the allowed record of the place, of the group of that name: its members where it moves one, and
+    /// what the place tells the group.
+    fn take_in(
+        &mut self,
+        policy: &Policy,
+        place: u32,
+        past: &Record,
+        group: &[u8],
+    ) -> Result<(), Refusal>
+        requires place { (1 ≤ place) × (place ≤ length policy.now) }
+        requires stands { record_at (judged policy.now) place ≡ Some past.now }
+        requires group { past.now.group ≡ Some group.now }
+        requires allowed { is_allowed past.now.verdict ≡ true }
+        ensures ok { OnOk result (self.new ≡ with_place past.now (told_text (judged policy.now) place) self.old) }
         ensures memory { IsOkUnless result Refusal.Memory }
     {
         if is_move(&past.entry.op) {
             self.show(past.members.as_slice())?;
         }
-        self.push(line)
+        put_told(&mut self.text, policy, place, past, group)?;
+        let end = self.text.len();
+        self.ends.push(end)?;
+        Ok(())
+    }
+
+    /// The same, and puts the audit line of the place at the lines' end.
+    fn put_place(
+        &mut self,
+        lines: &mut Vec<u8>,
+        policy: &Policy,
+        place: u32,
+        past: &Record,
+        group: &[u8],
+    ) -> Result<(), Refusal>
+        requires place { (1 ≤ place) × (place ≤ length policy.now) }
+        requires stands { record_at (judged policy.now) place ≡ Some past.now }
+        requires group { past.now.group ≡ Some group.now }
+        requires allowed { is_allowed past.now.verdict ≡ true }
+        requires members { (with_place past.now (told_text (judged policy.now) place) self.old).members ≡ members_text past.now.members }
+        ensures ok { OnOk result (self.new ≡ with_place past.now (told_text (judged policy.now) place) self.old) }
+        ensures line { OnOk result (lines.new.items ≡ lines.old.items ++ audit_line place past.now) }
+        ensures memory { IsOkUnless result Refusal.Memory }
+    {
+        self.take_in(policy, place, past, group)?;
+        put_audit_with(lines, place, past, self.members.as_slice())
     }
 
     /// Where the first so many texts end.
@@ -184,6 +215,7 @@ pub(crate) struct Texts {
 
 impl Model for Texts {
     ghost use Rattle.std.specs.Prelude.{◌≡◌};
+    ghost use Rattle.cpg_print.specs.Records.{audit_line, members_text};
     ghost use Rattle.cpg_judge.specs.Texts.{KeptTexts, named, no_text};
 
     ghost Value = { KeptTexts };
@@ -196,7 +228,8 @@ impl Model for Texts {
 impl Texts {
     /// No texts.
     pub(crate) fn new(alloc: Global) -> Result<Texts, Refusal>
-        ensures ok { IfOk result (λ texts. AreCurrent texts []) }
+        ensures texts { IfOk result (λ texts. (records : List Record) → AreTexts texts records 0) }
+        ensures shown { IfOk result (λ texts. (records : List Record) → AreShown texts records 0) }
         ensures memory { IsOkUnless result Refusal.Memory }
     {
         Ok(Texts {
@@ -215,55 +248,85 @@ impl Texts {
         }
     }
 
-    /// Makes a place for the texts of the group of that name, which has none, with the record as the first.
-    fn begin(&mut self, name: &[u8], past: &Record, line: &[u8]) -> Result<(), Refusal>
-        requires { LacksText self.old name.now }
-        ensures ok { OnOk result ((g : List ℕ) → kept_text self.new g ≡ (if bytes_eq name.now g then with_place past.now line.now (kept_text self.old g) else kept_text self.old g)) }
+    /// Keeps the texts of the group of that name, which has none, with the place as its first, and puts the audit
+    /// line of the place.
+    fn begin(
+        &mut self,
+        lines: &mut Vec<u8>,
+        policy: &Policy,
+        place: u32,
+        past: &Record,
+        name: &[u8],
+    ) -> Result<(), Refusal>
+        requires place { (1 ≤ place) × (place ≤ length policy.now) }
+        requires stands { record_at (judged policy.now) place ≡ Some past.now }
+        requires group { past.now.group ≡ Some name.now }
+        requires allowed { is_allowed past.now.verdict ≡ true }
+        requires members { (with_place past.now (told_text (judged policy.now) place) no_text).members ≡ members_text past.now.members }
+        requires lacking { LacksText self.old name.now }
+        ensures ok { OnOk result ((g : List ℕ) → kept_text self.new g ≡ (if bytes_eq name.now g then with_place past.now (told_text (judged policy.now) place) (kept_text self.old g) else kept_text self.old g)) }
+        ensures line { OnOk result (lines.new.items ≡ lines.old.items ++ audit_line place past.now) }
         ensures memory { IsOkUnless result Refusal.Memory }
     {
         let alloc = *self.kept.allocator();
         let key = Vec::from_slice(alloc, name)?;
         let mut text = Text::new(alloc)?;
-        text.take_in(past, line)?;
+        text.put_place(lines, policy, place, past, name)?;
         self.kept.insert(key, text)?;
         Ok(())
     }
 
-    /// Takes in an allowed record of the group of that name, which tells it that line.
-    fn add(&mut self, name: &[u8], past: &Record, line: &[u8]) -> Result<(), Refusal>
-        ensures ok { OnOk result ((g : List ℕ) → kept_text self.new g ≡ (if bytes_eq name.now g then with_place past.now line.now (kept_text self.old g) else kept_text self.old g)) }
+    /// Takes in the allowed record of the place, of the group of that name, and puts the audit line of the place.
+    fn put_allowed(
+        &mut self,
+        lines: &mut Vec<u8>,
+        policy: &Policy,
+        place: u32,
+        past: &Record,
+        name: &[u8],
+    ) -> Result<(), Refusal>
+        requires place { (1 ≤ place) × (place ≤ length policy.now) }
+        requires stands { record_at (judged policy.now) place ≡ Some past.now }
+        requires group { past.now.group ≡ Some name.now }
+        requires allowed { is_allowed past.now.verdict ≡ true }
+        requires members { (with_place past.now (told_text (judged policy.now) place) (kept_text self.old name.now)).members ≡ members_text past.now.members }
+        ensures ok { OnOk result ((g : List ℕ) → kept_text self.new g ≡ (if bytes_eq name.now g then with_place past.now (told_text (judged policy.now) place) (kept_text self.old g) else kept_text self.old g)) }
+        ensures line { OnOk result (lines.new.items ≡ lines.old.items ++ audit_line place past.now) }
         ensures memory { IsOkUnless result Refusal.Memory }
     {
         match self.kept.get_mut(name) {
-            Some(text) => text.take_in(past, line),
-            None => self.begin(name, past, line),
+            Some(text) => text.put_place(lines, policy, place, past, name),
+            None => self.begin(lines, policy, place, past, name),
         }
     }
 
-    /// Takes in the record of the place, the one after those that were taken in; the line is written over.
-    pub(crate) fn add_place(
+    /// Takes in the record of the place, the one after those that were taken in, and puts its audit line at the
+    /// lines' end.
+    pub(crate) fn put_place(
         &mut self,
-        line: &mut Vec<u8>,
+        lines: &mut Vec<u8>,
         policy: &Policy,
         place: u32,
+        past: &Record,
     ) -> Result<(), Refusal>
         requires place { (1 ≤ place) × (place ≤ length policy.now) }
+        requires stands { record_at (judged policy.now) place ≡ Some past.now }
         requires texts { AreTexts self.old (judged policy.now) (place - 1) }
         requires shown { AreShown self.old (judged policy.now) (place - 1) }
         ensures ok { OnOk result (AreTexts self.new (judged policy.now) place) }
         ensures shown { OnOk result (AreShown self.new (judged policy.now) place) }
+        ensures line { OnOk result (lines.new.items ≡ lines.old.items ++ audit_line place past.now) }
         ensures memory { IsOkUnless result Refusal.Memory }
     {
-        let past = &policy.records()[place as usize - 1];
         match &past.group {
-            None => Ok(()),
+            None => put_audit(lines, place, past),
             Some(group) => {
-                if !past.verdict.is_allowed() {
-                    return Ok(());
+                let name = group.as_slice();
+                if past.verdict.is_allowed() {
+                    self.put_allowed(lines, policy, place, past, name)
+                } else {
+                    put_audit_with(lines, place, past, self.of(name).members())
                 }
-                line.clear();
-                put_told(line, policy, place, past, group.as_slice())?;
-                self.add(group.as_slice(), past, line.as_slice())
             }
         }
     }

@@ -1,16 +1,18 @@
 use Rattle.std.proofs.Common.{◌≡◌, bytes_eq, List, ℕ, [], ◌∷◌, ◌++◌, ap, ◌∙◌}
 use Rattle.std.specs.Map.{lookup}
 use Rattle.indexmap.proofs.CallerLemmas.{insert_entry-new}
-use Rattle.cpg_judge.specs.Texts.{KeptTexts, named, no_text, kept_text, with_place}
+use Rattle.cpg_record.specs.Judging.{judged}
+use Rattle.cpg_judge.specs.Texts.{KeptTexts, named, no_text, kept_text, told_text, with_place}
 use Rattle.cpg_judge.proofs.Keeping.{found_alike, text_begun, made_named}
 use Rattle.cpg_judge.proofs.texts.Texts.begin.Goals as goal
 
 pub returns-clause-ok : goal.returns-clause-ok
 returns-clause-ok c =
     let entries = c.self.inside.kept.entries in
-    let lacking = found_alike c.in_ok-key.key.items entries ∙ ap (λ (n : List ℕ). lookup (bytes_eq n) (named entries)) c.in_ok-key.ensures.items ∙ ap (lookup (bytes_eq c.args.name.now)) c.self.view_is ∙ c.requires in
-    let first : c.take_in.new.self ≡ with_place c.args.past.now c.args.line.now no_text = c.in_ok-take_in.ensures.ok ∙ ap (with_place c.args.past.now c.args.line.now) c.in_ok-text.ensures.ok in
-    let grown : named c.insert.new.self.entries ≡ c.args.self.now ++ (c.args.name.now, with_place c.args.past.now c.args.line.now no_text) ∷ [] =
-    ap named (c.in_ok-insert.ensures.entries ∙ insert_entry-new _ c.self.inside.kept c.in_ok-key.key c.take_in.new.self lacking)
-    ∙ made_named entries c.args.self.now c.args.name.now c.in_ok-key.key c.take_in.new.self (with_place c.args.past.now c.args.line.now no_text) c.self.view_is c.in_ok-key.ensures.items first in
-    λ g. ap (λ (kept : KeptTexts). kept_text kept g) grown ∙ text_begun c.args.self.now c.args.name.now g (with_place c.args.past.now c.args.line.now) c.requires
+    let line = told_text (judged c.args.policy.now) c.args.place in
+    let lacking = found_alike c.in_ok-key.key.items entries ∙ ap (λ (n : List ℕ). lookup (bytes_eq n) (named entries)) c.in_ok-key.ensures.items ∙ ap (lookup (bytes_eq c.args.name.now)) c.self.view_is ∙ c.requires.lacking in
+    let first : c.put_place.new.self ≡ with_place c.args.past.now line no_text = c.in_ok-put_place.ensures.ok ∙ ap (with_place c.args.past.now line) c.in_ok-text.ensures.ok in
+    let grown : named c.insert.new.self.entries ≡ c.args.self.now ++ (c.args.name.now, with_place c.args.past.now line no_text) ∷ [] =
+    ap named (c.in_ok-insert.ensures.entries ∙ insert_entry-new _ c.self.inside.kept c.in_ok-key.key c.put_place.new.self lacking)
+    ∙ made_named entries c.args.self.now c.args.name.now c.in_ok-key.key c.put_place.new.self (with_place c.args.past.now line no_text) c.self.view_is c.in_ok-key.ensures.items first in
+    λ g. ap (λ (kept : KeptTexts). kept_text kept g) grown ∙ text_begun c.args.self.now c.args.name.now g (with_place c.args.past.now line) c.requires.lacking
