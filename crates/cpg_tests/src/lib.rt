@@ -9,6 +9,8 @@ mod copies;
 #[cfg(test)]
 mod drawing;
 #[cfg(test)]
+mod entered;
+#[cfg(test)]
 mod entering;
 #[cfg(test)]
 mod fullness;

@@ -1,0 +1,148 @@
+//! Entries that one call judges and puts last beside those that are judged and then applied, and what a policy
+//! lends of its connections beside what it finds by searches.
+
+use crate::drawing::{conn_by, drawn};
+use crate::entering::{are_equal, enter};
+use cpg_entry::{Entry, MOST_PLACES, Name};
+use cpg_group::{ConnId, Policy, Trail};
+use std::alloc::Global;
+
+/// How many pairs of policies there are.
+const PAIRS: u32 = 200;
+
+/// How many entries each policy judges.
+const ENTRIES: u32 = 90;
+
+/// How many connections are followed: those that take part, and one that makes no entry.
+const CONNS: u32 = 10;
+
+/// Judges the entry and puts it last by one call, and says whether that was done.
+fn enters(policy: &mut Policy, entry: Entry) -> bool {
+    policy.len() < MOST_PLACES as usize && policy.enter(entry).is_ok()
+}
+
+/// Puts the entry last in both, in the one by two calls and in the other by one.
+fn both_enter(one: &mut Policy, other: &mut Policy, entry: Entry) -> bool {
+    enter(one, &entry).is_ok() && enters(other, entry)
+}
+
+/// Does so with the entry of the turn.
+fn turn_enters(alloc: Global, one: &mut Policy, other: &mut Policy, seed: u32, turn: u32) -> bool {
+    match drawn(alloc, seed, turn) {
+        Ok(entry) => both_enter(one, other, entry),
+        Err(_) => false,
+    }
+}
+
+/// Whether both have the same records after each turn of the seed.
+fn turns_enter(alloc: Global, one: &mut Policy, other: &mut Policy, seed: u32) -> bool {
+    for turn in 0..ENTRIES {
+        if !turn_enters(alloc, one, other, seed, turn) || one.len() != other.len() {
+            return false;
+        }
+    }
+    are_equal(one.records(), other.records())
+}
+
+/// Whether the connection is among the first so many.
+fn is_among(conns: &[ConnId], count: usize, conn: &ConnId) -> bool {
+    conns.iter().take(count).any(|one| one.is(conn))
+}
+
+/// Whether the connection of that index is that one.
+fn is_at(conns: &[ConnId], index: usize, conn: &ConnId) -> bool {
+    match conns.get(index) {
+        Some(one) => one.is(conn),
+        None => false,
+    }
+}
+
+/// Whether the policy lends the connections of its records, each once, in the order of their first entries.
+fn lends_connections(policy: &Policy) -> bool {
+    let conns = policy.connections();
+    let mut seen = 0usize;
+    for past in policy.records() {
+        let conn = ConnId::of(&past.entry);
+        if !is_among(conns, seen, &conn) {
+            if !is_at(conns, seen, &conn) {
+                return false;
+            }
+            seen = seen.wrapping_add(1);
+        }
+    }
+    seen == conns.len()
+}
+
+/// Whether the names are the same, or neither is there.
+fn are_same(one: Option<&Name>, other: Option<&Name>) -> bool {
+    match (one, other) {
+        (Some(one), Some(other)) => one.is(other.as_slice()),
+        (None, None) => true,
+        _ => false,
+    }
+}
+
+/// Whether the trail's own places and groups by number are those that searches find.
+fn trail_agrees(policy: &Policy, trail: &Trail<'_>, conn: ConnId) -> bool {
+    let mut after = 0u32;
+    for index in 0..=ENTRIES as usize {
+        let own = trail.own(index);
+        let found = policy.group_after(after, conn);
+        if own != policy.next_own(after, conn) || !are_same(trail.group_past(index), found) {
+            return false;
+        }
+        match own {
+            Some(place) => after = place,
+            None => return true,
+        }
+    }
+    false
+}
+
+/// Whether that is so of the connection of that number.
+fn number_agrees(policy: &Policy, number: u32) -> bool {
+    match conn_by(number) {
+        Ok(conn) => trail_agrees(policy, &policy.trail(conn), conn),
+        Err(_) => false,
+    }
+}
+
+/// Whether that is so of each connection.
+fn trails_agree(policy: &Policy) -> bool {
+    for number in 0..CONNS {
+        if !number_agrees(policy, number) {
+            return false;
+        }
+    }
+    true
+}
+
+/// Whether the new policies agree.
+fn pair_agrees(alloc: Global, one: &mut Policy, other: &mut Policy, seed: u32) -> bool {
+    turns_enter(alloc, one, other, seed) && lends_connections(other) && trails_agree(other)
+}
+
+/// Whether policies of the seed agree.
+fn seed_agrees(alloc: Global, seed: u32) -> bool {
+    let mut one = Policy::new(alloc);
+    let mut other = Policy::new(alloc);
+    let answer = pair_agrees(alloc, &mut one, &mut other, seed);
+    drop(one);
+    drop(other);
+    answer
+}
+
+/// Whether that is so of each seed.
+fn seeds_agree(alloc: Global) -> bool {
+    for seed in 0..PAIRS {
+        if !seed_agrees(alloc, seed) {
+            return false;
+        }
+    }
+    true
+}
+
+#[test]
+fn entries_are_entered_as_they_are_judged(rt: HostRuntime) {
+    assert!(rt; seeds_agree(rt.alloc()));
+}
