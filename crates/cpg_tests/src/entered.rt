@@ -4,7 +4,7 @@
 use crate::drawing::{conn_by, drawn};
 use crate::entering::{are_equal, enter};
 use cpg_entry::{Entry, MOST_PLACES, Name};
-use cpg_group::{ConnId, Policy, Trail};
+use cpg_group::{ConnId, Policy};
 use std::alloc::Global;
 
 /// How many pairs of policies there are.
@@ -82,13 +82,14 @@ fn are_same(one: Option<&Name>, other: Option<&Name>) -> bool {
     }
 }
 
-/// Whether the trail's own places and groups by number are those that searches find.
-fn trail_agrees(policy: &Policy, trail: &Trail<'_>, conn: ConnId) -> bool {
+/// Whether the own places and groups that the connection's trail lends by number are those that searches find.
+fn trail_agrees(policy: &Policy, conn: &ConnId) -> bool {
+    let trail = policy.trail(*conn);
     let mut after = 0u32;
     for index in 0..=ENTRIES as usize {
         let own = trail.own(index);
-        let found = policy.group_after(after, conn);
-        if own != policy.next_own(after, conn) || !are_same(trail.group_past(index), found) {
+        let found = policy.group_after(after, *conn);
+        if own != policy.next_own(after, *conn) || !are_same(trail.group_past(index), found) {
             return false;
         }
         match own {
@@ -102,7 +103,7 @@ fn trail_agrees(policy: &Policy, trail: &Trail<'_>, conn: ConnId) -> bool {
 /// Whether that is so of the connection of that number.
 fn number_agrees(policy: &Policy, number: u32) -> bool {
     match conn_by(number) {
-        Ok(conn) => trail_agrees(policy, &policy.trail(conn), conn),
+        Ok(conn) => trail_agrees(policy, &conn),
         Err(_) => false,
     }
 }
