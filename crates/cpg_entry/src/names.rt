@@ -5,14 +5,18 @@ ghost use Rattle.std.specs.Str.{bytes_eq};
 ghost use Rattle.cpg_entry.specs.Names.{IsName, is_name};
 
 use cpg_rules::Refusal;
+use smallvec::SmallVec;
 use std::alloc::Global;
 use std::cmp::Ordering;
 use std::hash::{Hash, Hasher};
 use std::marker::Model;
-use std::sync::ArcSlice;
+use std::sync::Arc;
 
 /// How many bytes a group's name has at most.
 pub const MOST_NAME_BYTES: usize = 128;
+
+/// How many bytes a name keeps beside the count of its owners: a longer one has a second block of memory.
+const KEPT_INSIDE: usize = 16;
 
 /// Whether the bytes may name a group: 1 to 128 of them, each a printing ASCII character (0x21 to 0x7E).
 pub fn accepts_name(bytes: &[u8]) -> bool
@@ -39,16 +43,16 @@ pub fn names_pass()
 /// its bytes. Copies share them.
 #[derive(Debug, Drop)]
 pub struct Name {
-    bytes: ArcSlice<u8>,
+    bytes: Arc<SmallVec<u8, KEPT_INSIDE>>,
 }
 
 impl Model for Name {
     ghost use Rattle.std.specs.Prelude.{List, ℕ};
-    ghost use Rattle.std.specs.Arc.{arc_slice_items};
+    ghost use Rattle.std.specs.Arc.{arc_value};
 
     ghost Value = { List ℕ };
 
-    ghost view = { λ name. arc_slice_items name.bytes };
+    ghost view = { λ name. (arc_value name.bytes).items };
 }
 
 impl Name {
@@ -57,8 +61,9 @@ impl Name {
         ensures ok { IfOk result (λ name. name ≡ bytes.now) }
         ensures memory { IsOkUnless result Refusal.Memory }
     {
+        let bytes = SmallVec::from_slice(alloc, bytes)?;
         Ok(Name {
-            bytes: ArcSlice::from_slice(alloc, bytes)?,
+            bytes: Arc::new(alloc, bytes)?,
         })
     }
 
@@ -68,7 +73,7 @@ impl Name {
         ensures memory { IsOkUnless result Refusal.Memory }
     {
         Ok(Name {
-            bytes: self.bytes.clone()?,
+            bytes: Arc::try_clone(&self.bytes)?,
         })
     }
 
