@@ -1,14 +1,15 @@
--- The kept processes are those of the members after those of a leaver went.
-use Rattle.std.proofs.Common.{◌≡◌, ℕ, ◌+◌, ◌≤◌, Bool, true, false, not, ◌&&◌, ◌||◌, cond, List, [], ◌∷◌, refl, sym, ap, subst, ◌∙◌, arith}
+-- The kept processes are those of the members after one more is put in, and after those of a leaver went.
+use Rattle.std.proofs.Common.{◌≡◌, ℕ, ◌+◌, ◌<◌, ◌≤◌, Bool, true, false, not, ◌&&◌, ◌||◌, cond, List, [], ◌∷◌, length, take, get_or, refl, sym, ap, subst, ◌∙◌, arith}
 use Rattle.std.specs.Prelude.{count_by}
 use Rattle.std.specs.List.{filter, list_any}
-use Rattle.std.proofs.lemmas.List.Sums.{sum_by-cons}
+use Rattle.std.proofs.lemmas.List.Folds.{list_any_more}
+use Rattle.std.proofs.lemmas.List.Sums.{count_by-le-length, length-filter, sum_by-cons}
 use Rattle.cpg_record.specs.declared.connections.ConnId.{ConnId}
 use Rattle.cpg_record.specs.declared.memberships.Member.{Member}
 use Rattle.cpg_record.specs.Connections.{conn_in, is_conn}
 use Rattle.cpg_record.specs.Steps.{without}
 use Rattle.cpg_group.specs.declared.rosters.Process.{Process}
-use Rattle.cpg_group.specs.Processes.{process_in, is_leaver, is_process, AreProcesses, OnceEach, TakesOut}
+use Rattle.cpg_group.specs.Processes.{process_in, is_leaver, is_process, AreKept, AreProcesses, OnceEach, TakesOut}
 
 -- how many pass, by the first of them
 count-cons : {X : Type 0} (p : X → Bool) (x : X) (xs : List X) → count_by p (x ∷ xs) ≡ cond (p x) 1 0 + count_by p xs
@@ -69,3 +70,38 @@ leavers_out conn members after old new are once out is p =
     ∙ ap (λ (t : Bool). t && not (list_any (is_leaver conn p) members)) (are p)
     ∙ rest_passes (λ member. is_conn (conn_in member) conn) (λ member. is_process (process_in member) p) members (once p)
     ∙ ap (list_any (λ member. is_process (process_in member) p)) (sym is)
+
+-- where more than a few stay, the kept processes after those of a connection went are those of who stay
+pub leavers_left : (conn : ConnId) (members after : List Member) (old new : List Process) → AreKept old members → OnceEach members → TakesOut conn members old new →
+    after ≡ without conn members → AreKept new after
+leavers_left conn members after old new are once out is above =
+    leavers_out conn members after old new (are (more_before above no_more)) once out is
+  where
+    stays : Member → Bool
+    stays member = not (is_conn (conn_in member) conn)
+
+    no_more : length after ≤ length members
+    no_more = subst (λ (n : ℕ). n ≤ length members) (sym (ap length is ∙ length-filter stays members)) (count_by-le-length stays members)
+
+    more_before : {n m k : ℕ} → n < m → m ≤ k → n < k
+    more_before less more = omega arith
+
+-- with a member's process put in, the kept processes are those of one member more
+pub one_more : (members : List Member) (i : ℕ) (d : Member) (added : Process) (old new : List Process) → i < length members → AreProcesses old (take i members) →
+    added ≡ process_in (get_or members i d) →
+    ((p : Process) → list_any (is_process p) new ≡ cond (is_process added p) true (list_any (is_process p) old)) → AreProcesses new (take (i + 1) members)
+one_more members i d added old new within are is put p =
+    put p
+    ∙ either (is_process added p) (list_any (is_process p) old)
+    ∙ ap (λ (t : Bool). t || is_process added p) (are p)
+    ∙ ap (λ q. list_any has (take i members) || is_process q p) is
+    ∙ sym (list_any_more has members i d within)
+  where
+    has : Member → Bool
+    has member = is_process (process_in member) p
+
+    either : (b c : Bool) → cond b true c ≡ (c || b)
+    either true true = refl
+    either true false = refl
+    either false true = refl
+    either false false = refl

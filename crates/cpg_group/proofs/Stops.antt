@@ -4,7 +4,7 @@ use Rattle.std.specs.Prelude.{◌↔◌, is_some, option_map}
 use Rattle.std.specs.List.{fold, slice_get}
 use Rattle.std.specs.List.Sorted.{IsPartitionPoint}
 use Rattle.std.specs.Map.{keys_of, lookup, set_value}
-use Rattle.std.specs.declared.vec.Vec.{Vec}
+use Rattle.smallvec.specs.SmallVec.{SmallVec}
 use Rattle.std.proofs.lemmas.Bool.{le-leb}
 use Rattle.std.proofs.lemmas.List.{append-nil, map-append, take-append-le, take_all}
 use Rattle.std.proofs.lemmas.List.Elements.{All-append, All-cons}
@@ -12,6 +12,8 @@ use Rattle.std.proofs.lemmas.List.Sums.{fold_push}
 use Rattle.std.proofs.lemmas.Map.{keys-set_value}
 use Rattle.std.proofs.lemmas.Map.Made.{is_some-lookup}
 use Rattle.std.proofs.lemmas.Option.{slice_get-map, slice_get-get_or, slice_get_within, get_or_from_slice_get, none-some}
+use Rattle.indexmap.specs.IndexMap.{IndexMap, insert_entry}
+use Rattle.indexmap.proofs.CallerLemmas.{insert_entry-new}
 use Rattle.cpg_entry.specs.declared.calls.Call.TheVariants.{Join, Leave, Send, Insert, Remove}
 use Rattle.cpg_entry.specs.declared.calls.Op.{Op}
 use Rattle.cpg_entry.specs.declared.calls.Op.TheVariants.{Act, Gone}
@@ -205,7 +207,7 @@ conns_past rs r =
     ∙ fold_push with_conn [] (map conn_of (entries_of rs)) (conn_of r.entry)
 
 -- the trails where the maker's alone was set
-pub AreTrails-past : {Y Z : Type 0} (old : KeptTrails Y) (new : KeptTrails Z) (rs : List Record) (r : Record) (trail : List Stop) → AreTrails old rs → IsTrail (rs ++ r ∷ []) (conn_of r.entry) trail →
+AreTrails-past : (old new : KeptTrails) (rs : List Record) (r : Record) (trail : List Stop) → AreTrails old rs → IsTrail (rs ++ r ∷ []) (conn_of r.entry) trail →
     keys_of new ≡ with_conn (keys_of old) (conn_of r.entry) →
     ((c : ConnId) → kept_trail new c ≡ cond (is_conn c (conn_of r.entry)) trail (kept_trail old c)) → AreTrails new (rs ++ r ∷ [])
 AreTrails-past old new rs r trail are own keys set = (
@@ -236,23 +238,23 @@ flipped a b = by_case (is_conn a b) (is_conn b a) refl refl
         absurd (cc)
 
 -- the connections stay where a trail is set
-pub conns_set : {Z : Type 0} (kept : KeptTrails Z) (conn : ConnId) (w : Vec Stop Z) → is_some (lookup (is_conn conn) kept) ≡ true →
+conns_set : (kept : KeptTrails) (conn : ConnId) (w : SmallVec Stop) → is_some (lookup (is_conn conn) kept) ≡ true →
     keys_of (set_value (is_conn conn) kept w) ≡ with_conn (keys_of kept) conn
 conns_set kept conn w there =
     keys-set_value (is_conn conn) kept w
     ∙ ap (λ (b : Bool). cond b (keys_of kept) (keys_of kept ++ conn ∷ [])) (sym there ∙ is_some-lookup (is_conn conn) kept)
 
 -- and that of a trail that is added comes last
-pub conns_added : {Z : Type 0} (kept : KeptTrails Z) (conn : ConnId) (w : Vec Stop Z) → lookup (is_conn conn) kept ≡ None →
+conns_added : (kept : KeptTrails) (conn : ConnId) (w : SmallVec Stop) → lookup (is_conn conn) kept ≡ None →
     keys_of (kept ++ (conn, w) ∷ []) ≡ with_conn (keys_of kept) conn
 conns_added kept conn w none =
     map-append (λ entry. entry.0) kept ((conn, w) ∷ [])
     ∙ ap (λ (b : Bool). cond b (keys_of kept) (keys_of kept ++ conn ∷ [])) (sym (ap is_some none) ∙ is_some-lookup (is_conn conn) kept)
 
 -- and every other stays
-pub trail_set : {Z : Type 0} (kept : KeptTrails Z) (conn q : ConnId) (w : Vec Stop Z) → is_some (lookup (is_conn conn) kept) ≡ true →
+trail_set : (kept : KeptTrails) (conn q : ConnId) (w : SmallVec Stop) → is_some (lookup (is_conn conn) kept) ≡ true →
     kept_trail (set_value (is_conn conn) kept w) q ≡ cond (is_conn q conn) w.items (kept_trail kept q)
-trail_set {Z} kept conn q w there =
+trail_set kept conn q w there =
     ap or_no_trail (lookup-set is_conn is_conn-Decides kept conn w q there)
     ∙ by_case (is_conn conn q)
     ∙ ap (λ (b : Bool). cond b w.items (kept_trail kept q)) (flipped conn q)
@@ -262,9 +264,9 @@ trail_set {Z} kept conn q w there =
     by_case false = refl
 
 -- as it does where a trail is added
-pub trail_added : {Z : Type 0} (kept : KeptTrails Z) (conn q : ConnId) (w : Vec Stop Z) → lookup (is_conn conn) kept ≡ None →
+trail_added : (kept : KeptTrails) (conn q : ConnId) (w : SmallVec Stop) → lookup (is_conn conn) kept ≡ None →
     kept_trail (kept ++ (conn, w) ∷ []) q ≡ cond (is_conn q conn) w.items (kept_trail kept q)
-trail_added {Z} kept conn q w none =
+trail_added kept conn q w none =
     ap or_no_trail (lookup-push is_conn is_conn-Decides kept conn w q none)
     ∙ by_case (is_conn conn q)
     ∙ ap (λ (b : Bool). cond b w.items (kept_trail kept q)) (flipped conn q)
@@ -274,10 +276,48 @@ trail_added {Z} kept conn q w none =
     by_case false = refl
 
 -- what is set to the items that were there changes no trail
-pub trail_same : {Z : Type 0} (kept : KeptTrails Z) (conn q : ConnId) (v w : Vec Stop Z) → lookup (is_conn conn) kept ≡ Some v → w.items ≡ v.items →
+trail_same : (kept : KeptTrails) (conn q : ConnId) (v w : SmallVec Stop) → lookup (is_conn conn) kept ≡ Some v → w.items ≡ v.items →
     kept_trail (set_value (is_conn conn) kept w) q ≡ kept_trail kept q
-trail_same {Z} kept conn q v w there same = trail_set kept conn q w (ap is_some there) ∙ by_case (is_conn q conn) refl
+trail_same kept conn q v w there same = trail_set kept conn q w (ap is_some there) ∙ by_case (is_conn q conn) refl
   where
     by_case : (b : Bool) → is_conn q conn ≡ b → cond b w.items (kept_trail kept q) ≡ kept_trail kept q
     by_case false is = refl
     by_case true is = same ∙ sym (ap (λ (c : ConnId). kept_trail kept c) (is_conn-true q conn is) ∙ ap or_no_trail there)
+
+-- ---- all trails where one is put in the map
+
+-- the maker's was added, once there was room for it
+pub AreTrails-added : {S : Type 0} (old : KeptTrails) (roomy : IndexMap ConnId (SmallVec Stop) S) (new : KeptTrails) (rs : List Record) (r : Record) (conn : ConnId) (w : SmallVec Stop) →
+    AreTrails old rs → lookup (is_conn (conn_of r.entry)) old ≡ None → roomy.entries ≡ old → conn ≡ conn_of r.entry →
+    new ≡ insert_entry is_conn roomy.entries conn w → IsTrail (rs ++ r ∷ []) (conn_of r.entry) w.items → AreTrails new (rs ++ r ∷ [])
+AreTrails-added old roomy new rs r conn w are absent same is put own =
+    let none : lookup (is_conn conn) roomy.entries ≡ None =
+    ap (lookup (is_conn conn)) same ∙ ap (λ (q : ConnId). lookup (is_conn q) old) is ∙ absent in
+    let grown : new ≡ old ++ (conn_of r.entry, w) ∷ [] =
+    put ∙ insert_entry-new is_conn roomy conn w none
+    ∙ ap (λ (front : KeptTrails). front ++ (conn, w) ∷ []) same
+    ∙ ap (λ (q : ConnId). old ++ (q, w) ∷ []) is in
+    AreTrails-past old new rs r w.items are own
+    (ap keys_of grown ∙ conns_added old (conn_of r.entry) w absent)
+    (λ q. ap (λ (kept : KeptTrails). kept_trail kept q) grown ∙ trail_added old (conn_of r.entry) q w absent)
+
+-- the maker's was there, and is set
+pub AreTrails-set : (old new : KeptTrails) (rs : List Record) (r : Record) (conn : ConnId) (v w : SmallVec Stop) →
+    AreTrails old rs → lookup (is_conn conn) old ≡ Some v → conn ≡ conn_of r.entry →
+    new ≡ set_value (is_conn conn) old w → IsTrail (rs ++ r ∷ []) (conn_of r.entry) w.items → AreTrails new (rs ++ r ∷ [])
+AreTrails-set old new rs r conn v w are found is put own =
+    let there : is_some (lookup (is_conn (conn_of r.entry)) old) ≡ true =
+    ap (λ (q : ConnId). is_some (lookup (is_conn q) old)) (sym is) ∙ ap is_some found in
+    let grown : new ≡ set_value (is_conn (conn_of r.entry)) old w =
+    put ∙ ap (λ (q : ConnId). set_value (is_conn q) old w) is in
+    AreTrails-past old new rs r w.items are own
+    (ap keys_of grown ∙ conns_set old (conn_of r.entry) w there)
+    (λ q. ap (λ (kept : KeptTrails). kept_trail kept q) grown ∙ trail_set old (conn_of r.entry) q w there)
+
+-- one was set to the stops that it had
+pub AreTrails-same : (old new : KeptTrails) (rs : List Record) (conn : ConnId) (v w : SmallVec Stop) →
+    AreTrails old rs → lookup (is_conn conn) old ≡ Some v → new ≡ set_value (is_conn conn) old w → w.items ≡ v.items → AreTrails new rs
+AreTrails-same old new rs conn v w are found put same = (
+  ap keys_of put ∙ keys-set_value (is_conn conn) old w ∙ are.0,
+  (λ q. subst (IsTrail rs q) (sym (ap (λ (kept : KeptTrails). kept_trail kept q) put ∙ trail_same old conn q v w found same)) (are.1 q)),
+)

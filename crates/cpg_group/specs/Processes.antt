@@ -1,5 +1,5 @@
 -- the processes of a group's members, as they are kept beside the members
-use Rattle.std.specs.Prelude.{◌≡◌, ◌≤◌, Bool, not, ◌&&◌, ◌==◌, List, [], ◌∷◌, ◌++◌, count_by}
+use Rattle.std.specs.Prelude.{◌≡◌, ◌≤◌, ◌<◌, Bool, not, ◌&&◌, ◌==◌, List, [], ◌∷◌, ◌++◌, count_by, length}
 use Rattle.std.specs.List.{list_any}
 use Rattle.cpg_entry.specs.declared.calls.Call.TheVariants.{Join, Leave}
 use Rattle.cpg_entry.specs.declared.calls.Op.{Op}
@@ -10,6 +10,7 @@ use Rattle.cpg_record.specs.declared.memberships.Member.{Member}
 use Rattle.cpg_record.specs.Connections.{conn_of, conn_in, is_conn, member_of}
 use Rattle.cpg_record.specs.Steps.{without}
 use Rattle.cpg_group.specs.declared.rosters.Process.{Process}
+use Rattle.cpg_group.specs.declared.rosters.TheConstants.{FEW}
 
 -- the process of a member
 abbrev pub process_in : Member → Process
@@ -26,6 +27,10 @@ is_process a b = (a.node == b.node) && (a.pid == b.pid)
 -- a process is kept exactly where a member has its node and pid
 abbrev pub AreProcesses : List Process → List Member → Type 0
 AreProcesses kept members = (p : Process) → list_any (is_process p) kept ≡ list_any (λ member. is_process (process_in member) p) members
+
+-- where the members are more than a few, their processes are kept
+abbrev pub AreKept : List Process → List Member → Type 0
+AreKept kept members = FEW < length members → AreProcesses kept members
 
 -- no process stands twice among the members
 abbrev pub OnceEach : List Member → Type 0

@@ -1,7 +1,7 @@
 -- the trails of connections, as they are kept beside the records: each one's own places, with its groups
 use Rattle.std.specs.Prelude.{ℕ, ◌≡◌, ◌≤◌, List, [], map, take, All, Option, Some, None, if◌then◌else◌}
 use Rattle.std.specs.Map.{keys_of, lookup}
-use Rattle.std.specs.declared.vec.Vec.{Vec}
+use Rattle.smallvec.specs.SmallVec.{SmallVec}
 use Rattle.cpg_entry.specs.declared.calls.Call.TheVariants.{Join, Leave}
 use Rattle.cpg_entry.specs.declared.calls.Op.{Op}
 use Rattle.cpg_entry.specs.declared.calls.Op.TheVariants.{Act, Gone}
@@ -56,19 +56,19 @@ abbrev pub join_after : Record → ℕ → Option (List ℕ) → ℕ → ℕ
 join_after r place group standing = if is_allowed r.verdict then join_by r.entry.op place group standing else standing
 
 -- connections with their trails
-abbrev pub KeptTrails : Type 0 → Type 0
-KeptTrails Z = List (ConnId × Vec Stop Z)
+abbrev pub KeptTrails : Type 0
+KeptTrails = List (ConnId × SmallVec Stop)
 
 -- the stops of the trail that is found, and none where there is none
-abbrev pub or_no_trail : {Z : Type 0} → Option (Vec Stop Z) → List Stop
+abbrev pub or_no_trail : Option (SmallVec Stop) → List Stop
 or_no_trail None = []
 or_no_trail (Some trail) = trail.items
 
 -- the trail that is kept for a connection
-abbrev pub kept_trail : {Z : Type 0} → KeptTrails Z → ConnId → List Stop
+abbrev pub kept_trail : KeptTrails → ConnId → List Stop
 kept_trail kept conn = or_no_trail (lookup (is_conn conn) kept)
 
 -- the kept trails are those that the records make, of the connections of their entries in turn
-abbrev pub AreTrails : {Z : Type 0} → KeptTrails Z → List Record → Type 0
+abbrev pub AreTrails : KeptTrails → List Record → Type 0
 AreTrails kept records =
     (keys_of kept ≡ conns_of (entries_of records)) × ((conn : ConnId) → IsTrail records conn (kept_trail kept conn))

@@ -13,7 +13,7 @@ ghost use Rattle.cpg_group.specs.Trails.{AreTrails, IsTrail};
 
 use crate::judging;
 use crate::standing::{Group, Groups};
-use crate::trails::{Stop, Trails, group_now, stop_of};
+use crate::trails::{Stop, Stops, Trails, group_now, make_room, stop_of};
 use cpg_cred::Refusal;
 use cpg_entry::Name;
 use cpg_record::{ConnId, Record};
@@ -106,7 +106,7 @@ fn enter_groups(
 /// groups past it. The trail grows first, and then the groups, so that a refusal changes neither.
 #[inline(always)]
 fn enter_trail(
-    trail: &mut Vec<Stop>,
+    trail: &mut Stops,
     groups: &mut Groups,
     records: &[Record],
     place: u32,
@@ -125,16 +125,19 @@ fn enter_trail(
     ensures err { OnErr result (next.new.entry ≡ next.old.entry) }
     ensures memory { IsOkUnless result Refusal.Memory }
 {
-    trail.reserve(1)?;
+    make_room(trail)?;
     let alloc = *trail.allocator();
-    enter_groups(alloc, groups, records, trail.as_slice(), place, next)?;
-    let stop = stop_of(records, trail.as_slice(), place, next);
+    let stops = trail.as_slice();
+    enter_groups(alloc, groups, records, stops, place, next)?;
+    let stop = stop_of(records, stops, place, next);
     trail.push_reserved(stop);
     Ok(())
 }
 
-/// Judges the first entry of its connection in place, keeps a trail of it, and brings the groups past it. A
-/// refusal changes no trail, no group and no entry.
+/// Judges the first entry of its connection in place, keeps a trail of it, and brings the groups past it. The
+/// map of trails makes room first, so that a refusal changes no trail, no group and no entry. It stands apart,
+/// so that what the entries after it cost stays small.
+#[inline(never)]
 fn enter_first(
     trails: &mut Trails,
     groups: &mut Groups,
@@ -156,8 +159,11 @@ fn enter_first(
     ensures err { OnErr result (next.new.entry ≡ next.old.entry) }
     ensures memory { IsOkUnless result Refusal.Memory }
 {
-    judging::judge_draft(*trails.kept.allocator(), records, groups, &[], next)?;
-    trails.add(groups, records, place, next)
+    trails.kept.reserve(1)?;
+    let mut trail = Stops::new(*trails.kept.allocator());
+    enter_trail(&mut trail, groups, records, place, next)?;
+    trails.kept.insert(ConnId::of(&next.entry), trail)?;
+    Ok(())
 }
 
 /// Judges the entry of a draft in place, as the one at the next place, and brings its trail and the groups

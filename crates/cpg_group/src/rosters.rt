@@ -1,10 +1,11 @@
-//! The members of a group with the set of their processes: whether a process is a member is one search of
-//! the set.
+//! The members of a group, with the set of their processes where they are more than a few: whether a process
+//! is a member is one search of the set there, and a look at each of the few members elsewhere.
 
-ghost use Rattle.std.specs.Prelude.{◌≡◌, ◌++◌, ◌∷◌, [], OnOk, OnErr, IsOkUnless};
+ghost use Rattle.std.specs.Prelude.{◌≡◌, ◌++◌, ◌∷◌, [], OnOk, OnErr, IfOk, IsOkUnless};
 ghost use Rattle.cpg_record.specs.Connections.{conn_of, member_of};
 ghost use Rattle.cpg_record.specs.Verdicts.{has_process};
-ghost use Rattle.cpg_group.specs.Processes.{process_in, process_of, ComesTo, Leaves, TakesOut};
+ghost use Rattle.indexmap.specs.IndexSet.{IsUnchanged};
+ghost use Rattle.cpg_group.specs.Processes.{process_in, process_of, AreKept, AreProcesses, ComesTo, Leaves, TakesOut};
 
 use cpg_cred::{NodeId, Refusal};
 use cpg_entry::{Call, Entry, Op};
@@ -12,6 +13,9 @@ use cpg_record::{ConnId, Member, Members, Record};
 use indexmap::IndexSet;
 use std::alloc::Global;
 use std::marker::Model;
+
+/// The most members whose processes no set keeps. Most groups have no more, and need no memory for a set.
+const FEW: usize = 8;
 
 /// A process: its node and its pid there.
 #[derive(Debug, Clone, Copy, PartialEq, Eq, Hash)]
@@ -42,6 +46,39 @@ impl Process {
     }
 }
 
+/// The set of the members' processes, made anew.
+fn processes_of(alloc: Global, members: &[Member]) -> Result<IndexSet<Process>, Refusal>
+    ensures ok { IfOk result (λ processes. AreProcesses processes.keys members.now) }
+    ensures memory { IsOkUnless result Refusal.Memory }
+{
+    let mut processes = IndexSet::with_capacity(alloc, members.len())?;
+    for member in members {
+        processes.insert(Process::of_member(member))?;
+    }
+    Ok(processes)
+}
+
+/// Brings the kept processes past a join. Where it makes the members more than a few, they are all put in anew.
+/// A refusal changes nothing.
+fn keep_joined(
+    processes: &mut IndexSet<Process>,
+    before: &Members,
+    past: &Record,
+) -> Result<(), Refusal>
+    requires joined { past.now.members ≡ before.now ++ member_of past.now.entry ∷ [] }
+    requires kept { AreKept processes.old.keys before.now }
+    ensures ok { OnOk result (AreKept processes.new.keys past.now.members) }
+    ensures err { OnErr result (IsUnchanged processes.old processes.new) }
+    ensures memory { IsOkUnless result Refusal.Memory }
+{
+    if before.len() > FEW {
+        processes.insert(Process::of(&past.entry))?;
+    } else if past.members.len() > FEW {
+        *processes = processes_of(*processes.allocator(), past.members.as_slice())?;
+    }
+    Ok(())
+}
+
 /// Takes the member's process out of the kept ones, if the member is that connection.
 fn take_out_one(processes: &mut IndexSet<Process>, member: &Member, conn: &ConnId)
     ensures { TakesOut conn.now (member.now ∷ []) processes.old.keys processes.new.keys }
@@ -60,8 +97,23 @@ fn take_out(processes: &mut IndexSet<Process>, members: &[Member], conn: &ConnId
     }
 }
 
-/// The members of a group in the order of their joins, with the set of their processes. Contracts see it as
-/// the list of members.
+/// Brings the kept processes past a leave or end. Where no more than a few members stay, none is kept, and the
+/// set gives its memory back.
+fn keep_rest(processes: &mut IndexSet<Process>, before: &Members, past: &Record)
+    requires left { Leaves (conn_of past.now.entry) before.now past.now.members }
+    requires kept { AreKept processes.old.keys before.now }
+    ensures { AreKept processes.new.keys past.now.members }
+{
+    if past.members.len() > FEW {
+        let conn = ConnId::of(&past.entry);
+        take_out(processes, before.as_slice(), &conn);
+    } else {
+        *processes = IndexSet::new(*processes.allocator());
+    }
+}
+
+/// The members of a group in the order of their joins, with the set of their processes where they are more
+/// than a few. The set of a group with few members is empty. Contracts see it as the list of members.
 #[derive(Debug, Drop)]
 pub(crate) struct Roster {
     members: Members,
@@ -71,13 +123,13 @@ pub(crate) struct Roster {
 impl Model for Roster {
     ghost use Rattle.std.specs.Prelude.{List};
     ghost use Rattle.cpg_record.specs.declared.memberships.Member.{Member};
-    ghost use Rattle.cpg_group.specs.Processes.{AreProcesses};
+    ghost use Rattle.cpg_group.specs.Processes.{AreKept};
 
     ghost Value = { List Member };
 
     ghost view = { λ roster. roster.members };
 
-    ghost invariant = { λ roster. AreProcesses roster.processes.keys roster.members };
+    ghost invariant = { λ roster. AreKept roster.processes.keys roster.members };
 }
 
 impl Roster {
@@ -98,11 +150,15 @@ impl Roster {
         &self.members
     }
 
-    /// Whether the entry's process is a member. Looks into the set, whatever the number of members.
+    /// Whether the entry's process is a member. Looks at each member where they are few, and else into the set.
     pub(crate) fn has_process(&self, entry: &Entry) -> bool
         ensures { result ≡ has_process entry.now self.now }
     {
-        self.processes.contains(&Process::of(entry))
+        if self.members.len() > FEW {
+            self.processes.contains(&Process::of(entry))
+        } else {
+            self.members.has_process(entry)
+        }
     }
 
     /// Lists the members of the record of an allowed join. A refusal changes nothing.
@@ -113,7 +169,7 @@ impl Roster {
         ensures memory { IsOkUnless result Refusal.Memory }
     {
         let members = past.members.copy(*self.processes.allocator())?;
-        self.processes.insert(Process::of(&past.entry))?;
+        keep_joined(&mut self.processes, &self.members, past)?;
         self.members = members;
         Ok(())
     }
@@ -126,8 +182,7 @@ impl Roster {
         ensures memory { IsOkUnless result Refusal.Memory }
     {
         let members = past.members.copy(*self.processes.allocator())?;
-        let conn = ConnId::of(&past.entry);
-        take_out(&mut self.processes, self.members.as_slice(), &conn);
+        keep_rest(&mut self.processes, &self.members, past);
         self.members = members;
         Ok(())
     }

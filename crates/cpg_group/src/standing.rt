@@ -19,6 +19,9 @@ use indexmap::IndexMap;
 use std::alloc::Global;
 use std::marker::Model;
 
+/// How many places a new group has room for: those of most groups stay in the one block that this takes.
+const FIRST_PLACES: usize = 16;
+
 /// Brings a table past an allowed op at that place.
 fn edit(table: &mut Table, place: u32, op: &Op) -> Result<(), Refusal>
     requires { CanEditBy table.old place op.now }
@@ -63,6 +66,19 @@ impl Group {
             roster: Roster::new(alloc),
             places: Vec::new(alloc),
         }
+    }
+
+    /// A group without rules, members and places that has room for its first places.
+    fn with_room(alloc: Global) -> Result<Group, Refusal>
+        ensures ok { IfOk result (λ group. group ≡ no_group) }
+        ensures memory { IsOkUnless result Refusal.Memory }
+    {
+        let places = Vec::with_capacity(alloc, FIRST_PLACES)?;
+        Ok(Group {
+            table: Table::new(alloc),
+            roster: Roster::new(alloc),
+            places,
+        })
     }
 
     /// Its table.
@@ -185,7 +201,7 @@ impl Groups {
     {
         let alloc = *self.kept.allocator();
         let key = Vec::from_slice(alloc, name)?;
-        let mut group = Group::new(alloc);
+        let mut group = Group::with_room(alloc)?;
         group.take_in(place, past)?;
         self.kept.insert(key, group)?;
         Ok(())

@@ -6,6 +6,7 @@ ghost use Rattle.std.specs.List.{slice_get};
 ghost use Rattle.std.specs.List.Sorted.{IsNonDecreasingBy, IsPartitionPoint};
 ghost use Rattle.std.specs.Map.{keys_of, lookup};
 ghost use Rattle.std.specs.Option.{option_copied};
+ghost use Rattle.smallvec.specs.SmallVec.{HasRoomFor};
 ghost use Rattle.cpg_record.specs.declared.connections.ConnId.{ConnId};
 ghost use Rattle.cpg_record.specs.declared.records.Record.{Record};
 ghost use Rattle.cpg_record.specs.Connections.{conn_of, is_conn};
@@ -21,16 +22,24 @@ use cpg_cred::Refusal;
 use cpg_entry::{Call, Name, Op};
 use cpg_record::{ConnId, Record};
 use indexmap::IndexMap;
+use smallvec::SmallVec;
 use std::alloc::Global;
 use std::marker::Model;
 
 /// The place of a connection's own entry, and the place of the join by which the connection is in a group
 /// after it: 0 where it is in none.
-#[derive(Debug, Clone, Copy)]
+#[derive(Debug, Clone, Copy, Default)]
 pub(crate) struct Stop {
     place: u32,
     join: u32,
 }
+
+/// How many stops a trail keeps in itself, as most connections make no more entries than that: a longer one
+/// has memory of its own.
+const KEPT_INSIDE: usize = 4;
+
+/// The stops of a connection, in the order of their places.
+pub(crate) type Stops = SmallVec<Stop, KEPT_INSIDE>;
 
 impl Placed for Stop {
     ghost place_of = { λ stop. stop.place };
@@ -151,10 +160,24 @@ pub(crate) fn stop_of(records: &[Record], trail: &[Stop], place: u32, next: &Rec
     Stop { place, join }
 }
 
+/// Makes room for one more stop. Memory is asked for only where the trail has no room left.
+#[inline(always)]
+pub(crate) fn make_room(trail: &mut Stops) -> Result<(), Refusal>
+    ensures items { trail.new.items ≡ trail.old.items }
+    ensures room { OnOk result (HasRoomFor trail.new 1) }
+    ensures memory { IsOkUnless result Refusal.Memory }
+{
+    if trail.len() < trail.capacity() {
+        return Ok(());
+    }
+    trail.reserve(1)?;
+    Ok(())
+}
+
 /// Puts the record's stop at the end of its connection's trail, and brings the groups past the record. The trail
 /// grows first, and then the groups, so that a refusal changes neither.
 fn lengthen(
-    trail: &mut Vec<Stop>,
+    trail: &mut Stops,
     groups: &mut Groups,
     records: &[Record],
     place: u32,
@@ -169,7 +192,7 @@ fn lengthen(
     ensures same { OnErr result (trail.new.items ≡ trail.old.items) }
     ensures memory { IsOkUnless result Refusal.Memory }
 {
-    trail.reserve(1)?;
+    make_room(trail)?;
     groups.take_in(place, next)?;
     let stop = stop_of(records, trail.as_slice(), place, next);
     trail.push_reserved(stop);
@@ -244,7 +267,7 @@ impl<'a> Trail<'a> {
 /// The trails of all connections that made an entry.
 #[derive(Drop)]
 pub(crate) struct Trails {
-    pub(crate) kept: IndexMap<ConnId, Vec<Stop>>,
+    pub(crate) kept: IndexMap<ConnId, Stops>,
 }
 
 impl Trails {
@@ -277,7 +300,7 @@ impl Trails {
 
     /// Keeps a trail of the record's connection, which has none, with the record's stop, and brings the groups
     /// past the record. All that takes memory comes before the first change.
-    pub(crate) fn add(
+    fn add(
         &mut self,
         groups: &mut Groups,
         records: &[Record],
@@ -294,8 +317,8 @@ impl Trails {
         ensures same { OnErr result (AreTrails self.new.kept.entries records.now) }
         ensures memory { IsOkUnless result Refusal.Memory }
     {
-        let mut trail = Vec::new(*self.kept.allocator());
         self.kept.reserve(1)?;
+        let mut trail = Stops::new(*self.kept.allocator());
         lengthen(&mut trail, groups, records, place, next)?;
         self.kept.insert(ConnId::of(&next.entry), trail)?;
         Ok(())

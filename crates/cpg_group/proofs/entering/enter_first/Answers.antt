@@ -1,11 +1,13 @@
 use Rattle.std.proofs.Common.{ap, ◌∙◌}
 use Rattle.cpg_record.specs.declared.records.Record.{Record}
-use Rattle.cpg_group.specs.Standing.{kept_group, group_past}
-use Rattle.cpg_group.proofs.Kept.{on_ok}
+use Rattle.cpg_record.specs.Connections.{conn_of}
+use Rattle.cpg_record.specs.Judging.{record_of}
+use Rattle.cpg_group.proofs.Stops.{AreTrails-added}
 use Rattle.cpg_group.proofs.entering.enter_first.Goals as goal
 
-pub returns-clause-past : goal.returns-clause-past
-returns-clause-past c =
-    on_ok c.add.result
-    (λ past. λ g. past g ∙ ap (λ (r : Record). group_past g (kept_group c.args.groups.now g) (c.args.place, r)) c.in_ok-judge_draft.ensures.ok)
-    c.add.ensures.ok
+pub returns-clause-longer : goal.returns-clause-longer
+returns-clause-longer c =
+    let next : Record = record_of c.args.records.now c.args.next.now.entry in
+    AreTrails-added c.args.trails.now.kept.entries c.reserve.new.self c.insert.new.self.entries c.args.records.now next c.of.result c.enter_trail.new.trail
+    c.requires.trails c.requires.absent c.reserve.ensures.entries
+    (c.of.ensures ∙ ap (λ (r : Record). conn_of r.entry) c.in_ok-enter_trail.ensures.ok) c.in_ok-insert.ensures.entries c.in_ok-enter_trail.ensures.longer

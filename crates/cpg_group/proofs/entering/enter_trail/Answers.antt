@@ -11,7 +11,7 @@ pub returns-clause-longer : goal.returns-clause-longer
 returns-clause-longer c =
     let rs : List Record = c.args.records.now in
     let next : Record = record_of c.args.records.now c.args.next.now.entry in
-    let stops = c.push_reserved.ensures.items ∙ ap (λ (stops : List Stop). stops ++ c.stop_of-stop.result ∷ []) c.reserve.ensures.items in
+    let stops = c.push_reserved.ensures.items ∙ ap (λ (stops : List Stop). stops ++ c.stop_of-stop.result ∷ []) c.make_room.ensures.items in
     let by : StandsBy (rs ++ next ∷ []) (conn_of c.args.next.now.entry) c.stop_of-stop.result =
     subst (λ (r : Record). StandsBy (c.args.records.now ++ r ∷ []) (conn_of r.entry) c.stop_of-stop.result) c.in_ok-enter_groups.ensures.ok c.stop_of-stop.ensures.join in
     subst (IsTrail (rs ++ next ∷ []) (conn_of c.args.next.now.entry)) (sym stops)

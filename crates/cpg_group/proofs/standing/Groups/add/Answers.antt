@@ -18,4 +18,4 @@ returns-clause-ok c =
     λ g. ap (λ es. kept_group (named es) g) grown
     ∙ group_added entries c.args.self.now c.args.name.now c.in_ok-key.key c.take_in.new.self g c.self.view_is c.in_ok-key.ensures.items c.requires.absent
     ∙ group_changed c.args.self.now c.args.name.now g no_group c.take_in.new.self c.args.place c.args.past.now (sym (ap or_none c.requires.absent))
-    (c.in_ok-take_in.ensures.ok ∙ ap (changed c.args.place c.args.past.now) c.new-group.ensures)
+    (c.in_ok-take_in.ensures.ok ∙ ap (changed c.args.place c.args.past.now) c.in_ok-group.ensures.ok)
