@@ -1,6 +1,7 @@
 //! Entries as lines, both ways: `NODE.CONN PID UID GID CALL`, or `gone` for CALL.
 
-ghost use Rattle.std.specs.Prelude.{◌≡◌, ◌++◌, OnOk, IfOk, IsOkUnless, option_map};
+ghost use Rattle.std.specs.Prelude.{◌≡◌, ◌++◌, codes, decimal, OnOk, IfOk, IsOkUnless, option_map};
+ghost use Rattle.cpg_record.specs.Connections.{conn_of};
 ghost use Rattle.cpg_text.specs.Lines.{words_of};
 ghost use Rattle.cpg_print.specs.Entries.{conn_text, entry_text, conn_of_word, entry_by, enterable_op, entry_of};
 ghost use Rattle.cpg_print.specs.Words.{texts};
@@ -32,14 +33,30 @@ pub fn put_entry(line: &mut Vec<u8>, entry: &Entry) -> Result<(), Refusal>
     ensures ok { OnOk result (line.new.items ≡ line.old.items ++ entry_text entry.now) }
     ensures memory { IsOkUnless result Refusal.Memory }
 {
+    put_caller(line, entry)?;
+    put_cred(line, entry.cred)?;
+    put_op(line, &entry.op)
+}
+
+/// Puts NODE.CONN PID at the line's end.
+fn put_caller(line: &mut Vec<u8>, entry: &Entry) -> Result<(), Refusal>
+    ensures ok { OnOk result (line.new.items ≡ line.old.items ++ conn_text (conn_of entry.now) ++ codes " " ++ decimal entry.now.pid) }
+    ensures memory { IsOkUnless result Refusal.Memory }
+{
     put_conn(line, &ConnId::of(entry))?;
     put(line, " ")?;
-    push_number(line, u64::from(entry.pid))?;
+    push_number(line, u64::from(entry.pid))
+}
+
+/// Puts a space, UID and GID at the line's end.
+fn put_cred(line: &mut Vec<u8>, cred: Cred) -> Result<(), Refusal>
+    ensures ok { OnOk result (line.new.items ≡ line.old.items ++ codes " " ++ decimal cred.uid ++ codes " " ++ decimal cred.gid) }
+    ensures memory { IsOkUnless result Refusal.Memory }
+{
     put(line, " ")?;
-    push_number(line, u64::from(entry.cred.uid))?;
+    push_number(line, u64::from(cred.uid))?;
     put(line, " ")?;
-    push_number(line, u64::from(entry.cred.gid))?;
-    put_op(line, &entry.op)
+    push_number(line, u64::from(cred.gid))
 }
 
 /// The entry that a line's words say, with an op within its limits.

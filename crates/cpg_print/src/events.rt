@@ -1,7 +1,10 @@
 //! Events as they are printed.
 
-ghost use Rattle.std.specs.Prelude.{◌≡◌, ◌++◌, codes, decimal, OnOk, IsOkUnless};
+ghost use Rattle.std.specs.Prelude.{◌≡◌, ◌++◌, List, codes, decimal, OnOk, IsOkUnless};
 ghost use Rattle.std.specs.List.{flat_map};
+ghost use Rattle.cpg_record.specs.declared.memberships.Member.{Member};
+ghost use Rattle.cpg_text.specs.Percent.{text_of};
+ghost use Rattle.cpg_print.specs.Records.{members_text};
 ghost use Rattle.cpg_print.specs.Events.{cause_text, move_text, moves_text, news_text, event_line, inbox_line};
 
 use crate::entries::put_conn;
@@ -108,12 +111,27 @@ fn put_message(
     put_place(line, place)?;
     put(line, " message ")?;
     put_bytes(line, group)?;
+    put_sent(line, node, pid, message)
+}
+
+/// Puts who sent a message, and the message, at the line's end.
+fn put_sent(line: &mut Vec<u8>, node: NodeId, pid: u32, message: &[u8]) -> Result<(), Refusal>
+    ensures ok { OnOk result (line.new.items ≡ line.old.items ++ codes " " ++ decimal node ++ codes " " ++ decimal pid ++ codes " " ++ text_of message.now) }
+    ensures memory { IsOkUnless result Refusal.Memory }
+{
+    put_sender(line, node, pid)?;
+    put(line, " ")?;
+    push_message(line, message)
+}
+
+fn put_sender(line: &mut Vec<u8>, node: NodeId, pid: u32) -> Result<(), Refusal>
+    ensures ok { OnOk result (line.new.items ≡ line.old.items ++ codes " " ++ decimal node ++ codes " " ++ decimal pid) }
+    ensures memory { IsOkUnless result Refusal.Memory }
+{
     put(line, " ")?;
     push_number(line, u64::from(node.get()))?;
     put(line, " ")?;
-    push_number(line, u64::from(pid))?;
-    put(line, " ")?;
-    push_message(line, message)
+    push_number(line, u64::from(pid))
 }
 
 /// Puts the line of a change of a group, with its members after it, those who left and those who joined, at the
@@ -145,11 +163,60 @@ fn put_change(
     ensures ok { OnOk result (line.new.items ≡ line.old.items ++ codes "event " ++ decimal place ++ codes " " ++ news_text (Event.Change place group.now members.now left.now joined.now)) }
     ensures memory { IsOkUnless result Refusal.Memory }
 {
+    put_changed(line, place, group)?;
+    put_members(line, members)?;
+    put_left_and_joined(line, left, joined)
+}
+
+/// The same from the text of the members.
+pub fn put_change_with(
+    line: &mut Vec<u8>,
+    place: u32,
+    group: &[u8],
+    members: &[u8],
+    left: &[Move],
+    joined: &[Move],
+) -> Result<(), Refusal>
+    ensures ok { (list : List Member) → members.now ≡ members_text list → OnOk result (line.new.items ≡ line.old.items ++ event_line (Event.Change place group.now list left.now joined.now)) }
+    ensures memory { IsOkUnless result Refusal.Memory }
+{
+    put_shown_change(line, place, group, members, left, joined)?;
+    put(line, "\n")
+}
+
+#[tactic(auto, unfolding(crate::specs::Events::news_text))]
+fn put_shown_change(
+    line: &mut Vec<u8>,
+    place: u32,
+    group: &[u8],
+    members: &[u8],
+    left: &[Move],
+    joined: &[Move],
+) -> Result<(), Refusal>
+    ensures ok { (list : List Member) → members.now ≡ members_text list → OnOk result (line.new.items ≡ line.old.items ++ codes "event " ++ decimal place ++ codes " " ++ news_text (Event.Change place group.now list left.now joined.now)) }
+    ensures memory { IsOkUnless result Refusal.Memory }
+{
+    put_changed(line, place, group)?;
+    put_bytes(line, members)?;
+    put_left_and_joined(line, left, joined)
+}
+
+/// Puts the front of a change's line, up to the members, at the line's end.
+fn put_changed(line: &mut Vec<u8>, place: u32, group: &[u8]) -> Result<(), Refusal>
+    ensures ok { OnOk result (line.new.items ≡ line.old.items ++ codes "event " ++ decimal place ++ codes " change " ++ group.now ++ codes " members ") }
+    ensures memory { IsOkUnless result Refusal.Memory }
+{
     put_place(line, place)?;
     put(line, " change ")?;
     put_bytes(line, group)?;
-    put(line, " members ")?;
-    put_members(line, members)?;
+    put(line, " members ")
+}
+
+/// Puts the rest of a change's line, after the members, at the line's end.
+fn put_left_and_joined(line: &mut Vec<u8>, left: &[Move], joined: &[Move]) -> Result<(), Refusal>
+    ensures ok { OnOk result (line.new.items ≡ line.old.items ++ codes " left " ++ moves_text left.now ++ codes " joined " ++ moves_text joined.now) }
+    ensures memory { IsOkUnless result Refusal.Memory }
+{
     put(line, " left ")?;
     put_moves(line, left)?;
     put(line, " joined ")?;

@@ -20,7 +20,8 @@ pub use answers::{
 pub use calls::read_call;
 pub use entries::{entry_in_line, put_conn, put_entry};
 pub use events::{
-    put_change_line, put_event, put_inbox, put_message_line, put_rules_line, put_verdict_line,
+    put_change_line, put_change_with, put_event, put_inbox, put_message_line, put_rules_line,
+    put_verdict_line,
 };
 pub use laws::{entries_read_back, rules_read_back, whos_read_back};
 pub use records::{put_audit, put_audit_with, put_count, put_members};

@@ -1,14 +1,15 @@
 //! Members and records as they are printed.
 
-ghost use Rattle.std.specs.Prelude.{◌≡◌, ◌++◌, codes, OnOk, IsOkUnless};
+ghost use Rattle.std.specs.Prelude.{◌≡◌, ◌++◌, codes, decimal, OnOk, IsOkUnless};
 ghost use Rattle.std.specs.Option.{option_copied};
 ghost use Rattle.std.specs.List.{flat_map};
+ghost use Rattle.cpg_print.specs.Entries.{entry_text};
 ghost use Rattle.cpg_print.specs.Records.{process_text, member_text, members_text, group_text, outcome_text, audit_line, count_line};
 
 use crate::entries::put_entry;
 use crate::verdicts::put_verdict;
 use cpg_cred::{NodeId, Refusal};
-use cpg_entry::Name;
+use cpg_entry::{Entry, Name};
 use cpg_record::{Member, Record};
 use cpg_script::{put, put_bytes};
 use cpg_text::push_number;
@@ -19,12 +20,20 @@ pub fn put_audit(line: &mut Vec<u8>, place: u32, past: &Record) -> Result<(), Re
     ensures ok { OnOk result (line.new.items ≡ line.old.items ++ audit_line place past.now) }
     ensures memory { IsOkUnless result Refusal.Memory }
 {
-    push_number(line, u64::from(place))?;
-    put(line, " ")?;
-    put_entry(line, &past.entry)?;
-    put(line, " -> ")?;
+    put_asked(line, place, &past.entry)?;
     put_outcome(line, past)?;
     put(line, "\n")
+}
+
+/// Puts PLACE, the entry and an arrow at the line's end.
+fn put_asked(line: &mut Vec<u8>, place: u32, entry: &Entry) -> Result<(), Refusal>
+    ensures ok { OnOk result (line.new.items ≡ line.old.items ++ decimal place ++ codes " " ++ entry_text entry.now ++ codes " -> ") }
+    ensures memory { IsOkUnless result Refusal.Memory }
+{
+    push_number(line, u64::from(place))?;
+    put(line, " ")?;
+    put_entry(line, entry)?;
+    put(line, " -> ")
 }
 
 fn put_outcome(line: &mut Vec<u8>, past: &Record) -> Result<(), Refusal>
@@ -62,10 +71,7 @@ pub fn put_audit_with(
     ensures ok { OnOk result (line.new.items ≡ line.old.items ++ audit_line place past.now) }
     ensures memory { IsOkUnless result Refusal.Memory }
 {
-    push_number(line, u64::from(place))?;
-    put(line, " ")?;
-    put_entry(line, &past.entry)?;
-    put(line, " -> ")?;
+    put_asked(line, place, &past.entry)?;
     put_verdict(line, past.verdict)?;
     put_group_with(line, past, members)?;
     put(line, "\n")
