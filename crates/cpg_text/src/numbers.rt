@@ -3,11 +3,12 @@
 //! A number is ASCII digits alone, leading zeros allowed. Proved: `read_number` is the definition
 //! `number_in`, however long the word; `push_number` prints a number without leading zeros.
 
-ghost use Rattle.std.specs.Prelude.{◌≡◌, ◌<◌, ◌≤◌, ◌++◌, length, decimal, Some, OnOk, IsOkUnless};
+ghost use Rattle.std.specs.Prelude.{◌≡◌, ◌+◌, ◌<◌, ◌≤◌, ◌++◌, length, decimal, Some, OnOk, IsOkUnless};
 ghost use Rattle.std.specs.Char.{is_ascii_digit};
 ghost use Rattle.std.specs.List.{list_all};
 ghost use Rattle.cpg_text.specs.Numbers.{is_number, number_in};
-ghost use Rattle.cpg_text.specs.Steps.{one_digit, one_more, read_digits, read_on};
+ghost use Rattle.std.specs.Vec.{vec_len, vec_capacity};
+ghost use Rattle.cpg_text.specs.Steps.{digit_from, one_digit, one_more, read_digits, read_on};
 
 use cpg_cred::Refusal;
 use itoa::Buffer;
@@ -111,16 +112,49 @@ pub fn push_number(line: &mut Vec<u8>, number: u64) -> Result<(), Refusal>
     ensures ok { OnOk result (line.new.items ≡ line.old.items ++ decimal number) }
     ensures memory { IsOkUnless result Refusal.Memory }
 {
+    if number >= 100_000 {
+        return push_long(line, number);
+    }
     if number >= 10 {
-        return push_digits(line, number);
+        return push_short(line, number as u32);
     }
     line.push(b'0' + number as u8)?;
     Ok(())
 }
 
-/// The same by a buffer. It stands apart, so that what a number of one digit costs stays small.
+/// The same for two to five digits, as most numbers have: the highest first, with no buffer between.
 #[inline(never)]
-fn push_digits(line: &mut Vec<u8>, number: u64) -> Result<(), Refusal>
+fn push_short(line: &mut Vec<u8>, number: u32) -> Result<(), Refusal>
+    requires { (10 ≤ number) × (number < 100000) }
+    ensures ok { OnOk result (line.new.items ≡ line.old.items ++ decimal number) }
+    ensures memory { IsOkUnless result Refusal.Memory }
+{
+    line.reserve(5)?;
+    push_digit_from(line, number, 10_000);
+    push_digit_from(line, number, 1_000);
+    push_digit_from(line, number, 100);
+    push_digit_from(line, number, 10);
+    push_digit_from(line, number, 1);
+    Ok(())
+}
+
+/// Puts the digit of that power of ten at the line's end, which has room for it, where the number has one.
+#[inline(always)]
+fn push_digit_from(line: &mut Vec<u8>, number: u32, power: u32)
+    requires power { 1 ≤ power }
+    requires room { vec_len line.old < vec_capacity line.old }
+    ensures digit { line.new.items ≡ line.old.items ++ digit_from power number }
+    ensures len { vec_len line.new ≤ vec_len line.old + 1 }
+    ensures capacity { vec_capacity line.new ≡ vec_capacity line.old }
+{
+    if power <= number {
+        line.push_reserved(b'0' + (number / power % 10) as u8);
+    }
+}
+
+/// The same for any number, by a buffer.
+#[inline(never)]
+fn push_long(line: &mut Vec<u8>, number: u64) -> Result<(), Refusal>
     ensures ok { OnOk result (line.new.items ≡ line.old.items ++ decimal number) }
     ensures memory { IsOkUnless result Refusal.Memory }
 {

@@ -2,7 +2,7 @@
 //!
 //! Proved: both directions are the definitions `message_of` and `text_of`.
 
-ghost use Rattle.std.specs.Prelude.{◌≡◌, ◌<◌, ◌==◌, ◌++◌, not, length, OnOk, IfOk, IfSome, MatchOption, IsOkUnless, None, Some, true, option_map};
+ghost use Rattle.std.specs.Prelude.{◌≡◌, ◌≢◌, ◌<◌, ◌==◌, ◌++◌, not, length, OnOk, IfOk, IfSome, MatchOption, IsOkUnless, None, Some, true, option_map};
 ghost use Rattle.std.specs.Fmt.{digit_glyph};
 ghost use Rattle.std.specs.List.{list_all};
 ghost use Rattle.cpg_text.specs.Percent.{decoded, before, message_of, is_plain, encoded_byte, encoded, text_of};
@@ -23,20 +23,25 @@ pub fn read_message(alloc: Global, word: &[u8]) -> Result<Option<Vec<u8>>, Refus
     }
 }
 
-/// The message that the word spells by its own bytes, where it does so. Takes no memory.
-#[tactic(auto, using(crate::proofs::Plain::plain_decoded))]
+/// The message that the word spells, where that is the word itself. Takes no memory.
 pub fn plain_message(word: &[u8]) -> Option<&[u8]>
-    ensures { IfSome result (λ message. message_of word.now ≡ Some message.now) }
+    ensures { MatchOption result (message_of word.now ≢ Some word.now) (λ message. (message.now ≡ word.now) × (message_of word.now ≡ Some word.now)) }
 {
     match word {
         [] | [b'-'] => None,
-        _ => {
-            if has_no_percent(word) {
-                Some(word)
-            } else {
-                None
-            }
-        }
+        _ => plain_text(word),
+    }
+}
+
+/// The text, where it stands for its own bytes.
+#[tactic(auto, using(crate::proofs::Plain::plain_decoded, crate::proofs::Plain::percent_decoded))]
+fn plain_text(text: &[u8]) -> Option<&[u8]>
+    ensures { MatchOption result (decoded text.now ≢ Some text.now) (λ bytes. (bytes.now ≡ text.now) × (decoded text.now ≡ Some text.now)) }
+{
+    if has_no_percent(text) {
+        Some(text)
+    } else {
+        None
     }
 }
 
