@@ -169,7 +169,7 @@ module _ (rs : List Record) (place : ℕ) (r : Record) (g : List ℕ) (is : reco
   between = one_between rs place r some is g ∙ ap (λ (b : Bool). cond b (place ∷ []) []) acts
 
   -- it is the last up to the place
-  one_more : length (places_of (acts_in g) (take place rs)) ≡ length (places_of (acts_in g) (take (place - 1) rs)) + 1
+  pub one_more : length (places_of (acts_in g) (take place rs)) ≡ length (places_of (acts_in g) (take (place - 1) rs)) + 1
   one_more =
       ap length (places_parted (acts_in g) rs (place - 1) place (omega arith) (omega (arith, within)) ∙ ap (λ ps. places_of (acts_in g) (take (place - 1) rs) ++ ps) between)
       ∙ length-append (places_of (acts_in g) (take (place - 1) rs)) (place ∷ [])
@@ -191,5 +191,15 @@ module _ (rs : List Record) (place : ℕ) (r : Record) (g : List ℕ) (is : reco
       text ≡ concat (told_lines rs place)
   line_after value text passed is_passed holds cut =
       told_cut rs g (place - 1) place value text passed (passed + 1) (omega arith) within is_passed (omega (arith, is_passed, one_more)) holds cut
+      ∙ ap (λ ps. concat (flat_map (told_lines rs) ps)) between
+      ∙ ap concat (append-nil (told_lines rs place))
+
+  -- and so is that of the last one up to it
+  pub line_upto : (value : TextValue) (text : List ℕ) (passed : ℕ) → passed ≡ length (places_of (acts_in g) (take place rs)) →
+      Holds value (texts_upto rs g (length rs)) →
+      ((texts : List (List ℕ)) → Holds value texts → passed - 1 ≤ passed → passed ≤ length texts → text ≡ concat (drop (passed - 1) (take passed texts))) →
+      text ≡ concat (told_lines rs place)
+  line_upto value text passed is_passed holds cut =
+      told_cut rs g (place - 1) place value text (passed - 1) passed (omega arith) within (omega (arith, is_passed, one_more)) is_passed holds cut
       ∙ ap (λ ps. concat (flat_map (told_lines rs) ps)) between
       ∙ ap concat (append-nil (told_lines rs place))

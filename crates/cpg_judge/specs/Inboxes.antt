@@ -1,9 +1,10 @@
 -- what an inbox is made of: the entries and the connection, and what the groups tell
-use Rattle.std.specs.Prelude.{ℕ, ◌≡◌, ◌≤◌, ◌-◌, suc, List, length, take, drop}
+use Rattle.std.specs.Prelude.{ℕ, ◌≡◌, ◌-◌, suc, List, length, take, drop, Option, Some, None, MatchOption}
 use Rattle.std.specs.List.{concat, flat_map}
 use Rattle.cpg_entry.specs.declared.entries.Entry.{Entry}
 use Rattle.cpg_record.specs.declared.connections.ConnId.{ConnId}
 use Rattle.cpg_record.specs.declared.records.Record.{Record}
+use Rattle.cpg_record.specs.Membership.{group_of}
 use Rattle.cpg_record.specs.Nexts.{acts_in}
 use Rattle.cpg_record.specs.Places.{places_from, places_of}
 use Rattle.cpg_judge.specs.Texts.{Holds, TextValue, texts_upto, told_lines}
@@ -32,9 +33,11 @@ count_at records g last = length (places_of (acts_in g) (take last records))
 abbrev pub IsPast : List Record → ℕ → ToldValue → Type 0
 IsPast records last told = IsTold records told × (told.passed ≡ count_at records told.group last)
 
--- those up to some place that is no later were passed
-abbrev pub IsWithin : List Record → ℕ → ToldValue → Type 0
-IsWithin records bound told = (last : ℕ) × (last ≤ bound) × IsPast records last told
+-- it is what the group tells that the connection is in after that place, if it is in one, and those up to there
+-- were passed
+abbrev pub IsHeard : List Record → ConnId → ℕ → Option ToldValue → Type 0
+IsHeard records conn last told =
+    MatchOption told (group_of (take last records) conn ≡ None) (λ one. (group_of (take last records) conn ≡ Some one.group) × IsPast records last one)
 
 -- what the places of a group above one tell it, up to another
 abbrev pub told_between : List Record → List ℕ → ℕ → ℕ → List ℕ

@@ -12,7 +12,7 @@ ghost use Rattle.cpg_record.specs.Judging.{judged};
 ghost use Rattle.cpg_record.specs.Membership.{group_of, is_allowed, is_member};
 ghost use Rattle.cpg_record.specs.Nexts.{acts_in, is_made_by};
 ghost use Rattle.cpg_record.specs.Places.{places_of, record_at, records_before};
-ghost use Rattle.cpg_judge.specs.Inboxes.{count_at, told_between, IsPast, IsWithin};
+ghost use Rattle.cpg_judge.specs.Inboxes.{count_at, told_between, IsHeard, IsPast};
 ghost use Rattle.cpg_judge.specs.Texts.{hears_own, lines_at, lines_between, told_lines, AreTexts, Makes, MakesNone};
 
 use crate::texts::{Text, Texts};
@@ -81,8 +81,8 @@ impl<'a> Told<'a> {
     }
 
     /// The same, with the places up to the last one passed.
-    fn brought_to(self, last: u32) -> Told<'a>
-        ensures { (records : List Record) (after : ℕ) → IsPast records after self.entry → after ≤ last → last ≤ length records → (result.group ≡ self.entry.group) × IsPast records last result }
+    fn brought_to(&self, last: u32) -> Told<'a>
+        ensures { (records : List Record) (after : ℕ) → IsPast records after self.now → after ≤ last → last ≤ length records → (result.group ≡ self.now.group) × IsPast records last result }
     {
         Told {
             group: self.group,
@@ -107,6 +107,17 @@ impl<'a> Told<'a> {
             self.text.range(self.passed, self.passed + 1)
         } else {
             &[]
+        }
+    }
+
+    /// What the last of the passed places tells the group.
+    fn latest(&self) -> &'a [u8]
+        ensures { (records : List Record) (place : ℕ) (past : Record) → IsPast records place self.now → record_at records place ≡ Some past → acts_in self.now.group past ≡ true → result.now ≡ concat (told_lines records place) }
+    {
+        if self.passed == 0 {
+            &[]
+        } else {
+            self.text.range(self.passed - 1, self.passed)
         }
     }
 }
@@ -188,41 +199,41 @@ impl<'a> Inbox<'a> {
         }
     }
 
-    /// The same, from what was looked up last where it is of that group.
-    fn told_of(&self, last: Option<Told<'a>>, group: &'a [u8], after: u32) -> Told<'a>
-        requires last { IfSome last (IsWithin (judged self.now.entries) after) }
-        requires place { after ≤ length (judged self.now.entries) }
+    /// The same, from what was looked up before the place where it is of that group.
+    fn told_of(&self, before: &Option<Told<'a>>, group: &'a [u8], place: u32) -> Told<'a>
+        requires before { IfSome before.now (IsPast (judged self.now.entries) (place - 1)) }
+        requires place { place ≤ length (judged self.now.entries) }
         ensures name { result.group ≡ group.now }
-        ensures past { IsPast (judged self.now.entries) after result }
+        ensures past { IsPast (judged self.now.entries) place result }
     {
-        match last {
-            None => self.look_up(group, after),
+        match before {
+            None => self.look_up(group, place),
             Some(told) => {
                 if told.is_of(group) {
-                    told.brought_to(after)
+                    told.brought_to(place)
                 } else {
-                    self.look_up(group, after)
+                    self.look_up(group, place)
                 }
             }
         }
     }
 
     /// What the group tells that the connection is in after the place, up to which it made so many entries, if it
-    /// is in one, with the places up to there passed: what was looked up last, where it is of that group.
+    /// is in one, with the places up to there passed: what was looked up before, where it is of that group.
     pub(crate) fn told_after(
         &self,
-        last: Option<Told<'a>>,
+        before: &Option<Told<'a>>,
         count: usize,
-        after: u32,
+        place: u32,
     ) -> Option<Told<'a>>
-        requires last { IfSome last (IsWithin (judged self.now.entries) after) }
-        requires count { count ≡ length (places_of (is_made_by self.now.conn) (take after (judged self.now.entries))) }
-        requires place { after ≤ length (judged self.now.entries) }
-        ensures { MatchOption result (group_of (take after (judged self.now.entries)) self.now.conn ≡ None) (λ told. (group_of (take after (judged self.now.entries)) self.now.conn ≡ Some told.group) × IsPast (judged self.now.entries) after told) }
+        requires before { IfSome before.now (IsPast (judged self.now.entries) (place - 1)) }
+        requires count { count ≡ length (places_of (is_made_by self.now.conn) (take place (judged self.now.entries))) }
+        requires place { place ≤ length (judged self.now.entries) }
+        ensures { IsHeard (judged self.now.entries) self.now.conn place result }
     {
         match self.trail.group_past(count) {
             None => None,
-            Some(group) => Some(self.told_of(last, group.as_slice(), after)),
+            Some(group) => Some(self.told_of(before, group.as_slice(), place)),
         }
     }
 
@@ -259,19 +270,44 @@ impl<'a> Inbox<'a> {
         past.verdict.is_allowed() && self.hears(place, group, &past.entry.op)
     }
 
-    /// What a place of the group of that name tells it, from what was looked up last where it is of that group.
-    fn told_at(&self, last: &Option<Told<'a>>, group: &'a [u8], place: u32) -> &'a [u8]
-        requires last { IfSome last.now (IsPast (judged self.now.entries) (place - 1)) }
-        requires place { 1 ≤ place }
+    /// What a place of the group of that name tells it, from what is looked up after the place where it is of
+    /// that group.
+    fn told_upto(&self, after: &Option<Told<'a>>, group: &'a [u8], place: u32) -> &'a [u8]
+        requires after { IfSome after.now (IsPast (judged self.now.entries) place) }
         ensures { (past : Record) → record_at (judged self.now.entries) place ≡ Some past → acts_in group.now past ≡ true → result.now ≡ concat (told_lines (judged self.now.entries) place) }
     {
-        match last {
-            None => self.look_up(group, place - 1).next(),
+        match after {
+            None => self.look_up(group, place).latest(),
+            Some(told) => {
+                if told.is_of(group) {
+                    told.latest()
+                } else {
+                    self.look_up(group, place).latest()
+                }
+            }
+        }
+    }
+
+    /// The same, from what was looked up before the place or after it: a leave tells the group that the
+    /// connection was in before it, a join the one that it is in after it.
+    fn told_at(
+        &self,
+        before: &Option<Told<'a>>,
+        after: &Option<Told<'a>>,
+        group: &'a [u8],
+        place: u32,
+    ) -> &'a [u8]
+        requires before { IfSome before.now (IsPast (judged self.now.entries) (place - 1)) }
+        requires after { IfSome after.now (IsPast (judged self.now.entries) place) }
+        ensures { (past : Record) → record_at (judged self.now.entries) place ≡ Some past → acts_in group.now past ≡ true → result.now ≡ concat (told_lines (judged self.now.entries) place) }
+    {
+        match before {
+            None => self.told_upto(after, group, place),
             Some(told) => {
                 if told.is_of(group) {
                     told.next()
                 } else {
-                    self.look_up(group, place - 1).next()
+                    self.told_upto(after, group, place)
                 }
             }
         }
@@ -279,8 +315,14 @@ impl<'a> Inbox<'a> {
 
     /// What the place tells the connection that made its entry beside the verdict: the line that it tells its
     /// group, where the connection hears it.
-    pub(crate) fn own_line(&self, last: &Option<Told<'a>>, place: u32) -> &'a [u8]
-        requires last { IfSome last.now (IsPast (judged self.now.entries) (place - 1)) }
+    pub(crate) fn own_line(
+        &self,
+        before: &Option<Told<'a>>,
+        after: &Option<Told<'a>>,
+        place: u32,
+    ) -> &'a [u8]
+        requires before { IfSome before.now (IsPast (judged self.now.entries) (place - 1)) }
+        requires after { IfSome after.now (IsPast (judged self.now.entries) place) }
         requires own { Makes (judged self.now.entries) self.now.conn place }
         requires place { (1 ≤ place) × (place ≤ length (judged self.now.entries)) }
         ensures { result.now ≡ concat (drop 1 (lines_at (judged self.now.entries) self.now.conn place)) }
@@ -291,7 +333,7 @@ impl<'a> Inbox<'a> {
             Some(group) => {
                 let name = group.as_slice();
                 if self.is_told(place, name, past) {
-                    self.told_at(last, name, place)
+                    self.told_at(before, after, name, place)
                 } else {
                     &[]
                 }
@@ -303,7 +345,7 @@ impl<'a> Inbox<'a> {
 /// The lines of the places above those that were passed up to the last one, at which the connection made no
 /// entry, as one text: they are lines that its group was told one after the other. These places are passed then.
 pub(crate) fn pass<'a>(told: Option<Told<'a>>, last: u32) -> (&'a [u8], Option<Told<'a>>)
-    ensures text { (records : List Record) (conn : ConnId) (after : ℕ) → MatchOption told.entry (group_of (take after records) conn ≡ None) (λ told. (group_of (take after records) conn ≡ Some told.group) × IsPast records after told) → after ≤ last → last ≤ length records → MakesNone records conn after last → result.0.now ≡ concat (lines_between records conn after last) }
+    ensures text { (records : List Record) (conn : ConnId) (after : ℕ) → IsHeard records conn after told.entry → after ≤ last → last ≤ length records → MakesNone records conn after last → result.0.now ≡ concat (lines_between records conn after last) }
     ensures told { (records : List Record) (after : ℕ) → IfSome told.entry (IsPast records after) → after ≤ last → last ≤ length records → IfSome result.1 (IsPast records last) }
 {
     match told {

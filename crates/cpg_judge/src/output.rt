@@ -3,7 +3,7 @@
 //! Proved: each function puts its lines behind those that were written and gathered, or leaves after a refusal what
 //! `Gathers` says of them.
 
-ghost use Rattle.std.specs.Prelude.{◌≡◌, ◌≤◌, ◌-◌, ◌++◌, Some, length, map, OnOk, IfSome, IsOkUnless};
+ghost use Rattle.std.specs.Prelude.{◌≡◌, ◌≤◌, ◌-◌, ◌++◌, Some, drop, length, map, OnOk, IsOkUnless};
 ghost use Rattle.std.specs.List.{concat, flat_map};
 ghost use Rattle.cpg_record.specs.Events as events;
 ghost use Rattle.cpg_record.specs.Judging.{judged};
@@ -11,12 +11,11 @@ ghost use Rattle.cpg_record.specs.Nexts.{is_made_by};
 ghost use Rattle.cpg_record.specs.Places.{IsNextOf};
 ghost use Rattle.cpg_print.specs.Events.{event_line};
 ghost use Rattle.cpg_judge.specs.Gathering.{Gathers};
-ghost use Rattle.cpg_judge.specs.Inboxes.{IsPast};
 ghost use Rattle.cpg_judge.specs.Judging.{inbox_lines};
 ghost use Rattle.cpg_judge.specs.Texts.{lines_at, lines_between, AreTexts, Makes};
 
 use crate::gathering::{gather, write_much};
-use crate::inboxes::{Inbox, Told, pass};
+use crate::inboxes::{Inbox, pass};
 use crate::texts::Texts;
 use cpg_cred::Refusal;
 use cpg_group::Policy;
@@ -26,20 +25,15 @@ use std::io::Write;
 
 /// Puts what a place tells the connection that made its entry at the lines' end: the verdict, and what it tells
 /// its group.
-fn put_own(
-    lines: &mut Vec<u8>,
-    inbox: &Inbox<'_>,
-    told: &Option<Told<'_>>,
-    place: u32,
-) -> Result<(), Refusal>
-    requires told { IfSome told.now (IsPast (judged inbox.now.entries) (place - 1)) }
+fn put_own(lines: &mut Vec<u8>, inbox: &Inbox<'_>, line: &[u8], place: u32) -> Result<(), Refusal>
+    requires line { line.now ≡ concat (drop 1 (lines_at (judged inbox.now.entries) inbox.now.conn place)) }
     requires own { Makes (judged inbox.now.entries) inbox.now.conn place }
     requires place { (1 ≤ place) × (place ≤ length (judged inbox.now.entries)) }
     ensures ok { OnOk result (lines.new.items ≡ lines.old.items ++ concat (lines_at (judged inbox.now.entries) inbox.now.conn place)) }
     ensures memory { IsOkUnless result Refusal.Memory }
 {
     put_verdict_line(lines, place, inbox.record(place).verdict)?;
-    lines.extend_from_slice(inbox.own_line(told, place))?;
+    lines.extend_from_slice(line)?;
     Ok(())
 }
 
@@ -48,15 +42,15 @@ fn write_own<W: Write>(
     writer: &mut W,
     lines: &mut Vec<u8>,
     inbox: &Inbox<'_>,
-    told: &Option<Told<'_>>,
+    line: &[u8],
     place: u32,
 ) -> Result<(), Refusal>
-    requires told { IfSome told.now (IsPast (judged inbox.now.entries) (place - 1)) }
+    requires line { line.now ≡ concat (drop 1 (lines_at (judged inbox.now.entries) inbox.now.conn place)) }
     requires own { Makes (judged inbox.now.entries) inbox.now.conn place }
     requires place { (1 ≤ place) × (place ≤ length (judged inbox.now.entries)) }
     ensures { Gathers result (W.contents writer.old) lines.old.items (W.contents writer.new) lines.new.items (lines_at (judged inbox.now.entries) inbox.now.conn place) }
 {
-    put_own(lines, inbox, told, place)?;
+    put_own(lines, inbox, line, place)?;
     write_much(writer, lines)
 }
 
@@ -67,17 +61,17 @@ fn write_upto<W: Write>(
     lines: &mut Vec<u8>,
     inbox: &Inbox<'_>,
     text: &[u8],
-    told: &Option<Told<'_>>,
+    line: &[u8],
     after: u32,
     place: u32,
 ) -> Result<(), Refusal>
     requires text { text.now ≡ concat (lines_between (judged inbox.now.entries) inbox.now.conn after (place - 1)) }
-    requires told { IfSome told.now (IsPast (judged inbox.now.entries) (place - 1)) }
+    requires line { line.now ≡ concat (drop 1 (lines_at (judged inbox.now.entries) inbox.now.conn place)) }
     requires next { IsNextOf (is_made_by inbox.now.conn) (judged inbox.now.entries) after (Some place) }
     ensures { Gathers result (W.contents writer.old) lines.old.items (W.contents writer.new) lines.new.items (lines_between (judged inbox.now.entries) inbox.now.conn after place) }
 {
     gather(writer, lines, text)?;
-    write_own(writer, lines, inbox, told, place)
+    write_own(writer, lines, inbox, line, place)
 }
 
 /// Writes what the judged places tell the connection, from one at which it made the entry to the next.
@@ -90,18 +84,19 @@ fn write_places<W: Write>(
 {
     let mut count = 0;
     let mut after = 0;
-    let mut last = None;
+    let mut told = None;
     while let Some(place) = inbox.own(count) {
-        let (text, told) = pass(inbox.told_after(last, count, after), place - 1);
-        match write_upto(writer, lines, inbox, text, &told, after, place) {
+        count += 1;
+        let (text, before) = pass(told, place - 1);
+        told = inbox.told_after(&before, count, place);
+        let line = inbox.own_line(&before, &told, place);
+        match write_upto(writer, lines, inbox, text, line, after, place) {
             Ok(()) => {}
             Err(refusal) => return Err(refusal),
         }
-        count += 1;
         after = place;
-        last = told;
     }
-    let (text, _) = pass(inbox.told_after(last, count, after), inbox.last());
+    let (text, _) = pass(told, inbox.last());
     gather(writer, lines, text)
 }
 

@@ -18,13 +18,22 @@ use cpg_cred::Refusal;
 use cpg_entry::{Call, Op};
 use cpg_group::Policy;
 use cpg_print::{
-    put_audit, put_audit_with, put_change_line, put_event, put_members, put_message_line,
+    put_audit, put_audit_with, put_change_with, put_event, put_members, put_message_line,
     put_rules_line,
 };
 use cpg_record::{Cause, Member, Move, Record};
 use indexmap::IndexMap;
 use std::alloc::Global;
 use std::marker::Model;
+
+/// The room for the text of a group's members, in bytes, when its first place is put.
+const MEMBERS_ROOM: usize = 24;
+
+/// The room for what its places tell, in bytes: some three lines.
+const TEXT_ROOM: usize = 128;
+
+/// The room for the ends of that many lines.
+const PLACES_ROOM: usize = 8;
 
 /// The move of the member that the entry's connection becomes.
 fn join_of(past: &Record) -> Move
@@ -36,19 +45,22 @@ fn join_of(past: &Record) -> Move
     }
 }
 
-/// Puts the line that the allowed record of the place tells its group at the line's end. But for an end of a
-/// membership, whose member is sought among the group's, it is put from the record.
+/// Puts the line that the allowed record of the place tells its group at the line's end, from the text of its
+/// members where it moves one. But for an end of a membership, whose member is sought among the group's, it is put
+/// from the record.
 fn put_told(
     line: &mut Vec<u8>,
     policy: &Policy,
     place: u32,
     past: &Record,
     group: &[u8],
+    members: &[u8],
 ) -> Result<(), Refusal>
     requires place { (1 ≤ place) × (place ≤ length policy.now) }
     requires stands { record_at (judged policy.now) place ≡ Some past.now }
     requires group { past.now.group ≡ Some group.now }
     requires allowed { is_allowed past.now.verdict ≡ true }
+    requires members { is_move past.now.entry.op ≡ true → members.now ≡ members_text past.now.members }
     ensures ok { OnOk result (line.new.items ≡ line.old.items ++ told_text (judged policy.now) place) }
     ensures memory { IsOkUnless result Refusal.Memory }
 {
@@ -58,8 +70,7 @@ fn put_told(
             put_message_line(line, place, group, node, past.entry.pid, message.as_slice())
         }
         Op::Act(Call::Join(_)) => {
-            let members = past.members.as_slice();
-            put_change_line(line, place, group, members, &[], &[join_of(past)])
+            put_change_with(line, place, group, members, &[], &[join_of(past)])
         }
         Op::Act(Call::Insert(_, _, _)) | Op::Act(Call::Remove(_, _)) => {
             put_rules_line(line, place, group)
@@ -114,6 +125,20 @@ impl Text {
         })
     }
 
+    /// The same, with room for what the first places will put.
+    fn with_room(alloc: Global) -> Result<Text, Refusal>
+        ensures ok { IfOk result (λ text. text ≡ no_text) }
+        ensures memory { IsOkUnless result Refusal.Memory }
+    {
+        let mut members = Vec::with_capacity(alloc, MEMBERS_ROOM)?;
+        put_members(&mut members, &[])?;
+        Ok(Text {
+            members,
+            text: Vec::with_capacity(alloc, TEXT_ROOM)?,
+            ends: Vec::with_capacity(alloc, PLACES_ROOM)?,
+        })
+    }
+
     /// The text of the members.
     pub(crate) fn members(&self) -> &[u8]
         ensures { result.now ≡ self.now.members }
@@ -149,7 +174,14 @@ impl Text {
         if is_move(&past.entry.op) {
             self.show(past.members.as_slice())?;
         }
-        put_told(&mut self.text, policy, place, past, group)?;
+        put_told(
+            &mut self.text,
+            policy,
+            place,
+            past,
+            group,
+            self.members.as_slice(),
+        )?;
         let end = self.text.len();
         self.ends.push(end)?;
         Ok(())
@@ -270,7 +302,7 @@ impl Texts {
     {
         let alloc = *self.kept.allocator();
         let key = Vec::from_slice(alloc, name)?;
-        let mut text = Text::new(alloc)?;
+        let mut text = Text::with_room(alloc)?;
         text.put_place(lines, policy, place, past, name)?;
         self.kept.insert(key, text)?;
         Ok(())

@@ -1,19 +1,17 @@
-use Rattle.std.proofs.Common.{◌≡◌, List, ℕ, take, None, Some, ap, sym, subst, ◌∙◌}
-use Rattle.std.specs.Prelude.{Option, MatchOption}
+use Rattle.std.proofs.Common.{List, ℕ, ap, sym, subst, ◌∙◌}
 use Rattle.std.specs.List.{concat}
-use Rattle.cpg_record.specs.Membership.{group_of}
-use Rattle.cpg_judge.specs.Inboxes.{count_at, told_between, IsPast, ToldValue}
+use Rattle.cpg_judge.specs.Inboxes.{count_at, told_between, IsHeard}
 use Rattle.cpg_judge.proofs.Telling.{heard_in, heard_nothing}
 use Rattle.cpg_judge.proofs.inboxes.pass.Goals as goal
 
 pub returns-in-None-clause-text : goal.returns-in-None-clause-text
 returns-in-None-clause-text c = λ rs conn after told low within quiet.
     ap concat (sym (heard_nothing rs conn after c.args.last low within quiet
-    (subst (λ (o : Option ToldValue). MatchOption o (group_of (take after rs) conn ≡ None) (λ told. (group_of (take after rs) conn ≡ Some told.group) × IsPast rs after told)) c.in-None.is told)))
+    (subst (IsHeard rs conn after) c.in-None.is told)))
 
 pub returns-in-Some-clause-text : goal.returns-in-Some-clause-text
 returns-in-Some-clause-text c = λ rs conn after told low within quiet.
-    let found = subst (λ (o : Option ToldValue). MatchOption o (group_of (take after rs) conn ≡ None) (λ told. (group_of (take after rs) conn ≡ Some told.group) × IsPast rs after told)) c.in-Some.is told in
+    let found = subst (IsHeard rs conn after) c.in-Some.is told in
     let brought = c.brought_to-told.ensures rs after found.1 low within in
     let from = c.passed-passed.ensures ∙ found.1.1 ∙ ap (λ (g : List ℕ). count_at rs g after) (sym brought.0) in
     c.since.ensures rs after c.args.last brought.1 from low within

@@ -1,4 +1,4 @@
-use Rattle.std.proofs.Common.{◌≡◌, ◌-◌, ◌≤◌, ◌++◌, ℕ, List, Option, Some, None, length, map, take, ap, refl, sym, subst, ◌∙◌, arith}
+use Rattle.std.proofs.Common.{◌≡◌, ◌≤◌, ◌++◌, ℕ, List, Option, Some, None, length, map, take, ap, refl, sym, subst, ◌∙◌, arith}
 use Rattle.cpg_entry.specs.declared.entries.Entry.{Entry}
 use Rattle.cpg_record.specs.declared.connections.ConnId.{ConnId}
 use Rattle.std.specs.List.{slice_get}
@@ -11,7 +11,7 @@ use Rattle.cpg_record.specs.Judging.{judged}
 use Rattle.cpg_print.specs.Events.{event_line}
 use Rattle.cpg_judge.specs.Texts.{lines_between, MakesNone}
 use Rattle.cpg_judge.proofs.Behind.{gathers_none, gathers_stop, gathers_then}
-use Rattle.cpg_judge.proofs.Heard.{is_within, told_is}
+use Rattle.cpg_judge.proofs.Heard.{past_is}
 use Rattle.cpg_judge.proofs.Places.{between_parted, inbox_by_place, none_more, own_next, places_few}
 use Rattle.cpg_judge.proofs.output.write_places.Goals as goal
 
@@ -46,34 +46,60 @@ pub loop-place-preserved : goal.loop-place-preserved
 loop-place-preserved g c =
     let next = own_next (judged c.args.inbox.now.entries) c.args.inbox.now.conn c.loop-place.after c.in-Some.place (found (judged c.args.inbox.now.entries) c.args.inbox.now.conn c.loop-place.after c.loop-place.count (Some c.in-Some.place) c.loop-place.invariant.counted c.in-Some.ensures) in
     let more = between_parted (judged c.args.inbox.now.entries) c.args.inbox.now.conn 0 c.loop-place.after c.in-Some.place (omega arith) (omega (arith, next.above)) in
-    let heard = told_is _ _ (judged c.args.inbox.now.entries) c.loop-place.after c.told_after.result c.told_after.ensures in
-    let past = c.pass-told.ensures.told (judged c.args.inbox.now.entries) c.loop-place.after heard (omega (arith, next.above)) (omega (arith, next.within)) in
     record {
       counted = omega (arith, c.loop-place.invariant.counted, one_more_by_count (is_made_by c.args.inbox.now.conn) (judged c.args.inbox.now.entries) c.loop-place.after c.in-Some.place (there (judged c.args.inbox.now.entries) c.args.inbox.now.conn c.loop-place.after c.loop-place.count (Some c.in-Some.place) c.loop-place.invariant.counted c.in-Some.ensures));
       within = next.within;
-      told = is_within (judged c.args.inbox.now.entries) (c.in-Some.place - 1) c.in-Some.place c.pass-told.result.1 (omega arith) past;
+      told = c.told_after-told.ensures;
       gathered = rw more (gathers_then _ _ _ _ _ _ _ (lines_between (judged c.args.inbox.now.entries) c.args.inbox.now.conn 0 c.loop-place.after) (lines_between (judged c.args.inbox.now.entries) c.args.inbox.now.conn c.loop-place.after c.in-Some.place) c.loop-place.invariant.gathered c.in-Ok.ensures);
     }
 
 pub write_upto-requires-clause-text : goal.write_upto-requires-clause-text
 write_upto-requires-clause-text g c =
     let next = own_next (judged c.args.inbox.now.entries) c.args.inbox.now.conn c.loop-place.after c.in-Some.place (found (judged c.args.inbox.now.entries) c.args.inbox.now.conn c.loop-place.after c.loop-place.count (Some c.in-Some.place) c.loop-place.invariant.counted c.in-Some.ensures) in
-    c.pass-told.ensures.text (judged c.args.inbox.now.entries) c.args.inbox.now.conn c.loop-place.after c.told_after.ensures (omega (arith, next.above)) (omega (arith, next.within)) next.none_between
+    c.pass-before.ensures.text (judged c.args.inbox.now.entries) c.args.inbox.now.conn c.loop-place.after c.loop-place.invariant.told (omega (arith, next.above)) (omega (arith, next.within)) next.none_between
 
-pub write_upto-requires-clause-told : goal.write_upto-requires-clause-told
-write_upto-requires-clause-told g c =
+pub told_after-told-requires-clause-before : goal.told_after-told-requires-clause-before
+told_after-told-requires-clause-before g c =
     let next = own_next (judged c.args.inbox.now.entries) c.args.inbox.now.conn c.loop-place.after c.in-Some.place (found (judged c.args.inbox.now.entries) c.args.inbox.now.conn c.loop-place.after c.loop-place.count (Some c.in-Some.place) c.loop-place.invariant.counted c.in-Some.ensures) in
-    let heard = told_is _ _ (judged c.args.inbox.now.entries) c.loop-place.after c.told_after.result c.told_after.ensures in
-    c.pass-told.ensures.told (judged c.args.inbox.now.entries) c.loop-place.after heard (omega (arith, next.above)) (omega (arith, next.within))
+    let past = past_is (judged c.args.inbox.now.entries) c.args.inbox.now.conn c.loop-place.after c.loop-place.told c.loop-place.invariant.told in
+    c.pass-before.ensures.told (judged c.args.inbox.now.entries) c.loop-place.after past (omega (arith, next.above)) (omega (arith, next.within))
+
+pub told_after-told-requires-clause-count : goal.told_after-told-requires-clause-count
+told_after-told-requires-clause-count g c =
+    omega (arith, c.loop-place.invariant.counted, one_more_by_count (is_made_by c.args.inbox.now.conn) (judged c.args.inbox.now.entries) c.loop-place.after c.in-Some.place (there (judged c.args.inbox.now.entries) c.args.inbox.now.conn c.loop-place.after c.loop-place.count (Some c.in-Some.place) c.loop-place.invariant.counted c.in-Some.ensures))
+
+pub told_after-told-requires-clause-place : goal.told_after-told-requires-clause-place
+told_after-told-requires-clause-place g c =
+    let next = own_next (judged c.args.inbox.now.entries) c.args.inbox.now.conn c.loop-place.after c.in-Some.place (found (judged c.args.inbox.now.entries) c.args.inbox.now.conn c.loop-place.after c.loop-place.count (Some c.in-Some.place) c.loop-place.invariant.counted c.in-Some.ensures) in
+    next.within
+
+pub own_line-line-requires-clause-before : goal.own_line-line-requires-clause-before
+own_line-line-requires-clause-before g c =
+    let next = own_next (judged c.args.inbox.now.entries) c.args.inbox.now.conn c.loop-place.after c.in-Some.place (found (judged c.args.inbox.now.entries) c.args.inbox.now.conn c.loop-place.after c.loop-place.count (Some c.in-Some.place) c.loop-place.invariant.counted c.in-Some.ensures) in
+    let past = past_is (judged c.args.inbox.now.entries) c.args.inbox.now.conn c.loop-place.after c.loop-place.told c.loop-place.invariant.told in
+    c.pass-before.ensures.told (judged c.args.inbox.now.entries) c.loop-place.after past (omega (arith, next.above)) (omega (arith, next.within))
+
+pub own_line-line-requires-clause-after : goal.own_line-line-requires-clause-after
+own_line-line-requires-clause-after g c = past_is (judged c.args.inbox.now.entries) c.args.inbox.now.conn c.in-Some.place c.told_after-told.result c.told_after-told.ensures
+
+pub own_line-line-requires-clause-own : goal.own_line-line-requires-clause-own
+own_line-line-requires-clause-own g c =
+    let next = found (judged c.args.inbox.now.entries) c.args.inbox.now.conn c.loop-place.after c.loop-place.count (Some c.in-Some.place) c.loop-place.invariant.counted c.in-Some.ensures in
+    next.1
+
+pub own_line-line-requires-clause-place : goal.own_line-line-requires-clause-place
+own_line-line-requires-clause-place g c =
+    let next = own_next (judged c.args.inbox.now.entries) c.args.inbox.now.conn c.loop-place.after c.in-Some.place (found (judged c.args.inbox.now.entries) c.args.inbox.now.conn c.loop-place.after c.loop-place.count (Some c.in-Some.place) c.loop-place.invariant.counted c.in-Some.ensures) in
+    (omega (arith, next.above), next.within)
 
 pub loop-place-init : goal.loop-place-init
-loop-place-init g c = record { counted = refl; within = omega arith; told = tt; gathered = gathers_none _ _ }
+loop-place-init g c = record { counted = refl; within = omega arith; told = refl; gathered = gathers_none _ _ }
 
 pub returns : goal.returns
 returns g c =
     let quiet : MakesNone (judged c.args.inbox.now.entries) c.args.inbox.now.conn c.loop-place.after c.last.result =
     subst (MakesNone (judged c.args.inbox.now.entries) c.args.inbox.now.conn c.loop-place.after) (sym c.last.ensures) (none_more (judged c.args.inbox.now.entries) c.args.inbox.now.conn c.loop-place.after (found (judged c.args.inbox.now.entries) c.args.inbox.now.conn c.loop-place.after c.loop-place.count None c.loop-place.invariant.counted c.in_default.ensures)) in
-    let text = c.pass.ensures.text (judged c.args.inbox.now.entries) c.args.inbox.now.conn c.loop-place.after c.told_after-2.ensures (omega (arith, c.loop-place.invariant.within, c.last.ensures)) (omega (arith, c.last.ensures)) quiet in
+    let text = c.pass.ensures.text (judged c.args.inbox.now.entries) c.args.inbox.now.conn c.loop-place.after c.loop-place.invariant.told (omega (arith, c.loop-place.invariant.within, c.last.ensures)) (omega (arith, c.last.ensures)) quiet in
     rw (parted_at c.args.inbox.now.entries c.args.inbox.now.conn c.loop-place.after c.last.result c.loop-place.invariant.within c.last.ensures)
     (gathers_then c.gather.result _ _ _ _ _ _ (lines_between (judged c.args.inbox.now.entries) c.args.inbox.now.conn 0 c.loop-place.after) (lines_between (judged c.args.inbox.now.entries) c.args.inbox.now.conn c.loop-place.after c.last.result)
     c.loop-place.invariant.gathered (c.gather.ensures (lines_between (judged c.args.inbox.now.entries) c.args.inbox.now.conn c.loop-place.after c.last.result) text))

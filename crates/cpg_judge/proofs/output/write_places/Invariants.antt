@@ -1,10 +1,10 @@
 use Rattle.std.proofs.Common.{◌≡◌, ◌-◌, ◌≤◌, length, take}
-use Rattle.std.specs.Prelude.{IfSome, Ok}
+use Rattle.std.specs.Prelude.{Ok}
 use Rattle.cpg_record.specs.Judging.{judged}
 use Rattle.cpg_record.specs.Nexts.{is_made_by}
 use Rattle.cpg_record.specs.Places.{places_of}
 use Rattle.cpg_judge.specs.Gathering.{Gathers}
-use Rattle.cpg_judge.specs.Inboxes.{IsWithin}
+use Rattle.cpg_judge.specs.Inboxes.{IsHeard}
 use Rattle.cpg_judge.specs.Texts.{lines_between}
 use Rattle.cpg_judge.proofs.output.write_places.Given as goal
 
@@ -12,7 +12,7 @@ abbrev pub invariant-loop-place : goal.invariant-loop-place
 invariant-loop-place g l = record {
   counted : l.count ≡ length (places_of (is_made_by l.inbox.conn) (take l.after (judged l.inbox.entries)));
   within : l.after ≤ length (judged l.inbox.entries);
-  told : IfSome l.last (IsWithin (judged l.inbox.entries) l.after);
+  told : IsHeard (judged l.inbox.entries) l.inbox.conn l.after l.told;
   gathered : Gathers (Ok tt) (g.W.Write.contents l.initial.writer) l.initial.lines.items (g.W.Write.contents l.writer) l.lines.items (lines_between (judged l.inbox.entries) l.inbox.conn 0 l.after);
 }
 
