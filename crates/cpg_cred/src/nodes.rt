@@ -31,6 +31,15 @@ impl Model for NodeId {
     ghost inverse = { λ n. record { number = n } };
 }
 
+/// The first node, which every ring has.
+impl Default for NodeId {
+    ghost is_default = { λ node. node ≡ 1 };
+
+    fn default() -> NodeId {
+        NodeId { number: 1 }
+    }
+}
+
 impl NodeId {
     /// The node of that number, for 1 to 8; none for any other number.
     pub fn new(number: u8) -> Option<NodeId>

@@ -1,7 +1,7 @@
 //! The members of groups.
 
 ghost use Rattle.std.specs.Prelude.{◌≡◌, ◌↔◌, ◌++◌, ◌∷◌, IsTrue, [], length, OnOk, OnErr, IfOk, IsOkUnless};
-ghost use Rattle.std.specs.Arc.{arc_slice_items};
+ghost use Rattle.std.specs.Arc.{arc_value};
 ghost use Rattle.cpg_record.specs.Connections.{conn_in, member_of};
 ghost use Rattle.cpg_record.specs.Steps.{members_after, without};
 ghost use Rattle.cpg_record.specs.Verdicts.{has_process};
@@ -10,13 +10,14 @@ use crate::connections::ConnId;
 use crate::records::Record;
 use cpg_cred::{NodeId, Refusal};
 use cpg_entry::{Call, Entry, Op};
+use smallvec::SmallVec;
 use std::alloc::Global;
 use std::fmt;
 use std::marker::Model;
-use std::sync::ArcSlice;
+use std::sync::Arc;
 
 /// A member of a group: a connection with its process.
-#[derive(Debug, Clone, Copy, PartialEq, Eq)]
+#[derive(Debug, Clone, Copy, Default, PartialEq, Eq)]
 pub struct Member {
     pub node: NodeId,
     pub conn: u16,
@@ -46,11 +47,16 @@ impl Member {
     }
 }
 
+/// How many members a list keeps beside the count of its owners: a longer one has a second block of memory.
+const KEPT_INSIDE: usize = 4;
+
+type Kept = SmallVec<Member, KEPT_INSIDE>;
+
 /// Members of a group, in the order of their joins. Contracts see it as their list. Copies share it.
 #[derive(Drop)]
 pub struct Members {
     alloc: Global,
-    list: Option<ArcSlice<Member>>,
+    list: Option<Arc<Kept>>,
 }
 
 impl Model for Members {
@@ -82,10 +88,10 @@ impl Members {
         ensures ok { IfOk result (λ copy. copy ≡ members.now) }
         ensures memory { IsOkUnless result Refusal.Memory }
     {
-        let list = ArcSlice::from_slice(alloc, members)?;
+        let list = Kept::from_slice(alloc, members)?;
         Ok(Members {
             alloc,
-            list: Some(list),
+            list: Some(Arc::new(alloc, list)?),
         })
     }
 
@@ -98,7 +104,7 @@ impl Members {
             None => Ok(Members::new(alloc)),
             Some(list) => Ok(Members {
                 alloc,
-                list: Some(list.clone()?),
+                list: Some(Arc::try_clone(list)?),
             }),
         }
     }
@@ -166,30 +172,21 @@ impl Members {
 }
 
 /// The members with one more, last.
-fn with_member(
-    alloc: Global,
-    members: &[Member],
-    member: Member,
-) -> Result<ArcSlice<Member>, Refusal>
-    ensures ok { IfOk result (λ list. arc_slice_items list ≡ members.now ++ member ∷ []) }
+fn with_member(alloc: Global, members: &[Member], member: Member) -> Result<Arc<Kept>, Refusal>
+    ensures ok { IfOk result (λ list. (arc_value list).items ≡ members.now ++ member ∷ []) }
     ensures memory { IsOkUnless result Refusal.Memory }
 {
-    let mut list = Vec::with_capacity(alloc, members.len() + 1)?;
-    list.extend_from_slice(members)?;
+    let mut list = Kept::from_slice(alloc, members)?;
     list.push(member)?;
-    Ok(ArcSlice::from_vec(list)?)
+    Ok(Arc::new(alloc, list)?)
 }
 
 /// The members that are not that connection, in their order.
-fn without_conn(
-    alloc: Global,
-    members: &[Member],
-    conn: &ConnId,
-) -> Result<ArcSlice<Member>, Refusal>
-    ensures ok { IfOk result (λ list. arc_slice_items list ≡ without conn.now members.now) }
+fn without_conn(alloc: Global, members: &[Member], conn: &ConnId) -> Result<Arc<Kept>, Refusal>
+    ensures ok { IfOk result (λ list. (arc_value list).items ≡ without conn.now members.now) }
     ensures memory { IsOkUnless result Refusal.Memory }
 {
     let mut list = Vec::from_slice(alloc, members)?;
     list.retain(|member| !member.conn_id().is(conn));
-    Ok(ArcSlice::from_vec(list)?)
+    Ok(Arc::new(alloc, Kept::from_vec(list))?)
 }
