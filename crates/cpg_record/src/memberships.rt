@@ -176,7 +176,8 @@ fn with_member(alloc: Global, members: &[Member], member: Member) -> Result<Arc<
     ensures ok { IfOk result (λ list. (arc_value list).items ≡ members.now ++ member ∷ []) }
     ensures memory { IsOkUnless result Refusal.Memory }
 {
-    let mut list = Kept::from_slice(alloc, members)?;
+    let mut list = Kept::with_capacity(alloc, members.len() + 1)?;
+    list.extend_from_slice(members)?;
     list.push(member)?;
     Ok(Arc::new(alloc, list)?)
 }

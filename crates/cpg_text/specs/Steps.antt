@@ -1,5 +1,5 @@
 -- steps of the reading functions, which no contract of a public function cites
-use Rattle.std.specs.Prelude.{◌≡◌, ⊤, false, ℕ, ◌+◌, ◌*◌, ◌-◌, ◌/◌, ◌%◌, List, [], ◌∷◌, ◌++◌, ◌&&◌, nat_le, if◌then◌else◌, Option, Some, None, option_map}
+use Rattle.std.specs.Prelude.{◌≡◌, ⊤, false, ℕ, ◌+◌, ◌*◌, ◌-◌, ◌%◌, List, [], ◌∷◌, ◌++◌, ◌&&◌, nat_le, if◌then◌else◌, Option, Some, None, option_map}
 use Rattle.std.specs.Char.{is_ascii_digit}
 use Rattle.cpg_text.specs.Lines.{is_blank}
 
@@ -23,9 +23,9 @@ read_digits None word = None
 read_digits (Some number) [] = Some number
 read_digits (Some number) (byte ∷ word) = read_digits (one_digit number byte) word
 
--- the digit of that power of ten, where the number has one
-abbrev pub digit_from : ℕ → ℕ → List ℕ
-digit_from power number = if nat_le power number then (48 + number / power % 10) ∷ [] else []
+-- the last digit of a number, where it is not 0
+abbrev pub last_digit : ℕ → List ℕ
+last_digit number = if nat_le 1 number then (48 + number % 10) ∷ [] else []
 
 -- bytes, and then what the rest stands for
 abbrev pub after : List ℕ → Option (List ℕ) → Option (List ℕ)

@@ -8,7 +8,7 @@ ghost use Rattle.std.specs.Char.{is_ascii_digit};
 ghost use Rattle.std.specs.List.{list_all};
 ghost use Rattle.cpg_text.specs.Numbers.{is_number, number_in};
 ghost use Rattle.std.specs.Vec.{vec_len, vec_capacity};
-ghost use Rattle.cpg_text.specs.Steps.{digit_from, one_digit, one_more, read_digits, read_on};
+ghost use Rattle.cpg_text.specs.Steps.{last_digit, one_digit, one_more, read_digits, read_on};
 
 use cpg_cred::Refusal;
 use itoa::Buffer;
@@ -129,26 +129,28 @@ fn push_short(line: &mut Vec<u8>, number: u32) -> Result<(), Refusal>
     ensures ok { OnOk result (line.new.items ≡ line.old.items ++ decimal number) }
     ensures memory { IsOkUnless result Refusal.Memory }
 {
+    let tens = number / 10;
+    let hundreds = tens / 10;
+    let thousands = hundreds / 10;
     line.reserve(5)?;
-    push_digit_from(line, number, 10_000);
-    push_digit_from(line, number, 1_000);
-    push_digit_from(line, number, 100);
-    push_digit_from(line, number, 10);
-    push_digit_from(line, number, 1);
+    push_last_digit(line, thousands / 10);
+    push_last_digit(line, thousands);
+    push_last_digit(line, hundreds);
+    push_last_digit(line, tens);
+    push_last_digit(line, number);
     Ok(())
 }
 
-/// Puts the digit of that power of ten at the line's end, which has room for it, where the number has one.
+/// Puts the last digit of the number at the line's end, which has room for it, where the number is not 0.
 #[inline(always)]
-fn push_digit_from(line: &mut Vec<u8>, number: u32, power: u32)
-    requires power { 1 ≤ power }
-    requires room { vec_len line.old < vec_capacity line.old }
-    ensures digit { line.new.items ≡ line.old.items ++ digit_from power number }
+fn push_last_digit(line: &mut Vec<u8>, number: u32)
+    requires { vec_len line.old < vec_capacity line.old }
+    ensures digit { line.new.items ≡ line.old.items ++ last_digit number }
     ensures len { vec_len line.new ≤ vec_len line.old + 1 }
     ensures capacity { vec_capacity line.new ≡ vec_capacity line.old }
 {
-    if power <= number {
-        line.push_reserved(b'0' + (number / power % 10) as u8);
+    if number > 0 {
+        line.push_reserved(b'0' + (number % 10) as u8);
     }
 }
 
