@@ -10,7 +10,7 @@ use crate::calls::{is_enterable, put_op, read_op};
 use cpg_cred::{Cred, MOST_NODES, NodeId, Refusal};
 use cpg_entry::{Entry, MOST_CONNECTIONS, Op};
 use cpg_record::ConnId;
-use cpg_script::{cut, put, read_u32};
+use cpg_script::{cut, put_byte, read_u32};
 use cpg_text::{push_number, take_words};
 use std::alloc::Global;
 
@@ -23,7 +23,7 @@ pub fn put_conn(line: &mut Vec<u8>, conn: &ConnId) -> Result<(), Refusal>
     ensures memory { IsOkUnless result Refusal.Memory }
 {
     push_number(line, u64::from(conn.node.get()))?;
-    put(line, ".")?;
+    put_byte(line, b'.')?;
     push_number(line, u64::from(conn.conn))
 }
 
@@ -44,7 +44,7 @@ fn put_caller(line: &mut Vec<u8>, entry: &Entry) -> Result<(), Refusal>
     ensures memory { IsOkUnless result Refusal.Memory }
 {
     put_conn(line, &ConnId::of(entry))?;
-    put(line, " ")?;
+    put_byte(line, b' ')?;
     push_number(line, u64::from(entry.pid))
 }
 
@@ -53,9 +53,9 @@ fn put_cred(line: &mut Vec<u8>, cred: Cred) -> Result<(), Refusal>
     ensures ok { OnOk result (line.new.items ≡ line.old.items ++ codes " " ++ decimal cred.uid ++ codes " " ++ decimal cred.gid) }
     ensures memory { IsOkUnless result Refusal.Memory }
 {
-    put(line, " ")?;
+    put_byte(line, b' ')?;
     push_number(line, u64::from(cred.uid))?;
-    put(line, " ")?;
+    put_byte(line, b' ')?;
     push_number(line, u64::from(cred.gid))
 }
 

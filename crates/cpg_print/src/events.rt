@@ -12,7 +12,7 @@ use crate::records::{put_member, put_members};
 use crate::verdicts::put_verdict;
 use cpg_cred::{NodeId, Refusal};
 use cpg_record::{Cause, ConnId, Event, Member, Move, Verdict};
-use cpg_script::{put, put_bytes};
+use cpg_script::{put, put_byte, put_bytes};
 use cpg_text::{push_message, push_number};
 
 /// Puts the head of a connection's events at the line's end.
@@ -22,7 +22,7 @@ pub fn put_inbox(line: &mut Vec<u8>, conn: &ConnId) -> Result<(), Refusal>
 {
     put(line, "inbox ")?;
     put_conn(line, conn)?;
-    put(line, "\n")
+    put_byte(line, b'\n')
 }
 
 /// Puts the line of an event at the line's end.
@@ -77,7 +77,7 @@ pub fn put_verdict_line(line: &mut Vec<u8>, place: u32, verdict: Verdict) -> Res
     put_place(line, place)?;
     put(line, " verdict ")?;
     put_verdict(line, verdict)?;
-    put(line, "\n")
+    put_byte(line, b'\n')
 }
 
 /// Puts the line of a message to a group, with the process that sent it, at the line's end.
@@ -93,7 +93,7 @@ pub fn put_message_line(
     ensures memory { IsOkUnless result Refusal.Memory }
 {
     put_message(line, place, group, node, pid, message)?;
-    put(line, "\n")
+    put_byte(line, b'\n')
 }
 
 #[tactic(auto, unfolding(crate::specs::Events::news_text))]
@@ -120,7 +120,7 @@ fn put_sent(line: &mut Vec<u8>, node: NodeId, pid: u32, message: &[u8]) -> Resul
     ensures memory { IsOkUnless result Refusal.Memory }
 {
     put_sender(line, node, pid)?;
-    put(line, " ")?;
+    put_byte(line, b' ')?;
     push_message(line, message)
 }
 
@@ -128,9 +128,9 @@ fn put_sender(line: &mut Vec<u8>, node: NodeId, pid: u32) -> Result<(), Refusal>
     ensures ok { OnOk result (line.new.items ≡ line.old.items ++ codes " " ++ decimal node ++ codes " " ++ decimal pid) }
     ensures memory { IsOkUnless result Refusal.Memory }
 {
-    put(line, " ")?;
+    put_byte(line, b' ')?;
     push_number(line, u64::from(node.get()))?;
-    put(line, " ")?;
+    put_byte(line, b' ')?;
     push_number(line, u64::from(pid))
 }
 
@@ -148,7 +148,7 @@ pub fn put_change_line(
     ensures memory { IsOkUnless result Refusal.Memory }
 {
     put_change(line, place, group, members, left, joined)?;
-    put(line, "\n")
+    put_byte(line, b'\n')
 }
 
 #[tactic(auto, unfolding(crate::specs::Events::news_text))]
@@ -181,7 +181,7 @@ pub fn put_change_with(
     ensures memory { IsOkUnless result Refusal.Memory }
 {
     put_shown_change(line, place, group, members, left, joined)?;
-    put(line, "\n")
+    put_byte(line, b'\n')
 }
 
 #[tactic(auto, unfolding(crate::specs::Events::news_text))]
@@ -232,7 +232,7 @@ pub fn put_rules_line(line: &mut Vec<u8>, place: u32, group: &[u8]) -> Result<()
     put_place(line, place)?;
     put(line, " rules ")?;
     put_bytes(line, group)?;
-    put(line, "\n")
+    put_byte(line, b'\n')
 }
 
 /// Puts the word `event` and the place at the line's end.
@@ -262,7 +262,7 @@ fn put_more_moves(line: &mut Vec<u8>, moves: &[Move]) -> Result<(), Refusal>
     ensures memory { IsOkUnless result Refusal.Memory }
 {
     for one in moves {
-        put(line, ",")?;
+        put_byte(line, b',')?;
         put_move(line, *one)?;
     }
     Ok(())

@@ -11,7 +11,7 @@ use crate::verdicts::put_verdict;
 use cpg_cred::{NodeId, Refusal};
 use cpg_entry::{Entry, Name};
 use cpg_record::{Member, Record};
-use cpg_script::{put, put_bytes};
+use cpg_script::{put, put_byte, put_bytes};
 use cpg_text::push_number;
 
 /// Puts the audit line of a record, which stands at that place, at the line's end.
@@ -22,7 +22,7 @@ pub fn put_audit(line: &mut Vec<u8>, place: u32, past: &Record) -> Result<(), Re
 {
     put_asked(line, place, &past.entry)?;
     put_outcome(line, past)?;
-    put(line, "\n")
+    put_byte(line, b'\n')
 }
 
 /// Puts PLACE, the entry and an arrow at the line's end.
@@ -31,7 +31,7 @@ fn put_asked(line: &mut Vec<u8>, place: u32, entry: &Entry) -> Result<(), Refusa
     ensures memory { IsOkUnless result Refusal.Memory }
 {
     push_number(line, u64::from(place))?;
-    put(line, " ")?;
+    put_byte(line, b' ')?;
     put_entry(line, entry)?;
     put(line, " -> ")
 }
@@ -74,7 +74,7 @@ pub fn put_audit_with(
     put_asked(line, place, &past.entry)?;
     put_verdict(line, past.verdict)?;
     put_group_with(line, past, members)?;
-    put(line, "\n")
+    put_byte(line, b'\n')
 }
 
 fn put_group_with(line: &mut Vec<u8>, past: &Record, members: &[u8]) -> Result<(), Refusal>
@@ -112,7 +112,7 @@ fn put_more_members(line: &mut Vec<u8>, members: &[Member]) -> Result<(), Refusa
     ensures memory { IsOkUnless result Refusal.Memory }
 {
     for member in members {
-        put(line, ",")?;
+        put_byte(line, b',')?;
         put_member(line, *member)?;
     }
     Ok(())
@@ -132,7 +132,7 @@ pub fn put_process(line: &mut Vec<u8>, process: (NodeId, u32)) -> Result<(), Ref
     ensures memory { IsOkUnless result Refusal.Memory }
 {
     push_number(line, u64::from(process.0.get()))?;
-    put(line, "/")?;
+    put_byte(line, b'/')?;
     push_number(line, u64::from(process.1))
 }
 
@@ -143,5 +143,5 @@ pub fn put_count(line: &mut Vec<u8>, count: u32) -> Result<(), Refusal>
 {
     put(line, "records ")?;
     push_number(line, u64::from(count))?;
-    put(line, "\n")
+    put_byte(line, b'\n')
 }

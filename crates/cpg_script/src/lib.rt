@@ -14,4 +14,4 @@ mod words;
 pub use faults::{Fault, put_fault};
 pub use lines::write_line;
 pub use scripts::{ReadsLine, read_script};
-pub use words::{cut, is, put, put_bytes, read_u32, strip_name};
+pub use words::{cut, is, put, put_byte, put_bytes, read_u32, strip_name};

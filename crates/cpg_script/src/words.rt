@@ -1,6 +1,6 @@
 //! Small words: what is put at a line's end, and how a word is taken apart.
 
-ghost use Rattle.std.specs.Prelude.{◌≡◌, ◌==◌, ◌++◌, OnOk, IsOkUnless, option_map};
+ghost use Rattle.std.specs.Prelude.{◌≡◌, ◌==◌, ◌++◌, ◌∷◌, [], OnOk, IsOkUnless, option_map};
 ghost use Rattle.std.specs.Str.{bytes_eq};
 ghost use Rattle.std.specs.List.{position};
 ghost use Rattle.cpg_text.specs.Numbers.{number_in};
@@ -17,6 +17,16 @@ pub fn put(line: &mut Vec<u8>, text: &str) -> Result<(), Refusal>
     ensures memory { IsOkUnless result Refusal.Memory }
 {
     line.extend_from_slice(text.as_bytes())?;
+    Ok(())
+}
+
+/// Puts the byte at the line's end: cheaper than a text of one.
+#[inline(always)]
+pub fn put_byte(line: &mut Vec<u8>, byte: u8) -> Result<(), Refusal>
+    ensures ok { OnOk result (line.new.items ≡ line.old.items ++ byte ∷ []) }
+    ensures memory { IsOkUnless result Refusal.Memory }
+{
+    line.push(byte)?;
     Ok(())
 }
 
