@@ -9,6 +9,7 @@ pub mod Kept
 pub mod Judging
 pub mod Reasoned
 pub mod Seats
+pub mod Shown
 pub mod Told
 pub mod Why
 pub mod Nexts

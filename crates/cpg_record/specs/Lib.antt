@@ -13,3 +13,4 @@ pub mod RuleTables
 pub mod Steps
 pub mod Verdicts
 pub mod Shared
+pub mod Showing

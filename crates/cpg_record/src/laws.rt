@@ -5,6 +5,7 @@ ghost use Rattle.cpg_record.specs.Laws.{SeatsAreMemberships, GroupIsMembership, 
 ghost use Rattle.cpg_record.specs.Nexts.{TellsExactly, GroupsStay, MembersStay, NextIsAtTheCut};
 ghost use Rattle.cpg_record.specs.Receiving.{InboxesOnlyGrow, PlacesTellAtMostTwo, ToldInOrder, ReceivesExactly, HearsChangesExactly, HearsEditsExactly, HearsVerdictsExactly};
 ghost use Rattle.cpg_record.specs.Reasons.{DeniedListingsNameTheirRule, VerdictsNameWhatDecided};
+ghost use Rattle.cpg_record.specs.Showing.{ListingsShowMembers, GroupsWithMembersAreNamed};
 
 /// A connection has a seat in a group exactly where it is in it: an allowed join of it to the group
 /// stands somewhere, and no later record ends it.
@@ -114,6 +115,17 @@ pub fn judged_within_bounds()
 /// A listing is denied exactly by the rule of the group's table that says so, and never by default.
 pub fn denied_listings_name_their_rule()
     ensures { DeniedListingsNameTheirRule }
+{}
+
+/// A listing is shown exactly where the group's table lets the asker list it, and shows exactly the processes
+/// of the connections that are in the group.
+pub fn listings_show_members()
+    ensures { ListingsShowMembers }
+{}
+
+/// A group is named to an asker exactly where a connection is in it and its table lets the asker list it.
+pub fn groups_with_members_are_named()
+    ensures { GroupsWithMembersAreNamed }
 {}
 
 /// Each entry has exactly the verdict that names what decided it: the first rule that speaks, the right's
