@@ -2,27 +2,28 @@
 use Rattle.std.proofs.Common.{◌≡◌, ℕ, ◌≤◌, List, [], ◌∷◌, ◌++◌, length, take, Some, refl, sym, ap, ◌∙◌, subst, append-nil, option_map, append_assoc}
 use Rattle.cpg_record.specs.Judging.{judged}
 use Rattle.cpg_record.specs.Laws.{PrefixesAreJudgedAlike, EachEntryIsJudged, EachIsJudgedByThoseBefore, DenialChangesNothing}
-use Rattle.cpg_record.specs.Reasons.{DeniedListingsNameTheirRule}
-use Rattle.cpg_record.specs.Receiving.{ReceivesExactly}
+use Rattle.cpg_record.specs.Reasons.{VerdictsNameWhatDecided}
+use Rattle.cpg_record.specs.Receiving.{ReceivesExactly, ToldInOrder}
 use Rattle.cpg_ring.specs.States.{Entry, IsSettings}
 use Rattle.cpg_ring.specs.declared.settings.Settings.{Settings}
 use Rattle.cpg_ring.specs.Worlds as ring
 use Rattle.cpg_ring.specs.Worlds.{item, with_item, start, agreed}
 use Rattle.cpg_ring.specs.Claims as claims
 use Rattle.cpg_ring.specs.Claims.{Chain, Agreement, Safe, OnceInOrder}
-use Rattle.cpg_node.specs.Nodes.{delivered_entries, conn_id}
+use Rattle.cpg_node.specs.Nodes.{delivered_entries, records_of, conn_id}
 use Rattle.cpg_world_laws.specs.declared.events.WorldEvent.{WorldEvent}
 use Rattle.cpg_world_laws.specs.Worlds.{WorldValue, happens, runs, Reached, ring_world}
 use Rattle.cpg_world_laws.specs.Replies.{Answer, AtEach, IsReply, AreReplies}
-use Rattle.cpg_world_laws.specs.Claims.{JudgedByThoseBefore, had, given, gives, admitted, entries_of, IsTrueWorld, IsTrueRun, IsJustAdmission, IsJustListing, EndsExactly, ChangesNothing}
+use Rattle.cpg_world_laws.specs.Claims.{JudgedByThoseBefore, had, given, gives, admitted, entries_of, IsTrueWorld, IsTrueRun, AdmitsExactly, ListsExactly, EndsExactly, ChangesNothing}
 use Rattle.cpg_world_laws.proofs.Lists.{item_map}
 use Rattle.cpg_world_laws.proofs.Growing.{delivered_are}
 use Rattle.cpg_world_laws.proofs.Projecting.{Numbered, ring_events, state_of}
 use Rattle.cpg_world_laws.proofs.Reached.{RingReached, ring_reached, reached_on, runs_ring, numbered_on, same_settings}
 use Rattle.cpg_world_laws.proofs.Received.{AllAgreed, AllWithin, within_step, gift_step, within_new}
 use Rattle.cpg_world_laws.proofs.Orders.{run_admits}
-use Rattle.cpg_world_laws.proofs.Asking.{ends_exactly, just_listing}
-use Rattle.cpg_world_laws.proofs.Refusals.{just_admission, changes_nothing}
+use Rattle.cpg_world_laws.proofs.Asking.{Listings, ends_exactly, lists_exactly}
+use Rattle.cpg_world_laws.proofs.Later.{run_agrees, goes_on, judge_alike}
+use Rattle.cpg_world_laws.proofs.Refusals.{admits_exactly, changes_nothing}
 
 -- What the layers below promise of every ring and of all records.
 pub record Below : Type 0 where
@@ -34,8 +35,10 @@ pub record Below : Type 0 where
   pub each : EachEntryIsJudged
   pub before : EachIsJudgedByThoseBefore
   pub denials : DenialChangesNothing
+  pub named : VerdictsNameWhatDecided
   pub receives : ReceivesExactly
-  pub listings : DeniedListingsNameTheirRule
+  pub told : ToldInOrder
+  pub listings : Listings
 
 module _ (below : Below) where
   all_agreed : (w : WorldValue) → IsSettings w.settings → RingReached w → AllAgreed w
@@ -61,9 +64,14 @@ module _ (below : Below) where
   pub true_world : (w : WorldValue) → IsSettings w.settings → Reached w → IsTrueWorld w
   true_world w settings reached = record {
     chain = below.chain w.settings (ring_world w) settings (r.events, r.run);
+    held_as_agreed = λ n x place e at. (below.agreement w.settings (ring_world w) settings (r.events, r.run)).held_as_agreed n x.ring.state place e (item_map state_of w.nodes n ∙ ap (option_map state_of) at);
     judged_alike = all_agreed w settings r;
     by_rules_before = by_those_before (agreed w.sent);
-    receives = λ n x at conn. below.receives (delivered_entries x.ring.state) (conn_id x conn);
+    named = λ place q at verdict. below.named (agreed w.sent) place q at verdict;
+    receives = λ n x at. record {
+      messages = λ conn. below.receives (delivered_entries x.ring.state) (conn_id x conn);
+      in_order = λ conn. below.told (records_of x) (conn_id x conn);
+    };
     denials = λ i q at denied. below.denials (take i (judged (agreed w.sent))) q denied;
     safe = below.safe w.settings (ring_world w) settings (r.events, r.run);
   }
@@ -96,6 +104,11 @@ module _ (below : Below) where
   within_reached : (w : WorldValue) → IsSettings w.settings → Reached w → AllWithin w
   within_reached w settings reached = subst AllWithin reached.1 (within_run _ reached.0 settings ([], refl) (within_new w.settings w.list))
 
+  -- and so all is agreed after a run
+  agreed_after : (w : WorldValue) (es : List WorldEvent) → IsSettings w.settings → Reached w → AllAgreed (runs w es)
+  agreed_after w [] settings reached = agreed_of w settings reached
+  agreed_after w (e ∷ es) settings reached = agreed_after (happens w e) es (settings_on w e settings) (reached_on w e reached)
+
   in_order : (w : WorldValue) (es : List WorldEvent) → IsSettings w.settings → Reached w → (n : ℕ) → entries_of (runs w es) n ≡ entries_of w n ++ admitted w n es
   in_order w es settings reached n =
       ap (λ (v : ring.World). claims.entries_of v n) (runs_ring w es r.numbered)
@@ -116,13 +129,22 @@ module _ (below : Below) where
 
   pub true_run : (w : WorldValue) (es : List WorldEvent) (answers : List Answer) → IsSettings w.settings → Reached w → AreReplies w es answers → IsTrueRun w es answers
   true_run w es answers settings reached replies = record {
-    admission = at_each IsJustAdmission just_admission w es answers numbered replies;
+    admission = at_each AdmitsExactly admits_exactly w es answers numbered replies;
     received = received w es answers settings reached (within_reached w settings reached) replies;
     ends = at_each EndsExactly ends_exactly w es answers numbered replies;
-    listings = at_each IsJustListing (just_listing below.listings) w es answers numbered replies;
+    listings = at_each ListsExactly (lists_exactly below.listings) w es answers numbered replies;
     in_order = in_order w es settings reached;
+    agreed_grows = run_agrees w es;
+    goes_on = λ n x later at after. goes_on below.prefixes w es n x later at after (before n x at) (then n later after);
+    alike_later = λ n m x y at after. judge_alike below.prefixes w es x y (before n x at) (then m y after);
     refusals = at_each ChangesNothing changes_nothing w es answers numbered replies;
   }
     where
+      before : AllAgreed w
+      before = agreed_of w settings reached
+
+      then : AllAgreed (runs w es)
+      then = agreed_after w es settings reached
+
       numbered : Numbered w
       numbered = (ring_reached w reached).numbered

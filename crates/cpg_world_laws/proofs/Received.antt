@@ -40,7 +40,7 @@ abbrev pub TakenWithin : NodeValue → Type 0
 TakenWithin x = (conn : ℕ) → taken_in (item x.clients conn) ≤ length (inbox_of x conn)
 
 -- the records after are those before and more
-records_grow : PrefixesAreJudgedAlike → (F G : List Frame) (x y : NodeValue) → IsAgreed F x → IsAgreed (F ++ G) y → x.ring.state.delivered ≤ y.ring.state.delivered → (rest : List Record) × (records_of y ≡ records_of x ++ rest)
+pub records_grow : PrefixesAreJudgedAlike → (F G : List Frame) (x y : NodeValue) → IsAgreed F x → IsAgreed (F ++ G) y → x.ring.state.delivered ≤ y.ring.state.delivered → (rest : List Record) × (records_of y ≡ records_of x ++ rest)
 records_grow law F G x y before after more =
     (drop d (records_of y), sym (take-append-drop d (records_of y)) ∙ ap (λ l. l ++ drop d (records_of y)) front)
   where
@@ -70,9 +70,9 @@ inboxes_grow law F G x y before after more same conn =
 
 -- ---- what a move does to the delivered places and the connections
 
-record Goes (x y : NodeValue) : Type 0 where
-  delivered : x.ring.state.delivered ≤ y.ring.state.delivered
-  number : y.ring.node ≡ x.ring.node
+pub record Goes (x y : NodeValue) : Type 0 where
+  pub delivered : x.ring.state.delivered ≤ y.ring.state.delivered
+  pub number : y.ring.node ≡ x.ring.node
 
 goes_same : (x y : NodeValue) → y.ring.state.delivered ≡ x.ring.state.delivered → y.ring.node ≡ x.ring.node → Goes x y
 goes_same x y d n = record { delivered = omega arith; number = n }
@@ -93,7 +93,7 @@ heard_delivered s n (frame.Token t) r = by_refusal (token_refusal s n r t)
     by_refusal None = refl
     by_refusal (Some why) = refl
 
-goes_moves : (sent : List Frame) (e : WorldEvent) (x : NodeValue) → Goes x (moves sent e x).0
+pub goes_moves : (sent : List Frame) (e : WorldEvent) (x : NodeValue) → Goes x (moves sent e x).0
 goes_moves sent (Connect n pid cred) x = goes_unless (connect_refusal x cred) x (connected x pid cred, []) (goes_same x (connected x pid cred) refl refl)
 goes_moves sent (Submit n conn call) x = goes_unless (submit_refusal x conn call) x (submitted x conn call, []) (by_client (open_client x conn))
   where

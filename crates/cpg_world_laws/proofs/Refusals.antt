@@ -1,5 +1,6 @@
 -- A refused event leaves the world as it was, and Connect is refused with Access exactly where the credentials are not let in.
 use Rattle.std.proofs.Common.{◌≡◌, ◌↔◌, ℕ, zero, suc, Bool, true, false, not, List, [], ◌∷◌, ◌++◌, length, Option, Some, None, is_some, Result, Ok, Err, refl, sym, ap, ◌∙◌, subst, inl, inr, ⊎_elim, arith, append-nil, if◌then◌else◌, ◌==◌, nat_le, ◌<◌, ◌||◌, slice_index_or, eq-eqb, eqb-true, nat_eq, true≢false}
+use Rattle.std.proofs.lemmas.Bool.{leb-true, leb-false, le-leb, lt-leb}
 use Rattle.std.specs.List.{Contains, list_any}
 use Rattle.cpg_cred.specs.Listed.{Listed}
 use Rattle.cpg_cred.specs.Admission.{via_of}
@@ -9,6 +10,7 @@ use Rattle.std.proofs.lemmas.Map.Views.{Contains-from_any}
 use Rattle.cpg_cred.specs.declared.credentials.Cred.{Cred}
 use Rattle.cpg_cred.specs.declared.refusals.Refusal.{Refusal}
 use Rattle.cpg_cred.specs.declared.refusals.Refusal.TheVariants.{Access, ConnectionsFull}
+use Rattle.cpg_entry.specs.declared.ranges.TheConstants.{MOST_CONNECTIONS}
 use Rattle.cpg_ring.specs.States.{Frame}
 use Rattle.cpg_ring.specs.Worlds.{item}
 use Rattle.cpg_node.specs.declared.connections.Client.{Client}
@@ -20,7 +22,7 @@ use Rattle.cpg_world_laws.specs.declared.replies.Reply.{Reply}
 use Rattle.cpg_world_laws.specs.declared.replies.Reply.TheVariants as reply
 use Rattle.cpg_world_laws.specs.Worlds.{WorldValue, Move, unless, hears, moves, node_in, moved}
 use Rattle.cpg_world_laws.specs.Replies.{Answer, or_reply, frame_answer, take_answer, IsAnswerAt, IsAnswerOf, IsReply}
-use Rattle.cpg_world_laws.specs.Claims.{IsLetIn, IsJustAdmission, ChangesNothing}
+use Rattle.cpg_world_laws.specs.Claims.{IsLetIn, AtNode, Admits, AdmitsExactly, ChangesNothing}
 use Rattle.cpg_world_laws.proofs.Lists.{with_as}
 use Rattle.cpg_world_laws.proofs.Projecting.{Numbered}
 
@@ -109,28 +111,83 @@ is_kept_out list cred h = tests (cred.uid == 0) (cred.gid == 0) (list_any (λ u.
         (λ (c : Contains list.groups cred.gid). absurd (true≢false (sym (is_among cred.gid list.groups c.0 c.1 c.2) ∙ s)))))
 
 -- at a node with the world's list
-at_node : (x : NodeValue) (cred : Cred) (q : Reply) (a : Answer) → a ≡ or_reply (connect_refusal x cred) q → (a ≡ Err Access) ↔ ¬ IsLetIn x.list cred
-at_node x cred q a answer = by_via (is_some (via_of x.list cred)) refl
-  where
-    full : (b : Bool) → or_reply (if b then Some ConnectionsFull else None) q ≡ Err Access → ⊥
-    full true h = absurd (cc)
-    full false h = absurd (cc)
+abbrev refused_by : Bool → Bool → Option Refusal
+refused_by let_in full = if not let_in then Some Access else if full then Some ConnectionsFull else None
 
-    by_via : (b : Bool) → is_some (via_of x.list cred) ≡ b → (a ≡ Err Access) ↔ ¬ IsLetIn x.list cred
-    by_via true is = (λ h. absurd (full (nat_le 65535 (length x.clients)) (ap (λ b. or_reply (if not b then Some Access else if nat_le 65535 (length x.clients) then Some ConnectionsFull else None) q) (sym is) ∙ (sym answer ∙ h))), λ out. absurd (out (is_let_in x.list cred is)))
-    by_via false is = (λ h. is_kept_out x.list cred is, λ out. answer ∙ ap (λ b. or_reply (if not b then Some Access else if nat_le 65535 (length x.clients) then Some ConnectionsFull else None) q) is)
+-- what a Connect is answered, by whether it is let in and whether all numbers are given
+record Outcome (let_in full : Bool) (number : ℕ) (a : Answer) : Type 0 where
+  shut_out : (a ≡ Err Access) ↔ (let_in ≡ false)
+  no_number : (a ≡ Err ConnectionsFull) ↔ ((let_in ≡ true) × (full ≡ true))
+  connected_so : (conn : ℕ) → (a ≡ Ok (reply.Connected conn)) ↔ ((let_in ≡ true) × (full ≡ false) × (conn ≡ number))
 
-pub just_admission : (w : WorldValue) (e : WorldEvent) (a : Answer) → Numbered w → IsReply w e a → IsJustAdmission w e a
-just_admission w (Connect n pid cred) a numbered reply = by_node (item w.nodes n) refl reply
+outcome : (let_in full : Bool) (number : ℕ) (a : Answer) → a ≡ or_reply (refused_by let_in full) (reply.Connected number) → Outcome let_in full number a
+outcome false full number a is = record {
+  shut_out = ((λ h. refl), (λ h. is));
+  no_number = ((λ h. absurd (cc)), (λ h. absurd (let never = h.0 in cc)));
+  connected_so = λ conn. ((λ h. absurd (cc)), (λ h. absurd (let never = h.0 in cc)));
+}
+outcome true true number a is = record {
+  shut_out = ((λ h. absurd (cc)), (λ h. absurd (cc)));
+  no_number = ((λ h. (refl, refl)), (λ h. is));
+  connected_so = λ conn. ((λ h. absurd (cc)), (λ h. absurd (let never = h.1 in cc)));
+}
+outcome true false number a is = record {
+  shut_out = ((λ h. absurd (cc)), (λ h. absurd (cc)));
+  no_number = ((λ h. absurd (cc)), (λ h. absurd (let never = h.1 in cc)));
+  connected_so = λ conn. ((λ h. (refl, refl, same_number conn number (sym h ∙ is))), (λ h. is ∙ ap (λ k. Ok (reply.Connected k)) (sym h.2)));
+}
   where
-    by_node : (o : Option NodeValue) → item w.nodes n ≡ o → IsAnswerOf w.sent (Connect n pid cred) o a → (a ≡ Err Access) ↔ ¬ IsLetIn w.list cred
+    same_number : (i j : ℕ) → ◌≡◌ {A = Answer} (Ok (reply.Connected i)) (Ok (reply.Connected j)) → i ≡ j
+    same_number i j h = cc
+
+-- which is let in exactly by the world's list
+at_node : (list : Listed) (x : NodeValue) (cred : Cred) (a : Answer) → x.list ≡ list → IsAnswerAt [] (Connect x.ring.node 0 cred) x a → Admits list cred a x
+at_node list x cred a same answer = record {
+  shut_out = ((λ h. kept_out (o.shut_out.0 h)), (λ out. o.shut_out.1 (shut out)));
+  full = ((λ h. let f = o.no_number.0 h in (let_in f.0, leb-true MOST_CONNECTIONS (length x.clients) f.1)), (λ h. o.no_number.1 (opened h.0, le-leb MOST_CONNECTIONS (length x.clients) h.1)));
+  let_in = λ conn. (
+    (λ h. let c = (o.connected_so conn).0 h in (let_in c.0, leb-false MOST_CONNECTIONS (length x.clients) c.1, c.2)),
+    (λ h. (o.connected_so conn).1 (opened h.0, lt-leb MOST_CONNECTIONS (length x.clients) h.1, h.2)),
+  );
+}
+  where
+    by_list : Bool
+    by_list = is_some (via_of x.list cred)
+
+    o : Outcome by_list (nat_le MOST_CONNECTIONS (length x.clients)) (suc (length x.clients)) a
+    o = outcome by_list (nat_le MOST_CONNECTIONS (length x.clients)) (suc (length x.clients)) a answer
+
+    let_in : by_list ≡ true → IsLetIn list cred
+    let_in is = subst (λ (l : Listed). IsLetIn l cred) same (is_let_in x.list cred is)
+
+    kept_out : by_list ≡ false → ¬ IsLetIn list cred
+    kept_out is = subst (λ (l : Listed). ¬ IsLetIn l cred) same (is_kept_out x.list cred is)
+
+    opened : IsLetIn list cred → by_list ≡ true
+    opened inside = by_test by_list refl
+      where
+        by_test : (b : Bool) → by_list ≡ b → b ≡ true
+        by_test true is = refl
+        by_test false is = absurd (kept_out is inside)
+
+    shut : (¬ IsLetIn list cred) → by_list ≡ false
+    shut out = by_test by_list refl
+      where
+        by_test : (b : Bool) → by_list ≡ b → b ≡ false
+        by_test true is = absurd (out (let_in is))
+        by_test false is = refl
+
+pub admits_exactly : (w : WorldValue) (e : WorldEvent) (a : Answer) → Numbered w → IsReply w e a → AdmitsExactly w e a
+admits_exactly w (Connect n pid cred) a numbered reply = by_node (item w.nodes n) refl reply
+  where
+    by_node : (o : Option NodeValue) → item w.nodes n ≡ o → IsAnswerOf w.sent (Connect n pid cred) o a → AtNode o (Admits w.list cred a)
     by_node None is answer = absurd answer
-    by_node (Some x) is answer = subst (λ (l : Listed). (a ≡ Err Access) ↔ ¬ IsLetIn l cred) (numbered n x is).list (at_node x cred _ a answer)
-just_admission w (Submit n conn call) a numbered reply = tt
-just_admission w (Disconnect n conn) a numbered reply = tt
-just_admission w (Arrival n k) a numbered reply = tt
-just_admission w (Timer n) a numbered reply = tt
-just_admission w (Deliver n) a numbered reply = tt
-just_admission w (Take n conn) a numbered reply = tt
-just_admission w (Listing n conn g) a numbered reply = tt
-just_admission w (Groups n conn) a numbered reply = tt
+    by_node (Some x) is answer = at_node w.list x cred a (numbered n x is).list answer
+admits_exactly w (Submit n conn call) a numbered reply = tt
+admits_exactly w (Disconnect n conn) a numbered reply = tt
+admits_exactly w (Arrival n k) a numbered reply = tt
+admits_exactly w (Timer n) a numbered reply = tt
+admits_exactly w (Deliver n) a numbered reply = tt
+admits_exactly w (Take n conn) a numbered reply = tt
+admits_exactly w (Listing n conn g) a numbered reply = tt
+admits_exactly w (Groups n conn) a numbered reply = tt

@@ -14,7 +14,8 @@ ghost use Rattle.cpg_world_laws.specs.Progress.{CatchesUp, Recovers};
 
 use cpg_record::laws::{
     denial_changes_nothing, denied_listings_name_their_rule, each_entry_is_judged,
-    each_is_judged_by_those_before, prefixes_are_judged_alike, receives_exactly,
+    each_is_judged_by_those_before, groups_with_members_are_named, listings_show_members,
+    prefixes_are_judged_alike, receives_exactly, told_in_order, verdicts_name_what_decided,
 };
 use cpg_ring::every_schedule;
 
@@ -29,6 +30,10 @@ pub fn every_run()
     each_is_judged_by_those_before();
     denial_changes_nothing();
     receives_exactly();
+    told_in_order();
+    verdicts_name_what_decided();
+    listings_show_members();
+    groups_with_members_are_named();
     denied_listings_name_their_rule();
 }
 
