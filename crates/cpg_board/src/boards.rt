@@ -223,7 +223,10 @@ impl Board {
 }
 
 /// A copy of the record in a box.
-fn boxed_copy(alloc: Global, wanted: &Record) -> Result<Box<Record>, Refusal> {
+fn boxed_copy(alloc: Global, wanted: &Record) -> Result<Box<Record>, Refusal>
+    ensures ok { IfOk result (λ boxed. boxed.value ≡ wanted.now) }
+    ensures memory { IsOkUnless result Refusal.Memory }
+{
     Ok(Box::new(alloc, wanted.copy(alloc)?)?)
 }
 

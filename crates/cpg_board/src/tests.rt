@@ -310,3 +310,48 @@ fn two_threads_settle_different_records(rt: HostRuntime) -> Result<(), Fail> {
     assert!(rt; know_the_same(&board, &one, &other));
     Ok(())
 }
+
+/// A board has room for more places than a few.
+const MANY: u32 = 130;
+
+/// Whether the seat settles so many records in a row.
+fn settles_many(alloc: Global, board: &Board, seat: &mut Seat, count: u32) -> bool
+    requires { IsSeatOf board.now seat.old }
+    ensures { IsSeatOf board.now seat.new }
+{
+    for _ in 0..count {
+        if !settles(alloc, board, seat, Row::Join) {
+            return false;
+        }
+    }
+    true
+}
+
+/// Whether the seat reads so many records in a row.
+fn reads_many(alloc: Global, board: &Board, seat: &mut Seat, count: u32) -> bool
+    requires { IsSeatOf board.now seat.old }
+    ensures { IsSeatOf board.now seat.new }
+{
+    for _ in 0..count {
+        if !reads(alloc, board, seat, Row::Join) {
+            return false;
+        }
+    }
+    true
+}
+
+/// Whether all places of a board settle, are read by a seat that has seen nothing, and refuse another record
+/// at the last place.
+fn fills_many(alloc: Global, board: &Board) -> bool {
+    let (mut one, mut other) = (board.seat(), board.seat());
+    settles_many(alloc, board, &mut one, MANY)
+        && reads_many(alloc, board, &mut other, MANY - 1)
+        && settle(alloc, board, &mut other, Row::Twice, Row::Join) == Answer::Differs(Row::Join)
+}
+
+#[test]
+fn a_board_of_many(rt: HostRuntime) -> Result<(), Fail> {
+    let board = Board::new(rt.alloc(), MANY)?;
+    assert!(rt; fills_many(rt.alloc(), &board));
+    Ok(())
+}

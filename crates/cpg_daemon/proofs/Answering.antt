@@ -7,18 +7,18 @@ use Rattle.cpg_cred.specs.declared.refusals.Refusal.TheVariants as refusal
 use Rattle.cpg_record.specs.declared.events.Event.{Event}
 use Rattle.cpg_board.specs.Seats.{SeatValue}
 use Rattle.cpg_station.specs.Admitting.{AdmitsNot}
-use Rattle.cpg_station.specs.Serving.{StaysDown, IsTakeFor, IsListFor, IsGroupsFor}
+use Rattle.cpg_station.specs.Serving.{GivesNot, IsTakeFor, IsListFor, IsGroupsFor}
 use Rattle.cpg_station.specs.Stations.{StationValue}
 use Rattle.cpg_daemon.specs.Sessions.{SessionValue, ConnectRefuses, AnswersNot, IsTaken, IsListed, AreNamed}
 
-pub connect_refuses : (list : Listed) (cred : Cred) (old new : StationValue) (why : Refusal) → AdmitsNot list cred old why new → ConnectRefuses list cred why
-connect_refuses list cred old new refusal.Stopped not = tt
-connect_refuses list cred old new refusal.Access not = not.0
-connect_refuses list cred old new refusal.ConnectionsFull not = not.0
-connect_refuses list cred old new refusal.Memory not = not.0
-connect_refuses list cred old new why not = absurd not
+pub connect_refuses : (list : Listed) (node pid : ℕ) (cred : Cred) (old new : StationValue) (why : Refusal) → AdmitsNot list node pid cred old why new → ConnectRefuses list cred why
+connect_refuses list node pid cred old new refusal.Stopped not = tt
+connect_refuses list node pid cred old new refusal.Access not = not.0
+connect_refuses list node pid cred old new refusal.ConnectionsFull not = not.0
+connect_refuses list node pid cred old new refusal.Memory not = not.0
+connect_refuses list node pid cred old new why not = absurd not
 
-down : (s : StationValue) (before : SeatValue) (why : Refusal) → StaysDown s before why → AnswersNot before why
+down : (s : StationValue) (before : SeatValue) (why : Refusal) → GivesNot s before why → AnswersNot before why
 down s before refusal.Stopped is = tt
 down s before (refusal.Behind reached) is = is.2
 down s before refusal.Memory is = tt

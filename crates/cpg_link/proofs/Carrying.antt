@@ -6,7 +6,7 @@ use lib.ListN.{get_elem?}
 use Rattle.crossbeam_queue.specs.Fifo.{Pushes, Pops, Forks, Merges, Learns}
 use Rattle.crossbeam_queue.proofs.Lists.{at_set}
 use Rattle.cpg_link.specs.declared.passes.Known.{Known}
-use Rattle.cpg_link.specs.Links.{Frame, known, Fits, Carries}
+use Rattle.cpg_link.specs.Links.{Frame, known, StandBehind, Fits, Carries}
 
 -- it is so of each pass
 abbrev Each : List Known → (ℕ → Known → Type 0) → Type 0
@@ -103,3 +103,7 @@ nothing_left put taken left rest count all many few =
     let b = length-append taken left in
     let none : length rest ≡ 0 = omega (arith, a, b, many, few) in
     all ∙ ap (λ r. (taken ++ left) ++ r) (empty rest none) ∙ append_nothing (taken ++ left)
+
+-- what stands in the queue is the end of what the sender put
+pub behind : (pass : ℕ) (v : Known) → v.puts ≡ true → Learns Carries pass v (StandBehind v)
+behind pass v may items views h at = (h.3, ((h.5 pass v at).0 may).1 ∙ h.4)

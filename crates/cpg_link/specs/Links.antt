@@ -1,5 +1,5 @@
 -- The rule of a link, and what its ends are seen as.
-use Rattle.std.specs.Prelude.{ℕ, ◌≡◌, ◌≤◌, Bool, true, List, ◌++◌}
+use Rattle.std.specs.Prelude.{ℕ, ◌≡◌, ◌≤◌, Bool, true, List, [], ◌∷◌, ◌++◌, length}
 use mathlib.Core.Option.{some}
 use lib.ListN.{get_elem?}
 use Rattle.atomic_table.specs.Seated.{TableId}
@@ -13,10 +13,19 @@ use Rattle.cpg_link.specs.declared.passes.Known.{Known}
 abbrev pub Frame : Type 0
 Frame = List ℕ
 
--- An end of a link: which link it is, and the frames that were put there, or taken.
+-- An end of a link: which link it is, how many frames it has room for, and the frames that were put there, or taken.
 pub record LinkEnd : Type 0 where
   pub link : TableId
+  pub room : ℕ
   pub frames : List Frame
+
+-- the link of a sender's end is full: of the frames that were put, all but those that were taken stand in it, as many as it has room for
+abbrev pub IsFull : LinkEnd → Type 0
+IsFull sender = (taken : List Frame) × (standing : List Frame) × (sender.frames ≡ taken ++ standing) × (length standing ≡ sender.room)
+
+-- the end with one frame more
+abbrev pub with_frame : LinkEnd → Frame → LinkEnd
+with_frame end frame = record { link = end.link; room = end.room; frames = end.frames ++ frame ∷ [] }
 
 -- the two are ends of one link
 abbrev pub AreEnds : LinkEnd → LinkEnd → Type 0
@@ -43,6 +52,10 @@ told pass = view pass
 -- a pass that may put, or take, and knows that these were put and those taken
 abbrev pub known : Bool → Bool → List Frame → List Frame → Known
 known puts takes put taken = record { puts = puts; takes = takes; put = put; taken = taken }
+
+-- these stand in the queue, behind some that were taken
+abbrev pub StandBehind : Known → List Frame → Type 0
+StandBehind v items = (taken : List Frame) × (v.put ≡ taken ++ items)
 
 -- where the pass may put, it is the sender's and knows what was put; where it may take, it is the receiver's and knows what was taken
 abbrev pub Fits : ℕ → ℕ → List Frame → List Frame → ℕ → Known → Type 0

@@ -1,9 +1,9 @@
 //! A link's two ends.
 
-ghost use Rattle.std.specs.Prelude.{◌≡◌, true, [], ◌∷◌, ◌++◌, ◌≤◌, length, IfOk, IfErr, MatchOption, MatchResult, vec_capacity};
+ghost use Rattle.std.specs.Prelude.{◌≡◌, true, [], ◌++◌, ◌≤◌, length, IfOk, IfErr, MatchOption, MatchResult, vec_capacity};
 ghost use Rattle.crossbeam_queue.specs.Passes.{view, IsPassOf, ruled_capacity};
 ghost use Rattle.cpg_cred.specs.declared.refusals.Refusal.TheVariants.{Memory};
-ghost use Rattle.cpg_link.specs.Links.{known, most_frames, IsNoLink, AreEnds};
+ghost use Rattle.cpg_link.specs.Links.{known, most_frames, IsNoLink, AreEnds, IsFull, with_frame};
 
 use crate::passes::{Empties, Ends, InOrder, Known, Puts, Takes};
 use bytes::Bytes;
@@ -33,12 +33,12 @@ pub struct LinkTx {
 impl Model for LinkTx {
     ghost use Rattle.std.specs.Prelude.{◌≡◌, true, false, []};
     ghost use Rattle.std.specs.Arc.{arc_value};
-    ghost use Rattle.crossbeam_queue.specs.Passes.{IsPassOf};
+    ghost use Rattle.crossbeam_queue.specs.Passes.{IsPassOf, ruled_capacity};
     ghost use Rattle.cpg_link.specs.Links.{LinkEnd, known, told};
 
     ghost Value = { LinkEnd };
 
-    ghost view = { λ end. record { link = end.pass.table_id; frames = (told end.pass).put } };
+    ghost view = { λ end. record { link = end.pass.table_id; room = ruled_capacity (arc_value end.line); frames = (told end.pass).put } };
 
     ghost invariant = { λ end. IsPassOf (arc_value end.line) end.pass × (told end.pass ≡ known true false (told end.pass).put []) };
 }
@@ -53,12 +53,12 @@ pub struct LinkRx {
 impl Model for LinkRx {
     ghost use Rattle.std.specs.Prelude.{◌≡◌, true, false, []};
     ghost use Rattle.std.specs.Arc.{arc_value};
-    ghost use Rattle.crossbeam_queue.specs.Passes.{IsPassOf};
+    ghost use Rattle.crossbeam_queue.specs.Passes.{IsPassOf, ruled_capacity};
     ghost use Rattle.cpg_link.specs.Links.{LinkEnd, known, told};
 
     ghost Value = { LinkEnd };
 
-    ghost view = { λ end. record { link = end.pass.table_id; frames = (told end.pass).taken } };
+    ghost view = { λ end. record { link = end.pass.table_id; room = ruled_capacity (arc_value end.line); frames = (told end.pass).taken } };
 
     ghost invariant = { λ end. IsPassOf (arc_value end.line) end.pass × (told end.pass ≡ known false true [] (told end.pass).taken) };
 }
@@ -66,6 +66,7 @@ impl Model for LinkRx {
 /// A link with room for so many frames, from 1 to 4,096. Refused with Range for another number; with Memory.
 pub fn link(alloc: Global, capacity: usize) -> Result<(LinkTx, LinkRx), Refusal>
     ensures ends { IfOk result (λ ends. AreEnds ends.0 ends.1) }
+    ensures room { IfOk result (λ ends. (ends.0.room ≡ capacity) × (ends.1.room ≡ capacity)) }
     ensures empty { IfOk result (λ ends. (ends.0.frames ≡ []) × (ends.1.frames ≡ [])) }
     ensures err { IfErr result (IsNoLink capacity) }
 {
@@ -86,9 +87,10 @@ pub fn link(alloc: Global, capacity: usize) -> Result<(LinkTx, LinkRx), Refusal>
 }
 
 impl LinkTx {
-    /// Puts a frame behind those that were put. It comes back only where the link was full.
+    /// Puts a frame behind those that were put. It comes back where the link is full: where as many frames as
+    /// it has room for stand in it.
     pub fn put<R: Wait>(&mut self, rt: &R, frame: Bytes) -> Result<(), Bytes>
-        ensures { MatchResult result (λ _. self.new ≡ record { link = self.old.link; frames = self.old.frames ++ frame ∷ [] }) (λ back. (back ≡ frame) × (self.new ≡ self.old)) }
+        ensures { MatchResult result (λ _. self.new ≡ with_frame self.old frame) (λ back. (back ≡ frame) × (self.new ≡ self.old) × IsFull self.old) }
     {
         self.line.push_as::<Puts, R>(rt, &mut self.pass, frame)
     }
@@ -97,7 +99,7 @@ impl LinkTx {
 impl LinkRx {
     /// Takes the next frame, if there is one.
     pub fn take<R: Wait>(&mut self, rt: &R) -> Option<Bytes>
-        ensures { MatchOption result (self.new ≡ self.old) (λ frame. self.new ≡ record { link = self.old.link; frames = self.old.frames ++ frame ∷ [] }) }
+        ensures { MatchOption result (self.new ≡ self.old) (λ frame. self.new ≡ with_frame self.old frame) }
     {
         self.line.pop_as::<Takes, R>(rt, &mut self.pass)
     }

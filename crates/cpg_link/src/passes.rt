@@ -56,9 +56,9 @@ impl Outcome<Bytes, Known> for Puts {
 }
 
 impl Lesson<Bytes, Known> for Puts {
-    ghost use Rattle.std.specs.Prelude.{⊤};
+    ghost use Rattle.cpg_link.specs.Links.{StandBehind};
 
-    ghost fact = { λ knows items. ⊤ };
+    ghost fact = { StandBehind };
 }
 
 /// A frame is taken.

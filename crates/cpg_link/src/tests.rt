@@ -98,3 +98,42 @@ fn capacities(rt: HostRuntime) -> Result<(), Fail> {
     assert_eq!(rt; refusal_of(alloc, 4_097), Some(Refusal::Range));
     Ok(())
 }
+
+/// Whether the link takes so many frames of that byte.
+fn fills<R: Wait>(rt: &R, alloc: Global, sender: &mut LinkTx, size: usize) -> bool {
+    for _ in 0..size {
+        if put(rt, alloc, sender, b'x') != Ok(None) {
+            return false;
+        }
+    }
+    true
+}
+
+/// Whether so many frames of that byte are taken.
+fn empties<R: Wait>(rt: &R, receiver: &mut LinkRx, size: usize) -> bool {
+    for _ in 0..size {
+        if !takes(rt, receiver, b'x') {
+            return false;
+        }
+    }
+    true
+}
+
+/// Whether a link of that size takes as many frames and no more, gives them all and then none, and then takes
+/// a frame again.
+fn is_of_size<R: Wait>(rt: &R, alloc: Global, size: usize) -> Result<bool, Refusal> {
+    let (mut sender, mut receiver) = link(alloc, size)?;
+    let full = fills(rt, alloc, &mut sender, size)
+        && put(rt, alloc, &mut sender, b'y') == Ok(Some(b'y'));
+    let empty = empties(rt, &mut receiver, size) && receiver.take(rt).is_none();
+    let again = put(rt, alloc, &mut sender, b'z') == Ok(None) && takes(rt, &mut receiver, b'z');
+    Ok(full && empty && again)
+}
+
+#[test]
+fn links_of_each_size(rt: HostRuntime) -> Result<(), Fail> {
+    for size in [1, 2, 12, 32, 64, 4_096] {
+        assert!(rt; is_of_size(&rt, rt.alloc(), size) == Ok(true));
+    }
+    Ok(())
+}

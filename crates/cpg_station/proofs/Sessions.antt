@@ -24,7 +24,7 @@ use Rattle.cpg_node.specs.Answers.{IsTakeAnswer, IsListAnswer, IsGroupsAnswer, c
 use Rattle.cpg_node.specs.Calls.{submit_refusal, submit_refusal_by, closed_refusal, call_refusal, first_of, took, taken_by, counted, next_event}
 use Rattle.cpg_node.specs.Nodes.{NodeValue, open_client, if_open, conn_id, asker_by}
 use Rattle.cpg_board.specs.Seats.{SeatValue}
-use Rattle.cpg_station.specs.Serving.{BringsUp, StaysDown, IsKnown, asker_of, OverFront, IsTakeFor, IsListFor, IsGroupsFor, SubmitRefuses, KeepsWatch, moved_on}
+use Rattle.cpg_station.specs.Serving.{BringsUp, StaysDown, GivesNot, IsKnown, asker_of, OverFront, IsTakeFor, IsListFor, IsGroupsFor, SubmitRefuses, KeepsWatch, moved_on}
 use Rattle.cpg_station.specs.Stations.{StationValue, audit_of}
 
 -- the node's own client behind the session's connection
@@ -43,8 +43,23 @@ client_of x who known = by_client (open_client x who.id.conn) refl known
 client_asks : (x : NodeValue) (who : Connection) (b : Behind x who) → asker_by x b.client ≡ asker_of who
 client_asks x who b = ap asker_of b.told
 
+-- what a seat that is not brought up leaves a session unanswered by
+gives_not : (s : StationValue) (before : SeatValue) (why : Refusal) → StaysDown s before why → GivesNot s before why
+gives_not s before refusal.Memory down = (down.0, down.1)
+gives_not s before why down = down
+
+pub down_take : (who : Connection) (before after : SeatValue) (s : StationValue) (why : Refusal) → StaysDown s before why → IsTakeFor who before s after (Err why)
+down_take who before after s why down = gives_not s before why down
+
+pub down_groups : (who : Connection) (before after : SeatValue) (s : StationValue) (why : Refusal) → StaysDown s before why → IsGroupsFor who before s after (Err why)
+down_groups who before after s why down = gives_not s before why down
+
+pub down_list : (who : Connection) (g : List ℕ) (before after : SeatValue) (s : StationValue) (why : Refusal) → StaysDown s before why → IsListFor who g before s after (Err why)
+down_list who g before after s (refusal.Denied by) down = absurd down
+down_list who g before after s why down = gives_not s before why down
+
 -- the station has no more records than it had, and is not halted
-stays_up : (s now : StationValue) (before after : SeatValue) → BringsUp s before after → now.halted ≡ s.halted → audit_of now.node ≡ audit_of s.node → StaysDown now before refusal.Memory
+stays_up : (s now : StationValue) (before after : SeatValue) → BringsUp s before after → now.halted ≡ s.halted → audit_of now.node ≡ audit_of s.node → GivesNot now before refusal.Memory
 stays_up s now before after up same kept = (same ∙ up.running, subst (λ (l : List Record). length before ≤ length l) (sym kept) up.enough)
 
 -- an answer over the records of a station that has brought the seat up
@@ -61,7 +76,7 @@ said_take who before after s now result known up same kept answer = by_result re
 
     by_result : (r : Result (Option Event) Refusal) → IsTakeAnswer s.node who.id.conn (Some b.client) r → IsTakeFor who before now after r
     by_result (Ok event) is = over_front s before after (λ front. event ≡ slice_get (inbox front who.id) who.taken) up (is ∙ ap (λ (w : Connection). slice_get (inbox (audit_of s.node) w.id) w.taken) b.told)
-    by_result (Err why) is = subst (λ w. StaysDown now before w) (sym is) (stays_up s now before after up same kept)
+    by_result (Err why) is = subst (λ w. GivesNot now before w) (sym is) (stays_up s now before after up same kept)
 
 pub said_groups : (who : Connection) (before after : SeatValue) (s : StationValue) (result : Result (List (List ℕ)) Refusal) → IsKnown s.node who → BringsUp s before after
     → IsGroupsAnswer s.node (open_client s.node who.id.conn) result → IsGroupsFor who before s after result
@@ -72,7 +87,7 @@ said_groups who before after s result known up answer = by_result result (subst 
 
     by_result : (r : Result (List (List ℕ)) Refusal) → IsGroupsAnswer s.node (Some b.client) r → IsGroupsFor who before s after r
     by_result (Ok names) is = over_front s before after (λ front. AreGroups front (asker_of who) names) up (subst (λ a. AreGroups (audit_of s.node) a names) (client_asks s.node who b) is)
-    by_result (Err why) is = subst (λ w. StaysDown s before w) (sym is) (stays_up s s before after up refl refl)
+    by_result (Err why) is = subst (λ w. GivesNot s before w) (sym is) (stays_up s s before after up refl refl)
 
 pub said_list : (who : Connection) (g : List ℕ) (before after : SeatValue) (s : StationValue) (result : Result (List (ℕ × ℕ)) Refusal) → IsKnown s.node who → BringsUp s before after
     → IsListAnswer s.node g (open_client s.node who.id.conn) result → IsListFor who g before s after result

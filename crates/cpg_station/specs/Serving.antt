@@ -24,12 +24,17 @@ pub record BringsUp (s : StationValue) (before after : SeatValue) : Type 0 where
   pub front : Begins (audit_of s.node) (records_of after)
 
 -- Why it has not been. Stopped: the station is halted. Behind: it has only that many records, fewer than
--- the seat knows. Memory: neither.
+-- the seat knows. Memory: neither, and the seat has to grow.
 abbrev pub StaysDown : StationValue → SeatValue → Refusal → Type 0
 StaysDown s before Stopped = s.halted ≡ true
 StaysDown s before (Behind reached) = (s.halted ≡ false) × (reached ≡ length (audit_of s.node)) × (reached < length before)
-StaysDown s before Memory = (s.halted ≡ false) × (length before ≤ length (audit_of s.node))
+StaysDown s before Memory = (s.halted ≡ false) × (length before ≤ length (audit_of s.node)) × (length before < length s.seat)
 StaysDown s before _ = ⊥
+
+-- Why a session's call is not answered: as its seat has not been brought up; or Memory, by a station that is neither halted nor behind.
+abbrev pub GivesNot : StationValue → SeatValue → Refusal → Type 0
+GivesNot s before Memory = (s.halted ≡ false) × (length before ≤ length (audit_of s.node))
+GivesNot s before why = StaysDown s before why
 
 -- the node's open connection of that number is as the session knows it
 abbrev pub IsKnown : NodeValue → Connection → Type 0
@@ -81,15 +86,15 @@ OverFront before after Says = (front : List Record) × Begins front (records_of 
 -- What `take_for` answers: the item of the session's inbox that follows those taken, if there is one.
 abbrev pub IsTakeFor : Connection → SeatValue → StationValue → SeatValue → Result (Option Event) Refusal → Type 0
 IsTakeFor who before s after (Ok event) = OverFront before after (λ front. event ≡ slice_get (inbox front who.id) who.taken)
-IsTakeFor who before s after (Err why) = StaysDown s before why
+IsTakeFor who before s after (Err why) = GivesNot s before why
 
 -- What `list_for` answers: the listing, or the denial.
 abbrev pub IsListFor : Connection → List ℕ → SeatValue → StationValue → SeatValue → Result (List (ℕ × ℕ)) Refusal → Type 0
 IsListFor who g before s after (Ok list) = OverFront before after (λ front. listing front (asker_of who) g ≡ Ok list)
 IsListFor who g before s after (Err (Denied by)) = OverFront before after (λ front. listing front (asker_of who) g ≡ Err by)
-IsListFor who g before s after (Err why) = StaysDown s before why
+IsListFor who g before s after (Err why) = GivesNot s before why
 
 -- What `groups_for` answers: the names.
 abbrev pub IsGroupsFor : Connection → SeatValue → StationValue → SeatValue → Result (List (List ℕ)) Refusal → Type 0
 IsGroupsFor who before s after (Ok names) = OverFront before after (λ front. AreGroups front (asker_of who) names)
-IsGroupsFor who before s after (Err why) = StaysDown s before why
+IsGroupsFor who before s after (Err why) = GivesNot s before why

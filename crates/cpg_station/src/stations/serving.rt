@@ -1,11 +1,11 @@
 //! What a station is to the sessions at its node: their calls, each as one section under the station's lock.
 
-ghost use Rattle.std.specs.Prelude.{◌≡◌, ◌≢◌, ◌↔◌, IsTrue, None, Ok, Err, IfOk, OnOk, OnErr, IfErr};
+ghost use Rattle.std.specs.Prelude.{◌≡◌, ◌≢◌, ◌↔◌, suc, length, false, IsTrue, None, Ok, Err, IfOk, OnOk, OnErr, IfErr};
 ghost use Rattle.cpg_cred.specs.declared.refusals.Refusal.TheVariants.{Stopped};
 ghost use Rattle.cpg_board.specs.Seats.{IsSeatOf, Begins};
 ghost use Rattle.cpg_node.specs.Calls.{submit_refusal, submitted, disconnected};
 ghost use Rattle.cpg_ring.specs.Answers.{IsAnswer, answer_of};
-ghost use Rattle.cpg_station.specs.Admitting.{IsAdmitted, AdmitsNot, is_shut};
+ghost use Rattle.cpg_station.specs.Admitting.{IsAdmitted, AdmitsNot, is_shut, taken_in};
 ghost use Rattle.cpg_station.specs.Serving.{IsKnown, IsHeard, BringsUp, StaysDown, IsTakeFor, IsListFor, IsGroupsFor, KeepsWatch, SubmitRefuses, taken_from, moved_on, halted_of, with_node};
 
 use super::Station;
@@ -38,7 +38,7 @@ impl<B: BoardName> Station<B> {
     /// knows it as it is. Any other station is halted, and answers Stopped.
     fn greet(&mut self, accepted: bool, who: Connection) -> Result<Connection, Refusal>
         ensures ok { IfOk result (λ greeted. (greeted ≡ who) × IsTrue accepted × IsKnown self.old.node who × (self.new ≡ self.old)) }
-        ensures err { IfErr result (λ why. (why ≡ Stopped) × (self.new ≡ halted_of self.old)) }
+        ensures err { IfErr result (λ why. (why ≡ Stopped) × (self.new ≡ halted_of self.old) × (¬ (IsTrue accepted × IsKnown self.old.node who))) }
     {
         if accepted && self.knows(&who) {
             Ok(who)
@@ -78,11 +78,11 @@ impl<B: BoardName> Station<B> {
         }
     }
 
-    /// Takes a connection of that process in, where the station accepts it just as the list does. A station
-    /// that does otherwise, or knows the new connection other than it is, is halted. Refused with Stopped where
-    /// the station is halted; with Access where nothing lets the credentials in; with ConnectionsFull; with
-    /// Memory.
-    #[tactic(auto, using(crate::proofs::Admitting::accepted))]
+    /// Takes a connection of that process in, where the station accepts it just as the list does: the next
+    /// number's, and nothing else changes. A station that does otherwise, or whose node has another number, is
+    /// halted. Refused with Stopped where the station is halted; with Access where nothing lets the credentials
+    /// in; with ConnectionsFull; with Memory.
+    #[tactic(auto, using(crate::proofs::Admitting::accepted, crate::proofs::Admitting::station_is, crate::proofs::Admitting::greeted_not))]
     pub fn admit(
         &mut self,
         list: &AcceptList,
@@ -91,7 +91,9 @@ impl<B: BoardName> Station<B> {
         cred: Cred,
     ) -> Result<Connection, Refusal>
         ensures ok { IfOk result (λ who. IsAdmitted list.now node pid cred who × IsKnown self.new.node who) }
-        ensures err { IfErr result (λ why. AdmitsNot list.now cred self.old why self.new) }
+        ensures number { IfOk result (λ who. who.id.conn ≡ suc (length self.old.node.clients)) }
+        ensures station { OnOk result ((self.old.halted ≡ false) × (self.new ≡ taken_in self.old pid cred)) }
+        ensures err { IfErr result (λ why. AdmitsNot list.now node pid cred self.old why self.new) }
     {
         if self.halted {
             return Err(Refusal::Stopped);
@@ -129,7 +131,7 @@ impl<B: BoardName> Station<B> {
 
     /// The next item of the session's inbox, if there is one, which the session then has taken. Refused as
     /// `serve` is, and then with Memory.
-    #[tactic(auto, using(crate::proofs::Sessions::said_take, crate::proofs::Sessions::told_after))]
+    #[tactic(auto, using(crate::proofs::Sessions::said_take, crate::proofs::Sessions::told_after, crate::proofs::Sessions::down_take))]
     pub fn take_for(
         &mut self,
         board: &Board,
@@ -185,7 +187,7 @@ impl<B: BoardName> Station<B> {
 
     /// The members of a group, where the session may list it. Refused as `serve` is, and then with Denied or
     /// Memory.
-    #[tactic(auto, using(crate::proofs::Sessions::said_list))]
+    #[tactic(auto, using(crate::proofs::Sessions::said_list, crate::proofs::Sessions::down_list))]
     pub fn list_for(
         &mut self,
         board: &Board,
@@ -205,7 +207,7 @@ impl<B: BoardName> Station<B> {
 
     /// The names of the groups with members that the session may list. Refused as `serve` is, and then with
     /// Memory.
-    #[tactic(auto, using(crate::proofs::Sessions::said_groups))]
+    #[tactic(auto, using(crate::proofs::Sessions::said_groups, crate::proofs::Sessions::down_groups))]
     pub fn groups_for(
         &mut self,
         board: &Board,
