@@ -215,11 +215,12 @@ impl Policy {
         if table.is_empty() { None } else { Some(table) }
     }
 
-    /// What a judged place, from 1, tells a connection.
+    /// What a judged place, from 1, tells a connection. Memory is asked for only where it tells something.
     pub fn events_at(&self, place: u32, conn: ConnId) -> Result<Events, Refusal>
         requires { (1 ≤ place) × (place ≤ length self.now) }
         ensures ok { IfOk result (λ list. list ≡ events (judged self.now) place conn) }
         ensures memory { IsOkUnless result Refusal.Memory }
+        ensures told { OnErr result (events (judged self.now) place conn ≢ []) }
     {
         telling::collect_events(
             *self.records.allocator(),
