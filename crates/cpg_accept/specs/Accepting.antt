@@ -11,7 +11,7 @@ use Rattle.cpg_text.specs.Streams.{AppendsFront}
 use Rattle.cpg_conf.specs.Listed.{listed}
 use Rattle.cpg_conf.specs.Names.{Known, no_names, known_of, next_number}
 use Rattle.cpg_script.specs.declared.faults.Fault.{Fault}
-use Rattle.cpg_accept.specs.Asks.{answers_from, answer_line}
+use Rattle.cpg_accept.specs.Asks.{HasAsk, answers_from, answer_line}
 use Rattle.cpg_accept.specs.Parts.{Piece, parts_from, text_before}
 use Rattle.cpg_accept.specs.declared.parts.Kind.{Kind}
 use Rattle.cpg_accept.specs.declared.parts.Kind.TheVariants.{Names, Conf, Ask}
@@ -80,35 +80,43 @@ abbrev pub LeavesFront : Result Admitted Fault → Option (List ℕ) → Option 
 LeavesFront (Ok admitted) old new = AppendsFront old new (concat (answer_lines admitted))
 LeavesFront (Err fault) old new = ⊥
 
--- how it is told that memory was refused to a names or conf part: with the part's number
-abbrev pub IsMemoryOf : Kind → ℕ → Fault → Type 0
-IsMemoryOf Ask part fault = ⊥
-IsMemoryOf _ part fault = fault ≡ record { part = Some part; refusal = refusal.Memory }
+-- memory was refused to a names or conf part that has no fault: it is told with the part's number
+abbrev pub IsMemoryOf : ℕ → Fault → Result Admitted Fault → Type 0
+IsMemoryOf part fault (Ok made) = fault ≡ record { part = Some part; refusal = refusal.Memory }
+IsMemoryOf part fault (Err first) = ⊥
 
--- memory was refused to a part that has no fault, or after it
-abbrev pub MemoryAt : Kind → ℕ → Fault → (Admitted → Type 0) → Result Admitted Fault → Type 0
-MemoryAt kind part fault after (Ok made) = IsMemoryOf kind part fault ⊎ after made
-MemoryAt kind part fault after (Err first) = ⊥
+-- memory was refused to a part: to asks, where one was answered before any fault of theirs, and told with no number
+abbrev pub IsMemoryAt : Kind → ℕ → List ℕ → Fault → Result Admitted Fault → Type 0
+IsMemoryAt Ask part text fault made = (fault ≡ whole_fault refusal.Memory) × HasAsk (lines_of text)
+IsMemoryAt Names part text fault made = IsMemoryOf part fault made
+IsMemoryAt Conf part text fault made = IsMemoryOf part fault made
 
--- memory was refused to one of the parts, the first of which has that number, and neither it nor a part
--- before it has a fault
+-- something is so of what a part made, where it has no fault
+abbrev pub IsAfter : (Admitted → Type 0) → Result Admitted Fault → Type 0
+IsAfter after (Ok made) = after made
+IsAfter after (Err first) = ⊥
+
+-- memory was refused to a part, or after it where it has no fault
+abbrev pub MemoryAt : Kind → ℕ → List ℕ → Fault → (Admitted → Type 0) → Result Admitted Fault → Type 0
+MemoryAt kind part text fault after made = IsMemoryAt kind part text fault made ⊎ IsAfter after made
+
+-- memory was refused to one of the parts, the first of which has that number, and no part before it has a fault
 abbrev pub MemoryIn : ℕ → List Piece → Admitted → Fault → Type 0
 MemoryIn part [] admitted fault = ⊥
 MemoryIn part (piece ∷ later) admitted fault =
-    MemoryAt piece.kind part fault (λ made. MemoryIn (next_number part) later made fault) (taken piece.kind part piece.line piece.text admitted)
+    MemoryAt piece.kind part piece.text fault (λ made. MemoryIn (next_number part) later made fault) (taken piece.kind part piece.line piece.text admitted)
 
 -- and no command stands before the first part
 abbrev pub MemoryAfter : Option ℕ → List Piece → Fault → Type 0
 MemoryAfter (Some line) parts fault = ⊥
 MemoryAfter None parts fault = MemoryIn 1 parts nobody fault
 
--- memory was refused to a names or conf part of the script
+-- memory was refused to a part of the script
 abbrev pub LacksMemory : List ℕ → Fault → Type 0
 LacksMemory script fault = MemoryAfter (first_command 1 (lines_of (text_before (lines_of script)))) (parts_from 1 (lines_of script)) fault
 
 -- why a script ends with a fault, and what is left written then: it could not be read, a write failed,
--- memory was refused to the reading or an ask part, or to another part before any fault, or the fault is the
--- script's first
+-- memory was refused to the reading, or to a part before any fault, or the fault is the script's first
 abbrev pub Ends : List ℕ → Fault → Option (List ℕ) → Option (List ℕ) → Type 0
 Ends script fault old new =
     ((fault ≡ whole_fault refusal.Read) × Keeps old new)

@@ -1,5 +1,5 @@
 -- asks, `UID GID` on a line, and their answers
-use Rattle.std.specs.Prelude.{ℕ, List, [], ◌∷◌, ◌++◌, codes, if◌then◌else◌, Option, Some, None, Result, Ok, Err}
+use Rattle.std.specs.Prelude.{ℕ, List, [], ◌∷◌, ◌++◌, codes, if◌then◌else◌, MatchBool, IsSome, Option, Some, None, Result, Ok, Err}
 use Rattle.cpg_cred.specs.Admission.{via_of}
 use Rattle.cpg_cred.specs.Listed.{Listed}
 use Rattle.cpg_cred.specs.Shown.{refusal_text}
@@ -37,6 +37,11 @@ answers_from list line [] = Ok []
 answers_from list line (text ∷ later) =
     if is_ignored (trimmed text) then answers_from list (next_number line) later
     else answer_then (answer_of list line (cred_of (words_of (trimmed text)))) (answers_from list (next_number line) later)
+
+-- the first of the lines that is not ignored says credentials, so that there is an answer to keep
+abbrev pub HasAsk : List (List ℕ) → Type 0
+HasAsk [] = ⊥
+HasAsk (text ∷ later) = MatchBool (is_ignored (trimmed text)) (HasAsk later) (IsSome (cred_of (words_of (trimmed text))))
 
 -- an answer as it is printed
 abbrev pub answer_line : Option Via → List ℕ

@@ -1,13 +1,15 @@
 -- steps of the reading functions, which no contract of a public function cites
 use Rattle.std.specs.Prelude.{◌≡◌, ◌⊎◌, ℕ, ◌+◌, List, length, [], ◌∷◌, ◌++◌, Option, Some, None, option_map, Result, Ok, Err}
 use Rattle.std.specs.Borrow.{Bor}
+use Rattle.std.specs.Io.KnownBytes.{Keeps}
 use Rattle.cpg_cred.specs.declared.admission.Via.{Via}
 use Rattle.cpg_cred.specs.declared.refusals.Refusal.{Refusal}
-use Rattle.cpg_cred.specs.declared.refusals.Refusal.TheVariants.{BadCommand, Memory}
+use Rattle.cpg_cred.specs.declared.refusals.Refusal.TheVariants.{BadCommand, Memory, Write}
 use Rattle.cpg_script.specs.declared.faults.Fault.{Fault}
-use Rattle.cpg_accept.specs.Accepting.{Admitted, MemoryIn, all_taken, whole_fault}
-use Rattle.cpg_text.specs.Lines.{lines_left}
+use Rattle.cpg_accept.specs.Accepting.{Admitted, LacksMemory, LeavesFront, MemoryIn, admitted_by, all_taken, whole_fault}
+use Rattle.cpg_text.specs.Lines.{lines_left, lines_of}
 use Rattle.cpg_conf.specs.Names.{next_number}
+use Rattle.cpg_accept.specs.Asks.{HasAsk}
 use Rattle.cpg_accept.specs.Parts.{Piece, parts_from, text_before}
 use Rattle.cpg_accept.specs.declared.parts.Head.{Head}
 use Rattle.cpg_accept.specs.declared.parts.Kind.{Kind}
@@ -53,11 +55,18 @@ abbrev pub RefusesPart : ℕ → Result Admitted Fault → Fault → Type 0
 RefusesPart part (Ok made) fault = fault ≡ record { part = Some part; refusal = Memory }
 RefusesPart part (Err first) fault = fault ≡ first
 
--- why a part is refused; an ask part may be refused memory before its fault
-abbrev pub StopsAt : Kind → ℕ → Result Admitted Fault → Fault → Type 0
-StopsAt Ask part made fault = (fault ≡ whole_fault Memory) ⊎ (made ≡ Err fault)
-StopsAt _ part made fault = RefusesPart part made fault
+-- why a part is refused; asks may be refused memory before their fault, where one was answered
+abbrev pub StopsAt : Kind → ℕ → List ℕ → Result Admitted Fault → Fault → Type 0
+StopsAt Ask part text made fault = ((fault ≡ whole_fault Memory) × HasAsk (lines_of text)) ⊎ (made ≡ Err fault)
+StopsAt _ part text made fault = RefusesPart part made fault
 
 -- why one of the parts is refused, the first of which has that number
 abbrev pub StopsIn : ℕ → List Piece → Admitted → Fault → Type 0
-StopsIn part parts admitted fault = (fault ≡ whole_fault Memory) ⊎ (MemoryIn part parts admitted fault ⊎ (all_taken part parts admitted ≡ Err fault))
+StopsIn part parts admitted fault = MemoryIn part parts admitted fault ⊎ (all_taken part parts admitted ≡ Err fault)
+
+-- why a script that was read ends with a fault, and what is left written then: a write failed, memory was refused
+-- to a part before any fault, or the fault is the script's first
+abbrev pub EndsRead : List ℕ → Fault → Option (List ℕ) → Option (List ℕ) → Type 0
+EndsRead script fault old new =
+    ((fault ≡ whole_fault Write) × LeavesFront (admitted_by script) old new)
+    ⊎ ((LacksMemory script fault ⊎ (admitted_by script ≡ Err fault)) × Keeps old new)

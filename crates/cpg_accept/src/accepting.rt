@@ -9,7 +9,7 @@ ghost use Rattle.std.specs.Io.KnownBytes.{Appends, Keeps};
 ghost use Rattle.cpg_text.specs.Lines.{lines_of};
 ghost use Rattle.cpg_accept.specs.Accepting.{admitted_by, all_taken, first_command, nobody, whole_fault, Ends, IsWritten, LacksMemory};
 ghost use Rattle.cpg_accept.specs.Asks.{answer_line};
-ghost use Rattle.cpg_accept.specs.Steps.{AnswersAre, no_command, parts_of_head, StopsIn};
+ghost use Rattle.cpg_accept.specs.Steps.{AnswersAre, EndsRead, no_command, parts_of_head, StopsIn};
 ghost use Rattle.cpg_text.specs.Streams.{AppendsFront};
 ghost use Rattle.cpg_script.specs.Written.{WritesLate};
 
@@ -28,8 +28,9 @@ use std::io::{Read, Write};
 /// taken in order, and the first fault counts: that of a names or conf text, with the number of its part, or
 /// `BadCommand` with the script's line for a line that is no ask or stands before the first part. `Memory`
 /// has the number of a names or conf part to which it was refused, where neither that part nor one before it
-/// has a fault; it has none for the reading and the asks. `Write` leaves a front of the text; after the others
+/// has a fault; it has none for the reading, and for asks that are reached without a fault. `Write` leaves a front of the text; after the others
 /// nothing is written.
+#[tactic(auto, using(crate::proofs::Stopping::ends_after))]
 pub fn accept_script<R: Read, W: Write>(
     alloc: Global,
     reader: &mut R,
@@ -45,7 +46,17 @@ pub fn accept_script<R: Read, W: Write>(
     ensures memory { IfErr result (λ fault. fault.refusal ≡ Refusal.Memory → Keeps (W.contents writer.old) (W.contents writer.new)) }
 {
     let script = read_whole(alloc, reader)?;
-    match answer_script(alloc, script.as_slice()) {
+    answer_to(alloc, script.as_slice(), writer)
+}
+
+/// Writes the answer to each ask of a script that was read.
+fn answer_to<W: Write>(alloc: Global, script: &[u8], writer: &mut W) -> Result<(), Fault>
+    ensures ok { OnOk result (IsWritten (admitted_by script.now) (W.contents writer.old) (W.contents writer.new)) }
+    ensures err { IfErr result (λ fault. EndsRead script.now fault (W.contents writer.old) (W.contents writer.new)) }
+    ensures late { IfErr result (λ fault. WritesLate fault.refusal (W.contents writer.old) (W.contents writer.new)) }
+    ensures memory { IfErr result (λ fault. fault.refusal ≡ Refusal.Memory → Keeps (W.contents writer.old) (W.contents writer.new)) }
+{
+    match answer_script(alloc, script) {
         Ok(answers) => write_text(writer, answers.as_slice()),
         Err(fault) => Err(fault),
     }
@@ -54,7 +65,7 @@ pub fn accept_script<R: Read, W: Write>(
 /// The answers to the asks of a script.
 fn answer_script(alloc: Global, script: &[u8]) -> Result<Vec<Option<Via>>, Fault>
     ensures ok { IfOk result (λ answers. AnswersAre (admitted_by script.now) answers.items) }
-    ensures err { IfErr result (λ fault. (fault ≡ whole_fault Refusal.Memory) ⊎ (LacksMemory script.now fault ⊎ (admitted_by script.now ≡ Err fault))) }
+    ensures err { IfErr result (λ fault. LacksMemory script.now fault ⊎ (admitted_by script.now ≡ Err fault)) }
 {
     let cut = Cut::of(0, script);
     refuse_commands(cut.before)?;

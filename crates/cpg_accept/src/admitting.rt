@@ -56,7 +56,7 @@ impl Admitting {
     /// Takes the part of that number in.
     pub fn take(&mut self, alloc: Global, number: u32, part: &Part<'_>) -> Result<(), Fault>
         ensures ok { OnOk result (taken (part.now).kind number (part.now).line ((part.now).text).now self.old ≡ Ok self.new) }
-        ensures err { IfErr result (StopsAt (part.now).kind number (taken (part.now).kind number (part.now).line ((part.now).text).now self.old)) }
+        ensures err { IfErr result (StopsAt (part.now).kind number ((part.now).text).now (taken (part.now).kind number (part.now).line ((part.now).text).now self.old)) }
     {
         match part.kind {
             Kind::Names => self.take_names(alloc, number, part.text),
@@ -99,7 +99,7 @@ impl Admitting {
     /// Asks are answered by the list.
     fn take_asks(&mut self, line: u32, text: &[u8]) -> Result<(), Fault>
         ensures ok { OnOk result (taken Kind.Ask 0 line text.now self.old ≡ Ok self.new) }
-        ensures err { IfErr result (StopsAt Kind.Ask 0 (taken Kind.Ask 0 line text.now self.old)) }
+        ensures err { IfErr result (StopsAt Kind.Ask 0 text.now (taken Kind.Ask 0 line text.now self.old)) }
     {
         match answer_all(&mut self.answers, &self.list, line, text) {
             Ok(()) => Ok(()),

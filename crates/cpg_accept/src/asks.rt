@@ -4,7 +4,7 @@
 
 ghost use Rattle.std.specs.Prelude.{◌≡◌, ◌⊎◌, ◌++◌, ◌∷◌, [], Ok, Err, Some, None, OnOk, IfOk, IfErr, map, option_map};
 ghost use Rattle.cpg_text.specs.Lines.{lines_of, trimmed, words_of, is_ignored};
-ghost use Rattle.cpg_accept.specs.Asks.{answer_line, answer_of, answer_then, answers_from, cred_of};
+ghost use Rattle.cpg_accept.specs.Asks.{HasAsk, answer_line, answer_of, answer_then, answers_from, cred_of};
 ghost use Rattle.cpg_accept.specs.Steps.{answers_with};
 ghost use Rattle.cpg_conf.specs.Names.{next_number};
 
@@ -20,7 +20,7 @@ pub fn answer_all(
     text: &[u8],
 ) -> Result<(), Refusal>
     ensures ok { OnOk result (answers_with answers.old.items (answers_from list.now (next_number lines_before) (lines_of text.now)) ≡ Ok answers.new.items) }
-    ensures err { IfErr result (λ refusal. (refusal ≡ Refusal.Memory) ⊎ (answers_from list.now (next_number lines_before) (lines_of text.now) ≡ Err refusal)) }
+    ensures err { IfErr result (λ refusal. ((refusal ≡ Refusal.Memory) × HasAsk (lines_of text.now)) ⊎ (answers_from list.now (next_number lines_before) (lines_of text.now) ≡ Err refusal)) }
 {
     let mut number = lines_before;
     for line in Lines::of(text) {

@@ -1,5 +1,5 @@
 -- lists of numbers that grow
-use Rattle.std.proofs.Common.{◌≡◌, ℕ, ◌≤◌, ◌==◌, nat_eq, List, [], ◌∷◌, ◌++◌, length, take, Bool, true, false, ◌||◌, refl, sym, ap, subst, ◌∙◌, append-nil, append_assoc, arith}
+use Rattle.std.proofs.Common.{◌≡◌, ℕ, ◌<◌, ◌≤◌, ◌≢◌, ◌==◌, nat_eq, List, [], ◌∷◌, ◌++◌, length, take, Bool, true, false, ◌||◌, refl, sym, ap, subst, ◌∙◌, append-nil, append_assoc, arith}
 use Rattle.std.proofs.lemmas.Bool.Decides.{nat_tests}
 use Rattle.std.proofs.lemmas.List.{take-append-le, take_all, length-append}
 use Rattle.std.proofs.lemmas.Map.Keys.{IsDistinct-head, IsDistinct-tail}
@@ -48,3 +48,27 @@ all_new before (number ∷ after) apart =
 -- so a list of such numbers is made anew
 pub made_anew : (numbers : List ℕ) → IsDistinct nat_eq numbers → with_numbers [] numbers ≡ numbers
 made_anew numbers apart = all_new [] numbers apart
+
+-- no number goes
+kept_by_one : (numbers : List ℕ) (number : ℕ) (test : Bool) → length numbers ≤ length (if test then numbers else numbers ++ number ∷ [])
+kept_by_one numbers number true = omega arith
+kept_by_one numbers number false = omega (arith, length-append numbers (number ∷ []))
+
+never_fewer : (numbers more : List ℕ) → length numbers ≤ length (with_numbers numbers more)
+never_fewer numbers [] = omega arith
+never_fewer numbers (number ∷ more) =
+    omega (arith, kept_by_one numbers number (list_any (λ listed. number == listed) numbers), never_fewer (with_number numbers number) more)
+
+-- there are more numbers where one was absent as its turn came
+more_with : (numbers before : List ℕ) (number : ℕ) (after : List ℕ) → list_any (λ listed. number == listed) (with_numbers numbers before) ≡ false
+    → length numbers < length (with_numbers numbers (before ++ number ∷ after))
+more_with numbers [] number after lacks =
+    let grown : with_number numbers number ≡ numbers ++ number ∷ [] = ap (λ test. if test then numbers else numbers ++ number ∷ []) lacks in
+    omega (arith, ap length grown, length-append numbers (number ∷ []), never_fewer (with_number numbers number) after)
+more_with numbers (first ∷ before) number after lacks =
+    omega (arith, kept_by_one numbers first (list_any (λ listed. first == listed) numbers), more_with (with_number numbers first) before number after lacks)
+
+-- so the numbers are not the same
+pub grows_with : (numbers before : List ℕ) (number : ℕ) (after : List ℕ) → list_any (λ listed. number == listed) (with_numbers numbers before) ≡ false
+    → with_numbers numbers (before ++ number ∷ after) ≢ numbers
+grows_with numbers before number after lacks same = absurd (omega (arith, more_with numbers before number after lacks, ap length same))

@@ -1,6 +1,6 @@
 //! Which credentials are let in: user 0, group 0, and the users and groups of a list.
 
-ghost use Rattle.std.specs.Prelude.{◌≡◌, [], false, Some, None, IfOk, OnOk, OnErr, IsOkUnless};
+ghost use Rattle.std.specs.Prelude.{◌≡◌, ◌≢◌, [], false, Some, None, IfOk, OnOk, OnErr, IsOkUnless};
 ghost use Rattle.std.specs.Option.{ok_or};
 ghost use Rattle.cpg_cred.specs.Listed.{is_among, with_number, with_numbers};
 
@@ -83,6 +83,9 @@ impl AcceptList {
         ensures ok { OnOk result (self.new ≡ with_listed self.old (record { users = users.now; groups = groups.now })) }
         ensures err { OnErr result (self.new ≡ self.old) }
         ensures memory { IsOkUnless result Refusal.Memory }
+
+        // Numbers that are listed already take no memory, and no numbers take none.
+        ensures grows { OnErr result (with_listed self.old (record { users = users.now; groups = groups.now }) ≢ self.old) }
     {
         let count = self.users.len();
         add_each(&mut self.users, users)?;
@@ -116,6 +119,9 @@ impl AcceptList {
     pub fn copy(&self, alloc: Global) -> Result<AcceptList, Refusal>
         ensures ok { IfOk result (λ copy. copy ≡ self.now) }
         ensures memory { IsOkUnless result Refusal.Memory }
+
+        // A copy of the empty list takes no memory.
+        ensures listed { OnErr result (self.now ≢ record { users = []; groups = [] }) }
     {
         let users = copy_of(alloc, &self.users)?;
         let groups = copy_of(alloc, &self.groups)?;
@@ -139,6 +145,7 @@ fn add_each(numbers: &mut IndexSet<u32>, more: &[u32]) -> Result<(), Refusal>
     ensures ok { OnOk result (numbers.new.keys ≡ with_numbers numbers.old.keys more.now) }
     ensures err { OnErr result (numbers.new.keys ≡ numbers.old.keys) }
     ensures memory { IsOkUnless result Refusal.Memory }
+    ensures grows { OnErr result (with_numbers numbers.old.keys more.now ≢ numbers.old.keys) }
 {
     let count = numbers.len();
     for number in more {
@@ -157,6 +164,7 @@ fn add_each(numbers: &mut IndexSet<u32>, more: &[u32]) -> Result<(), Refusal>
 fn copy_of(alloc: Global, numbers: &IndexSet<u32>) -> Result<IndexSet<u32>, Refusal>
     ensures ok { IfOk result (λ copy. copy.keys ≡ numbers.now.keys) }
     ensures memory { IsOkUnless result Refusal.Memory }
+    ensures listed { OnErr result (numbers.now.keys ≢ []) }
 {
     let mut copy = IndexSet::new(alloc);
     add_each(&mut copy, numbers.as_slice())?;

@@ -25,6 +25,24 @@ fn root_and_the_listed_are_accepted(rt: HostRuntime) -> Result<(), Fail> {
 }
 
 #[test]
+fn long_lists_are_copied(rt: HostRuntime) -> Result<(), Fail> {
+    let alloc = rt.alloc();
+    let mut list = AcceptList::new(alloc);
+    list.add_all([].as_slice(), [].as_slice())?;
+    for number in 1..=200 {
+        list.add_uid(number)?;
+        list.add_gid(1000 + number)?;
+    }
+    let copy = list.copy(alloc)?;
+    let ask = |uid, gid| copy.accepts(Cred { uid, gid });
+    assert_eq!(rt; ask(1, 9), Ok(Via::User));
+    assert_eq!(rt; ask(200, 9), Ok(Via::User));
+    assert_eq!(rt; ask(201, 1200), Ok(Via::Group));
+    assert_eq!(rt; ask(201, 1201), Err(Refusal::Access));
+    Ok(())
+}
+
+#[test]
 fn nodes_are_one_to_eight(rt: HostRuntime) -> Result<(), Fail> {
     assert!(rt; NodeId::new(0).is_none());
     assert_eq!(rt; NodeId::new(8).ok_or("node")?.get(), 8);

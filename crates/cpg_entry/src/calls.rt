@@ -1,6 +1,6 @@
 //! What connections ask of groups.
 
-ghost use Rattle.std.specs.Prelude.{◌≡◌, ◌↔◌, IsTrue, IfOk, IsOkUnless};
+ghost use Rattle.std.specs.Prelude.{◌≡◌, ◌≢◌, ◌↔◌, IsTrue, IfOk, OnErr, IsOkUnless};
 
 use crate::messages::Message;
 use crate::names::Name;
@@ -27,6 +27,9 @@ impl Call {
     pub fn copy(&self, alloc: Global) -> Result<Call, Refusal>
         ensures ok { IfOk result (λ call. call ≡ self.now) }
         ensures memory { IsOkUnless result Refusal.Memory }
+
+        // A leave takes no memory.
+        ensures leave { OnErr result (self.now ≢ Call.Leave) }
     {
         Ok(match self {
             Call::Join(group) => Call::Join(group.copy(alloc)?),
@@ -67,6 +70,9 @@ impl Op {
     pub fn copy(&self, alloc: Global) -> Result<Op, Refusal>
         ensures ok { IfOk result (λ op. op ≡ self.now) }
         ensures memory { IsOkUnless result Refusal.Memory }
+
+        // The end of a connection takes no memory.
+        ensures gone { OnErr result (self.now ≢ Op.Gone) }
     {
         match self {
             Op::Act(call) => Ok(Op::Act(call.copy(alloc)?)),

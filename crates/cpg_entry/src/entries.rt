@@ -1,6 +1,6 @@
 //! Entries: what one connection asks, as the ring orders it.
 
-ghost use Rattle.std.specs.Prelude.{◌≡◌, ◌↔◌, IsTrue, IfOk, IsOkUnless};
+ghost use Rattle.std.specs.Prelude.{◌≡◌, ◌≢◌, ◌↔◌, IsTrue, IfOk, OnErr, IsOkUnless};
 ghost use Rattle.cpg_entry.specs.Entries.{asker_of};
 
 use crate::calls::Op;
@@ -26,6 +26,7 @@ impl Entry {
     pub fn copy(&self, alloc: Global) -> Result<Entry, Refusal>
         ensures ok { IfOk result (λ entry. entry ≡ self.now) }
         ensures memory { IsOkUnless result Refusal.Memory }
+        ensures gone { OnErr result ((self.now).op ≢ Op.Gone) }
     {
         let op = self.op.copy(alloc)?;
         Ok(Entry {

@@ -1,6 +1,6 @@
 //! What members send.
 
-ghost use Rattle.std.specs.Prelude.{◌≡◌, ◌↔◌, IsTrue, IfOk, IsOkUnless};
+ghost use Rattle.std.specs.Prelude.{◌≡◌, ◌<◌, ◌↔◌, length, IsTrue, IfOk, OnErr, IsOkUnless};
 
 use cpg_rules::Refusal;
 use smallvec::SmallVec;
@@ -32,6 +32,9 @@ impl Message {
     pub fn from_slice(alloc: Global, bytes: &[u8]) -> Result<Message, Refusal>
         ensures ok { IfOk result (λ message. message ≡ bytes.now) }
         ensures memory { IsOkUnless result Refusal.Memory }
+
+        // Bytes that are kept inside take no memory.
+        ensures outside { OnErr result (KEPT_INSIDE < length bytes.now) }
     {
         Ok(Message {
             bytes: SmallVec::from_slice(alloc, bytes)?,
@@ -51,6 +54,7 @@ impl Message {
     pub fn copy(&self, alloc: Global) -> Result<Message, Refusal>
         ensures ok { IfOk result (λ message. message ≡ self.now) }
         ensures memory { IsOkUnless result Refusal.Memory }
+        ensures outside { OnErr result (KEPT_INSIDE < length self.now) }
     {
         Message::from_slice(alloc, self.as_slice())
     }

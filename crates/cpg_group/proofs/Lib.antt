@@ -7,3 +7,4 @@ mod Applying
 mod Stops
 mod Latest
 pub mod Counted
+mod Hearing

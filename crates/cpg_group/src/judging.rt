@@ -1,6 +1,6 @@
 //! The judgement of one entry over the records before it, by the groups and the trail that they come to.
 
-ghost use Rattle.std.specs.Prelude.{◌≡◌, ◌++◌, ◌∷◌, [], OnOk, OnErr, IfOk, IfErr, IsOkUnless};
+ghost use Rattle.std.specs.Prelude.{◌≡◌, ◌≢◌, ◌++◌, ◌∷◌, [], None, OnOk, OnErr, IfOk, IfErr, IsOkUnless};
 ghost use Rattle.std.specs.Option.{option_copied};
 ghost use Rattle.cpg_record.specs.Connections.{conn_of};
 ghost use Rattle.cpg_record.specs.Judging.{entry_group, record_of};
@@ -160,6 +160,7 @@ fn collect_members_with(
     requires { group.now ≡ standing_for records.now next.now.group }
     ensures ok { IfOk result (λ list. list ≡ members_in (records.now ++ next.now ∷ []) next.now.group) }
     ensures memory { IsOkUnless result Refusal.Memory }
+    ensures some { OnErr result (next.now.group ≢ None) }
 {
     match &next.group {
         None => Ok(Members::new(alloc)),
@@ -175,6 +176,7 @@ fn collect_members_with(
 fn copy_name(alloc: Global, group: Option<&Name>) -> Result<Option<Name>, Refusal>
     ensures ok { IfOk result (λ copy. copy ≡ option_copied group.entry) }
     ensures memory { IsOkUnless result Refusal.Memory }
+    ensures some { OnErr result (option_copied group.entry ≢ None) }
 {
     match group {
         None => Ok(None),
@@ -210,6 +212,7 @@ pub(crate) fn judge_draft_in(
     ensures ok { OnOk result (next.new ≡ record_of records.now next.old.entry) }
     ensures err { OnErr result (next.new.entry ≡ next.old.entry) }
     ensures memory { IsOkUnless result Refusal.Memory }
+    ensures some { OnErr result (entry_group records.now next.old.entry next.old.entry.op ≢ None) }
 {
     next.verdict = judge_entry(records, standing, seat, &next.entry);
     let group = copy_name(alloc, find_entry_group(records, seat, &next.entry))?;
@@ -233,6 +236,7 @@ pub(crate) fn judge_draft(
     ensures ok { OnOk result (next.new ≡ record_of records.now next.old.entry) }
     ensures err { OnErr result (next.new.entry ≡ next.old.entry) }
     ensures memory { IsOkUnless result Refusal.Memory }
+    ensures some { OnErr result (entry_group records.now next.old.entry next.old.entry.op ≢ None) }
 {
     let seat = group_now(records, trail);
     let standing = groups.of_name(find_entry_group(records, seat, &next.entry));
@@ -252,6 +256,7 @@ pub(crate) fn judge(
     requires trail { IsTrail records.now (conn_of entry) trail.now }
     ensures ok { IfOk result (λ next. next ≡ record_of records.now entry) }
     ensures err { IfErr result (λ refused. refused ≡ record { refusal = Refusal.Memory; back = entry }) }
+    ensures some { OnErr result (entry_group records.now entry entry.op ≢ None) }
 {
     let mut next = draft_of(alloc, entry);
     match judge_draft(alloc, records, groups, trail, &mut next) {

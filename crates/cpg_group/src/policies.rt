@@ -1,9 +1,10 @@
 //! The judged entries, and what they come to.
 
-ghost use Rattle.std.specs.Prelude.{◌≡◌, ◌≢◌, ◌<◌, ◌≤◌, ◌++◌, ◌∷◌, [], length, take, OnOk, OnErr, IfOk, IfErr, MatchOption, IsOkUnless};
-ghost use Rattle.cpg_record.specs.Connections.{conns_of};
+ghost use Rattle.std.specs.Prelude.{◌≡◌, ◌≢◌, ◌<◌, ◌≤◌, ◌++◌, ◌∷◌, [], None, length, take, OnOk, OnErr, IfOk, IfErr, MatchOption, IsOkUnless};
+ghost use Rattle.cpg_entry.specs.declared.calls.Op.TheVariants.{Gone};
+ghost use Rattle.cpg_record.specs.Connections.{conn_of, conns_of};
 ghost use Rattle.cpg_record.specs.Events.{events};
-ghost use Rattle.cpg_record.specs.Judging.{judged, most_places, record_of, IsNext};
+ghost use Rattle.cpg_record.specs.Judging.{entry_group, judged, most_places, record_of, IsNext};
 ghost use Rattle.cpg_record.specs.Listings.{Answers, AreGroups, listing};
 ghost use Rattle.std.specs.Option.{option_copied};
 ghost use Rattle.cpg_record.specs.Membership.{group_of};
@@ -69,6 +70,9 @@ impl Policy {
         requires { length self.now < most_places }
         ensures ok { IfOk result (λ next. next ≡ record_of (judged self.now) entry.now) }
         ensures memory { IsOkUnless result Refusal.Memory }
+
+        // The end of a connection that is in no group takes no memory.
+        ensures gone { OnErr result (entry.now.op ≡ Gone → group_of (judged self.now) (conn_of entry.now) ≢ None) }
     {
         let entry = entry.copy(*self.records.allocator())?;
         match self.judge_owned(entry) {
@@ -84,6 +88,9 @@ impl Policy {
         requires { length self.now < most_places }
         ensures ok { IfOk result (λ next. next ≡ record_of (judged self.now) entry) }
         ensures err { IfErr result (λ refused. refused ≡ record { refusal = Refusal.Memory; back = entry }) }
+
+        // An entry without a group takes no memory.
+        ensures grouped { OnErr result (entry_group (judged self.now) entry entry.op ≢ None) }
     {
         judging::judge(
             *self.records.allocator(),
@@ -215,11 +222,12 @@ impl Policy {
         if table.is_empty() { None } else { Some(table) }
     }
 
-    /// What a judged place, from 1, tells a connection.
+    /// What a judged place, from 1, tells a connection. Memory is asked for only where it tells something.
     pub fn events_at(&self, place: u32, conn: ConnId) -> Result<Events, Refusal>
         requires { (1 ≤ place) × (place ≤ length self.now) }
         ensures ok { IfOk result (λ list. list ≡ events (judged self.now) place conn) }
         ensures memory { IsOkUnless result Refusal.Memory }
+        ensures told { OnErr result (events (judged self.now) place conn ≢ []) }
     {
         telling::collect_events(
             *self.records.allocator(),

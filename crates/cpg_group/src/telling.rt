@@ -1,22 +1,24 @@
 //! What places tell connections.
 
-ghost use Rattle.std.specs.Prelude.{◌≡◌, ◌≤◌, [], length, IfOk, IsOkUnless};
+ghost use Rattle.std.specs.Prelude.{◌≡◌, ◌≢◌, ◌≤◌, [], None, length, IfOk, OnErr, IsOkUnless};
 ghost use Rattle.std.specs.Option.{option_copied};
 ghost use Rattle.cpg_record.specs.Connections.{conn_of};
-ghost use Rattle.cpg_record.specs.Events.{change, events, hears_change, moves_of, news, news_by};
+ghost use Rattle.cpg_record.specs.Events.{events, hears_change, moves_of, news, news_by};
 ghost use Rattle.cpg_record.specs.Judging.{AreJudged};
 ghost use Rattle.cpg_record.specs.Membership.{group_of, is_named, members};
 ghost use Rattle.cpg_record.specs.Places.{records_before};
 ghost use Rattle.cpg_record.specs.Steps.{group_after};
 ghost use Rattle.cpg_group.specs.Standing.{AreStanding};
+ghost use Rattle.cpg_group.specs.Telling.{hears};
 ghost use Rattle.cpg_group.specs.Trails.{IsTrail};
 
 use crate::places::find_members;
 use crate::standing::Groups;
+use crate::told::event_of;
 use crate::trails::{Stop, find_group};
 use cpg_cred::Refusal;
 use cpg_entry::{Call, Name, Op};
-use cpg_record::{Cause, ConnId, Event, Events, Member, Moves, Record};
+use cpg_record::{Cause, ConnId, Event, Events, Moves, Record};
 use std::alloc::Global;
 
 /// Whether the group is there and has that name.
@@ -62,34 +64,25 @@ fn is_told_changes(
     has_name(earlier, group) || has_name(pass_group(past, conn, earlier), group)
 }
 
-/// A change of the group, if the connection of the group `earlier` is told of it.
-fn tell_change(
-    alloc: Global,
+/// Whether an allowed op of the group tells a connection of the group `earlier` anything.
+fn is_told(
     records: &[Record],
     place: u32,
     past: &Record,
     conn: &ConnId,
     earlier: Option<&Name>,
-    group: &Name,
-    left: Moves,
-    joined: Moves,
-) -> Result<Option<Event>, Refusal>
+    group: &[u8],
+) -> bool
     requires { option_copied earlier ≡ group_of (records_before records.now place) conn.now }
-    ensures ok { IfOk result (λ event. event ≡ change place (records_before records.now place) past.now conn.now group.now left joined) }
-    ensures memory { IsOkUnless result Refusal.Memory }
+    ensures { result ≡ hears (records_before records.now place) past.now conn.now group.now past.now.entry.op }
 {
-    if !is_told_changes(records, place, past, conn, earlier, group.as_slice()) {
-        return Ok(None);
+    match &past.entry.op {
+        Op::Act(Call::Join(_)) | Op::Act(Call::Leave) | Op::Gone => {
+            is_told_changes(records, place, past, conn, earlier, group)
+        }
+        Op::Act(Call::Send(_)) => has_name(earlier, group),
+        Op::Act(Call::Insert(_, _, _)) | Op::Act(Call::Remove(_, _)) => has_name(earlier, group),
     }
-    let group = group.copy(alloc)?;
-    let members = past.members.copy(alloc)?;
-    Ok(Some(Event::Change {
-        place,
-        group,
-        members,
-        left,
-        joined,
-    }))
 }
 
 /// Who left the group by an allowed end of a membership at the place: the member that its connection was.
@@ -116,33 +109,9 @@ pub(crate) fn collect_left(
     }
 }
 
-/// The change that an end of a membership is.
-fn tell_end(
-    alloc: Global,
-    records: &[Record],
-    groups: &Groups,
-    place: u32,
-    past: &Record,
-    conn: &ConnId,
-    earlier: Option<&Name>,
-    group: &Name,
-    cause: Cause,
-) -> Result<Option<Event>, Refusal>
-    requires place { 1 ≤ place }
-    requires judged { AreJudged records.now }
-    requires groups { AreStanding groups.now records.now }
-    requires earlier { option_copied earlier ≡ group_of (records_before records.now place) conn.now }
-    ensures ok { IfOk result (λ event. event ≡ change place (records_before records.now place) past.now conn.now group.now (moves_of (conn_of past.now.entry) cause (members (records_before records.now place) group.now)) []) }
-    ensures memory { IsOkUnless result Refusal.Memory }
-{
-    let left = collect_left(alloc, records, groups, place, past, group, cause)?;
-    let joined = Moves::new(alloc);
-    tell_change(
-        alloc, records, place, past, conn, earlier, group, left, joined,
-    )
-}
-
-/// What an allowed op tells a connection of the group `earlier`.
+/// What an allowed op tells a connection of the group `earlier`. Memory is asked for only where it is told
+/// something.
+#[tactic(auto, using(crate::proofs::Hearing::news_unheard, crate::proofs::Hearing::news_heard, crate::proofs::Hearing::is_news))]
 fn tell_op(
     alloc: Global,
     records: &[Record],
@@ -159,61 +128,13 @@ fn tell_op(
     requires earlier { option_copied earlier ≡ group_of (records_before records.now place) conn.now }
     ensures ok { IfOk result (λ event. event ≡ news_by place (records_before records.now place) past.now conn.now group.now past.now.entry.op) }
     ensures memory { IsOkUnless result Refusal.Memory }
+    ensures told { OnErr result (news_by place (records_before records.now place) past.now conn.now group.now past.now.entry.op ≢ None) }
 {
-    match &past.entry.op {
-        Op::Act(Call::Join(_)) => {
-            let joined = Moves::join_of(alloc, Member::of(&past.entry))?;
-            let left = Moves::new(alloc);
-            tell_change(
-                alloc, records, place, past, conn, earlier, group, left, joined,
-            )
-        }
-        Op::Act(Call::Leave) => tell_end(
-            alloc,
-            records,
-            groups,
-            place,
-            past,
-            conn,
-            earlier,
-            group,
-            Cause::Leave,
-        ),
-        Op::Gone => tell_end(
-            alloc,
-            records,
-            groups,
-            place,
-            past,
-            conn,
-            earlier,
-            group,
-            Cause::Down,
-        ),
-        Op::Act(Call::Send(message)) => {
-            if !has_name(earlier, group.as_slice()) {
-                return Ok(None);
-            }
-            let group = group.copy(alloc)?;
-            let message = message.copy(alloc)?;
-            Ok(Some(Event::Message {
-                place,
-                group,
-                node: past.entry.node,
-                pid: past.entry.pid,
-                message,
-            }))
-        }
-        Op::Act(Call::Insert(_, _, _)) | Op::Act(Call::Remove(_, _)) => {
-            if !has_name(earlier, group.as_slice()) {
-                return Ok(None);
-            }
-            Ok(Some(Event::RulesChanged {
-                place,
-                group: group.copy(alloc)?,
-            }))
-        }
+    if !is_told(records, place, past, conn, earlier, group.as_slice()) {
+        return Ok(None);
     }
+    let event = event_of(alloc, records, groups, place, past, group)?;
+    Ok(Some(event))
 }
 
 /// What a record tells a connection of the group `earlier` beside the verdict.
@@ -232,6 +153,7 @@ fn tell_news(
     requires earlier { option_copied earlier ≡ group_of (records_before records.now place) conn.now }
     ensures ok { IfOk result (λ event. event ≡ news place (records_before records.now place) past.now conn.now past.now.group) }
     ensures memory { IsOkUnless result Refusal.Memory }
+    ensures told { OnErr result (news place (records_before records.now place) past.now conn.now past.now.group ≢ None) }
 {
     match &past.group {
         None => Ok(None),
@@ -246,7 +168,7 @@ fn tell_news(
 }
 
 /// The events of a place for the connection of the trail.
-#[tactic(auto, using(crate::proofs::Passed::record_at_index))]
+#[tactic(auto, using(crate::proofs::Passed::record_at_index, crate::proofs::Hearing::tells_answer, crate::proofs::Hearing::tells_news, crate::proofs::Hearing::is_news))]
 pub(crate) fn collect_events(
     alloc: Global,
     records: &[Record],
@@ -261,6 +183,7 @@ pub(crate) fn collect_events(
     requires trail { IsTrail records.now conn.now trail.now }
     ensures ok { IfOk result (λ list. list ≡ events records.now place conn.now) }
     ensures memory { IsOkUnless result Refusal.Memory }
+    ensures told { OnErr result (events records.now place conn.now ≢ []) }
 {
     let index = place as usize - 1;
     let past = &records[index];

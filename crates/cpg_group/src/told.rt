@@ -46,7 +46,7 @@ fn change_of(
 }
 
 /// What an allowed op tells each of those of the group who are told of it.
-fn event_of(
+pub(crate) fn event_of(
     alloc: Global,
     records: &[Record],
     groups: &Groups,

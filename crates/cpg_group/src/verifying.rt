@@ -1,6 +1,6 @@
 //! The check of a whole list of records.
 
-ghost use Rattle.std.specs.Prelude.{◌≡◌, ◌↔◌, ◌<◌, ◌++◌, ◌∷◌, [], length, IsTrue, IfOk, IsOkUnless};
+ghost use Rattle.std.specs.Prelude.{◌≡◌, ◌≢◌, ◌↔◌, ◌<◌, ◌++◌, ◌∷◌, [], length, IsTrue, IfOk, OnErr, IsOkUnless};
 ghost use Rattle.std.specs.Bool.{OnTrue};
 ghost use Rattle.cpg_record.specs.Judging.{judged, most_places, record_of, AreRecords};
 
@@ -31,6 +31,9 @@ fn confirm(policy: &mut Policy, past: &Record) -> Result<bool, Refusal>
 pub fn verify(alloc: Global, records: &[Record]) -> Result<bool, Refusal>
     ensures ok { IfOk result (λ sound. IsTrue sound ↔ AreRecords records.now) }
     ensures memory { IsOkUnless result Refusal.Memory }
+
+    // No records take no memory.
+    ensures some { OnErr result (records.now ≢ []) }
 {
     if records.len() > MOST_PLACES as usize {
         return Ok(false);

@@ -1,6 +1,6 @@
 //! Scripts of entries, read, checked and judged whole.
 
-ghost use Rattle.std.specs.Prelude.{◌≡◌, ◌≤◌, ◌<◌, ◌+◌, ◌++◌, ◌∷◌, [], ℕ, List, Ok, length, IfOk, IfErr, IfSome, OnOk, IsOkUnless};
+ghost use Rattle.std.specs.Prelude.{◌≡◌, ◌≤◌, ◌<◌, ◌+◌, ◌++◌, ◌∷◌, [], ℕ, List, Ok, Err, length, MatchOption, IfOk, IfErr, IfSome, OnOk, IsOkUnless};
 ghost use Rattle.cpg_record.specs.Judging.{most_places};
 ghost use Rattle.cpg_script.specs.Reading.{FailsAs};
 ghost use Rattle.cpg_script.specs.Steps.{items_with};
@@ -46,12 +46,20 @@ fn judge_line(alloc: Global, policy: &mut Policy, number: u32, line: &[u8]) -> R
     if is_ignored(line) {
         return Ok(());
     }
-    match read_entry(alloc, policy.len(), line)? {
+    let found = read_entry(alloc, policy.len(), line)?;
+    enter_found(policy, number, found)
+}
+
+/// Judges what a line of that number says, and puts it last. A line that says nothing is `BadCommand`, whatever
+/// memory there is.
+fn enter_found(policy: &mut Policy, number: u32, found: Option<Entry>) -> Result<(), Refusal>
+    requires { IfSome found (λ entry. length policy.old < most_places) }
+    ensures ok { OnOk result (IfSome found (λ entry. policy.new ≡ policy.old ++ entry ∷ [])) }
+    ensures err { MatchOption found (result ≡ Err (Refusal.BadCommand number)) (λ entry. IsOkUnless result Refusal.Memory) }
+{
+    match found {
         None => Err(Refusal::BadCommand(number)),
-        Some(entry) => {
-            enter(policy, entry)?;
-            Ok(())
-        }
+        Some(entry) => enter(policy, entry),
     }
 }
 

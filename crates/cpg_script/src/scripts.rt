@@ -2,7 +2,7 @@
 //!
 //! Proved: the items are those of all the lines that are not ignored, or the refusal names the first bad line.
 
-ghost use Rattle.std.specs.Prelude.{◌≡◌, ◌≤◌, ◌∷◌, ◌+◌, ℕ, List, Ok, All, length, IfOk, IfErr, OnOk, IsOkUnless};
+ghost use Rattle.std.specs.Prelude.{◌≡◌, ◌≤◌, ◌∷◌, ◌++◌, ◌+◌, [], ℕ, List, Ok, Err, All, length, MatchOption, IfOk, IfErr, IfSome, OnOk, IsOkUnless};
 ghost use Rattle.cpg_script.specs.Reading.{read_all, FailsAs};
 ghost use Rattle.cpg_script.specs.Steps.{items_with};
 
@@ -68,7 +68,16 @@ fn take_line<R: ReadsLine>(
     if is_ignored(line) {
         return Ok(());
     }
-    match reader.read(alloc, items.len(), line)? {
+    let found = reader.read(alloc, items.len(), line)?;
+    put_last(items, number, found)
+}
+
+/// Puts what a line of that number says last. A line that says nothing is `BadCommand`, whatever memory there is.
+fn put_last<T: Drop>(items: &mut Vec<T>, number: u32, found: Option<T>) -> Result<(), Refusal>
+    ensures ok { OnOk result (IfSome found (λ item. items.new.items ≡ items.old.items ++ item ∷ [])) }
+    ensures err { MatchOption found (result ≡ Err (Refusal.BadCommand number)) (λ item. IsOkUnless result Refusal.Memory) }
+{
+    match found {
         None => Err(Refusal::BadCommand(number)),
         Some(item) => {
             items.push(item)?;

@@ -1,5 +1,6 @@
 pub mod Lines
 pub mod Numbers
 pub mod Percent
+pub mod Reads
 pub mod Steps
 pub mod Streams

@@ -3,13 +3,15 @@
 //! Proved where the reader and the writer tell their bytes: what is read is all there was, and what is
 //! written is the text, or after a fault a front of it.
 
-ghost use Rattle.std.specs.Prelude.{◌≡◌, ◌<◌, ◌≤◌, ◌⊎◌, length, take, vec_len, IfOk, IfErr, IfSome, OnOk, OnErr, IsOkUnless};
-ghost use Rattle.std.specs.Io.KnownBytes.{Appends, Keeps};
+ghost use Rattle.std.specs.Prelude.{◌≡◌, ◌≢◌, ◌<◌, ◌≤◌, ◌+◌, ◌⊎◌, Ok, Err, Some, None, true, false, length, take, unwrap_or, vec_len, MatchOption, IfOk, IfErr, IfSome, OnOk, OnErr, IsOkUnless};
+ghost use Rattle.std.specs.Io.KnownBytes.{Appends, Keeps, ReadConsumes};
+ghost use Rattle.std.specs.IoError.{error_kind};
 ghost use Rattle.cpg_text.specs.Streams.{AppendsFront};
+ghost use Rattle.cpg_text.specs.Reads.{RunsOut};
 
 use cpg_cred::Refusal;
 use std::alloc::Global;
-use std::io::{ErrorKind, Read, Write};
+use std::io::{self, ErrorKind, Read, Write};
 
 /// The bytes of a stream that is read whole, at most.
 pub const MOST_BYTES: usize = 16_777_216;
@@ -24,6 +26,59 @@ pub fn limits()
     ensures reads { MOST_READS ≡ 16777217 }
 {}
 
+/// What reads came to.
+#[derive(Clone, Copy)]
+struct Reads {
+    /// How many there were.
+    count: usize,
+    /// How many bytes they gave.
+    bytes: usize,
+    /// Whether one failed, and not by an interruption.
+    failed: bool,
+}
+
+/// What a read came to: how many bytes it gave, none where it was interrupted, else `Read`.
+fn given_by(read: io::Result<usize>) -> Result<Option<usize>, Refusal>
+    ensures given { IfOk read (λ count. result ≡ Ok (Some count)) }
+    ensures interrupted { IfErr read (λ error. error_kind error ≡ ErrorKind.Interrupted → result ≡ Ok None) }
+    ensures failed { IfErr read (λ error. error_kind error ≢ ErrorKind.Interrupted → result ≡ Err Refusal.Read) }
+{
+    match read {
+        Ok(count) => Ok(Some(count)),
+        Err(error) => match error.kind() {
+            ErrorKind::Interrupted => Ok(None),
+            _ => Err(Refusal::Read),
+        },
+    }
+}
+
+/// Asks for a piece once, and counts that: how many bytes came, none where the read was interrupted.
+fn read_once<R: Read>(
+    reader: &mut R,
+    reads: &mut Reads,
+    piece: &mut [u8; 4096],
+) -> Result<Option<usize>, Refusal>
+    requires count { reads.old.count < MOST_READS }
+    requires bytes { reads.old.bytes ≤ MOST_BYTES }
+    ensures given { IfOk result (λ found. MatchOption found (Keeps (R.remaining reader.old) (R.remaining reader.new)) (λ count.
+        ReadConsumes {E = Refusal} (R.remaining reader.old) (R.remaining reader.new) (Ok count) piece.new)) }
+    ensures within { IfOk result (λ found. unwrap_or found 0 ≤ 4096) }
+    ensures counted { reads.new.count ≡ reads.old.count + 1 }
+    ensures gathered { IfOk result (λ found. reads.new.bytes ≡ reads.old.bytes + unwrap_or found 0) }
+    ensures noted { OnOk result (reads.new.failed ≡ reads.old.failed) }
+    ensures failed { OnErr result (reads.new.failed ≡ true) }
+    ensures errors { IsOkUnless result Refusal.Read }
+{
+    reads.count += 1;
+    let found = given_by(reader.read(piece));
+    match &found {
+        Ok(Some(count)) => reads.bytes += *count,
+        Ok(None) => {}
+        Err(_) => reads.failed = true,
+    }
+    found
+}
+
 /// All that the reader gives, `MOST_BYTES` bytes in `MOST_READS` reads at most (`limits`). `Read` where a read
 /// fails, and where the stream has more bytes or takes more reads.
 pub fn read_whole<R: Read>(alloc: Global, reader: &mut R) -> Result<Vec<u8>, Refusal>
@@ -31,25 +86,58 @@ pub fn read_whole<R: Read>(alloc: Global, reader: &mut R) -> Result<Vec<u8>, Ref
     ensures short { IfOk result (λ text. vec_len text ≤ MOST_BYTES) }
     ensures errors { IfErr result (λ refusal. (refusal ≡ Refusal.Memory) ⊎ (refusal ≡ Refusal.Read)) }
 {
+    let mut reads = Reads {
+        count: 0,
+        bytes: 0,
+        failed: false,
+    };
+    read_counted(alloc, reader, &mut reads)
+}
+
+/// All that the reader gives, with what the reads came to: `Read` only where one failed or they ran out of
+/// reads or of bytes.
+fn read_counted<R: Read>(
+    alloc: Global,
+    reader: &mut R,
+    reads: &mut Reads,
+) -> Result<Vec<u8>, Refusal>
+    requires { reads.old ≡ record { count = 0; bytes = 0; failed = false } }
+    ensures whole { IfOk result (λ text. IfSome (R.remaining reader.old) (λ bytes. text.items ≡ bytes)) }
+    ensures short { IfOk result (λ text. vec_len text ≤ MOST_BYTES) }
+    ensures errors { IfErr result (λ refusal. (refusal ≡ Refusal.Memory) ⊎ ((refusal ≡ Refusal.Read) × RunsOut reads.new)) }
+{
     let mut text = Vec::new(alloc);
     let mut piece = [0u8; 4096];
-    for _turn in 0..MOST_READS {
-        match reader.read(&mut piece) {
-            Ok(0) => return Ok(text),
-            Ok(count) => {
-                if count > MOST_BYTES - text.len() {
-                    return Err(Refusal::Read);
-                }
-                text.extend_from_slice(&piece[..count])?;
+    while reads.count < MOST_READS {
+        if let Some(count) = read_once(reader, reads, &mut piece)? {
+            if count == 0 {
+                return Ok(text);
             }
-            Err(error) => {
-                if error.kind() != ErrorKind::Interrupted {
-                    return Err(Refusal::Read);
-                }
+            if reads.bytes > MOST_BYTES {
+                return Err(Refusal::Read);
             }
+            text.extend_from_slice(&piece[..count])?;
         }
     }
     Err(Refusal::Read)
+}
+
+/// What a write came to: how many bytes were taken, nothing where it was interrupted; else `Write`, also
+/// where nothing was taken.
+fn taken_by(write: io::Result<usize>) -> Result<usize, Refusal>
+    ensures taken { IfOk write (λ count. 0 < count → result ≡ Ok count) }
+    ensures nothing { IfOk write (λ count. count ≡ 0 → result ≡ Err Refusal.Write) }
+    ensures interrupted { IfErr write (λ error. error_kind error ≡ ErrorKind.Interrupted → result ≡ Ok 0) }
+    ensures failed { IfErr write (λ error. error_kind error ≢ ErrorKind.Interrupted → result ≡ Err Refusal.Write) }
+{
+    match write {
+        Ok(0) => Err(Refusal::Write),
+        Ok(count) => Ok(count),
+        Err(error) => match error.kind() {
+            ErrorKind::Interrupted => Ok(0),
+            _ => Err(Refusal::Write),
+        },
+    }
 }
 
 /// Writes a front of the text, and says how long it is: nothing where the write was interrupted.
@@ -60,17 +148,7 @@ fn write_some<W: Write>(writer: &mut W, text: &[u8]) -> Result<usize, Refusal>
     ensures err { OnErr result (Keeps (W.contents writer.old) (W.contents writer.new)) }
     ensures errors { IsOkUnless result Refusal.Write }
 {
-    match writer.write(text) {
-        Ok(0) => Err(Refusal::Write),
-        Ok(count) => Ok(count),
-        Err(error) => {
-            if error.kind() == ErrorKind::Interrupted {
-                Ok(0)
-            } else {
-                Err(Refusal::Write)
-            }
-        }
-    }
+    taken_by(writer.write(text))
 }
 
 /// Writes the text. After `Write` a front of it is written: a write failed, or the writer took nothing of

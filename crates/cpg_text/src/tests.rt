@@ -96,6 +96,18 @@ fn reads_whole_byte_by_byte(rt: HostRuntime) -> Result<(), Fail> {
 }
 
 #[test]
+fn reads_as_often_as_there_are_bytes(rt: HostRuntime) -> Result<(), Fail> {
+    let bytes = [7u8; 70_000];
+    let mut reader = Slow {
+        rest: bytes.as_slice(),
+        until: 70_001,
+        interrupted: false,
+    };
+    assert_eq!(rt; read_whole(rt.alloc(), &mut reader)?.len(), 70_000);
+    Ok(())
+}
+
+#[test]
 fn a_reader_that_fails_in_mid_stream_is_a_read_fault(rt: HostRuntime) {
     for until in 0..8 {
         let mut reader = Slow {

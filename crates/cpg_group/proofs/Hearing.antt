@@ -1,0 +1,60 @@
+-- whether a place tells a connection anything
+use Rattle.std.proofs.Common.{◌≡◌, ◌≢◌, ℕ, Bool, true, false, List, [], ◌∷◌, ◌++◌, Option, Some, None, refl, ap, ◌∙◌, sym}
+use Rattle.std.specs.Prelude.{if◌then◌else◌, option_to_list}
+use Rattle.cpg_entry.specs.declared.calls.Call.TheVariants.{Join, Leave, Send, Insert, Remove}
+use Rattle.cpg_entry.specs.declared.calls.Op.{Op}
+use Rattle.cpg_entry.specs.declared.calls.Op.TheVariants.{Act, Gone}
+use Rattle.cpg_record.specs.declared.connections.ConnId.{ConnId}
+use Rattle.cpg_record.specs.declared.events.Event.{Event}
+use Rattle.cpg_record.specs.declared.events.Event.TheVariants.{Verdict}
+use Rattle.cpg_record.specs.declared.records.Record.{Record}
+use Rattle.cpg_record.specs.Connections.{conn_of, is_conn}
+use Rattle.cpg_record.specs.Events.{answer, events, events_by, news, news_by}
+use Rattle.cpg_record.specs.Places.{record_at, records_before}
+use Rattle.cpg_group.specs.Telling.{hears, told_by}
+
+-- who is told an allowed op is told what its group is
+news_as : (place : ℕ) (before : List Record) (r : Record) (conn : ConnId) (g : List ℕ) (op : Op)
+    → news_by place before r conn g op ≡ (if hears before r conn g op then Some (told_by place before r g op) else None)
+news_as place before r conn g (Act (Send message)) = refl
+news_as place before r conn g (Act (Join name)) = refl
+news_as place before r conn g (Act Leave) = refl
+news_as place before r conn g Gone = refl
+news_as place before r conn g (Act (Insert name index rule)) = refl
+news_as place before r conn g (Act (Remove name id)) = refl
+
+pub news_unheard : (place : ℕ) (before : List Record) (r : Record) (conn : ConnId) (g : List ℕ) (op : Op)
+    → hears before r conn g op ≡ false → news_by place before r conn g op ≡ None
+news_unheard place before r conn g op e =
+    news_as place before r conn g op ∙ ap (λ (test : Bool). if test then Some (told_by place before r g op) else None) e
+
+pub news_heard : (place : ℕ) (before : List Record) (r : Record) (conn : ConnId) (g : List ℕ) (op : Op)
+    → hears before r conn g op ≡ true → news_by place before r conn g op ≡ Some (told_by place before r g op)
+news_heard place before r conn g op e =
+    news_as place before r conn g op ∙ ap (λ (test : Bool). if test then Some (told_by place before r g op) else None) e
+
+-- what is something is not nothing
+pub is_news : (said : Option Event) (event : Event) → said ≡ Some event → said ≢ None
+is_news said event e none = cc
+
+-- the maker of an entry is told its verdict
+pub tells_answer : (records : List Record) (place : ℕ) (conn : ConnId) (r : Record)
+    → record_at records place ≡ Some r → is_conn conn (conn_of r.entry) ≡ true → events records place conn ≢ []
+tells_answer records place conn r there own none =
+    let rest = option_to_list (news place (records_before records place) r conn r.group) in
+    let some : events records place conn ≡ Verdict place r.verdict ∷ rest =
+    ap (events_by place (records_before records place) conn) there ∙ ap (λ (test : Bool). (if test then Verdict place r.verdict ∷ [] else []) ++ rest) own in
+    let both : Verdict place r.verdict ∷ rest ≡ [] = sym some ∙ none in
+    cc
+
+after_answer : (first : List Event) (said : Option Event) → said ≢ None → first ++ option_to_list said ≢ []
+after_answer [] None some e = some refl
+after_answer [] (Some event) some e = cc
+after_answer (event ∷ first) said some e = cc
+
+-- what is told beside it is told
+pub tells_news : (records : List Record) (place : ℕ) (conn : ConnId) (r : Record)
+    → record_at records place ≡ Some r → news place (records_before records place) r conn r.group ≢ None → events records place conn ≢ []
+tells_news records place conn r there some none =
+    after_answer (answer place r conn) (news place (records_before records place) r conn r.group) some
+    (sym (ap (events_by place (records_before records place) conn) there) ∙ none)
