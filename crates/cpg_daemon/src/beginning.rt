@@ -6,7 +6,7 @@ ghost use Rattle.std.specs.Arc.{arc_value};
 use crate::gates::Gate;
 use crate::lines::Lines;
 use crate::running::Running;
-use crate::stopping::{SoMany, Thread};
+use crate::stopping::{Begun, SoMany, Thread};
 use cpg_cred::NodeId;
 use cpg_station::BoardName;
 use std::alloc::{AllocError, Global};
@@ -53,17 +53,6 @@ where
     Ok(thread)
 }
 
-/// Puts a thread behind the others, for which there is room.
-fn add_thread(threads: &mut Vec<Thread>, thread: Thread, peers: usize)
-    requires all { All (λ thread. thread.promise.0 ≡ peers) threads.old.items × (thread.promise.0 ≡ peers) }
-    requires room { vec_len threads.old < vec_capacity threads.old }
-    ensures all { All (λ thread. thread.promise.0 ≡ peers) threads.new.items }
-    ensures count { vec_len threads.new ≡ vec_len threads.old + 1 }
-    ensures room { vec_capacity threads.new ≡ vec_capacity threads.old }
-{
-    threads.push_reserved(thread);
-}
-
 /// A thread for each node. Where one is refused, some have begun.
 #[tactic(auto, using(crate::proofs::Counting::last_fits))]
 pub(crate) fn begin_all<B, G, R>(
@@ -72,7 +61,7 @@ pub(crate) fn begin_all<B, G, R>(
     nodes: u8,
     peers: usize,
     mut lines: Lines,
-    threads: &mut Vec<Thread>,
+    threads: &mut Begun,
 ) -> Result<(), AllocError>
 where
     B: BoardName + Send + Sync + 'static,
@@ -80,10 +69,10 @@ where
     R: Threads + Wait + Clock + Copy + Send + 'static,
     requires nodes { nodes ≡ (arc_value running.now).nodes }
     requires lines { (vec_len lines.outgoing ≡ nodes * peers) × (vec_len lines.incoming ≡ nodes * peers) }
-    requires room { (vec_len threads.old ≡ 0) × (nodes ≤ vec_capacity threads.old) }
-    ensures all { All (λ thread. thread.promise.0 ≡ peers) threads.new.items }
-    ensures few { vec_len threads.new ≤ nodes }
-    ensures ok { OnOk result (vec_len threads.new ≡ nodes) }
+    requires room { (vec_len threads.old.threads ≡ 0) × (nodes ≤ vec_capacity threads.old.threads) }
+    ensures all { All (λ thread. thread.promise.0 ≡ peers) threads.new.threads.items }
+    ensures few { vec_len threads.new.threads ≤ nodes }
+    ensures ok { OnOk result (vec_len threads.new.threads ≡ nodes) }
 {
     for before in 0..nodes {
         let Some(node) = NodeId::new(nodes - before) else {
@@ -91,7 +80,7 @@ where
         };
         let ends = last_lines(&mut lines, peers)?;
         let thread = begin_one(rt, running, node, ends, peers)?;
-        add_thread(threads, thread, peers);
+        threads.add(thread, peers);
     }
     Ok(())
 }

@@ -10,7 +10,7 @@ use crate::gates::Gate;
 use crate::lines::Lines;
 use crate::making::{first_token, new_links, new_locks, new_room, peers, put_first};
 use crate::running::Running;
-use crate::stopping::{Room, Thread, gather, pair, take_out};
+use crate::stopping::{Begun, Room, gather, pair, take_out};
 use cpg_board::Board;
 use cpg_cred::{AcceptList, Refusal};
 use cpg_link::{LinkRx, LinkTx};
@@ -25,11 +25,10 @@ use std::thread::Threads;
 use std::time::Clock;
 
 /// Nodes in threads of their own. It lends the running nodes, whose calls are those of sessions. Contracts see
-/// it as these.
-#[derive(Drop)]
+/// it as these. It can't be let go but by `stop`, which waits for its threads.
 pub struct Cluster<B: BoardName, G> {
     running: Arc<Running<B, G>, Global>,
-    threads: Vec<Thread>,
+    threads: Begun,
     room: Room<B>,
 }
 
@@ -43,7 +42,7 @@ impl<B: BoardName, G> Model for Cluster<B, G> {
 
     ghost view = { λ cluster. arc_value cluster.running };
 
-    ghost invariant = { λ cluster. (cluster.room.nodes ≡ (arc_value cluster.running).nodes) × (vec_len cluster.threads ≡ (arc_value cluster.running).nodes) × All (λ thread. thread.promise.0 ≡ peers_of cluster.room.nodes) cluster.threads.items };
+    ghost invariant = { λ cluster. (cluster.room.nodes ≡ (arc_value cluster.running).nodes) × (vec_len cluster.threads.threads ≡ (arc_value cluster.running).nodes) × All (λ thread. thread.promise.0 ≡ peers_of cluster.room.nodes) cluster.threads.threads.items };
 }
 
 impl<B: BoardName, G> Deref for Cluster<B, G> {
@@ -77,7 +76,7 @@ fn new_running<B: BoardName, G>(
 where
     G: Drop,
     requires board { board ≡ B.cells }
-    requires nodes { vec_len stations ≡ nodes }
+    requires nodes { (vec_len stations ≡ nodes) × (nodes ≤ 8) }
     ensures ok { IfOk result (λ running. arc_value running ≡ record { nodes = nodes; list = list }) }
     ensures memory { IsOkUnless result Refusal.Memory }
 {
@@ -98,14 +97,14 @@ where
 fn leave<B: BoardName, G, R: Threads + Wait>(
     rt: &R,
     running: &Running<B, G>,
-    threads: Vec<Thread>,
+    threads: Begun,
     room: Room<B>,
 ) -> Ends<B>
     requires room { room.nodes ≡ running.now.nodes }
-    requires few { vec_len threads ≤ running.now.nodes }
-    requires threads { All (λ thread. thread.promise.0 ≡ peers_of room.nodes) threads.items }
+    requires few { vec_len threads.threads ≤ running.now.nodes }
+    requires threads { All (λ thread. thread.promise.0 ≡ peers_of room.nodes) threads.threads.items }
     ensures stations { vec_len result.stations ≡ running.now.nodes }
-    ensures links { vec_len result.links ≡ vec_len threads * peers_of running.now.nodes }
+    ensures links { vec_len result.links ≡ vec_len threads.threads * peers_of running.now.nodes }
 {
     let Room {
         nodes,
@@ -124,12 +123,12 @@ fn leave<B: BoardName, G, R: Threads + Wait>(
 /// A cluster of these.
 fn cluster_of<B: BoardName, G>(
     running: Arc<Running<B, G>, Global>,
-    threads: Vec<Thread>,
+    threads: Begun,
     room: Room<B>,
 ) -> Cluster<B, G>
     requires room { room.nodes ≡ (arc_value running).nodes }
-    requires count { vec_len threads ≡ (arc_value running).nodes }
-    requires threads { All (λ thread. thread.promise.0 ≡ peers_of room.nodes) threads.items }
+    requires count { vec_len threads.threads ≡ (arc_value running).nodes }
+    requires threads { All (λ thread. thread.promise.0 ≡ peers_of room.nodes) threads.threads.items }
     ensures { result ≡ arc_value running }
 {
     Cluster {
@@ -157,7 +156,7 @@ where
     ensures memory { IsOkUnless result Refusal.Memory }
 {
     let nodes = room.nodes;
-    let mut threads = Vec::with_capacity(alloc, usize::from(nodes))?;
+    let mut threads = Begun::none(alloc, usize::from(nodes))?;
     let each = usize::from(peers(nodes));
     if begin_all(rt, &running, nodes, each, lines, &mut threads).is_err() {
         running.halt(&rt);

@@ -1,8 +1,9 @@
 //! What a cluster is made of: stations, links, and the first token on its way.
 
-ghost use Rattle.std.specs.Prelude.{◌≡◌, ◌≤◌, ◌<◌, ◌+◌, ◌*◌, IfOk, OnOk, IsOkUnless, vec_len};
+ghost use Rattle.std.specs.Prelude.{◌≡◌, ◌≤◌, ◌<◌, ◌+◌, ◌*◌, [], false, IfOk, OnOk, IsOkUnless, vec_len};
 ghost use Rattle.cpg_ring.specs.States.{IsSettings};
-ghost use Rattle.cpg_daemon.specs.Links.{peers_of};
+ghost use Rattle.cpg_node.specs.Nodes.{new_value};
+ghost use Rattle.cpg_daemon.specs.Links.{peers_of, peer_of};
 
 use crate::lines::{Incoming, Lines, Outgoing, ROOM};
 use crate::stopping::Room;
@@ -33,7 +34,8 @@ fn new_station<B: BoardName>(
     requires settings { IsSettings settings }
     requires number { (1 ≤ number) × (number ≤ settings.nodes) }
     requires board { board.now ≡ B.cells }
-    ensures { IsOkUnless result Refusal.Memory }
+    ensures ok { IfOk result (λ station. station ≡ record { node = new_value settings number list.now; seat = []; halted = false }) }
+    ensures memory { IsOkUnless result Refusal.Memory }
 {
     let Some(id) = NodeId::new(number) else {
         return Err(Refusal::Range);
@@ -93,13 +95,16 @@ pub(crate) fn peers(nodes: u8) -> u8
 
 /// The node to which the link of that index goes, from 0 on, of those that come from the node: the others in
 /// their order.
-fn peer(nodes: u8, from: NodeId, index: u8) -> NodeId {
+fn peer(nodes: u8, from: NodeId, index: u8) -> NodeId
+    requires { (from ≤ nodes) × (nodes ≤ 8) × (index < peers_of nodes) }
+    ensures { result ≡ peer_of nodes from index }
+{
     let number = if nodes == 1 {
         1
-    } else if index.saturating_add(1) < from.get() {
-        index.saturating_add(1)
+    } else if index + 1 < from.get() {
+        index + 1
     } else {
-        index.saturating_add(2)
+        index + 2
     };
     NodeId::new(number).unwrap_or(from)
 }
@@ -124,7 +129,8 @@ fn add_links_from(
     peers: u8,
     lines: &mut Lines,
 ) -> Result<(), Refusal>
-    requires { (1 ≤ number) × (number ≤ 8) }
+    requires number { (1 ≤ number) × (number ≤ nodes) × (nodes ≤ 8) }
+    requires peers { peers ≡ peers_of nodes }
     ensures ok { OnOk result ((vec_len lines.new.outgoing ≡ vec_len lines.old.outgoing + peers) × (vec_len lines.new.incoming ≡ vec_len lines.old.incoming + peers)) }
     ensures memory { IsOkUnless result Refusal.Memory }
 {
@@ -139,7 +145,8 @@ fn add_links_from(
 
 /// A link of each way: the sending ends in the order of their nodes, and so the receiving ones.
 pub(crate) fn new_links(alloc: Global, nodes: u8, peers: u8) -> Result<Lines, Refusal>
-    requires { nodes ≤ 8 }
+    requires nodes { nodes ≤ 8 }
+    requires peers { peers ≡ peers_of nodes }
     ensures ok { IfOk result (λ lines. (vec_len lines.outgoing ≡ nodes * peers) × (vec_len lines.incoming ≡ nodes * peers)) }
     ensures memory { IsOkUnless result Refusal.Memory }
 {

@@ -2,6 +2,7 @@
 
 ghost use Rattle.std.specs.Prelude.{◌≡◌, ◌≤◌, []};
 ghost use Rattle.cpg_board.specs.Seats.{IsSeatOf};
+ghost use Rattle.cpg_daemon.specs.Links.{next_of};
 
 use bytes::Bytes;
 use cpg_board::{Board, Seat};
@@ -22,14 +23,14 @@ pub struct Running<B: BoardName, G> {
 }
 
 impl<B: BoardName, G> Model for Running<B, G> {
-    ghost use Rattle.std.specs.Prelude.{◌≡◌, vec_len};
+    ghost use Rattle.std.specs.Prelude.{◌≡◌, ◌≤◌, vec_len};
     ghost use Rattle.cpg_daemon.specs.Clusters.{ClusterValue};
 
     ghost Value = { ClusterValue };
 
     ghost view = { λ running. record { nodes = running.nodes; list = running.list } };
 
-    ghost invariant = { λ running. (running.board ≡ B.cells) × (vec_len running.stations ≡ running.nodes) };
+    ghost invariant = { λ running. (running.board ≡ B.cells) × (vec_len running.stations ≡ running.nodes) × (running.nodes ≤ 8) };
 }
 
 impl<B: BoardName, G> Running<B, G> {
@@ -113,7 +114,10 @@ impl<B: BoardName, G> Running<B, G> {
     }
 
     /// The node to which this one sends the token.
-    pub(crate) fn next(&self, node: NodeId) -> NodeId {
+    pub(crate) fn next(&self, node: NodeId) -> NodeId
+        requires { node ≤ self.now.nodes }
+        ensures { result ≡ next_of self.now.nodes node }
+    {
         let number = if node.get() < self.nodes {
             node.get() + 1
         } else {

@@ -1,11 +1,12 @@
 //! What a cluster leaves once its threads have ended.
 
-ghost use Rattle.std.specs.Prelude.{◌≡◌, ◌≤◌, ◌+◌, ◌*◌, All, IfSome, MatchOption, vec_len, vec_capacity};
+ghost use Rattle.std.specs.Prelude.{◌≡◌, ◌≤◌, ◌+◌, ◌*◌, ◌<◌, All, IfOk, IfSome, MatchOption, vec_len, vec_capacity};
 ghost use Rattle.cpg_daemon.specs.Links.{links_of, peers_of};
 
 use crate::lines::{Incoming, Lines, Outgoing};
 use cpg_link::{LinkRx, LinkTx};
 use cpg_station::{BoardName, Station};
+use std::alloc::{AllocError, Global};
 use std::sync::{Mutex, Wait};
 use std::thread::{Promise, PromisedHandle, Threads};
 
@@ -21,6 +22,33 @@ impl Promise<Lines> for SoMany {
 
 /// A node's thread, which gives back its ends of links.
 pub(crate) type Thread = PromisedHandle<Lines, SoMany>;
+
+/// The threads that have begun. They can't be let go but by `gather`, which waits for each of them.
+pub(crate) struct Begun {
+    threads: Vec<Thread>,
+}
+
+impl Begun {
+    /// No threads, with room for so many.
+    pub fn none(alloc: Global, room: usize) -> Result<Begun, AllocError>
+        ensures { IfOk result (λ begun. (vec_len begun.threads ≡ 0) × (room ≤ vec_capacity begun.threads)) }
+    {
+        Ok(Begun {
+            threads: Vec::with_capacity(alloc, room)?,
+        })
+    }
+
+    /// Puts a thread behind the others, for which there is room.
+    pub fn add(&mut self, thread: Thread, peers: usize)
+        requires all { All (λ thread. thread.promise.0 ≡ peers) self.old.threads.items × (thread.promise.0 ≡ peers) }
+        requires room { vec_len self.old.threads < vec_capacity self.old.threads }
+        ensures all { All (λ thread. thread.promise.0 ≡ peers) self.new.threads.items }
+        ensures count { vec_len self.new.threads ≡ vec_len self.old.threads + 1 }
+        ensures room { vec_capacity self.new.threads ≡ vec_capacity self.old.threads }
+    {
+        self.threads.push_reserved(thread);
+    }
+}
 
 /// Room for what a cluster of so many nodes leaves, and a station to leave in each lock.
 #[derive(Drop)]
@@ -73,17 +101,13 @@ fn next_thread(threads: &mut Vec<Thread>, peers: usize) -> Option<Thread>
 
 /// Joins the threads, and gathers their ends of links.
 #[tactic(auto, using(crate::proofs::Counting::room_for_more, crate::proofs::Counting::one_more))]
-pub(crate) fn gather<R: Threads>(
-    rt: &R,
-    mut threads: Vec<Thread>,
-    mut ends: Lines,
-    peers: usize,
-) -> Lines
-    requires threads { All (λ thread. thread.promise.0 ≡ peers) threads.items }
+pub(crate) fn gather<R: Threads>(rt: &R, begun: Begun, mut ends: Lines, peers: usize) -> Lines
+    requires threads { All (λ thread. thread.promise.0 ≡ peers) begun.threads.items }
     requires empty { (vec_len ends.outgoing ≡ 0) × (vec_len ends.incoming ≡ 0) }
-    requires room { (vec_len threads * peers ≤ vec_capacity ends.outgoing) × (vec_len threads * peers ≤ vec_capacity ends.incoming) }
-    ensures { (vec_len result.outgoing ≡ vec_len threads * peers) × (vec_len result.incoming ≡ vec_len threads * peers) }
+    requires room { (vec_len begun.threads * peers ≤ vec_capacity ends.outgoing) × (vec_len begun.threads * peers ≤ vec_capacity ends.incoming) }
+    ensures { (vec_len result.outgoing ≡ vec_len begun.threads * peers) × (vec_len result.incoming ≡ vec_len begun.threads * peers) }
 {
+    let Begun { mut threads } = begun;
     for _ in 0..threads.len() {
         if let Some(thread) = next_thread(&mut threads, peers) {
             take_in(&mut ends, thread.join(rt));

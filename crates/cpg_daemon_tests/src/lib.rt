@@ -5,9 +5,17 @@
 #[cfg(test)]
 mod clusters;
 #[cfg(test)]
+mod courses;
+#[cfg(test)]
 mod gated;
 #[cfg(test)]
+mod left;
+#[cfg(test)]
 mod sharing;
+#[cfg(test)]
+mod stepping;
+#[cfg(test)]
+mod steps;
 #[cfg(test)]
 mod threads;
 

@@ -1,0 +1,310 @@
+//! What is done over running nodes whose turns are let go one after the other.
+
+ghost use Rattle.std.specs.Prelude.{◌≡◌, ◌≤◌, IfOk};
+
+use crate::sharing::{MOST_ASKS, Told, join, next_told, refusal_in};
+use crate::stepping::{Marks, Plan, Stepping};
+use cpg_cred::{By, Cred, NodeId, Refusal};
+use cpg_daemon::{BoardName, Running, Session};
+use cpg_entry::{Call, MOST_MESSAGE_BYTES, Message};
+use cpg_record::{Reason, Verdict};
+use std::alloc::Global;
+use std::sync::Wait;
+use std::thread;
+
+/// What a row does over its nodes.
+#[derive(Debug, Clone, Copy, PartialEq, Eq)]
+pub enum Course {
+    /// No turn begins.
+    Held,
+    /// The first turn of node 1, with a join and the longest message among its calls.
+    Turn,
+    /// Idle turns, and one in which an old token comes.
+    Idle,
+    /// Node 1 sends its token again until its link is full.
+    Full,
+    /// The first two turns of nodes 1 and 2, in turn.
+    Rounds,
+    /// All turns.
+    Free,
+}
+
+/// One run of a cluster.
+#[derive(Debug, Clone, Copy)]
+pub struct Row {
+    pub nodes: u8,
+    pub course: Course,
+    pub plan: Plan,
+    /// How many frames are left from the last node to node 1, from node 1 to node 2 and from node 1 to each
+    /// further node; between others there are none.
+    pub to_first: usize,
+    pub to_second: usize,
+    pub to_further: usize,
+}
+
+/// The node of that number, where there is one.
+pub fn node_in<B: BoardName>(
+    running: &Running<B, Stepping>,
+    number: u8,
+) -> Result<NodeId, Refusal>
+    ensures { IfOk result (λ node. (node ≡ number) × (node ≤ running.now.nodes)) }
+{
+    match NodeId::new(number) {
+        Some(node) if number <= running.nodes() => Ok(node),
+        _ => Err(Refusal::Range),
+    }
+}
+
+/// A session of user 7 at the node.
+fn connect<B: BoardName, R: Wait>(
+    rt: &R,
+    running: &Running<B, Stepping>,
+    number: u8,
+) -> Result<Session<B>, Refusal>
+    ensures { IfOk result (λ session. session.who.id.node ≤ running.now.nodes) }
+{
+    let node = node_in(running, number)?;
+    running.connect(rt, node, 40, Cred { uid: 7, gid: 100 })
+}
+
+/// Whether user 7 is let in at each node.
+fn connects_all<B: BoardName, R: Wait>(rt: &R, running: &Running<B, Stepping>) -> bool {
+    for before in 0..running.nodes() {
+        if connect(rt, running, before + 1).is_err() {
+            return false;
+        }
+    }
+    true
+}
+
+/// Whether the call is put among those that wait.
+fn submits<B: BoardName, R: Wait>(
+    rt: &R,
+    running: &Running<B, Stepping>,
+    session: &mut Session<B>,
+    call: Result<Call, Refusal>,
+) -> bool
+    requires { session.old.who.id.node ≤ running.now.nodes }
+    ensures { session.new ≡ session.old }
+{
+    match call {
+        Ok(call) => refusal_in(running.submit(rt, session, call)) == None,
+        Err(_) => false,
+    }
+}
+
+/// The longest message.
+fn long_message(alloc: Global) -> Result<Call, Refusal> {
+    let text = vec![in alloc; b'a'; MOST_MESSAGE_BYTES]?;
+    Ok(Call::Send(Message::from_slice(alloc, text.as_slice())?))
+}
+
+/// Whether the session is told next that its entry at that place is allowed by default.
+fn is_allowed<B: BoardName, R: Wait>(
+    rt: &R,
+    running: &Running<B, Stepping>,
+    session: &mut Session<B>,
+    place: u32,
+) -> bool
+    requires { session.old.who.id.node ≤ running.now.nodes }
+    ensures { session.new.who.id.node ≡ session.old.who.id.node }
+{
+    next_told(rt, running, session) == Told::Verdict(place, Verdict::Allowed(By::Default))
+}
+
+/// Whether a join and the longest message of the session are allowed and told in the first turn of its node.
+fn takes_turn<B: BoardName, R: Wait>(
+    rt: &R,
+    alloc: Global,
+    running: &Running<B, Stepping>,
+    marks: &Marks,
+    session: &mut Session<B>,
+) -> bool
+    requires { session.old.who.id.node ≤ running.now.nodes }
+{
+    submits(rt, running, session, join(alloc))
+        && submits(rt, running, session, long_message(alloc))
+        && marks.one.go_on(1)
+        && is_allowed(rt, running, session, 1)
+        && next_told(rt, running, session) == Told::Other
+        && is_allowed(rt, running, session, 2)
+        && next_told(rt, running, session) == Told::Other
+}
+
+/// Whether node 1 does so, and asks for the fates of the data to all others, and of the token to the next.
+fn turn_goes<B: BoardName, R: Wait>(
+    rt: &R,
+    alloc: Global,
+    running: &Running<B, Stepping>,
+    marks: &Marks,
+) -> bool {
+    let nodes = running.nodes();
+    let told = match connect(rt, running, 1) {
+        Ok(mut session) => takes_turn(rt, alloc, running, marks, &mut session),
+        Err(_) => false,
+    };
+    told && marks.to_two.count() == (if nodes >= 2 { 3 } else { 0 })
+        && marks.to_three.count() == (if nodes >= 3 { 2 } else { 0 })
+}
+
+/// Whether node 1 sends its token again after each 64 idle turns in a row, of which the one in which the other
+/// node's token comes again is none; and the other node after its first 64.
+fn idle_goes(marks: &Marks) -> bool {
+    marks.one.go_on(33)
+        && marks.two.go_on(64)
+        && marks.one.go_on(200)
+        && marks.to_two.turns() == (1, 98, 162)
+        && marks.to_two.count() == 3
+        && marks.to_one.turns() == (64, 0, 0)
+}
+
+/// Whether node 1 sends its token again more often than its link has room for.
+fn full_goes(marks: &Marks) -> bool {
+    marks.one.let_go(u64::MAX);
+    marks.to_two.gets(40)
+}
+
+/// Whether the safe marks of nodes 1 and 2 are these.
+fn are_safe<B: BoardName, R: Wait>(
+    rt: &R,
+    running: &Running<B, Stepping>,
+    first: u32,
+    second: u32,
+) -> bool {
+    match (node_in(running, 1), node_in(running, 2)) {
+        (Ok(one), Ok(two)) => running.safe(rt, one) == first && running.safe(rt, two) == second,
+        _ => false,
+    }
+}
+
+/// Whether the session, which is told what the other saw, is shown that `db` has a member.
+fn lists_one<B: BoardName, R: Wait>(
+    rt: &R,
+    running: &Running<B, Stepping>,
+    session: &mut Session<B>,
+    other: &Session<B>,
+) -> bool
+    requires { session.old.who.id.node ≤ running.now.nodes }
+{
+    running.tell(session, other.seat()).is_ok()
+        && match running.list(rt, session, b"db") {
+            Ok(members) => members.as_slice().len() == 1,
+            Err(_) => false,
+        }
+}
+
+/// Whether a join at node 1 is told there in its first turn, delivered at node 2 in the first turn of that, and
+/// the token passed on in the second turns; and whether the safe mark of node 1 is 1 once it sent the token twice.
+fn joins_safely<B: BoardName, R: Wait>(
+    rt: &R,
+    alloc: Global,
+    running: &Running<B, Stepping>,
+    marks: &Marks,
+    one: &mut Session<B>,
+    two: &mut Session<B>,
+) -> bool
+    requires one { one.old.who.id.node ≤ running.now.nodes }
+    requires two { two.old.who.id.node ≤ running.now.nodes }
+{
+    submits(rt, running, one, join(alloc))
+        && marks.one.go_on(1)
+        && is_allowed(rt, running, one, 1)
+        && are_safe(rt, running, 0, 0)
+        && marks.two.go_on(1)
+        && lists_one(rt, running, two, one)
+        && marks.to_one.count() == 0
+        && marks.two.go_on(2)
+        && marks.to_one.count() == 1
+        && are_safe(rt, running, 0, 0)
+        && marks.one.go_on(2)
+        && are_safe(rt, running, 1, 0)
+}
+
+/// Whether nodes 1 and 2 do so, and the safe marks stay once they are halted.
+fn rounds_go<B: BoardName, R: Wait>(
+    rt: &R,
+    alloc: Global,
+    running: &Running<B, Stepping>,
+    marks: &Marks,
+) -> bool {
+    let safe = match (connect(rt, running, 1), connect(rt, running, 2)) {
+        (Ok(mut one), Ok(mut two)) => {
+            joins_safely(rt, alloc, running, marks, &mut one, &mut two)
+        }
+        _ => false,
+    };
+    running.halt(rt);
+    safe && are_safe(rt, running, 1, 0)
+}
+
+/// Whether a process at the node leaves, in no group, and is told so at the place of that number.
+fn leaves<B: BoardName, R: Wait>(rt: &R, running: &Running<B, Stepping>, number: u8) -> bool {
+    match connect(rt, running, number) {
+        Ok(mut session) => {
+            let wanted = Told::Verdict(u32::from(number), Verdict::Denied(Reason::Closed));
+            submits(rt, running, &mut session, Ok(Call::Leave))
+                && next_told(rt, running, &mut session) == wanted
+        }
+        Err(_) => false,
+    }
+}
+
+/// Whether the node's safe mark gets to that place.
+fn gets_safe<B: BoardName, R: Wait>(
+    rt: &R,
+    running: &Running<B, Stepping>,
+    number: u8,
+    place: u32,
+) -> bool {
+    let Ok(node) = node_in(running, number) else {
+        return false;
+    };
+    for _ in 0..MOST_ASKS {
+        if running.safe(rt, node) == place {
+            return true;
+        }
+        thread::yield_now();
+    }
+    false
+}
+
+/// Whether a process at each node, one after the other, is told so, and then all nodes hold all.
+fn free_goes<B: BoardName, R: Wait>(
+    rt: &R,
+    running: &Running<B, Stepping>,
+    marks: &Marks,
+) -> bool {
+    let nodes = running.nodes();
+    marks.let_all_go();
+    for before in 0..nodes {
+        if !leaves(rt, running, before + 1) {
+            return false;
+        }
+    }
+    for before in 0..nodes {
+        if !gets_safe(rt, running, before + 1, u32::from(nodes)) {
+            return false;
+        }
+    }
+    true
+}
+
+/// Whether all goes as the course says.
+pub fn goes<B: BoardName, R: Wait>(
+    rt: &R,
+    alloc: Global,
+    running: &Running<B, Stepping>,
+    marks: &Marks,
+    course: Course,
+) -> bool {
+    connects_all(rt, running)
+        && match course {
+            Course::Held => true,
+            Course::Turn => turn_goes(rt, alloc, running, marks),
+            Course::Idle => idle_goes(marks),
+            Course::Full => full_goes(marks),
+            Course::Rounds => rounds_go(rt, alloc, running, marks),
+            Course::Free => free_goes(rt, running, marks),
+        }
+        && marks.are_right()
+}
