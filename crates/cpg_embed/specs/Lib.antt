@@ -1,0 +1,11 @@
+pub mod Statuses
+pub mod Endpoints
+pub mod Calls
+pub mod Frames
+pub mod Telling
+pub mod Processes
+pub mod Events
+pub mod Rules
+pub mod Listings
+pub mod Records
+pub mod Opening
