@@ -4,7 +4,7 @@ use crate::entering::are_equal;
 use crate::nodes::list_of;
 use crate::rejoining::{events_at, member_conn, rejoin};
 use cpg_cred::{AcceptList, Cred, Refusal, Via};
-use cpg_entry::{Call, Entry, NodeId, Op, Packet, Places, Token};
+use cpg_entry::{Call, Entry, Message, Name, NodeId, Op, Packet, Places, Token};
 use cpg_group::{ConnId, Event, Events, Members, Moves, Policy, Record, Records};
 use std::alloc::Global;
 
@@ -36,6 +36,51 @@ fn has_copy(alloc: Global, call: &Call) -> bool {
         Ok(copy) => is_call(copy, call),
         Err(_) => false,
     }
+}
+
+/// Whether a copy of the call, which is let go, equals it.
+fn copies_new_call(alloc: Global, call: Call) -> bool {
+    let answer = has_copy(alloc, &call);
+    drop(call);
+    answer
+}
+
+/// Whether a copy of a send of those bytes equals it.
+fn copies_send(alloc: Global, bytes: &[u8]) -> bool {
+    match Message::from_slice(alloc, bytes) {
+        Ok(message) => copies_new_call(alloc, Call::Send(message)),
+        Err(_) => false,
+    }
+}
+
+/// Whether a copy of a join of the group of that name equals it.
+fn copies_join(alloc: Global, name: &[u8]) -> bool {
+    match Name::from_slice(alloc, name) {
+        Ok(name) => copies_new_call(alloc, Call::Join(name)),
+        Err(_) => false,
+    }
+}
+
+/// Whether a copy of a send of so many bytes equals it.
+fn copies_long_send(alloc: Global, count: usize) -> Result<bool, Refusal> {
+    let text = vec![in alloc; b'g'; count]?;
+    let answer = copies_send(alloc, text.as_slice());
+    drop(text);
+    Ok(answer)
+}
+
+/// Whether a copy of a join of a group with a name of so many bytes equals it.
+fn copies_long_join(alloc: Global, count: usize) -> Result<bool, Refusal> {
+    let name = vec![in alloc; b'g'; count]?;
+    let answer = copies_join(alloc, name.as_slice());
+    drop(name);
+    Ok(answer)
+}
+
+#[test]
+fn the_longest_message_and_name(rt: HostRuntime) {
+    assert!(rt; copies_long_send(rt.alloc(), 8192) == Ok(true));
+    assert!(rt; copies_long_join(rt.alloc(), 128) == Ok(true));
 }
 
 /// Whether a copy of the op's call, if it has one, equals it.

@@ -1,9 +1,9 @@
 //! Groups and tables that are full.
 
-use crate::entering::{Ask, Source, answer, client, count_rules, deny};
+use crate::entering::{Ask, Source, answer, client, count_rules};
 use cpg_entry::{By, Refusal};
 use cpg_group::{Policy, Reason, Verdict};
-use cpg_rules::{Right, Who};
+use cpg_rules::{Effect, Right, Rule, Table, Who};
 use std::alloc::Global;
 
 /// Whether the answer is that it is allowed.
@@ -42,30 +42,47 @@ fn root() -> Source {
     client(1, 1, 40, 0)
 }
 
-/// What user 0 is answered who puts a rule into the group's table.
-fn insert(alloc: Global, policy: &mut Policy) -> Result<Verdict, Refusal> {
-    answer(
-        alloc,
-        policy,
-        &root(),
-        &deny("db", Right::Join, Who::uid(7)),
-    )
+/// What user 0 is answered who puts a rule into the group's table, at that index.
+fn insert(alloc: Global, policy: &mut Policy, index: u8) -> Result<Verdict, Refusal> {
+    let rule = Rule {
+        effect: Effect::Deny,
+        right: Right::Join,
+        who: Who::uid(7),
+    };
+    answer(alloc, policy, &root(), &Ask::Insert("db", index, rule))
 }
 
-/// Whether 64 rules may be put into the group's table.
+/// Whether 64 rules may be put into the group's table, one behind the other.
 fn lets_64_rules_in(alloc: Global, policy: &mut Policy) -> bool {
-    for _ in 0..64 {
-        if !is_allowed(insert(alloc, policy)) {
+    for index in 0..64u8 {
+        if !is_allowed(insert(alloc, policy, index)) {
             return false;
         }
     }
     true
 }
 
-/// Whether 64 rules may be put into the group's table, and the next is denied since it is full.
+/// Whether a copy of the table has 64 rules, the last as there.
+fn copies_64(alloc: Global, table: &Table) -> bool {
+    match table.copy(alloc) {
+        Ok(copy) => copy.len() == 64 && copy.get(63) == table.get(63),
+        Err(_) => false,
+    }
+}
+
+/// Whether a copy of the group's table has its 64 rules.
+fn copies_table(alloc: Global, policy: &Policy) -> bool {
+    match policy.table(b"db") {
+        Some(table) => copies_64(alloc, table),
+        None => false,
+    }
+}
+
+/// Whether 64 rules may be put into the group's table and are copied, and the next is denied since it is full.
 fn lets_64_rules_in_alone(alloc: Global, policy: &mut Policy) -> bool {
     lets_64_rules_in(alloc, policy)
-        && insert(alloc, policy) == Ok(Verdict::Denied(Reason::TableFull))
+        && copies_table(alloc, policy)
+        && insert(alloc, policy, 0) == Ok(Verdict::Denied(Reason::TableFull))
 }
 
 #[test]

@@ -276,6 +276,22 @@ fn holds_a_stray(alloc: Global) -> bool {
     }
 }
 
+/// Whether the node, which is of another ring, refuses a packet and a token of ring 1.
+fn is_of_another_ring(mut node: Node) -> bool {
+    let packet = hear(&mut node, STRAY.as_slice());
+    let token = hear_hop(&mut node, 0, 0);
+    drop(node);
+    packet == Err(Refusal::Foreign) && token == Err(Refusal::Foreign)
+}
+
+/// Whether node 2 of ring 3 does so.
+fn refuses_foreign(alloc: Global) -> bool {
+    match node_with(alloc, settings(3, 2), 2, &[]) {
+        Ok(node) => is_of_another_ring(node),
+        Err(_) => false,
+    }
+}
+
 /// Whether the records are one, which is allowed by default.
 fn are_one_allowed(records: &[Record]) -> bool {
     match records {
@@ -301,9 +317,13 @@ fn judges_a_stray(alloc: Global) -> bool {
     }
 }
 
-/// All four.
+/// All five.
 fn answers_strays(alloc: Global) -> bool {
-    leaps_ahead(alloc) && meets_the_end(alloc) && holds_a_stray(alloc) && judges_a_stray(alloc)
+    leaps_ahead(alloc)
+        && meets_the_end(alloc)
+        && holds_a_stray(alloc)
+        && refuses_foreign(alloc)
+        && judges_a_stray(alloc)
 }
 
 #[test]

@@ -38,15 +38,16 @@ impl Read for Slow<'_> {
     }
 }
 
-/// Gives pieces of zeros, so many bytes in all.
+/// Gives pieces of zeros, each of at most so many bytes, and so many bytes in all.
 #[derive(Drop)]
 struct Zeros {
     left: usize,
+    most: usize,
 }
 
 impl Read for Zeros {
     fn read(&mut self, buf: &mut [u8]) -> io::Result<usize> {
-        let count = self.left.min(buf.len());
+        let count = self.left.min(buf.len()).min(self.most);
         self.left -= count;
         Ok(count)
     }
@@ -97,11 +98,9 @@ fn reads_whole_byte_by_byte(rt: HostRuntime) -> Result<(), Fail> {
 
 #[test]
 fn reads_as_often_as_there_are_bytes(rt: HostRuntime) -> Result<(), Fail> {
-    let bytes = [7u8; 70_000];
-    let mut reader = Slow {
-        rest: bytes.as_slice(),
-        until: 70_001,
-        interrupted: false,
+    let mut reader = Zeros {
+        left: 70_000,
+        most: 1,
     };
     assert_eq!(rt; read_whole(rt.alloc(), &mut reader)?.len(), 70_000);
     Ok(())
@@ -122,9 +121,15 @@ fn a_reader_that_fails_in_mid_stream_is_a_read_fault(rt: HostRuntime) {
 
 #[test]
 fn a_stream_has_at_most_16_mebibytes(rt: HostRuntime) -> Result<(), Fail> {
-    let mut most = Zeros { left: 16_777_216 };
+    let mut most = Zeros {
+        left: 16_777_216,
+        most: 4096,
+    };
     assert_eq!(rt; read_whole(rt.alloc(), &mut most)?.len(), 16_777_216);
-    let mut more = Zeros { left: 16_777_217 };
+    let mut more = Zeros {
+        left: 16_777_217,
+        most: 4096,
+    };
     let read = read_whole(rt.alloc(), &mut more);
     assert!(rt; matches!(&read, Err(Refusal::Read)));
     Ok(())
