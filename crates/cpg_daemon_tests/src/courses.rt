@@ -27,6 +27,8 @@ pub enum Course {
     Rounds,
     /// All turns.
     Free,
+    /// All turns, and 1,100 calls of one session, each told before the next.
+    Many,
 }
 
 /// One run of a cluster.
@@ -43,10 +45,7 @@ pub struct Row {
 }
 
 /// The node of that number, where there is one.
-pub fn node_in<B: BoardName>(
-    running: &Running<B, Stepping>,
-    number: u8,
-) -> Result<NodeId, Refusal>
+pub fn node_in<B: BoardName>(running: &Running<B, Stepping>, number: u8) -> Result<NodeId, Refusal>
     ensures { IfOk result (λ node. (node ≡ number) × (node ≤ running.now.nodes)) }
 {
     match NodeId::new(number) {
@@ -161,7 +160,7 @@ fn idle_goes(marks: &Marks) -> bool {
 /// Whether node 1 sends its token again more often than its link has room for.
 fn full_goes(marks: &Marks) -> bool {
     marks.one.let_go(u64::MAX);
-    marks.to_two.gets(40)
+    marks.to_two.gets(34)
 }
 
 /// Whether the safe marks of nodes 1 and 2 are these.
@@ -269,11 +268,7 @@ fn gets_safe<B: BoardName, R: Wait>(
 }
 
 /// Whether a process at each node, one after the other, is told so, and then all nodes hold all.
-fn free_goes<B: BoardName, R: Wait>(
-    rt: &R,
-    running: &Running<B, Stepping>,
-    marks: &Marks,
-) -> bool {
+fn free_goes<B: BoardName, R: Wait>(rt: &R, running: &Running<B, Stepping>, marks: &Marks) -> bool {
     let nodes = running.nodes();
     marks.let_all_go();
     for before in 0..nodes {
@@ -287,6 +282,39 @@ fn free_goes<B: BoardName, R: Wait>(
         }
     }
     true
+}
+
+/// Whether the session leaves, in no group, so often, and is told so each time.
+fn leaves_often<B: BoardName, R: Wait>(
+    rt: &R,
+    running: &Running<B, Stepping>,
+    session: &mut Session<B>,
+    times: u32,
+) -> bool
+    requires { session.old.who.id.node ≤ running.now.nodes }
+{
+    for place in 1..=times {
+        let wanted = Told::Verdict(place, Verdict::Denied(Reason::Closed));
+        if !(submits(rt, running, session, Ok(Call::Leave))
+            && next_told(rt, running, session) == wanted)
+        {
+            return false;
+        }
+    }
+    true
+}
+
+/// Whether a session does so, and another, which has seen nothing, then is told all that it saw.
+fn many_go<B: BoardName, R: Wait>(rt: &R, running: &Running<B, Stepping>, marks: &Marks) -> bool {
+    marks.let_all_go();
+    match (connect(rt, running, 1), connect(rt, running, 1)) {
+        (Ok(mut one), Ok(mut two)) => {
+            leaves_often(rt, running, &mut one, 1_100)
+                && running.tell(&mut two, one.seat()).is_ok()
+                && two.seat().len() == 1_100
+        }
+        _ => false,
+    }
 }
 
 /// Whether all goes as the course says.
@@ -305,6 +333,7 @@ pub fn goes<B: BoardName, R: Wait>(
             Course::Full => full_goes(marks),
             Course::Rounds => rounds_go(rt, alloc, running, marks),
             Course::Free => free_goes(rt, running, marks),
+            Course::Many => many_go(rt, running, marks),
         }
         && marks.are_right()
 }
