@@ -98,6 +98,27 @@ fn long_message(alloc: Global) -> Result<Call, Refusal> {
     Ok(Call::Send(Message::from_slice(alloc, text.as_slice())?))
 }
 
+/// How often a session is asked again, each time so often as other tests ask at most: the machine may be busy.
+const MOST_ROUNDS: u32 = 30;
+
+/// What the session is told next.
+fn told_next<B: BoardName, R: Wait>(
+    rt: &R,
+    running: &Running<B, Stepping>,
+    session: &mut Session<B>,
+) -> Told
+    requires { session.old.who.id.node ≤ running.now.nodes }
+    ensures { session.new.who.id.node ≡ session.old.who.id.node }
+{
+    for _ in 0..MOST_ROUNDS {
+        match next_told(rt, running, session) {
+            Told::Nothing => {}
+            told => return told,
+        }
+    }
+    Told::Nothing
+}
+
 /// Whether the session is told next that its entry at that place is allowed by default.
 fn is_allowed<B: BoardName, R: Wait>(
     rt: &R,
@@ -108,7 +129,7 @@ fn is_allowed<B: BoardName, R: Wait>(
     requires { session.old.who.id.node ≤ running.now.nodes }
     ensures { session.new.who.id.node ≡ session.old.who.id.node }
 {
-    next_told(rt, running, session) == Told::Verdict(place, Verdict::Allowed(By::Default))
+    told_next(rt, running, session) == Told::Verdict(place, Verdict::Allowed(By::Default))
 }
 
 /// Whether a join and the longest message of the session are allowed and told in the first turn of its node.
@@ -125,9 +146,9 @@ fn takes_turn<B: BoardName, R: Wait>(
         && submits(rt, running, session, long_message(alloc))
         && marks.one.go_on(1)
         && is_allowed(rt, running, session, 1)
-        && next_told(rt, running, session) == Told::Other
+        && told_next(rt, running, session) == Told::Other
         && is_allowed(rt, running, session, 2)
-        && next_told(rt, running, session) == Told::Other
+        && told_next(rt, running, session) == Told::Other
 }
 
 /// Whether node 1 does so, and asks for the fates of the data to all others, and of the token to the next.
@@ -242,7 +263,7 @@ fn leaves<B: BoardName, R: Wait>(rt: &R, running: &Running<B, Stepping>, number:
         Ok(mut session) => {
             let wanted = Told::Verdict(u32::from(number), Verdict::Denied(Reason::Closed));
             submits(rt, running, &mut session, Ok(Call::Leave))
-                && next_told(rt, running, &mut session) == wanted
+                && told_next(rt, running, &mut session) == wanted
         }
         Err(_) => false,
     }
@@ -258,7 +279,7 @@ fn gets_safe<B: BoardName, R: Wait>(
     let Ok(node) = node_in(running, number) else {
         return false;
     };
-    for _ in 0..MOST_ASKS {
+    for _ in 0..MOST_ROUNDS * MOST_ASKS {
         if running.safe(rt, node) == place {
             return true;
         }
@@ -296,7 +317,7 @@ fn leaves_often<B: BoardName, R: Wait>(
     for place in 1..=times {
         let wanted = Told::Verdict(place, Verdict::Denied(Reason::Closed));
         if !(submits(rt, running, session, Ok(Call::Leave))
-            && next_told(rt, running, session) == wanted)
+            && told_next(rt, running, session) == wanted)
         {
             return false;
         }
