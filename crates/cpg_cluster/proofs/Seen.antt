@@ -1,16 +1,18 @@
 -- seats that have seen more
-use Rattle.std.proofs.Common.{◌≡◌, ◌≤◌, List, length, take, Some, None, Ok, Err, slice_get, refl, sym, ap, subst, ◌∙◌, arith}
+use Rattle.std.proofs.Common.{ℕ, ◌≡◌, ◌≤◌, List, length, take, Some, None, Ok, Err, slice_get, inl, inr, refl, sym, ap, subst, ◌∙◌, arith}
 use Rattle.std.proofs.lemmas.List.{take-take, length-take, take_all}
 use Rattle.cpg_cred.specs.declared.refusals.Refusal.{Refusal}
+use Rattle.cpg_cred.specs.declared.refusals.Refusal.TheVariants as refusal
 use Rattle.cpg_record.specs.declared.events.Event.{Event}
 use Rattle.cpg_record.specs.Events.{inbox}
 use Rattle.cpg_node.specs.declared.connections.Connection.{Connection}
-use Rattle.cpg_board.specs.Seats.{Begins}
+use Rattle.cpg_board.specs.Seats.{Begins, SeatValue}
 use Rattle.cpg_station.specs.Serving.{OverFront, moved_on}
-use Rattle.cpg_daemon.specs.Sessions.{SessionValue}
+use Rattle.cpg_daemon.specs.Sessions.{SessionValue, IsTaken}
 use Rattle.cpg_cluster.specs.declared.commands.Ask.TheVariants as ask
 use Rattle.cpg_cluster.specs.declared.replies.Reply.TheVariants.{Took}
-use Rattle.cpg_cluster.specs.Answers.{Stays, Serves}
+use Rattle.cpg_cluster.specs.Answers.{Stays, IsNothing, Serves}
+use Rattle.cpg_cluster.specs.Steps.{IsPolled}
 
 begins_length : {X : Type 0} (xs ys : List X) → Begins xs ys → length xs ≤ length ys
 begins_length xs ys b = let l = length-take (length xs) ys in omega (arith, ap length b, l)
@@ -46,6 +48,21 @@ awaited_on a b c event stay came = (over, after, begins_on a.seat b.seat c.seat 
 pub ended_on : (a b c : SessionValue) (why : Refusal) → Stays a b → Serves b ask.Wait (Err why) c → Serves a ask.Wait (Err why) c
 ended_on a b c why stay came = (came.0, stays_on a b c stay came.1)
 
+-- nothing was there after a stay
+pub nothing_on : (a b : SessionValue) (c : SeatValue) → Stays a b → Begins b.seat c → IsNothing b c → IsNothing a c
+nothing_on a b c stay grows nothing =
+    elim nothing [
+      | inl over ↦ inl (over.0, over.1, omega (arith, begins_length a.seat b.seat stay.1, over.2), subst (λ (who : Connection). slice_get (inbox over.0 who.id) who.taken ≡ None) stay.0 over.3)
+      | inr behind ↦ inr behind
+    ]
+
+-- what one poll without an event tells
+pub polled_none : (a b : SessionValue) → Stays a b → IsTaken a b.seat (Ok None) → IsPolled a None b
+polled_none a b stay over = (stay, inl (over.0, over.1, over.2, sym over.3))
+
+pub polled_behind : (a b : SessionValue) (reached : ℕ) → Stays a b → IsTaken a b.seat (Err (refusal.Behind reached)) → IsPolled a None b
+polled_behind a b reached stay behind = (stay, inr (reached, omega (arith, begins_length a.seat b.seat stay.1, behind)))
+
 -- nothing came while it stayed
-pub nothing_came : (a b : SessionValue) → Stays a b → Serves a ask.Wait (Ok (Took None)) b
-nothing_came a b stay = (tt, stay.0, stay.1)
+pub nothing_came : (a b : SessionValue) → Stays a b → IsNothing a b.seat → Serves a ask.Wait (Ok (Took None)) b
+nothing_came a b stay nothing = (nothing, stay.0, stay.1)

@@ -1,5 +1,5 @@
 -- what the commands of a script are answered, and what becomes of its sessions
-use Rattle.std.specs.Prelude.{ℕ, ◌≡◌, ◌≢◌, ⊤, List, [], ◌∷◌, ◌++◌, length, Option, Some, None, Result, Ok, Err}
+use Rattle.std.specs.Prelude.{ℕ, ◌≡◌, ◌≢◌, ◌<◌, ◌⊎◌, ⊤, List, [], ◌∷◌, ◌++◌, length, Option, Some, None, Result, Ok, Err}
 use Rattle.std.specs.List.{slice_get}
 use Rattle.std.specs.Option.{option_flatten}
 use Rattle.cpg_cred.specs.Listed.{Listed}
@@ -43,9 +43,15 @@ IsConnected _ _ _ _ _ _ _ = ⊥
 abbrev pub Stays : SessionValue → SessionValue → Type 0
 Stays before after = (after.who ≡ before.who) × Begins before.seat after.seat
 
+-- There was nothing for a session that waited: no such item over some of the first records, no fewer than it had seen, or its
+-- node had fewer records than it has seen.
+abbrev pub IsNothing : SessionValue → SeatValue → Type 0
+IsNothing before seat =
+    OverFront before.seat seat (λ front. slice_get (inbox front before.who.id) before.who.taken ≡ None) ⊎ ((reached : ℕ) × (reached < length seat))
+
 -- an event that was waited for, if it came: the item of the session's inbox that follows those taken
 abbrev pub IsAwaited : SessionValue → Option Event → SeatValue → Type 0
-IsAwaited before None seat = ⊤
+IsAwaited before None seat = IsNothing before seat
 IsAwaited before (Some event) seat = OverFront before.seat seat (λ front. slice_get (inbox front before.who.id) before.who.taken ≡ Some event)
 
 -- why waiting ends: never with Behind

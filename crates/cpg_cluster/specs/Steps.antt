@@ -7,7 +7,7 @@ use Rattle.cpg_board.specs.Seats.{IsSeatOf}
 use Rattle.cpg_daemon.specs.Sessions.{SessionValue}
 use Rattle.cpg_cluster.specs.declared.commands.Ask.TheVariants as ask
 use Rattle.cpg_cluster.specs.declared.commands.Command.{Command}
-use Rattle.cpg_cluster.specs.Answers.{Answer, Sessions, Stays, Serves, AreAnswered}
+use Rattle.cpg_cluster.specs.Answers.{Answer, Sessions, Stays, IsNothing, Serves, AreAnswered}
 use Rattle.cpg_cluster.specs.declared.replies.Reply.TheVariants.{Took, Audit}
 use Rattle.cpg_cluster.specs.Lines.{text_of}
 
@@ -19,7 +19,7 @@ pub record IsDone (list : Listed) (sessions : Sessions) (command : Command) (tex
 
 -- What one poll gives, and what the session is then: nothing, or an event of its inbox, or why waiting ends.
 abbrev pub IsPolled : SessionValue → Option (Result Event Refusal) → SessionValue → Type 0
-IsPolled before None after = Stays before after
+IsPolled before None after = Stays before after × IsNothing before after.seat
 IsPolled before (Some (Ok event)) after = Serves before ask.Wait (Ok (Took (Some event))) after
 IsPolled before (Some (Err why)) after = Serves before ask.Wait (Err why) after
 

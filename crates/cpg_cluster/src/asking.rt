@@ -57,6 +57,7 @@ fn submit<B: BoardName, G, H: Wait>(
 
 /// What the session is told when it asks for its next event once: nothing where there is none yet, or where its
 /// node is behind.
+#[tactic(auto, using(crate::proofs::Seen::polled_none, crate::proofs::Seen::polled_behind))]
 fn poll<B: BoardName, G, H: Wait>(
     rt: &H,
     running: &Running<B, G>,
@@ -83,7 +84,7 @@ fn rest<H: Clock>(rt: &H, poll: u32) {
 }
 
 /// The session's next event, once it comes; nothing where it does not come for `MOST_POLLS` polls.
-#[tactic(auto, using(crate::proofs::Seen::stays_on, crate::proofs::Seen::stays_self, crate::proofs::Seen::awaited_on, crate::proofs::Seen::nothing_came, crate::proofs::Seen::ended_on))]
+#[tactic(auto, using(crate::proofs::Seen::stays_on, crate::proofs::Seen::stays_self, crate::proofs::Seen::awaited_on, crate::proofs::Seen::nothing_on, crate::proofs::Seen::nothing_came, crate::proofs::Seen::ended_on))]
 fn wait<B: BoardName, G, H: Wait + Clock>(
     rt: &H,
     running: &Running<B, G>,

@@ -1,6 +1,6 @@
 //! Worked rows through `cluster_script`, on clusters with their threads; bad lines, and refusals that are printed.
 
-ghost use Rattle.std.specs.Prelude.{◌≡◌};
+ghost use Rattle.std.specs.Prelude.{◌≡◌, ◌≤◌};
 
 use crate::cluster_script;
 use cpg_board::Board;
@@ -12,6 +12,7 @@ use std::alloc::Global;
 use std::marker::Brand;
 use std::sync::Wait;
 use std::test::Fail;
+use std::thread;
 use std::thread::Threads;
 use std::time::Clock;
 
@@ -23,11 +24,13 @@ const SESSIONS: &[u8] =
 const SESSIONS_PRINT: &[u8] =
     b"session 1\nsession 2\nrefused 2 Access\nadmitted\nevent 1 verdict allowed root\nsession 3\nadmitted\nevent 2 verdict allowed default\nevent 2 change db members 1/40 left - joined 1/40:join\nadmitted\nevent 3 verdict allowed default\nevent 3 message db 1 40 hi\nmembers 1/40\nadmitted\nevent 4 verdict denied closed\nrefused 21 Denied rule 1\ngroups\n1 2.1 50 0 0 insert db 0 deny list uid:8 -> allowed root group db members -\n2 1.1 40 7 100 join db -> allowed default group db members 1/40\n3 1.1 40 7 100 send hi -> allowed default group db members 1/40\n4 1.2 60 8 100 leave -> denied closed\nrecords 4\nclosed\n";
 
-/// Settings of ring 1 with two nodes.
-fn settings_of_two() -> Settings {
+/// Settings of ring 1 with so many nodes.
+fn settings_of(nodes: u8) -> Settings
+    ensures { result.nodes ≡ nodes }
+{
     Settings {
         ring: 1,
-        nodes: 2,
+        nodes,
         places: 4_096,
         hops: 1 << 62,
     }
@@ -75,7 +78,7 @@ where
     requires { board ≡ B.cells }
 {
     let list = list_of_two(alloc)?;
-    let cluster = Cluster::<B, G>::start(rt, alloc, settings_of_two(), board, &list, gate)?;
+    let cluster = Cluster::<B, G>::start(rt, alloc, settings_of(2), board, &list, gate)?;
     let printed = goes(&rt, alloc, &cluster, script, None, answer);
     drop(cluster.stop(&rt));
     Ok(printed)
@@ -211,14 +214,7 @@ where
 {
     let calls = long_calls(alloc)?;
     let list = list_of_two(alloc)?;
-    let cluster = Cluster::<B, PassAll>::start(
-        rt,
-        alloc,
-        settings_of_two(),
-        board,
-        &list,
-        PassAll,
-    )?;
+    let cluster = Cluster::<B, PassAll>::start(rt, alloc, settings_of(2), board, &list, PassAll)?;
     let bad = refuses_bad_lines(&rt, alloc, &cluster);
     let long = goes(
         &rt,
@@ -239,5 +235,54 @@ fn refusals(rt: HostRuntime) -> Result<(), Fail> {
     let board = Board::new(rt.alloc(), 4_096)?;
     let alloc = rt.alloc();
     assert!(rt; refuses::<Brand, HostRuntime>(rt, alloc, board) == Ok(true));
+    Ok(())
+}
+
+/// A session sees nothing, and another leaves; the first is shown all records.
+const LEAVES: &[u8] =
+    b"safe 1\nconnect 1 40 0 0\nconnect 1 50 0 0\ncall 2 leave\nwait 2\naudit 1\n";
+
+/// What that prints.
+const LEAVES_PRINT: &[u8] =
+    b"safe 0\nsession 1\nsession 2\nadmitted\nevent 1 verdict denied closed\n1 1.2 50 0 0 leave -> denied closed\nrecords 1\n";
+
+/// Whether the safe mark of node 1 gets to place 1.
+fn gets_safe<B: BoardName, H: Wait>(rt: &H, running: &Running<B, PassAll>) -> bool
+    requires { 1 ≤ running.now.nodes }
+{
+    let Some(node) = NodeId::new(1) else {
+        return false;
+    };
+    for _ in 0..1_000_000u32 {
+        if running.safe(rt, node) == 1 {
+            return true;
+        }
+        thread::yield_now();
+    }
+    false
+}
+
+/// Whether a new cluster of one node prints its safe mark, before the place is held by all and once it is.
+fn prints_safe<B, R>(rt: R, alloc: Global, board: Board) -> Result<bool, Refusal>
+where
+    B: BoardName + Send + Sync + 'static,
+    R: Threads + Wait + Clock + Copy + Send + 'static,
+    requires { board ≡ B.cells }
+{
+    let list = list_of_two(alloc)?;
+    let cluster = Cluster::<B, PassAll>::start(rt, alloc, settings_of(1), board, &list, PassAll)?;
+    let left = goes(&rt, alloc, &cluster, LEAVES, None, LEAVES_PRINT);
+    let safe = gets_safe(&rt, &cluster)
+        && goes(&rt, alloc, &cluster, b"safe 1\n", None, b"safe 1\n");
+    drop(cluster.stop(&rt));
+    Ok(left && safe)
+}
+
+/// One node holds all that there is, once it has sent the token twice.
+#[test]
+fn one_node_is_safe(rt: HostRuntime) -> Result<(), Fail> {
+    let board = Board::new(rt.alloc(), 4_096)?;
+    let alloc = rt.alloc();
+    assert!(rt; prints_safe::<Brand, HostRuntime>(rt, alloc, board) == Ok(true));
     Ok(())
 }

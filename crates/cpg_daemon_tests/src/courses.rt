@@ -27,6 +27,8 @@ pub enum Course {
     Rounds,
     /// All turns.
     Free,
+    /// All turns, and 1,100 calls of one session, each told before the next.
+    Many,
 }
 
 /// One run of a cluster.
@@ -43,10 +45,7 @@ pub struct Row {
 }
 
 /// The node of that number, where there is one.
-pub fn node_in<B: BoardName>(
-    running: &Running<B, Stepping>,
-    number: u8,
-) -> Result<NodeId, Refusal>
+pub fn node_in<B: BoardName>(running: &Running<B, Stepping>, number: u8) -> Result<NodeId, Refusal>
     ensures { IfOk result (λ node. (node ≡ number) × (node ≤ running.now.nodes)) }
 {
     match NodeId::new(number) {
@@ -99,6 +98,27 @@ fn long_message(alloc: Global) -> Result<Call, Refusal> {
     Ok(Call::Send(Message::from_slice(alloc, text.as_slice())?))
 }
 
+/// How often a session is asked again, each time so often as other tests ask at most: the machine may be busy.
+const MOST_ROUNDS: u32 = 30;
+
+/// What the session is told next.
+fn told_next<B: BoardName, R: Wait>(
+    rt: &R,
+    running: &Running<B, Stepping>,
+    session: &mut Session<B>,
+) -> Told
+    requires { session.old.who.id.node ≤ running.now.nodes }
+    ensures { session.new.who.id.node ≡ session.old.who.id.node }
+{
+    for _ in 0..MOST_ROUNDS {
+        match next_told(rt, running, session) {
+            Told::Nothing => {}
+            told => return told,
+        }
+    }
+    Told::Nothing
+}
+
 /// Whether the session is told next that its entry at that place is allowed by default.
 fn is_allowed<B: BoardName, R: Wait>(
     rt: &R,
@@ -109,7 +129,7 @@ fn is_allowed<B: BoardName, R: Wait>(
     requires { session.old.who.id.node ≤ running.now.nodes }
     ensures { session.new.who.id.node ≡ session.old.who.id.node }
 {
-    next_told(rt, running, session) == Told::Verdict(place, Verdict::Allowed(By::Default))
+    told_next(rt, running, session) == Told::Verdict(place, Verdict::Allowed(By::Default))
 }
 
 /// Whether a join and the longest message of the session are allowed and told in the first turn of its node.
@@ -126,9 +146,9 @@ fn takes_turn<B: BoardName, R: Wait>(
         && submits(rt, running, session, long_message(alloc))
         && marks.one.go_on(1)
         && is_allowed(rt, running, session, 1)
-        && next_told(rt, running, session) == Told::Other
+        && told_next(rt, running, session) == Told::Other
         && is_allowed(rt, running, session, 2)
-        && next_told(rt, running, session) == Told::Other
+        && told_next(rt, running, session) == Told::Other
 }
 
 /// Whether node 1 does so, and asks for the fates of the data to all others, and of the token to the next.
@@ -161,7 +181,7 @@ fn idle_goes(marks: &Marks) -> bool {
 /// Whether node 1 sends its token again more often than its link has room for.
 fn full_goes(marks: &Marks) -> bool {
     marks.one.let_go(u64::MAX);
-    marks.to_two.gets(40)
+    marks.to_two.gets(34)
 }
 
 /// Whether the safe marks of nodes 1 and 2 are these.
@@ -243,7 +263,7 @@ fn leaves<B: BoardName, R: Wait>(rt: &R, running: &Running<B, Stepping>, number:
         Ok(mut session) => {
             let wanted = Told::Verdict(u32::from(number), Verdict::Denied(Reason::Closed));
             submits(rt, running, &mut session, Ok(Call::Leave))
-                && next_told(rt, running, &mut session) == wanted
+                && told_next(rt, running, &mut session) == wanted
         }
         Err(_) => false,
     }
@@ -259,7 +279,7 @@ fn gets_safe<B: BoardName, R: Wait>(
     let Ok(node) = node_in(running, number) else {
         return false;
     };
-    for _ in 0..MOST_ASKS {
+    for _ in 0..MOST_ROUNDS * MOST_ASKS {
         if running.safe(rt, node) == place {
             return true;
         }
@@ -269,11 +289,7 @@ fn gets_safe<B: BoardName, R: Wait>(
 }
 
 /// Whether a process at each node, one after the other, is told so, and then all nodes hold all.
-fn free_goes<B: BoardName, R: Wait>(
-    rt: &R,
-    running: &Running<B, Stepping>,
-    marks: &Marks,
-) -> bool {
+fn free_goes<B: BoardName, R: Wait>(rt: &R, running: &Running<B, Stepping>, marks: &Marks) -> bool {
     let nodes = running.nodes();
     marks.let_all_go();
     for before in 0..nodes {
@@ -287,6 +303,39 @@ fn free_goes<B: BoardName, R: Wait>(
         }
     }
     true
+}
+
+/// Whether the session leaves, in no group, so often, and is told so each time.
+fn leaves_often<B: BoardName, R: Wait>(
+    rt: &R,
+    running: &Running<B, Stepping>,
+    session: &mut Session<B>,
+    times: u32,
+) -> bool
+    requires { session.old.who.id.node ≤ running.now.nodes }
+{
+    for place in 1..=times {
+        let wanted = Told::Verdict(place, Verdict::Denied(Reason::Closed));
+        if !(submits(rt, running, session, Ok(Call::Leave))
+            && told_next(rt, running, session) == wanted)
+        {
+            return false;
+        }
+    }
+    true
+}
+
+/// Whether a session does so, and another, which has seen nothing, then is told all that it saw.
+fn many_go<B: BoardName, R: Wait>(rt: &R, running: &Running<B, Stepping>, marks: &Marks) -> bool {
+    marks.let_all_go();
+    match (connect(rt, running, 1), connect(rt, running, 1)) {
+        (Ok(mut one), Ok(mut two)) => {
+            leaves_often(rt, running, &mut one, 1_100)
+                && running.tell(&mut two, one.seat()).is_ok()
+                && two.seat().len() == 1_100
+        }
+        _ => false,
+    }
 }
 
 /// Whether all goes as the course says.
@@ -305,6 +354,7 @@ pub fn goes<B: BoardName, R: Wait>(
             Course::Full => full_goes(marks),
             Course::Rounds => rounds_go(rt, alloc, running, marks),
             Course::Free => free_goes(rt, running, marks),
+            Course::Many => many_go(rt, running, marks),
         }
         && marks.are_right()
 }

@@ -34,7 +34,10 @@ fn is_station<B: BoardName>(station: &mut Station<B>, nodes: u8, number: u8) -> 
         Some(who) => who.id.node.get() == number,
         None => false,
     };
-    is_its && station.frame(token_with(last_hop(nodes, number)).as_slice()).is_ok()
+    is_its
+        && station
+            .frame(token_with(last_hop(nodes, number)).as_slice())
+            .is_ok()
 }
 
 /// Whether these are the stations of so many nodes, in their order.
@@ -99,7 +102,7 @@ fn is_link<R: Wait>(
 ) -> bool {
     let count = wanted(row, way.0, way.1);
     let is_right = match row.course {
-        Course::Free => {
+        Course::Free | Course::Many => {
             drain(rt, receiver);
             true
         }
@@ -112,7 +115,11 @@ fn is_link<R: Wait>(
 /// The node to which the next link goes that comes from the node, after one that goes to that.
 fn target_after(from: u8, to: u8) -> u8 {
     let next = to.saturating_add(1);
-    if next == from { next.saturating_add(1) } else { next }
+    if next == from {
+        next.saturating_add(1)
+    } else {
+        next
+    }
 }
 
 /// Whether the links are those of the row, in the order of the nodes that they come from, and then of those that
@@ -133,7 +140,7 @@ fn are_links<R: Wait>(rt: &R, alloc: Global, row: Row, links: &mut [(LinkTx, Lin
             (way.0, next)
         };
     }
-    count == row.nodes * (row.nodes.saturating_sub(1)).max(1)
+    u32::from(count) == u32::from(row.nodes) * u32::from(row.nodes.saturating_sub(1).max(1))
 }
 
 /// Whether that is what the row leaves, which is let go.

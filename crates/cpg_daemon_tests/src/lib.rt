@@ -1,5 +1,6 @@
 //! Tests of a cluster, with its threads: what sessions are told, what a stopped cluster answers, that two nodes
-//! run at once, settings out of their ranges. Nothing here is used by the other crates.
+//! run at once, settings out of their ranges; what each turn sends in rings of 1 to 8 nodes, how the gate is
+//! obeyed, and what a stopped cluster leaves; and links of each size. Nothing here is used by the other crates.
 #![tactic(auto)]
 
 #[cfg(test)]
@@ -10,6 +11,8 @@ mod courses;
 mod gated;
 #[cfg(test)]
 mod left;
+#[cfg(test)]
+mod links;
 #[cfg(test)]
 mod sharing;
 #[cfg(test)]

@@ -8,7 +8,7 @@ use std::sync::atomic::{AtomicBool, AtomicU64, Ordering};
 use std::thread;
 
 /// How often a test looks for a turn at most.
-const MOST_LOOKS: u32 = 10_000_000;
+const MOST_LOOKS: u32 = 50_000_000;
 
 /// The turns of a node.
 #[derive(Drop)]
@@ -170,9 +170,15 @@ impl Marks {
     fn note(&self, from: NodeId, to: NodeId, index: u64) {
         let (one, two) = (&self.one.begun, &self.two.begun);
         match (from.get(), to.get()) {
-            (1, 2) => self.to_two.note(index, one.load(Ordering::SeqCst), &self.wrong),
-            (1, 3) => self.to_three.note(index, one.load(Ordering::SeqCst), &self.wrong),
-            (2, 1) => self.to_one.note(index, two.load(Ordering::SeqCst), &self.wrong),
+            (1, 2) => self
+                .to_two
+                .note(index, one.load(Ordering::SeqCst), &self.wrong),
+            (1, 3) => self
+                .to_three
+                .note(index, one.load(Ordering::SeqCst), &self.wrong),
+            (2, 1) => self
+                .to_one
+                .note(index, two.load(Ordering::SeqCst), &self.wrong),
             _ => {}
         }
     }

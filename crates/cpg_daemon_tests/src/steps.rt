@@ -114,8 +114,8 @@ fn each_node_is_served(rt: HostRuntime) -> Result<(), Fail> {
     Ok(())
 }
 
-/// Rows of gates that lose and repeat frames.
-fn fated_rows() -> [Row; 6] {
+/// Rows of gates that lose and repeat frames, of rounds, and of many calls.
+fn fated_rows() -> [Row; 7] {
     let two = Row {
         to_first: 0,
         ..row_of(2, Course::Rounds)
@@ -150,6 +150,7 @@ fn fated_rows() -> [Row; 6] {
             to_second: 1,
             ..two
         },
+        row_of(1, Course::Many),
     ]
 }
 
