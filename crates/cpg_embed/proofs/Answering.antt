@@ -1,5 +1,5 @@
 -- A node's answer to a frame, by what the frame is and whether it is refused.
-use Rattle.std.proofs.Common.{◌≡◌, ℕ, List, [], refl, inl, inr}
+use Rattle.std.proofs.Common.{◌≡◌, ℕ, [], refl, inl, inr}
 use Rattle.std.specs.Prelude.{◌⊎◌, Option, Some, None}
 use Rattle.cpg_entry.specs.declared.frames.Frame.TheVariants as frames
 use Rattle.cpg_ring.specs.States.{Frame, Packet, Token, Refusal, NodeState}
