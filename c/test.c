@@ -245,18 +245,31 @@ static void lost_frame(void) {
 /* 256 calls wait, and no more; the connection's end finds its place all the same. */
 static void full_queue(void) {
     cpgring_record record;
+    size_t count = 0;
+    uint32_t places = 9;
+    uint64_t hops = 9;
     begin(1, 1000);
+    IS(cpgring_reached(&ring[1], &places, &hops), CPGRING_OK);
+    IS(places, 0);
+    IS(hops, 0);
     connect_as(1, 1, 7, 7);
     for (unsigned k = 0; k < 256; k++) IS(cpgring_leave(&ring[1], 1), CPGRING_OK);
     IS(cpgring_leave(&ring[1], 1), CPGRING_QUEUE_FULL);
     IS(cpgring_disconnect(&ring[1], 1), CPGRING_OK);
     IS(cpgring_leave(&ring[1], 1), CPGRING_NO_CONNECTION);
+    IS(cpgring_waiting(&ring[1], &count), CPGRING_OK);
+    IS(count, 257);
     for (unsigned k = 0; k < 32; k++) {
         IS(reach(1, 1 + 9 * k), 9);
         for (unsigned j = 1; j <= 8; j++) deliver(1, 8 * k + j);
     }
     IS(reach(1, 289), 2);
     deliver(1, 257);
+    IS(cpgring_waiting(&ring[1], &count), CPGRING_OK);
+    IS(count, 0);
+    IS(cpgring_reached(&ring[1], &places, &hops), CPGRING_OK);
+    IS(places, 257);
+    IS(hops, 33);
     IS(cpgring_audit(&ring[1], 257, &record), CPGRING_OK);
     IS(record.call, 6);
     IS(record.verdict, CPGRING_ALLOWED);
@@ -399,6 +412,7 @@ static void handles(void) {
     uint8_t byte = 0;
     size_t len = 0;
     uint32_t number = 0;
+    uint64_t hops = 0;
     IS(cpgring_close(&handle), CPGRING_CLOSED);
     IS(cpgring_open(&handle, &setup, none, 0, none, 0), CPGRING_RANGE);
     setup.node = 0;
@@ -420,6 +434,7 @@ static void handles(void) {
     IS(cpgring_connect(&handle, 1, 8, 8, &conn), CPGRING_ACCESS);
     IS(cpgring_connect(&handle, 1, 7, 8, &conn), CPGRING_OK);
     IS(cpgring_timer(&handle), CPGRING_NONE);
+    IS(cpgring_reached(&handle, &number, &hops), CPGRING_NONE);
     IS(cpgring_next(&handle, &byte, 1, &len, &number), CPGRING_NONE);
     IS(cpgring_take(&handle, 1, &event), CPGRING_NONE);
     IS(cpgring_take(&handle, 2, &event), CPGRING_NO_CONNECTION);

@@ -27,15 +27,13 @@
 #ifndef CPGRING_H
 #define CPGRING_H
 
+#include <stddef.h>
+#include <stdint.h>
 #ifdef __cplusplus
-#include <cstddef>
-#include <cstdint>
 extern "C" {
 #define CPGRING_HOLDS(test, text) static_assert(test, text)
 #else
 #include <stdbool.h>
-#include <stddef.h>
-#include <stdint.h>
 #define CPGRING_HOLDS(test, text) _Static_assert(test, text)
 #endif
 
@@ -284,6 +282,13 @@ uint32_t cpgring_delivered(cpgring *handle, uint32_t *place);
 
 /* Tells the place up to which every node holds all places, in a ring that hears only what its nodes sent. */
 uint32_t cpgring_safe(cpgring *handle, uint32_t *place);
+
+/* Tells how many calls and ends of connections wait at the node for a place. */
+uint32_t cpgring_waiting(cpgring *handle, size_t *count);
+
+/* Tells how many places were given out and how many hops the token made, as the last token says that the node sent: what
+ * the setup has more is left. CPGRING_NONE where the node sent none. */
+uint32_t cpgring_reached(cpgring *handle, uint32_t *places, uint64_t *hops);
 
 /* ---- In the header alone ---- */
 

@@ -1,13 +1,13 @@
 //! Listings, tables and records, handed over one at a time.
 
-ghost use Rattle.std.specs.Prelude.{◌≡◌};
+ghost use Rattle.std.specs.Prelude.{◌≡◌, length};
 ghost use Rattle.std.specs.List.{slice_get};
 ghost use Rattle.cpg_record.specs.Places.{record_at};
 ghost use Rattle.cpg_record.specs.RuleTables.{rules_of};
 ghost use Rattle.cpg_ring.specs.States.{safe_mark};
 ghost use Rattle.cpg_node.specs.Nodes.{records_of, open_client};
 ghost use Rattle.cpg_embed.specs.Events.{IsProcess};
-ghost use Rattle.cpg_embed.specs.Listings.{IsListed, AreNamed, IsNamed, IsRuleLine, process_at, name_at};
+ghost use Rattle.cpg_embed.specs.Listings.{IsListed, AreNamed, IsNamed, IsReached, IsRuleLine, process_at, name_at};
 ghost use Rattle.cpg_embed.specs.Records.{IsAudited, group_at, message_at};
 ghost use Rattle.cpg_embed.specs.Statuses.{AreHanded};
 ghost use Rattle.cpg_embed.specs.declared.statuses.TheConstants.{OK as DONE};
@@ -188,4 +188,35 @@ pub extern "C" fn cpgring_safe(alloc: Global, handle: &mut Handle, place: &mut u
     *place = boxed.safe();
     *handle = Handle::of(boxed);
     OK
+}
+
+/// Tells how many entries wait for a place, ends of connections too.
+#[unsafe(no_mangle)]
+pub extern "C" fn cpgring_waiting(alloc: Global, handle: &mut Handle, count: &mut usize) -> u32
+    ensures { SeenAt handle.old.slot.held result handle.new.slot.held (λ e. (result ≡ DONE) × (count.new ≡ length e.node.ring.state.waiting)) }
+{
+    let Some(boxed) = handle.take(alloc) else {
+        return CLOSED;
+    };
+    *count = boxed.waiting();
+    *handle = Handle::of(boxed);
+    OK
+}
+
+/// Tells how many places were given out and how many hops made, as far as the node's last token says.
+#[unsafe(no_mangle)]
+pub extern "C" fn cpgring_reached(
+    alloc: Global,
+    handle: &mut Handle,
+    places: &mut u32,
+    hops: &mut u64,
+) -> u32
+    ensures { SeenAt handle.old.slot.held result handle.new.slot.held (λ e. IsReached e.node.ring.state.last_token result places.new hops.new) }
+{
+    let Some(boxed) = handle.take(alloc) else {
+        return CLOSED;
+    };
+    let status = boxed.reached(places, hops);
+    *handle = Handle::of(boxed);
+    status
 }

@@ -1,5 +1,5 @@
 -- What texts that are read, or not, say of the opening.
-use Rattle.std.proofs.Common.{◌≡◌, refl, sym, ap, subst, inl}
+use Rattle.std.proofs.Common.{◌≡◌, sym, ap, subst, inl}
 use Rattle.std.specs.Prelude.{ℕ, List, Result, Ok, Err}
 use Rattle.cpg_cred.specs.declared.refusals.Refusal.{Refusal}
 use Rattle.cpg_cred.specs.Listed.{Listed}

@@ -1,2 +1,3 @@
 pub mod Hearing
 pub mod Faults
+pub mod Answering

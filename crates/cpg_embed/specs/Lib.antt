@@ -9,3 +9,4 @@ pub mod Rules
 pub mod Listings
 pub mod Records
 pub mod Opening
+pub mod Laws

@@ -5,6 +5,7 @@ use Rattle.cpg_cred.specs.declared.bases.By.{By}
 use Rattle.cpg_cred.specs.declared.refusals.Refusal.TheVariants as refusal
 use Rattle.cpg_rules.specs.declared.rules.Rule.{Rule}
 use Rattle.cpg_record.specs.Listings.{AreGroups}
+use Rattle.cpg_ring.specs.States.{Token}
 use Rattle.cpg_node.specs.declared.connections.Client.{Client}
 use Rattle.cpg_node.specs.Nodes.{records_of, asker_by}
 use Rattle.cpg_node.specs.Calls.{list_for}
@@ -58,3 +59,8 @@ IsNamed (Some name) buffer status filled len = (len ≡ length name) × IsHanded
 abbrev pub IsRuleLine : Option (ℕ × Rule) → ℕ → RuleLine → Type 0
 IsRuleLine None status line = status ≡ NONE
 IsRuleLine (Some entry) status line = (status ≡ OK) × (line ≡ line_of entry.0 entry.1)
+
+-- The places and hops of the last token that was sent are told, if there is one.
+abbrev pub IsReached : Option Token → ℕ → ℕ → ℕ → Type 0
+IsReached None status places hops = status ≡ NONE
+IsReached (Some t) status places hops = (status ≡ OK) × (places ≡ t.seq) × (hops ≡ t.hop)

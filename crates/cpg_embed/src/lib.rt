@@ -10,6 +10,7 @@
 mod endpoints;
 mod events;
 mod frames;
+mod laws;
 mod listings;
 mod opening;
 mod processes;
@@ -19,6 +20,7 @@ mod statuses;
 mod told;
 
 pub use endpoints::Endpoint;
+pub use laws::answers_end_with_their_token;
 pub use opening::{Fault, Setup, open, open_conf};
 pub use processes::Process;
 pub use records::Audited;

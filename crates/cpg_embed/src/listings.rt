@@ -1,12 +1,12 @@
 //! Listings, handed over one at a time.
 
-ghost use Rattle.std.specs.Prelude.{◌≡◌};
+ghost use Rattle.std.specs.Prelude.{◌≡◌, length};
 ghost use Rattle.cpg_node.specs.Nodes.{records_of, open_client};
 ghost use Rattle.cpg_record.specs.RuleTables.{rules_of};
 ghost use Rattle.cpg_ring.specs.States.{safe_mark};
 ghost use Rattle.std.specs.List.{slice_get};
 ghost use Rattle.cpg_embed.specs.Events.{IsProcess};
-ghost use Rattle.cpg_embed.specs.Listings.{IsListed, AreNamed, IsNamed, IsRuleLine, process_at, name_at};
+ghost use Rattle.cpg_embed.specs.Listings.{IsListed, AreNamed, IsNamed, IsReached, IsRuleLine, process_at, name_at};
 
 use crate::endpoints::Endpoint;
 use crate::processes::Process;
@@ -104,5 +104,27 @@ impl Endpoint {
         ensures { result ≡ safe_mark self.now.node.ring.state.arus }
     {
         self.node.safe()
+    }
+
+    /// How many entries wait for a place, ends of connections too.
+    pub fn waiting(&self) -> usize
+        ensures { result ≡ length self.now.node.ring.state.waiting }
+    {
+        self.node.waiting()
+    }
+
+    /// Tells how many places were given out and how many hops made, as far as the last token says that the
+    /// node sent. What the settings have more is left.
+    pub fn reached(&self, places: &mut u32, hops: &mut u64) -> u32
+        ensures { IsReached self.now.node.ring.state.last_token result places.new hops.new }
+    {
+        match self.node.last_token() {
+            Some(token) => {
+                *places = token.seq;
+                *hops = token.hop;
+                OK
+            }
+            None => NONE,
+        }
     }
 }

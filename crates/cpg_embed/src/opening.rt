@@ -6,7 +6,7 @@ ghost use Rattle.cpg_conf.specs.Names.{known_of};
 ghost use Rattle.cpg_embed.specs.Opening.{IsOpened, IsNodeOpened, IsConfOpened, IsFaultOf, listing_of, line_in};
 
 use crate::endpoints::Endpoint;
-use crate::statuses::{OK, number_of};
+use crate::statuses::number_of;
 use cpg_conf::{Names, read_conf};
 use cpg_cred::{AcceptList, NodeId, Refusal};
 use cpg_node::{Node, Settings};

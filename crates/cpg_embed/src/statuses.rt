@@ -1,6 +1,6 @@
 //! The numbers that calls answer.
 
-ghost use Rattle.std.specs.Prelude.{◌≡◌, ◌≤◌, IsTrue, length, take, nat_le, false, if◌then◌else◌};
+ghost use Rattle.std.specs.Prelude.{◌≡◌, IsTrue, length, take, nat_le, false};
 ghost use Rattle.cpg_embed.specs.Statuses.{number, IsHanded};
 
 use cpg_cred::Refusal;

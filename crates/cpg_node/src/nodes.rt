@@ -1,6 +1,7 @@
 //! One node, with its calls.
 
 ghost use Rattle.std.specs.Prelude.{◌≡◌, ◌≤◌, ◌↔◌, ◌++◌, ◌∷◌, [], suc, length, None, Some, Option, IsSome, All, Ok, OnOk, OnErr, IfOk, IfErr, IfSome, MatchOption, IsOkUnless, option_map};
+ghost use Rattle.std.specs.Option.{option_copied};
 ghost use Rattle.cpg_entry.specs.declared.calls.Call.{Call as CallValue};
 ghost use Rattle.cpg_entry.specs.declared.frames.Frame.TheVariants as frames;
 ghost use Rattle.cpg_record.specs.Judging.{judged, most_places};
@@ -21,7 +22,7 @@ use crate::names::call_refusal;
 use crate::ringing::{hear_packet, hear_token, refusal_in};
 use bytes::Bytes;
 use cpg_cred::{AcceptList, Cred, NodeId, Refusal, Refused};
-use cpg_entry::{Call, Entry, Frame, MOST_CONNECTIONS, Op, token_fits};
+use cpg_entry::{Call, Entry, Frame, MOST_CONNECTIONS, Op, Token, token_fits};
 use cpg_group::{ConnId, Event, Names, Processes, Record};
 use cpg_ring::{Ring, Settings};
 use cpg_rules::{Asker, Table};
@@ -342,6 +343,21 @@ impl Node {
         ensures { result ≡ safe_mark self.now.ring.state.arus }
     {
         self.ring.safe()
+    }
+
+    /// How many entries wait for a place, ends of connections too.
+    pub fn waiting(&self) -> usize
+        ensures { result ≡ length self.now.ring.state.waiting }
+    {
+        self.ring.waiting()
+    }
+
+    /// The last token that the node sent; at first the ring's first token at its last node, and none
+    /// elsewhere.
+    pub fn last_token(&self) -> Option<&Token>
+        ensures { option_copied result ≡ self.now.ring.state.last_token }
+    {
+        self.ring.resend()
     }
 }
 

@@ -1,0 +1,83 @@
+/* Lets each allocation of a small ring fail in turn: the call has to answer CPGRING_MEMORY, and the same call made again
+ * has to do what it would have done, so that all that is told is the same. Linked with --wrap=malloc,--wrap=realloc. */
+#include "cpgring.h"
+
+#include <stdio.h>
+#include <stdlib.h>
+#include <string.h>
+
+void *__real_malloc(size_t size);
+void *__real_realloc(void *at, size_t size);
+void *__wrap_malloc(size_t size);
+void *__wrap_realloc(void *at, size_t size);
+
+static long until = -1; /* how many allocations are given before one is refused; never, where it is below 0 */
+static bool refused, differs;
+
+static bool is_refused(void) {
+    if (until < 0 || until-- > 0) return false;
+    return refused = true;
+}
+
+void *__wrap_malloc(size_t size) { return is_refused() ? NULL : __real_malloc(size); }
+void *__wrap_realloc(void *at, size_t size) { return is_refused() ? NULL : __real_realloc(at, size); }
+
+static void wanted(const char *what, uint32_t status, uint32_t other, int line) {
+    if (status == other) return;
+    fprintf(stderr, "failing.c:%d: %s answers %s\n", line, what, cpgring_refusal_text(status));
+    differs = true;
+}
+
+/* makes a call again where it was refused for want of memory, which has to be for the one allocation */
+#define DO(call, status)                                          \
+    do {                                                          \
+        bool before = refused;                                    \
+        uint32_t found = (call);                                  \
+        if (found == CPGRING_MEMORY && refused && !before) found = (call); \
+        wanted(#call, found, (status), __LINE__);                 \
+    } while (0)
+
+/* A ring of one node: a join, a message, a rule, listings, and the end. How many bytes were told. */
+static size_t play(void) {
+    static const uint32_t users[] = {7, 8, 9}, groups[] = {1};
+    static uint8_t frame[CPGRING_MOST_FRAME], message[100];
+    const cpgring_setup setup = {1, 1, 1, 100, 100};
+    const cpgring_rule rule = {0, CPGRING_DENY, CPGRING_RIGHT_JOIN, true, false, false, 8, 0, 0};
+    cpgring ring = CPGRING_INIT;
+    cpgring_event event;
+    uint16_t conn = 0;
+    uint32_t place = 0, route = 0;
+    size_t len = 0, count = 0, told = 0;
+    DO(cpgring_open(&ring, &setup, users, 3, groups, 1), CPGRING_OK);
+    DO(cpgring_connect(&ring, 40, 0, 100, &conn), CPGRING_OK);
+    DO(cpgring_join(&ring, conn, (const uint8_t *)"a-name-of-more-than-16-bytes", 28), CPGRING_OK);
+    DO(cpgring_send(&ring, conn, message, sizeof message), CPGRING_OK);
+    DO(cpgring_insert(&ring, conn, (const uint8_t *)"db", 2, 0, &rule), CPGRING_OK);
+    DO(cpgring_timer(&ring), CPGRING_OK);
+    DO(cpgring_next(&ring, frame, sizeof frame, &len, &route), CPGRING_OK);
+    DO(cpgring_frame(&ring, frame, len), CPGRING_OK);
+    while (cpgring_next(&ring, frame, sizeof frame, &len, &route) == CPGRING_OK) told += len;
+    for (uint32_t k = 1; k <= 3; k++) DO(cpgring_deliver(&ring, &place), CPGRING_OK);
+    for (uint32_t k = 1; k <= 5; k++) {
+        DO(cpgring_take(&ring, conn, &event), CPGRING_OK);
+        told += event.group_len + event.message_len + event.members;
+    }
+    DO(cpgring_take(&ring, conn, &event), CPGRING_NONE);
+    DO(cpgring_list(&ring, conn, (const uint8_t *)"a-name-of-more-than-16-bytes", 28, &count), CPGRING_OK);
+    DO(cpgring_groups(&ring, conn, &count), CPGRING_OK);
+    DO(cpgring_disconnect(&ring, conn), CPGRING_OK);
+    DO(cpgring_close(&ring), CPGRING_OK);
+    return told + count;
+}
+
+int main(void) {
+    size_t told = play();
+    long turns = 0;
+    do {
+        refused = false;
+        until = turns++;
+        if (play() != told) differs = true;
+    } while (refused && !differs && turns < 10000);
+    printf("%ld allocations refused in turn: %s\n", turns - 1, differs ? "FAILED" : "each call could be made again");
+    return differs;
+}
