@@ -234,6 +234,12 @@ static void begin(void) {
     if ((status = cpgring_join(&ring, conn, (const uint8_t *)"chat", 4))) fail("join", status);
 }
 
+static void refuse_words(void) {
+    fputs("usage: ring [-l LOSS] [-s SEED] [-m MESSAGES] [-b BYTES] [-t SECONDS] [-w] NODE PORT..\n", stderr);
+    fputs("       (a port for each of 1 to 8 nodes, NODE from 1; such a process for each node makes a ring)\n", stderr);
+    exit(2);
+}
+
 static double read_words(int count, char **words) {
     double seconds = 1e9;
     int option;
@@ -244,12 +250,12 @@ static double read_words(int count, char **words) {
         case 'b': bytes = strtoul(optarg, NULL, 10); break;
         case 't': seconds = strtod(optarg, NULL); break;
         case 'w': waits_for_all = true; break;
-        default: exit(2);
+        default: refuse_words();
         }
     nodes = (unsigned)(count - optind - 1);
-    if (count - optind < 2 || nodes > CPGRING_MOST_NODES || bytes > CPGRING_MOST_MESSAGE) exit(2);
+    if (count - optind < 2 || nodes > CPGRING_MOST_NODES || bytes > CPGRING_MOST_MESSAGE) refuse_words();
     node = (unsigned)strtoul(words[optind], NULL, 10);
-    if (node < 1 || node > nodes) exit(2);
+    if (node < 1 || node > nodes) refuse_words();
     for (unsigned k = 1; k <= nodes; k++) ports[k] = (uint16_t)strtoul(words[optind + (int)k], NULL, 10);
     seed += UINT64_C(1000003) * node;
     return seconds;

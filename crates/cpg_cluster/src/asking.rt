@@ -1,12 +1,13 @@
 //! What an open session is asked for, and what it is answered.
 //!
-//! Proved: the answer is one that `specs/Answers.antt` allows, whatever the threads do. How often a session is
-//! asked for its next event before nothing came is no clause, but a number that `limits` says.
+//! Proved: the answer is one that `specs/Answers.antt` allows, whatever the threads do; and a wait that gives up has
+//! asked `MOST_POLLS` times, a number that `limits` says.
 
-ghost use Rattle.std.specs.Prelude.{◌≡◌, ◌≤◌, IfOk, OnOk, IsOkUnless};
+ghost use Rattle.std.specs.Prelude.{◌≡◌, ◌≤◌, ◌<◌, ◌+◌, Ok, None, IfOk, OnOk, IsOkUnless};
 ghost use Rattle.cpg_board.specs.Seats.{IsSeatOf, Begins};
 ghost use Rattle.cpg_station.specs.Serving.{SubmitRefuses};
 ghost use Rattle.cpg_cluster.specs.declared.commands.Ask.TheVariants as asks;
+ghost use Rattle.cpg_cluster.specs.declared.replies.Reply.TheVariants as replies;
 ghost use Rattle.cpg_cluster.specs.Answers.{Serves};
 ghost use Rattle.cpg_cluster.specs.Steps.{SeatsOn, IsPolled};
 
@@ -55,17 +56,21 @@ fn submit<B: BoardName, G, H: Wait>(
     }
 }
 
-/// What the session is told when it asks for its next event once: nothing where there is none yet, or where its
-/// node is behind.
+/// What the session is told when it asks for its next event once, which is counted: nothing where there is none
+/// yet, or where its node is behind.
 #[tactic(auto, using(crate::proofs::Seen::polled_none, crate::proofs::Seen::polled_behind))]
 fn poll<B: BoardName, G, H: Wait>(
     rt: &H,
     running: &Running<B, G>,
     session: &mut Session<B>,
+    polls: &mut u32,
 ) -> Option<Result<Event, Refusal>>
-    requires { session.old.who.id.node ≤ running.now.nodes }
-    ensures { IsPolled session.old result session.new }
+    requires node { session.old.who.id.node ≤ running.now.nodes }
+    requires few { polls.old < MOST_POLLS }
+    ensures told { IsPolled session.old result session.new }
+    ensures counted { polls.new ≡ polls.old + 1 }
 {
+    *polls += 1;
     match running.take(rt, session) {
         Ok(None) => None,
         Ok(Some(event)) => Some(Ok(event)),
@@ -83,19 +88,22 @@ fn rest<H: Clock>(rt: &H, poll: u32) {
     }
 }
 
-/// The session's next event, once it comes; nothing where it does not come for `MOST_POLLS` polls.
+/// The session's next event, once it comes; nothing where it does not come for `MOST_POLLS` polls, which are counted.
 #[tactic(auto, using(crate::proofs::Seen::stays_on, crate::proofs::Seen::stays_self, crate::proofs::Seen::awaited_on, crate::proofs::Seen::nothing_on, crate::proofs::Seen::nothing_came, crate::proofs::Seen::ended_on))]
 fn wait<B: BoardName, G, H: Wait + Clock>(
     rt: &H,
     running: &Running<B, G>,
     session: &mut Session<B>,
+    polls: &mut u32,
 ) -> Result<Reply, Refusal>
-    requires { session.old.who.id.node ≤ running.now.nodes }
+    requires node { session.old.who.id.node ≤ running.now.nodes }
+    requires none { polls.old ≡ 0 }
     ensures answer { Serves session.old asks.Wait result session.new }
+    ensures polls { result ≡ Ok (replies.Took None) → polls.new ≡ MOST_POLLS }
     ensures seats { SeatsOn B.cells result }
 {
     for number in 0..MOST_POLLS {
-        match poll(rt, running, session) {
+        match poll(rt, running, session, polls) {
             None => rest(rt, number),
             Some(Ok(event)) => return Ok(Reply::Took(Some(event))),
             Some(Err(refusal)) => return Err(refusal),
@@ -191,7 +199,10 @@ pub fn serve<B: BoardName, G, H: Wait + Clock>(
 {
     match asked {
         Ask::Call(call) => submit(rt, alloc, running, session, call),
-        Ask::Wait => wait(rt, running, session),
+        Ask::Wait => {
+            let mut polls = 0;
+            wait(rt, running, session, &mut polls)
+        }
         Ask::List(group) => list(rt, running, session, group.as_slice()),
         Ask::Groups => groups(rt, running, session),
         Ask::Audit => audit(running, &*session),

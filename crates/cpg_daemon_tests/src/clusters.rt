@@ -54,17 +54,38 @@ fn leaves_and_gets_safe<B: BoardName, R: Wait>(
     leave(rt, running, node) == Ok(None) && gets_safe(rt, running, node)
 }
 
+/// Whether a node that gave one of its 65,535 connection numbers gives the others, and then tells that none is left.
+fn gives_every_number<B: BoardName, R: Wait>(
+    rt: &R,
+    running: &Running<B, PassAll>,
+    node: NodeId,
+) -> bool
+    requires { node ≤ running.now.nodes }
+{
+    for _ in 1..65_535 {
+        if running.connect(rt, node, 40, ROOT).is_err() {
+            return false;
+        }
+    }
+    match running.connect(rt, node, 40, ROOT) {
+        Ok(_) => false,
+        Err(refusal) => refusal == Refusal::ConnectionsFull,
+    }
+}
+
 /// How many stations and links the cluster leaves.
 fn counts_of<B: BoardName>(ends: Ends<B>) -> (usize, usize) {
     (ends.stations.len(), ends.links.len())
 }
 
-/// Whether a process at node 1 leaves, in no group, and then all nodes hold place 1.
+/// Whether a process at node 1 leaves, in no group, all nodes then hold place 1, and the node gives the numbers left.
 fn first_gets_safe<B: BoardName, R: Wait>(rt: &R, running: &Running<B, PassAll>) -> bool
     requires { 1 ≤ running.now.nodes }
 {
     match node_of(1) {
-        Ok(node) => leaves_and_gets_safe(rt, running, node),
+        Ok(node) => {
+            leaves_and_gets_safe(rt, running, node) && gives_every_number(rt, running, node)
+        }
         Err(_) => false,
     }
 }
