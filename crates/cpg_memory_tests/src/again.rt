@@ -2,7 +2,7 @@
 
 use crate::short::Short;
 use cpg_cred::Refusal;
-use std::alloc::{AllocError, Global};
+use std::alloc::Global;
 
 /// How often a call is made, or a row played, before it is taken that memory has run out.
 const TRIES: u32 = 3;
@@ -20,12 +20,6 @@ pub enum Stop {
     Wrong(usize),
 }
 
-impl From<AllocError> for Stop {
-    fn from(_error: AllocError) -> Stop {
-        Stop::Memory
-    }
-}
-
 /// What has calls that may meet Memory.
 pub trait Tried {
     /// One of its calls, with what is handed in.
@@ -35,7 +29,7 @@ pub trait Tried {
     fn make(&mut self, alloc: Global, step: &Self::Step) -> Result<Short, Refusal>;
 
     /// All that can be seen of it, as text.
-    fn looks(&self, alloc: Global) -> Result<String, AllocError>;
+    fn looks(&self, alloc: Global) -> Result<String, Refusal>;
 }
 
 /// What the call is answered; none where that is Memory, which left all as it was.

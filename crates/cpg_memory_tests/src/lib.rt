@@ -6,7 +6,11 @@
 #[cfg(test)]
 mod again;
 #[cfg(test)]
+mod boards;
+#[cfg(test)]
 mod entering;
+#[cfg(test)]
+mod links;
 #[cfg(test)]
 mod nodes;
 #[cfg(test)]
@@ -15,6 +19,8 @@ mod policies;
 mod runs;
 #[cfg(test)]
 mod short;
+#[cfg(test)]
+mod stations;
 #[cfg(test)]
 mod tables;
 #[cfg(test)]

@@ -7,7 +7,7 @@ use cpg_cred::{AcceptList, By, Refusal, Refused};
 use cpg_entry::Call;
 use cpg_node::{Node, Record, Settings};
 use cpg_record::Verdict;
-use std::alloc::{AllocError, Global};
+use std::alloc::Global;
 use std::test::Fail;
 
 /// A call of a node.
@@ -137,8 +137,8 @@ impl Tried for Node {
         }
     }
 
-    fn looks(&self, alloc: Global) -> Result<String, AllocError> {
-        format!(in alloc; "{self:?}")
+    fn looks(&self, alloc: Global) -> Result<String, Refusal> {
+        Ok(format!(in alloc; "{self:?}")?)
     }
 }
 

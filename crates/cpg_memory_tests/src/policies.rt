@@ -8,7 +8,7 @@ use cpg_cred::{By, Cred, NodeId, Refusal};
 use cpg_entry::Entry;
 use cpg_group::{ConnId, MOST_PLACES, Policy, Reason, Record, Verdict, verify};
 use cpg_rules::{Asker, Right, Who};
-use std::alloc::{AllocError, Global};
+use std::alloc::Global;
 use std::test::Fail;
 
 /// A call of a policy.
@@ -80,6 +80,37 @@ fn enter(alloc: Global, policy: &mut Policy, entry: Entry) -> Result<Short, Refu
     }
 }
 
+/// Puts the entry of each last.
+fn enter_all(alloc: Global, policy: &mut Policy, asked: &[(Source, Ask)]) -> Result<(), Refusal> {
+    for (from, ask) in asked {
+        enter(alloc, policy, entry(alloc, from, ask)?)?;
+    }
+    Ok(())
+}
+
+/// A new policy that has judged what they ask.
+fn entered(alloc: Global, asked: &[(Source, Ask)]) -> Result<Policy, Refusal> {
+    let mut policy = Policy::new(alloc);
+    enter_all(alloc, &mut policy, asked)?;
+    Ok(policy)
+}
+
+/// A policy with a join, a rule against it, and a message.
+pub fn rejoined(alloc: Global) -> Result<Policy, Refusal> {
+    let asked = [
+        (MEMBER, JOIN),
+        (ROOT, deny(0, Right::Join, Who::uid(7))),
+        (MEMBER, Ask::Send("hi")),
+    ];
+    entered(alloc, asked.as_slice())
+}
+
+/// A policy with a join, and one by another connection of the same process.
+pub fn twice(alloc: Global) -> Result<Policy, Refusal> {
+    let asked = [(MEMBER, JOIN), (member_by(1, 2), JOIN)];
+    entered(alloc, asked.as_slice())
+}
+
 /// A process of that user at node 1.
 fn asker(node: NodeId, uid: u32) -> Asker {
     Asker {
@@ -111,11 +142,11 @@ fn count_groups(policy: &Policy, uid: u32) -> Result<Short, Refusal> {
 }
 
 /// What the policy's lists and next places say beside its records.
-fn index_of(policy: &Policy, alloc: Global) -> Result<String, AllocError> {
+fn index_of(policy: &Policy, alloc: Global) -> Result<String, Refusal> {
     let table = policy.table(b"db");
     let places = policy.places_in(b"db");
     let conns = policy.connections();
-    format!(in alloc; "{table:?} {places:?} {conns:?}")
+    Ok(format!(in alloc; "{table:?} {places:?} {conns:?}")?)
 }
 
 impl Tried for Policy {
@@ -132,9 +163,9 @@ impl Tried for Policy {
         }
     }
 
-    fn looks(&self, alloc: Global) -> Result<String, AllocError> {
+    fn looks(&self, alloc: Global) -> Result<String, Refusal> {
         let index = index_of(self, alloc)?;
-        format!(in alloc; "{self:?} {index}")
+        Ok(format!(in alloc; "{self:?} {index}")?)
     }
 }
 

@@ -7,7 +7,7 @@ use cpg_cred::{AcceptList, By, NodeId, Refusal};
 use cpg_node::Settings;
 use cpg_record::Verdict;
 use cpg_world::{Reply, World, WorldEvent};
-use std::alloc::{AllocError, Global};
+use std::alloc::Global;
 use std::test::Fail;
 
 /// An event of a world, at the node of that number.
@@ -107,8 +107,8 @@ impl Tried for World {
         meet(alloc, self, [event].as_slice())
     }
 
-    fn looks(&self, alloc: Global) -> Result<String, AllocError> {
-        format!(in alloc; "{self:?}")
+    fn looks(&self, alloc: Global) -> Result<String, Refusal> {
+        Ok(format!(in alloc; "{self:?}")?)
     }
 }
 
