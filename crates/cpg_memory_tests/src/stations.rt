@@ -156,13 +156,18 @@ fn play_at<B: BoardName>(alloc: Global, board: &Board) -> Result<(), Stop>
     deliver_two(alloc, board, &mut station)
 }
 
+/// The row at a board of two.
+fn play_on_two(alloc: Global) -> Result<(), Stop> {
+    let board = Board::new(alloc, 2)?;
+    play_at::<Brand>(alloc, &board)
+}
+
 /// A station delivers two places.
 struct DeliverTwo;
 
 impl Row for DeliverTwo {
     fn play(&self, alloc: Global) -> Result<(), Stop> {
-        let board = Board::new(alloc, 2)?;
-        play_at::<Brand>(alloc, &board)
+        play_on_two(alloc)
     }
 }
 
