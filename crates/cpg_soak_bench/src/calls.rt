@@ -51,7 +51,7 @@ fn draw_right(draws: &mut Draws) -> Right {
 
 /// Whom a rule speaks of.
 fn draw_who(draws: &mut Draws) -> Who {
-    let node = NodeId::new(draws.below(8) + 1);
+    let node = NodeId::new(draws.below(8).saturating_add(1));
     match draws.below(6) {
         0 => Who::uid(7),
         1 => Who::uid(8),
