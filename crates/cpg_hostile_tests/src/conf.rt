@@ -36,9 +36,12 @@ fn list_of_seven(alloc: Global) -> Result<AcceptList, Refusal> {
 /// Whether the list lets user 7 in, and user 1000 and group 20 exactly where these were added.
 fn lets_in(list: &AcceptList, added: bool) -> bool {
     let ask = |uid, gid| list.accepts(Cred { uid, gid });
-    ask(7, 9) == Ok(Via::User)
-        && ask(1000, 9) == (if added { Ok(Via::User) } else { Err(Refusal::Access) })
-        && ask(9, 20) == (if added { Ok(Via::Group) } else { Err(Refusal::Access) })
+    let (user, group) = if added {
+        (Ok(Via::User), Ok(Via::Group))
+    } else {
+        (Err(Refusal::Access), Err(Refusal::Access))
+    };
+    ask(7, 9) == Ok(Via::User) && ask(1000, 9) == user && ask(9, 20) == group
 }
 
 /// The fault of a conf text over a list of user 7, if it has one, and whether the list that there is then lets in
@@ -56,7 +59,11 @@ fn a_conf_text_cut_short_adds_all_or_nothing(rt: HostRuntime) -> Result<(), Fail
     assert_eq!(rt; CONF.len(), 31);
     for len in 0..32 {
         let added = len >= 30;
-        assert_eq!(rt; answer(rt.alloc(), &CONF[..len], added)?, (fault_of(len), true), "at {len}");
+        assert_eq!(rt;
+            answer(rt.alloc(), &CONF[..len], added)?,
+            (fault_of(len), true),
+            "at {len}"
+        );
     }
     Ok(())
 }

@@ -34,7 +34,10 @@ fn leaves_a_front(alloc: Global, kind: Kind, until: usize, fails: bool) -> bool 
 fn writers_that_fail_after_each_byte(rt: HostRuntime) {
     for kind in KINDS {
         for until in 0..kind.text().len() {
-            assert!(rt; leaves_a_front(rt.alloc(), kind, until, true), "{kind:?} at {until}");
+            assert!(rt;
+                leaves_a_front(rt.alloc(), kind, until, true),
+                "{kind:?} at {until}"
+            );
         }
     }
 }
@@ -43,7 +46,10 @@ fn writers_that_fail_after_each_byte(rt: HostRuntime) {
 fn writers_that_take_nothing_after_each_byte(rt: HostRuntime) {
     for kind in KINDS {
         for until in 0..kind.text().len() {
-            assert!(rt; leaves_a_front(rt.alloc(), kind, until, false), "{kind:?} at {until}");
+            assert!(rt;
+                leaves_a_front(rt.alloc(), kind, until, false),
+                "{kind:?} at {until}"
+            );
         }
     }
 }
@@ -82,7 +88,10 @@ fn reads_nothing(alloc: Global, kind: Kind, until: usize) -> bool {
 fn readers_that_fail_at_each_read(rt: HostRuntime) {
     for kind in KINDS {
         for until in 0..=kind.script().len() {
-            assert!(rt; reads_nothing(rt.alloc(), kind, until), "{kind:?} at {until}");
+            assert!(rt;
+                reads_nothing(rt.alloc(), kind, until),
+                "{kind:?} at {until}"
+            );
         }
     }
 }

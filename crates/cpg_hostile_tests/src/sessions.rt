@@ -97,7 +97,14 @@ fn a_session_to_writers_that_fail_after_each_byte(rt: HostRuntime) -> Result<(),
     for until in 0..SESSION_PRINT.len() {
         let board = Board::new(rt.alloc(), 16)?;
         let alloc = rt.alloc();
-        let (refusal, got) = ended::<Brand, HostRuntime>(rt, alloc, board, ALL, until, until % 2 == 0)?;
+        let (refusal, got) = ended::<Brand, HostRuntime>(
+            rt,
+            alloc,
+            board,
+            ALL,
+            until,
+            until % 2 == 0,
+        )?;
         assert_eq!(rt; refusal, Some(Refusal::Write), "at {until}");
         assert!(rt; got.as_slice() == &SESSION_PRINT[..until], "at {until}");
     }

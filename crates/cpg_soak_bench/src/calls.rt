@@ -94,10 +94,7 @@ pub fn draw_call(alloc: Global, draws: &mut Draws, last: u32) -> Result<Call, Re
         }
         6 => {
             let name = draw_name(alloc, draws)?;
-            Ok(Call::Remove(
-                name,
-                last.saturating_sub(u32::from(draws.below(100))),
-            ))
+            Ok(Call::Remove(name, last.saturating_sub(u32::from(draws.below(100)))))
         }
         _ => Ok(Call::Send(draw_message(alloc, draws)?)),
     }

@@ -164,9 +164,7 @@ fn list<B: BoardName, R: Wait>(
     put(&mut told.text, " ")?;
     match answer {
         Ok(processes) => put_members_line(&mut told.text, processes.as_slice()),
-        Err(Refusal::Denied(by)) => {
-            put_refused_line(alloc, &mut told.text, Refusal::Denied(by))
-        }
+        Err(Refusal::Denied(by)) => { put_refused_line(alloc, &mut told.text, Refusal::Denied(by)) }
         Err(refusal) => Err(refusal),
     }
 }
