@@ -18,11 +18,11 @@ const PAIR: [u8; 44] = [
     0x62, 0, 2, 2, 2, 1, 0, 0, 0, 7, 3, 0, 0, 0, 2,
 ];
 
-/// The frame's bytes in version 2.
-fn encoded(alloc: Global, frame: &Frame) -> Result<Bytes, Refusal> {
-    match frame {
-        Frame::Packet(packet) => encode_data(alloc, packet),
-        Frame::Token(token) => encode_token(alloc, token),
+/// The bytes decoded, and the frame encoded again, in version 2.
+fn recoded(alloc: Global, bytes: &[u8]) -> Result<Bytes, Refusal> {
+    match decode(alloc, bytes)? {
+        Frame::Packet(packet) => encode_data(alloc, &packet),
+        Frame::Token(token) => encode_token(alloc, &token),
     }
 }
 
@@ -38,19 +38,18 @@ enum Reading {
     Wrong,
 }
 
-/// Whether the frame, which the bytes spell, is spelled again by its encoding: by the very bytes where they are of
-/// version 2.
-fn is_spelled_again(alloc: Global, bytes: &[u8], frame: &Frame) -> Result<bool, Refusal> {
-    let again = encoded(alloc, frame)?;
+/// Whether these are the encoding of what the bytes spell: the very bytes where they are of version 2, else bytes that
+/// spell the same frame.
+fn are_its_encoding(alloc: Global, bytes: &[u8], again: &[u8]) -> Result<bool, Refusal> {
     match bytes {
-        [_, 2, ..] => Ok(again.as_slice() == bytes),
-        _ => Ok(decode(alloc, again.as_slice())? == *frame),
+        [_, 2, ..] => Ok(again == bytes),
+        _ => Ok(decode(alloc, again)? == decode(alloc, bytes)?),
     }
 }
 
 fn reading_of(alloc: Global, bytes: &[u8]) -> Result<Reading, Refusal> {
-    match decode(alloc, bytes) {
-        Ok(frame) => match is_spelled_again(alloc, bytes, &frame)? {
+    match recoded(alloc, bytes) {
+        Ok(again) => match are_its_encoding(alloc, bytes, again.as_slice())? {
             true => Ok(Reading::Frame),
             false => Ok(Reading::Wrong),
         },
