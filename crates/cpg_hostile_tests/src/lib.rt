@@ -1,0 +1,19 @@
+//! Tests of altered input: frames of which two bytes are changed, conf texts that are cut short, and streams that
+//! fail, come in pieces or take pieces, for each kind of script. Nothing here is used by the other crates.
+#![tactic(auto)]
+
+#[cfg(test)]
+mod conf;
+#[cfg(test)]
+mod frames;
+#[cfg(test)]
+mod kinds;
+#[cfg(test)]
+mod scripts;
+#[cfg(test)]
+mod sessions;
+#[cfg(test)]
+mod streams;
+
+/// The crate has tests alone; a library has to have an item.
+pub const TESTS_ALONE: bool = true;

@@ -1,0 +1,166 @@
+//! A round: a cluster, its sessions, and what is left of it.
+
+ghost use Rattle.std.specs.Prelude.{◌≡◌};
+ghost use Rattle.cpg_board.specs.Seats.{IsSeatOf};
+
+use crate::PLACES;
+use crate::clients::step;
+use crate::draws::Draws;
+use crate::ending::{comes_to_know, finish, visit_all};
+use crate::gates::{Chance, Notes, new_notes};
+use crate::text::Told;
+use cpg_board::{Board, Seat};
+use cpg_cred::{AcceptList, Refusal};
+use cpg_daemon::{BoardName, Cluster, Ends, Running, Session};
+use cpg_node::Settings;
+use cpg_script::put;
+use std::alloc::Global;
+use std::sync::{Arc, Wait};
+use std::thread::{self, Threads};
+use std::time::{Clock, Duration};
+
+/// How many processes there are at once.
+const SLOTS: u8 = 20;
+
+/// What a round is made of.
+#[derive(Debug, Clone, Copy)]
+pub struct Plan {
+    pub nodes: u8,
+    pub seed: u64,
+    pub steps: u32,
+}
+
+/// A list of users 7 and 8.
+fn new_list(alloc: Global) -> Result<AcceptList, Refusal> {
+    let mut list = AcceptList::new(alloc);
+    list.add_uid(7)?;
+    list.add_uid(8)?;
+    Ok(list)
+}
+
+/// Places for sessions, in which there are none.
+fn new_slots<B: BoardName>(alloc: Global) -> Result<Vec<Option<Session<B>>>, Refusal> {
+    let mut slots = Vec::new(alloc);
+    for _ in 0..SLOTS {
+        slots.push(None)?;
+    }
+    Ok(slots)
+}
+
+/// So many steps, each of a slot that is drawn. Now and then a rest lets the nodes go on.
+fn step_all<B: BoardName, R: Wait + Clock>(
+    rt: &R,
+    alloc: Global,
+    running: &Running<B, Chance>,
+    slots: &mut [Option<Session<B>>],
+    plan: Plan,
+    told: &mut Told,
+) -> Result<(), Refusal> {
+    let mut draws = Draws::of(plan.seed);
+    for _ in 0..plan.steps {
+        let index = usize::from(draws.below(SLOTS));
+        if let Some(slot) = slots.get_mut(index) {
+            step(rt, alloc, running, slot, &mut draws, told)?;
+        }
+        if draws.below(8) == 0 {
+            thread::sleep(rt, Duration::from_micros(u64::from(draws.below(200)) * 10));
+        }
+    }
+    Ok(())
+}
+
+/// Every open session takes all.
+fn finish_all<B: BoardName, R: Wait + Clock>(
+    rt: &R,
+    running: &Running<B, Chance>,
+    slots: &mut [Option<Session<B>>],
+    seat: &Seat,
+    told: &mut Told,
+) -> Result<(), Refusal>
+    requires { IsSeatOf B.cells seat.now }
+{
+    for slot in slots.iter_mut() {
+        if let Some(session) = slot {
+            finish(rt, running, session, seat, told)?;
+        }
+    }
+    Ok(())
+}
+
+/// All places are settled, and all sessions and nodes told.
+fn end_all<B: BoardName, R: Wait + Clock>(
+    rt: &R,
+    running: &Running<B, Chance>,
+    slots: &mut [Option<Session<B>>],
+    told: &mut Told,
+) -> Result<(), Refusal> {
+    let mut seat = running.auditor();
+    if !comes_to_know(rt, running.board(), &mut seat, told.admitted)? {
+        return put(&mut told.text, "stuck\n");
+    }
+    finish_all(rt, running, slots, &seat, told)?;
+    visit_all(rt, running, &seat, told)
+}
+
+/// The round over running nodes.
+fn go_over<B: BoardName, R: Wait + Clock>(
+    rt: &R,
+    alloc: Global,
+    running: &Running<B, Chance>,
+    plan: Plan,
+    told: &mut Told,
+) -> Result<(), Refusal> {
+    let mut slots = new_slots(alloc)?;
+    step_all(rt, alloc, running, slots.as_mut_slice(), plan, told)?;
+    end_all(rt, running, slots.as_mut_slice(), told)
+}
+
+/// The audits of what is left, and what the gate did.
+fn tell_left<B: BoardName>(ends: &Ends<B>, notes: &Notes, told: &mut Told) -> Result<(), Refusal> {
+    for station in ends.stations.iter() {
+        told.audit(station.audit())?;
+    }
+    told.notes(notes)
+}
+
+/// The round over a cluster, which is stopped.
+fn go_on<B, R: Threads + Wait + Clock>(
+    rt: &R,
+    alloc: Global,
+    cluster: Cluster<B, Chance>,
+    notes: &Notes,
+    plan: Plan,
+    told: &mut Told,
+) -> Result<(), Refusal>
+where
+    B: BoardName + Send + Sync + 'static,
+{
+    let gone = go_over(rt, alloc, &cluster, plan, told);
+    let ends = cluster.stop(rt);
+    let left = tell_left(&ends, notes, told);
+    drop(ends);
+    gone?;
+    left
+}
+
+/// What a round of that plan prints, on that board.
+pub fn go<B, R>(rt: R, alloc: Global, board: Board, plan: Plan) -> Result<Vec<u8>, Refusal>
+where
+    B: BoardName + Send + Sync + 'static,
+    R: Threads + Wait + Clock + Copy + Send + 'static,
+    requires { board ≡ B.cells }
+{
+    let settings = Settings {
+        ring: 1,
+        nodes: plan.nodes,
+        places: PLACES,
+        hops: 1 << 62,
+    };
+    let list = new_list(alloc)?;
+    let notes = new_notes(alloc)?;
+    let gate = Chance::of(plan.seed, Arc::try_clone(&notes)?);
+    let cluster = Cluster::<B, Chance>::start(rt, alloc, settings, board, &list, gate)?;
+    let mut told = Told::none(alloc);
+    go_on(&rt, alloc, cluster, &notes, plan, &mut told)?;
+    Ok(told.text)
+}
