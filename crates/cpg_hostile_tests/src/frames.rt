@@ -92,14 +92,10 @@ fn frames_of(alloc: Global, bytes: &[u8]) -> Result<Option<u32>, Refusal> {
     Ok(Some(frames))
 }
 
+/// The counts are those of a plain program of the grammar, in another language.
 #[test]
-fn an_edit_with_two_bytes_changed(rt: HostRuntime) -> Result<(), Fail> {
+fn edits_with_two_bytes_changed(rt: HostRuntime) -> Result<(), Fail> {
     assert_eq!(rt; frames_of(rt.alloc(), &EDIT)?, Some(1_353_467));
-    Ok(())
-}
-
-#[test]
-fn a_pair_with_two_bytes_changed(rt: HostRuntime) -> Result<(), Fail> {
     assert_eq!(rt; frames_of(rt.alloc(), &PAIR)?, Some(1_354_244));
     Ok(())
 }

@@ -31,25 +31,15 @@ fn leaves_a_front(alloc: Global, kind: Kind, until: usize, fails: bool) -> bool 
 }
 
 #[test]
-fn writers_that_fail_after_each_byte(rt: HostRuntime) {
+fn writers_that_fail_or_take_nothing_after_each_byte(rt: HostRuntime) {
     for kind in KINDS {
         for until in 0..kind.text().len() {
-            assert!(rt;
-                leaves_a_front(rt.alloc(), kind, until, true),
-                "{kind:?} at {until}"
-            );
-        }
-    }
-}
-
-#[test]
-fn writers_that_take_nothing_after_each_byte(rt: HostRuntime) {
-    for kind in KINDS {
-        for until in 0..kind.text().len() {
-            assert!(rt;
-                leaves_a_front(rt.alloc(), kind, until, false),
-                "{kind:?} at {until}"
-            );
+            for fails in [true, false] {
+                assert!(rt;
+                    leaves_a_front(rt.alloc(), kind, until, fails),
+                    "{kind:?} at {until}"
+                );
+            }
         }
     }
 }

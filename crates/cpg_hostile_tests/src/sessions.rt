@@ -112,23 +112,19 @@ fn a_session_to_writers_that_fail_after_each_byte(rt: HostRuntime) -> Result<(),
 }
 
 #[test]
-fn a_session_byte_by_byte(rt: HostRuntime) -> Result<(), Fail> {
-    let board = Board::new(rt.alloc(), 16)?;
-    let alloc = rt.alloc();
-    let (refusal, got) = ended::<Brand, HostRuntime>(rt, alloc, board, ALL, ALL, true)?;
-    assert_eq!(rt; refusal, None);
-    assert!(rt; got.as_slice() == SESSION_PRINT);
-    Ok(())
-}
-
-#[test]
-fn a_session_from_readers_that_fail(rt: HostRuntime) -> Result<(), Fail> {
-    for reads in [0, 1, SESSION.len()] {
+fn a_session_byte_by_byte_and_from_readers_that_fail(rt: HostRuntime) -> Result<(), Fail> {
+    let rows: [(usize, Option<Refusal>, &[u8]); 4] = [
+        (0, Some(Refusal::Read), b""),
+        (1, Some(Refusal::Read), b""),
+        (SESSION.len(), Some(Refusal::Read), b""),
+        (ALL, None, SESSION_PRINT),
+    ];
+    for (reads, fault, text) in rows {
         let board = Board::new(rt.alloc(), 16)?;
         let alloc = rt.alloc();
         let (refusal, got) = ended::<Brand, HostRuntime>(rt, alloc, board, reads, ALL, true)?;
-        assert_eq!(rt; refusal, Some(Refusal::Read), "at {reads}");
-        assert!(rt; got.is_empty(), "at {reads}");
+        assert_eq!(rt; refusal, fault, "at {reads}");
+        assert!(rt; got.as_slice() == text, "at {reads}");
     }
     Ok(())
 }

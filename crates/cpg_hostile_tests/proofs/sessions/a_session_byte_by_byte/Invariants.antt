@@ -1,4 +1,0 @@
-use Rattle.cpg_hostile_tests.proofs.sessions.a_session_byte_by_byte.Given as goal
-
-abbrev pub ghosts-ended : goal.ghosts-ended
-ghosts-ended g a = record { cells = a.board }
