@@ -2,10 +2,10 @@
 
 ghost use Rattle.std.specs.Prelude.{◌≡◌, ◌≤◌};
 
-use crate::sharing::{MOST_ASKS, ROOT, node_of, refusal_in, settings_of};
+use crate::sharing::{MOST_ASKS, ROOT, Told, next_told, node_of, refusal_in, settings_of};
 use cpg_board::Board;
 use cpg_cred::{AcceptList, NodeId, Refusal};
-use cpg_daemon::{BoardName, Cluster, Ends, PassAll, Running};
+use cpg_daemon::{BoardName, Cluster, Ends, PassAll, Running, Session};
 use cpg_entry::Call;
 use cpg_node::Settings;
 use std::alloc::Global;
@@ -54,7 +54,7 @@ fn leaves_and_gets_safe<B: BoardName, R: Wait>(
     leave(rt, running, node) == Ok(None) && gets_safe(rt, running, node)
 }
 
-/// Whether a node that gave one of its 65,535 connection numbers gives the others, and then tells that none is left.
+/// Whether a node that gave three of its 65,535 connection numbers gives the others, and then tells that none is left.
 fn gives_every_number<B: BoardName, R: Wait>(
     rt: &R,
     running: &Running<B, PassAll>,
@@ -62,7 +62,7 @@ fn gives_every_number<B: BoardName, R: Wait>(
 ) -> bool
     requires { node ≤ running.now.nodes }
 {
-    for _ in 1..65_535 {
+    for _ in 3..65_535 {
         if running.connect(rt, node, 40, ROOT).is_err() {
             return false;
         }
@@ -73,18 +73,88 @@ fn gives_every_number<B: BoardName, R: Wait>(
     }
 }
 
+/// Whether a hundred leaves of the session are admitted.
+fn submits_hundred<B: BoardName, R: Wait>(
+    rt: &R,
+    running: &Running<B, PassAll>,
+    session: &mut Session<B>,
+) -> bool
+    requires { session.old.who.id.node ≤ running.now.nodes }
+    ensures { session.new.who.id.node ≡ session.old.who.id.node }
+{
+    for _ in 0u8..100 {
+        if refusal_in(running.submit(rt, session, Call::Leave)).is_some() {
+            return false;
+        }
+    }
+    true
+}
+
+/// Whether the session is told a hundred verdicts.
+fn takes_hundred<B: BoardName, R: Wait>(
+    rt: &R,
+    running: &Running<B, PassAll>,
+    session: &mut Session<B>,
+) -> bool
+    requires { session.old.who.id.node ≤ running.now.nodes }
+    ensures { session.new.who.id.node ≡ session.old.who.id.node }
+{
+    for _ in 0u8..100 {
+        if !matches!(next_told(rt, running, session), Told::Verdict(_, _)) {
+            return false;
+        }
+    }
+    true
+}
+
+/// Whether a session leaves, in no group, 1,100 times, is told each verdict, and another session, which has seen nothing, is
+/// told all that it saw.
+fn goes_on<B: BoardName, R: Wait>(
+    rt: &R,
+    running: &Running<B, PassAll>,
+    mut session: Session<B>,
+    mut other: Session<B>,
+) -> bool
+    requires { session.who.id.node ≤ running.now.nodes }
+{
+    for _ in 0u8..11 {
+        if !submits_hundred(rt, running, &mut session)
+            || !takes_hundred(rt, running, &mut session)
+        {
+            return false;
+        }
+    }
+    running.tell(&mut other, session.seat()).is_ok() && other.seat().len() > 1_100
+}
+
+/// Whether two sessions at the node do so.
+fn serves_long<B: BoardName, R: Wait>(rt: &R, running: &Running<B, PassAll>, node: NodeId) -> bool
+    requires { node ≤ running.now.nodes }
+{
+    match (
+        running.connect(rt, node, 41, ROOT),
+        running.connect(rt, node, 42, ROOT),
+    ) {
+        (Ok(session), Ok(other)) => goes_on(rt, running, session, other),
+        _ => false,
+    }
+}
+
 /// How many stations and links the cluster leaves.
 fn counts_of<B: BoardName>(ends: Ends<B>) -> (usize, usize) {
     (ends.stations.len(), ends.links.len())
 }
 
-/// Whether a process at node 1 leaves, in no group, all nodes then hold place 1, and the node gives the numbers left.
+/// Whether a process at node 1 leaves, in no group, all nodes then hold place 1, sessions are served for long, and the node
+/// gives the numbers left.
 fn first_gets_safe<B: BoardName, R: Wait>(rt: &R, running: &Running<B, PassAll>) -> bool
     requires { 1 ≤ running.now.nodes }
 {
     match node_of(1) {
         Ok(node) => {
-            leaves_and_gets_safe(rt, running, node) && gives_every_number(rt, running, node)
+            leaves_and_gets_safe(rt, running, node)
+                && serves_long(rt, running, node)
+                && gives_every_number(rt, running, node)
         }
         Err(_) => false,
     }

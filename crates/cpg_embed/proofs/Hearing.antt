@@ -18,7 +18,7 @@ by_refusal e f why new is same = subst (λ r. IsHeardBy e f r (number why) (at_n
 
 read : {X : Type 0} (items : X → List (List ℕ)) (e : EndpointValue) (f : Option Frame) (why : Refusal) (new : NodeValue) → IsFrameAnswer items e.node f (Err why) new → IsRead e f (number why) (at_node e new)
 read items e None why new (is, same) = (search, ap (at_node e) same)
-read items e (Some f) refusal.Memory new same = inl (refl, ap (at_node e) same)
+read items e (Some f) refusal.Memory new same = inl (refl, ap (at_node e) same.1)
 read items e (Some f) refusal.Access new is = inr (by_refusal e f refusal.Access new is.0 is.1)
 read items e (Some f) refusal.NoConnection new is = inr (by_refusal e f refusal.NoConnection new is.0 is.1)
 read items e (Some f) refusal.BadName new is = inr (by_refusal e f refusal.BadName new is.0 is.1)

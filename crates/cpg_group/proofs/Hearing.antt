@@ -1,6 +1,7 @@
 -- whether a place tells a connection anything
-use Rattle.std.proofs.Common.{◌≡◌, ◌≢◌, ℕ, Bool, true, false, List, [], ◌∷◌, ◌++◌, Option, Some, None, refl, ap, ◌∙◌, sym}
-use Rattle.std.specs.Prelude.{if◌then◌else◌, option_to_list}
+use Rattle.std.proofs.Common.{◌≡◌, ◌≢◌, ◌+◌, ◌&&◌, ℕ, Bool, true, false, List, [], ◌∷◌, ◌++◌, length, Option, Some, None, refl, ap, ◌∙◌, sym}
+use Rattle.std.specs.Prelude.{if◌then◌else◌, is_some, option_to_list}
+use Rattle.std.specs.Int.{from_bool}
 use Rattle.cpg_entry.specs.declared.calls.Call.TheVariants.{Join, Leave, Send, Insert, Remove}
 use Rattle.cpg_entry.specs.declared.calls.Op.{Op}
 use Rattle.cpg_entry.specs.declared.calls.Op.TheVariants.{Act, Gone}
@@ -9,6 +10,7 @@ use Rattle.cpg_record.specs.declared.events.Event.{Event}
 use Rattle.cpg_record.specs.declared.events.Event.TheVariants.{Verdict}
 use Rattle.cpg_record.specs.declared.records.Record.{Record}
 use Rattle.cpg_record.specs.Connections.{conn_of, is_conn}
+use Rattle.cpg_record.specs.Membership.{is_allowed}
 use Rattle.cpg_record.specs.Events.{answer, events, events_by, news, news_by}
 use Rattle.cpg_record.specs.Places.{record_at, records_before}
 use Rattle.cpg_group.specs.Telling.{hears, told_by}
@@ -58,3 +60,31 @@ pub tells_news : (records : List Record) (place : ℕ) (conn : ConnId) (r : Reco
 tells_news records place conn r there some none =
     after_answer (answer place r conn) (news place (records_before records place) r conn r.group) some
     (sym (ap (events_by place (records_before records place) conn) there) ∙ none)
+
+-- ---- how many events there are
+
+is_test : {X : Type 0} (x : X) (b : Bool) → is_some (if b then Some x else None) ≡ b
+is_test x true = refl
+is_test x false = refl
+
+-- whether a record of a group tells anything beside the verdict
+pub has_news : (place : ℕ) (before : List Record) (r : Record) (conn : ConnId) (g : List ℕ)
+    → (is_allowed r.verdict && hears before r conn g r.entry.op) ≡ is_some (news place before r conn (Some g))
+has_news place before r conn g = by_case (is_allowed r.verdict)
+  where
+    by_case : (b : Bool) → (b && hears before r conn g r.entry.op) ≡ is_some (if b then news_by place before r conn g r.entry.op else None)
+    by_case true = sym (ap is_some (news_as place before r conn g r.entry.op) ∙ is_test (told_by place before r g r.entry.op) (hears before r conn g r.entry.op))
+    by_case false = refl
+
+-- one for each of the two that is there
+both_counted : (first : Bool) (verdict : Event) (said : Option Event) → length ((if first then verdict ∷ [] else []) ++ option_to_list said) ≡ from_bool first + from_bool (is_some said)
+both_counted true verdict (Some event) = refl
+both_counted true verdict None = refl
+both_counted false verdict (Some event) = refl
+both_counted false verdict None = refl
+
+pub events_counted : (records : List Record) (place : ℕ) (conn : ConnId) (r : Record) → record_at records place ≡ Some r
+    → length (events records place conn) ≡ from_bool (is_conn conn (conn_of r.entry)) + from_bool (is_some (news place (records_before records place) r conn r.group))
+events_counted records place conn r there =
+    ap length (ap (events_by place (records_before records place) conn) there)
+    ∙ both_counted (is_conn conn (conn_of r.entry)) (Verdict place r.verdict) (news place (records_before records place) r conn r.group)

@@ -105,3 +105,22 @@ shown_groups kept rs asker sorted current apart moved order =
             (Contains-permutation (names_of kept) sorted g moved (members_named kept rs g current h.0))),
       );
     }
+
+-- ---- where one is shown, and where none is
+
+pub shows_some : (rs : List Record) (asker : Asker) (g : List ℕ) → is_shown rs asker g ≡ true → ¬ AreGroups rs asker []
+shows_some rs asker g shown none =
+    let within = (none.exactly g).1 (shown_is (list_decision rs asker g) (members rs g) shown) in
+    let below = within.1 in
+    absurd (omega (arith, below))
+
+pub shows_none : (kept : Kept) (rs : List Record) (asker : Asker) → AreStanding kept rs → filter (is_shown rs asker) (names_of kept) ≡ [] → AreGroups rs asker []
+shows_none kept rs asker current none = record {
+  ascending = λ i j d below within. absurd (omega (arith, within));
+  exactly = λ g. (
+    (λ h. let below = h.1 in absurd (omega (arith, below))),
+    (λ h.
+        let shown : is_shown rs asker g ≡ true = is_shown_by (list_decision rs asker g) (members rs g) h.1.0 h.0 h.1.1 in
+        subst (λ (names : List (List ℕ)). Contains names g) none (Contains-filter (is_shown rs asker) (names_of kept) g shown (members_named kept rs g current h.0))),
+  );
+}

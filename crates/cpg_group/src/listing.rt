@@ -1,6 +1,6 @@
 //! What askers see of members and groups.
 
-ghost use Rattle.std.specs.Prelude.{◌≡◌, filter, IfOk, IsOkUnless};
+ghost use Rattle.std.specs.Prelude.{◌≡◌, [], filter, IfOk, OnErr, IsOkUnless};
 ghost use Rattle.std.specs.Option.{option_copied};
 ghost use Rattle.cpg_record.specs.Listings.{Answers, AreGroups, listing, processes};
 ghost use Rattle.cpg_record.specs.RuleTables.{rules_of};
@@ -92,7 +92,7 @@ pub(crate) fn list_members(
 }
 
 /// Whether the asker may list the group, and it has members.
-fn shows_group(records: &[Record], group: &Group, name: &[u8], asker: &Asker) -> bool
+pub(crate) fn shows_group(records: &[Record], group: &Group, name: &[u8], asker: &Asker) -> bool
     requires { group.now ≡ standing records.now name.now }
     ensures { result ≡ is_shown records.now asker.now name.now }
 {
@@ -134,7 +134,13 @@ pub(crate) fn list_groups(
     requires { AreStanding groups.now records.now }
     ensures ok { IfOk result (λ names. AreGroups records.now asker.now names) }
     ensures memory { IsOkUnless result Refusal.Memory }
+    ensures some { OnErr result (¬ AreGroups records.now asker.now []) }
 {
+    if !groups.shows_any(records, asker) {
+        return Ok(Names {
+            names: Vec::new(alloc),
+        });
+    }
     let mut kept = groups.names(alloc)?;
     kept.sort()?;
     let names = keep_shown(alloc, records, groups, kept, asker)?;

@@ -201,10 +201,12 @@ impl Policy {
         )
     }
 
-    /// The names of the groups with members that the asker may list, in the order of their bytes.
+    /// The names of the groups with members that the asker may list, in the order of their bytes. Memory is
+    /// asked for only where there is one.
     pub fn groups(&self, asker: Asker) -> Result<Names, Refusal>
         ensures ok { IfOk result (λ names. AreGroups (judged self.now) asker names) }
         ensures memory { IsOkUnless result Refusal.Memory }
+        ensures some { OnErr result (¬ AreGroups (judged self.now) asker []) }
     {
         listing::list_groups(
             *self.records.allocator(),
@@ -237,6 +239,14 @@ impl Policy {
             place,
             &conn,
         )
+    }
+
+    /// How many events a judged place, from 1, has for a connection. Takes no memory.
+    pub fn count_at(&self, place: u32, conn: ConnId) -> usize
+        requires { (1 ≤ place) × (place ≤ length self.now) }
+        ensures { result ≡ length (events (judged self.now) place conn) }
+    {
+        telling::count_events(self.records.as_slice(), self.trails.of(&conn), place, &conn)
     }
 
     /// The least judged place above `after` that tells the connection anything, if there is one. Takes no

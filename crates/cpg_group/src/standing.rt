@@ -1,20 +1,22 @@
 //! How the groups stand, kept beside the records: each one's table, members and places.
 
-ghost use Rattle.std.specs.Prelude.{◌≡◌, List, ℕ, None, if◌then◌else◌, OnOk, OnErr, IfOk, IsOkUnless};
+ghost use Rattle.std.specs.Prelude.{◌≡◌, List, ℕ, [], true, false, None, if◌then◌else◌, OnOk, OnErr, IfOk, IsOkUnless};
 ghost use Rattle.std.specs.List.{IsDistinct};
 ghost use Rattle.std.specs.Map.{lookup};
 ghost use Rattle.std.specs.Option.{option_copied};
 ghost use Rattle.std.specs.Str.{bytes_eq};
+ghost use Rattle.cpg_record.specs.Listings.{AreGroups};
 ghost use Rattle.cpg_record.specs.RuleTables.{edited_by};
 ghost use Rattle.cpg_record.specs.Steps.{CanEditBy};
 ghost use Rattle.cpg_record.specs.Verdicts.{has_process};
-ghost use Rattle.cpg_group.specs.Standing.{kept_for, kept_group, names_of, changed, group_past, no_group, CanChange, CanTake};
+ghost use Rattle.cpg_group.specs.Standing.{kept_for, kept_group, names_of, changed, group_past, no_group, AreStanding, CanChange, CanTake};
 
+use crate::listing::shows_group;
 use crate::rosters::Roster;
 use cpg_cred::Refusal;
 use cpg_entry::{Call, Entry, Name, Op};
 use cpg_record::{Members, Record};
-use cpg_rules::Table;
+use cpg_rules::{Asker, Table};
 use indexmap::IndexMap;
 use std::alloc::Global;
 use std::marker::Model;
@@ -176,6 +178,22 @@ impl Groups {
             None => &self.none,
             Some(name) => self.of(name.as_slice()),
         }
+    }
+
+    /// Whether the asker may list a group that has members. Takes no memory.
+    #[tactic(auto, using(crate::proofs::Shown::shows_some))]
+    pub(crate) fn shows_any(&self, records: &[Record], asker: &Asker) -> bool
+        requires { AreStanding self.now records.now }
+        ensures none { result ≡ false → AreGroups records.now asker.now [] }
+        ensures some { result ≡ true → ¬ AreGroups records.now asker.now [] }
+    {
+        for name in self.kept.keys().as_slice() {
+            let name = name.as_slice();
+            if shows_group(records, self.of(name), name, asker) {
+                return true;
+            }
+        }
+        false
     }
 
     /// The names of the groups that are kept, each once.

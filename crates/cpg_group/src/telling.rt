@@ -1,6 +1,6 @@
 //! What places tell connections.
 
-ghost use Rattle.std.specs.Prelude.{◌≡◌, ◌≢◌, ◌≤◌, [], None, length, IfOk, OnErr, IsOkUnless};
+ghost use Rattle.std.specs.Prelude.{◌≡◌, ◌≢◌, ◌≤◌, [], None, is_some, length, IfOk, OnErr, IsOkUnless};
 ghost use Rattle.std.specs.Option.{option_copied};
 ghost use Rattle.cpg_record.specs.Connections.{conn_of};
 ghost use Rattle.cpg_record.specs.Events.{events, hears_change, moves_of, news, news_by};
@@ -165,6 +165,43 @@ fn tell_news(
             }
         }
     }
+}
+
+/// Whether a record tells a connection of the group `earlier` anything beside the verdict.
+#[tactic(auto, using(crate::proofs::Hearing::has_news))]
+fn has_news(
+    records: &[Record],
+    place: u32,
+    past: &Record,
+    conn: &ConnId,
+    earlier: Option<&Name>,
+) -> bool
+    requires { option_copied earlier ≡ group_of (records_before records.now place) conn.now }
+    ensures { result ≡ is_some (news place (records_before records.now place) past.now conn.now past.now.group) }
+{
+    match &past.group {
+        None => false,
+        Some(group) => {
+            past.verdict.is_allowed()
+                && is_told(records, place, past, conn, earlier, group.as_slice())
+        }
+    }
+}
+
+/// How many events the place has for the connection of the trail.
+#[tactic(auto, using(crate::proofs::Passed::record_at_index, crate::proofs::Hearing::events_counted))]
+pub(crate) fn count_events(records: &[Record], trail: &[Stop], place: u32, conn: &ConnId) -> usize
+    requires place { (1 ≤ place) × (place ≤ length records.now) }
+    requires judged { AreJudged records.now }
+    requires trail { IsTrail records.now conn.now trail.now }
+    ensures { result ≡ length (events records.now place conn.now) }
+{
+    let index = place as usize - 1;
+    let past = &records[index];
+    let earlier = find_group(records, trail, index);
+    let own = conn.is(&ConnId::of(&past.entry));
+    let heard = has_news(records, place, past, conn, earlier);
+    usize::from(own) + usize::from(heard)
 }
 
 /// The events of a place for the connection of the trail.

@@ -1,10 +1,11 @@
 //! Calls in short words.
 
+use crate::short::Short;
 use cpg_entry::{Call, Cred, Entry, Message, Name, NodeId, Op, Refusal, Rule};
 use std::alloc::Global;
 
 /// A connection with its process and credentials.
-#[derive(Debug, Clone, Copy)]
+#[derive(Clone, Copy)]
 pub struct Source {
     pub node: u8,
     pub conn: u16,
@@ -13,7 +14,7 @@ pub struct Source {
 }
 
 /// What a connection asks, with the names as text.
-#[derive(Debug, Clone, Copy)]
+#[derive(Clone, Copy)]
 pub enum Ask {
     Join(&'static str),
     Leave,
@@ -74,4 +75,13 @@ pub fn entry(alloc: Global, from: &Source, ask: &Ask) -> Result<Entry, Refusal> 
         cred: cred(from.uid),
         op: op(alloc, ask)?,
     })
+}
+
+/// The refusal of a call that gave the entry back, if that is the one that was handed in.
+pub fn short_of_entry(back: &Entry, handed: &Entry, refusal: Refusal) -> Result<Short, Refusal> {
+    if back.equals(handed) {
+        Err(refusal)
+    } else {
+        Ok(Short::Lost)
+    }
 }

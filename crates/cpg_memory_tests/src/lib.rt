@@ -8,13 +8,21 @@ mod again;
 #[cfg(test)]
 mod boards;
 #[cfg(test)]
+mod confs;
+#[cfg(test)]
+mod copies;
+#[cfg(test)]
 mod entering;
+#[cfg(test)]
+mod frames;
 #[cfg(test)]
 mod links;
 #[cfg(test)]
 mod nodes;
 #[cfg(test)]
 mod policies;
+#[cfg(test)]
+mod rings;
 #[cfg(test)]
 mod runs;
 #[cfg(test)]
@@ -23,6 +31,8 @@ mod short;
 mod stations;
 #[cfg(test)]
 mod tables;
+#[cfg(test)]
+mod wires;
 #[cfg(test)]
 mod worlds;
 

@@ -2,6 +2,7 @@
 
 use crate::again::{Row, Stop, Tried, goes_on, plays};
 use crate::entering::{Ask, call, cred, node};
+use crate::frames::{FIRST, JOIN_APP, JOIN_DB};
 use crate::short::{Short, event_in_short};
 use cpg_cred::{AcceptList, By, Refusal, Refused};
 use cpg_entry::Call;
@@ -38,7 +39,7 @@ pub enum Step {
 }
 
 /// What a submit is answered; the call that comes back is the one that was handed in.
-fn submitted(answer: Result<(), Refused<Call>>, handed: &Call) -> Result<Short, Refusal> {
+pub fn submitted(answer: Result<(), Refused<Call>>, handed: &Call) -> Result<Short, Refusal> {
     match answer {
         Ok(()) => Ok(Short::Done),
         Err(refused) => {
@@ -201,27 +202,10 @@ fn full_queue(rt: HostRuntime) -> Result<(), Fail> {
     Ok(())
 }
 
-/// A join of `db` at place 1 by connection 1 of node 1, whose process is 40.
-const JOIN_DB: [u8; 30] = [
-    0x43, 2, 1, 0, 0, 0, 1, 0, 0, 0, 1, 1, 0, 1, 0, 0, 0, 40, 0, 0, 0, 7, 0, 0, 0, 100, 1, 2, b'd',
-    b'b',
-];
-
-/// A join of `app` at place 2 by connection 2 of node 1.
-const JOIN_APP: [u8; 31] = [
-    0x43, 2, 1, 0, 0, 0, 1, 0, 0, 0, 2, 1, 0, 2, 0, 0, 0, 41, 0, 0, 0, 7, 0, 0, 0, 100, 1, 3, b'a',
-    b'p', b'p',
-];
-
 /// A rule at place 3, put in by user 0 at node 2: user 8 may not list `db`.
 const DENY_LIST: [u8; 39] = [
     0x43, 2, 1, 0, 0, 0, 1, 0, 0, 0, 3, 2, 0, 1, 0, 0, 0, 50, 0, 0, 0, 0, 0, 0, 0, 0, 4, 2, b'd',
     b'b', 0, 2, 3, 1, 1, 0, 0, 0, 8,
-];
-
-/// The first token of ring 1.
-const FIRST: [u8; 25] = [
-    0x43, 2, 2, 0, 0, 0, 1, 0, 0, 0, 0, 0, 0, 0, 0, 0, 0, 0, 0, 0, 0, 0, 0, 0, 0,
 ];
 
 /// Two joins and a rule that node 1 of 2 hears, and what askers are shown of them.

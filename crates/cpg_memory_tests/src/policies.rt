@@ -1,7 +1,7 @@
 //! Rows of a policy.
 
 use crate::again::{Row, Stop, Tried, goes_on, plays};
-use crate::entering::{Ask, Source, entry, node};
+use crate::entering::{Ask, Source, entry, node, short_of_entry};
 use crate::short::Short;
 use crate::tables::{MEMBER, ROOT, deny, let_edit, member_by};
 use cpg_cred::{By, Cred, NodeId, Refusal};
@@ -26,6 +26,8 @@ pub enum Step {
     EventsAt(u32),
     /// Whether the records are verified.
     Verify,
+    /// Whether a copy of the table of `db` has its one rule.
+    CopyTable,
 }
 
 /// Whether the record that came back is the one that was handed in.
@@ -48,15 +50,6 @@ fn apply(alloc: Global, policy: &mut Policy, entry: &Entry) -> Result<Short, Ref
     match policy.apply(next) {
         Ok(()) => Ok(Short::Judged(verdict)),
         Err(refused) => short_of_record(&refused.back, &handed, refused.refusal),
-    }
-}
-
-/// Whether the entry that came back is the one that was handed in.
-fn short_of_entry(back: &Entry, handed: &Entry, refusal: Refusal) -> Result<Short, Refusal> {
-    if back.equals(handed) {
-        Err(refusal)
-    } else {
-        Ok(Short::Lost)
     }
 }
 
@@ -105,6 +98,17 @@ pub fn rejoined(alloc: Global) -> Result<Policy, Refusal> {
     entered(alloc, asked.as_slice())
 }
 
+/// A policy with a join, a rule against it, a message and a leave.
+pub fn left_and_denied(alloc: Global) -> Result<Policy, Refusal> {
+    let asked = [
+        (MEMBER, JOIN),
+        (ROOT, deny(0, Right::Join, Who::uid(7))),
+        (MEMBER, Ask::Send("hi")),
+        (MEMBER, Ask::Leave),
+    ];
+    entered(alloc, asked.as_slice())
+}
+
 /// A policy with a join, and one by another connection of the same process.
 pub fn twice(alloc: Global) -> Result<Policy, Refusal> {
     let asked = [(MEMBER, JOIN), (member_by(1, 2), JOIN)];
@@ -141,6 +145,16 @@ fn count_groups(policy: &Policy, uid: u32) -> Result<Short, Refusal> {
     Ok(Short::Count(names.as_slice().len()))
 }
 
+fn copy_table(alloc: Global, policy: &Policy) -> Result<Short, Refusal> {
+    match policy.table(b"db") {
+        None => Ok(Short::Count(0)),
+        Some(table) => {
+            let copy = table.copy(alloc)?;
+            Ok(Short::Is(copy.len() == 1 && copy.get(0) == table.get(0)))
+        }
+    }
+}
+
 /// What the policy's lists and next places say beside its records.
 fn index_of(policy: &Policy, alloc: Global) -> Result<String, Refusal> {
     let table = policy.table(b"db");
@@ -160,6 +174,7 @@ impl Tried for Policy {
             Step::Groups(uid) => count_groups(self, *uid),
             Step::EventsAt(place) => count_events(self, *place),
             Step::Verify => Ok(Short::Is(verify(alloc, self.records())?)),
+            Step::CopyTable => copy_table(alloc, self),
         }
     }
 
@@ -279,6 +294,7 @@ impl Row for EditRights {
                 denied(Reason::Absent),
             ),
             (Step::Enter(NINE, Ask::Remove("db", 3)), BY_RULE),
+            (Step::CopyTable, Short::Is(true)),
         ];
         play(alloc, steps.as_slice())
     }
@@ -287,6 +303,53 @@ impl Row for EditRights {
 #[test]
 fn edit_rights(rt: HostRuntime) -> Result<(), Fail> {
     plays(&EditRights, rt.alloc())?;
+    Ok(())
+}
+
+/// Processes that join `db`, each by a connection of its own.
+fn joiner(conn: u16) -> Source {
+    Source {
+        node: 1,
+        conn,
+        pid: u32::from(conn),
+        uid: 7,
+    }
+}
+
+/// A policy whose group has so many members, or a table of so many rules behind that of its first member.
+fn filled(alloc: Global, members: u16, rules: u16) -> Result<Policy, Refusal> {
+    let mut policy = Policy::new(alloc);
+    for conn in 1..=members {
+        enter(alloc, &mut policy, entry(alloc, &joiner(conn), &JOIN)?)?;
+    }
+    for _ in 0..rules {
+        enter(alloc, &mut policy, entry(alloc, &ROOT, &no_sends())?)?;
+    }
+    Ok(policy)
+}
+
+/// The 129th member and the 65th rule.
+struct GroupAndTable;
+
+impl Row for GroupAndTable {
+    fn play(&self, alloc: Global) -> Result<(), Stop> {
+        let mut full = filled(alloc, 127, 63)?;
+        let steps = [
+            (Step::Apply(joiner(128), JOIN), ALLOWED),
+            (Step::Apply(joiner(129), JOIN), denied(Reason::Full)),
+            (
+                Step::Enter(ROOT, no_sends()),
+                Short::Judged(Verdict::Allowed(By::Root)),
+            ),
+            (Step::Enter(ROOT, no_sends()), denied(Reason::TableFull)),
+        ];
+        goes_on(&mut full, alloc, steps.as_slice())
+    }
+}
+
+#[test]
+fn full_group_and_table(rt: HostRuntime) -> Result<(), Fail> {
+    plays(&GroupAndTable, rt.alloc())?;
     Ok(())
 }
 

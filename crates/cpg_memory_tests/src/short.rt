@@ -1,10 +1,10 @@
 //! What calls are answered, in short.
 
-use cpg_cred::{NodeId, Refusal};
+use cpg_cred::{NodeId, Refusal, Via};
 use cpg_record::{Event, Verdict};
 
 /// An answer in short: of an event its place, of a listing how many it lists.
-#[derive(Debug, Clone, Copy, PartialEq, Eq)]
+#[derive(Clone, Copy, PartialEq, Eq)]
 pub enum Short {
     Done,
     Connected(u16),
@@ -19,6 +19,10 @@ pub enum Short {
     Rules(u32),
     NoEvent,
     Is(bool),
+    /// What lets somebody in.
+    Lets(Via),
+    /// How many packets a visit sends, the token's places, and how many places it asks for.
+    Sent(usize, u32, u32, usize),
     Refused(Refusal),
     /// What was given back is not what was handed in.
     Lost,

@@ -1,23 +1,22 @@
-//! A station that meets Memory once its judgement stands on the board.
+//! A station's calls, and its delivery that meets Memory once the judgement stands on the board.
 
 ghost use Rattle.std.specs.Prelude.{◌≡◌, [], IfOk};
 ghost use Rattle.cpg_board.specs.Seats.{IsSeatOf};
 ghost use Rattle.cpg_station.specs.Stations.{audit_of};
 
-use crate::again::{Row, Stop, plays};
+use crate::again::{Row, Stop, Tried, goes_on, plays};
 use crate::entering::{Ask, call, cred};
+use crate::frames::FIRST;
+use crate::nodes::submitted;
+use crate::short::{Short, event_in_short};
 use cpg_board::{Board, Seat};
-use cpg_cred::{AcceptList, NodeId, Refusal, Refused};
+use cpg_cred::{AcceptList, By, NodeId, Refusal, Refused};
 use cpg_node::{Node, Settings};
+use cpg_record::Verdict;
 use cpg_station::{BoardName, Station};
 use std::alloc::Global;
 use std::marker::Brand;
 use std::test::Fail;
-
-/// The first token of ring 1.
-const FIRST: [u8; 25] = [
-    0x43, 2, 2, 0, 0, 0, 1, 0, 0, 0, 0, 0, 0, 0, 0, 0, 0, 0, 0, 0, 0, 0, 0, 0, 0,
-];
 
 /// The refusal alone.
 fn refusal_in<T: Drop>(refused: Refused<T>) -> Refusal {
@@ -45,20 +44,78 @@ fn new_station<B: BoardName>(alloc: Global, board: &Board) -> Result<Station<B>,
     }
 }
 
-/// Connection 1 asks that.
-fn submit<B: BoardName>(alloc: Global, station: &mut Station<B>, ask: &Ask) -> Result<(), Refusal> {
-    let call = call(alloc, ask)?;
-    station
-        .submit(1, call)
-        .map_err(|refused| refusal_in(refused))
+/// A call of a station that needs no board.
+#[derive(Clone, Copy)]
+pub enum Step {
+    /// A process of that pid and user connects.
+    Connect(u32, u32),
+    /// Connection 1 asks that.
+    Submit(Ask),
+    /// The frame of these bytes comes.
+    Frame(&'static [u8]),
+    Timer,
+    /// Connection 1 takes its next event.
+    Take,
+    /// It lists the members of the group.
+    List(&'static str),
+    /// It lists the groups.
+    Groups,
+    /// It ends.
+    End,
 }
 
-/// A process of user 0 joins `db` and says `hi`, and both take their places.
-fn place_two<B: BoardName>(alloc: Global, station: &mut Station<B>) -> Result<usize, Refusal> {
-    station.connect(40, cred(0))?;
-    submit(alloc, station, &Ask::Join("db"))?;
-    submit(alloc, station, &Ask::Send("hi"))?;
-    Ok(station.frame(FIRST.as_slice())?.as_slice().len())
+/// Connection 1 asks that; the call that comes back is the one that was handed in.
+fn submit<B: BoardName>(
+    alloc: Global,
+    station: &mut Station<B>,
+    ask: &Ask,
+) -> Result<Short, Refusal> {
+    let handed = call(alloc, ask)?;
+    let answer = station.submit(1, handed.copy(alloc)?);
+    submitted(answer, &handed)
+}
+
+fn take<B: BoardName>(station: &mut Station<B>) -> Result<Short, Refusal> {
+    match station.take(1)? {
+        Some(event) => Ok(event_in_short(&event)),
+        None => Ok(Short::NoEvent),
+    }
+}
+
+fn count_members<B: BoardName>(station: &Station<B>, group: &str) -> Result<Short, Refusal> {
+    let list = station.list(1, group.as_bytes())?;
+    Ok(Short::Count(list.as_slice().len()))
+}
+
+fn count_groups<B: BoardName>(station: &Station<B>) -> Result<Short, Refusal> {
+    let names = station.groups(1)?;
+    Ok(Short::Count(names.as_slice().len()))
+}
+
+fn end<B: BoardName>(station: &mut Station<B>) -> Result<Short, Refusal> {
+    station.disconnect(1)?;
+    Ok(Short::Done)
+}
+
+impl<B: BoardName> Tried for Station<B> {
+    type Step = Step;
+
+    fn make(&mut self, alloc: Global, step: &Step) -> Result<Short, Refusal> {
+        match step {
+            Step::Connect(pid, uid) => Ok(Short::Connected(self.connect(*pid, cred(*uid))?)),
+            Step::Submit(ask) => submit(alloc, self, ask),
+            Step::Frame(bytes) => Ok(Short::Count(self.frame(bytes)?.as_slice().len())),
+            Step::Timer => Ok(Short::Is(self.timer()?.is_some())),
+            Step::Take => take(self),
+            Step::List(group) => count_members(self, group),
+            Step::Groups => count_groups(self),
+            Step::End => end(self),
+        }
+    }
+
+    fn looks(&self, alloc: Global) -> Result<String, Refusal> {
+        looks(alloc, self)
+    }
 }
 
 /// What can be seen of the station.
@@ -137,9 +194,6 @@ fn deliver_two<B: BoardName>(
 ) -> Result<(), Stop>
     requires { board.now ≡ B.cells }
 {
-    if place_two(alloc, station)? != 3 {
-        return Err(Stop::Wrong(1));
-    }
     deliver(alloc, board, station, 1)?;
     deliver(alloc, board, station, 2)?;
     match station.deliver(board) {
@@ -148,12 +202,36 @@ fn deliver_two<B: BoardName>(
     }
 }
 
+/// A process of user 0 joins `db` and says `hi`, and both take their places.
+const PLACED: [(Step, Short); 5] = [
+    (Step::Timer, Short::Is(true)),
+    (Step::Connect(40, 0), Short::Connected(1)),
+    (Step::Submit(Ask::Join("db")), Short::Done),
+    (Step::Submit(Ask::Send("hi")), Short::Done),
+    (Step::Frame(&FIRST), Short::Count(3)),
+];
+
+const ALLOWED: Verdict = Verdict::Allowed(By::Default);
+
+/// What it is told of them, and what it lists.
+const TOLD: [(Step, Short); 7] = [
+    (Step::Take, Short::Verdict(1, ALLOWED)),
+    (Step::Take, Short::Change(1, 1, 0, 1)),
+    (Step::Take, Short::Verdict(2, ALLOWED)),
+    (Step::List("db"), Short::Count(1)),
+    (Step::Groups, Short::Count(1)),
+    (Step::End, Short::Done),
+    (Step::End, Short::Refused(Refusal::NoConnection)),
+];
+
 /// The row at one board.
 fn play_at<B: BoardName>(alloc: Global, board: &Board) -> Result<(), Stop>
     requires { board.now ≡ B.cells }
 {
     let mut station = new_station::<B>(alloc, board)?;
-    deliver_two(alloc, board, &mut station)
+    goes_on(&mut station, alloc, PLACED.as_slice())?;
+    deliver_two(alloc, board, &mut station)?;
+    goes_on(&mut station, alloc, TOLD.as_slice())
 }
 
 /// The row at a board of two.

@@ -1,6 +1,6 @@
 -- Seeking from a cursor on, and that cursors stay right while more is judged.
 use Rattle.std.proofs.Common.{get_or, ◌≡◌, ℕ, zero, suc, ◌+◌, ◌-◌, ◌<◌, ◌≤◌, List, [], ◌∷◌, ◌++◌, length, take, Some, None, Result, Ok, Err, OnErr, refl, sym, ap, ◌∙◌, subst, arith, All, length-append}
-use Rattle.std.specs.Prelude.{OnOk}
+use Rattle.std.specs.Prelude.{OnOk, IsSome}
 use Rattle.std.specs.List.{flat_map, range_with_len, slice_get}
 use Rattle.std.proofs.lemmas.List.{take-append-le}
 use Rattle.std.proofs.lemmas.List.Sums.{fold-append}
@@ -93,14 +93,26 @@ events_after rs conn place list low is =
     is ∙ ap (λ p. events rs p conn) back
 
 -- the item of that index is one of its events
-pub event_at : (entries : List Entry) (cursor : Cursor) (place index : ℕ) (list : List Event) (e : Event) → IsCursor (judged entries) cursor → IsNextTold (judged entries) cursor.place cursor.conn place
-    → cursor.told ≤ index → list ≡ events (judged entries) place cursor.conn → index - cursor.told < length list → get_or list (index - cursor.told) e ≡ e
-    → Some e ≡ slice_get (inbox (judged entries) cursor.conn) index
-event_at entries cursor place index list e right next before is within at =
+pub item_at : (entries : List Entry) (cursor : Cursor) (place index : ℕ) → IsCursor (judged entries) cursor → IsNextTold (judged entries) cursor.place cursor.conn place
+    → cursor.told ≤ index → index - cursor.told < length (events (judged entries) place cursor.conn)
+    → slice_get (events (judged entries) place cursor.conn) (index - cursor.told) ≡ slice_get (inbox (judged entries) cursor.conn) index
+item_at entries cursor place index right next before within =
     let low = (next_within entries cursor.place cursor.conn place next).0 in
     let below = next.within in
-    told_at (judged entries) cursor.conn (length (judged entries)) (place - 1) cursor.told index list e (omega (arith, low, below)) refl
-    (counted_to (judged entries) cursor place right next) before (events_after (judged entries) cursor.conn place list low is) within at
+    let list = events (judged entries) place cursor.conn in
+    told_at (judged entries) cursor.conn (length (judged entries)) (place - 1) cursor.told index list (omega (arith, low, below)) refl
+    (counted_to (judged entries) cursor place right next) before (events_after (judged entries) cursor.conn place list low refl) within
+
+-- what holds whatever is answered
+pub whatever : {X E P : Type 0} (answer : Result X E) → P → OnErr answer P
+whatever (Ok x) p = tt
+whatever (Err e) p = p
+
+-- an item within the list is there
+pub item_there : {X : Type 0} (xs : List X) (i : ℕ) → i < length xs → IsSome (slice_get xs i)
+item_there [] i within = absurd (omega (arith, within))
+item_there (x ∷ xs) zero within = refl
+item_there (x ∷ xs) (suc i) within = item_there xs i (omega (arith, within))
 
 -- a place tells at most two events
 pub few_at : (rs : List Record) (conn : ConnId) (place : ℕ) (list : List Event) → list ≡ events rs place conn → length list ≤ 2

@@ -88,15 +88,15 @@ told_count rs conn i before list counted is =
     let told : ℕ → List Event = λ place. events rs place conn in
     sym (ap length (told_more told i) ∙ (length-append (flat_map told (range_with_len 1 i)) (told (1 + i)) ∙ (ap (λ n. n + length (told (1 + i))) (sym counted) ∙ ap (λ l. before + length l) (ap told (one_more i) ∙ sym is))))
 
--- the event of an index that place i + 1 tells
-pub told_at : (rs : List Record) (conn : ConnId) (n i before index : ℕ) (list : List Event) (e : Event) → i < n → n ≡ length rs → before ≡ length (flat_map (λ place. events rs place conn) (range_with_len 1 i)) → before ≤ index → list ≡ events rs (i + 1) conn → index - before < length list → get_or list (index - before) e ≡ e → Some e ≡ slice_get (inbox rs conn) index
-told_at rs conn n i before index list e below all counted passed is within at =
+-- the item of an index that place i + 1 tells
+pub told_at : (rs : List Record) (conn : ConnId) (n i before index : ℕ) (list : List Event) → i < n → n ≡ length rs → before ≡ length (flat_map (λ place. events rs place conn) (range_with_len 1 i)) → before ≤ index → list ≡ events rs (i + 1) conn → index - before < length list → slice_get list (index - before) ≡ slice_get (inbox rs conn) index
+told_at rs conn n i before index list below all counted passed is within =
     let told : ℕ → List Event = λ place. events rs place conn in
     let same : list ≡ told (1 + i) = is ∙ ap told (sym (one_more i)) in
     let j : ℕ = index - before in
     let whole : length (flat_map told (range_with_len 1 i)) + j ≡ index = let c = counted in omega arith in
     let inside : j < length (told (1 + i)) = subst (λ l. j < length l) same within in
-    sym (ap (slice_get (inbox rs conn)) (sym whole) ∙ (told_item told (length rs) i j (let a = all in omega arith) inside ∙ (ap (λ l. slice_get l j) (sym same) ∙ (slice_get-get_or list j e within ∙ ap Some at))))
+    sym (ap (slice_get (inbox rs conn)) (sym whole) ∙ (told_item told (length rs) i j (let a = all in omega arith) inside ∙ ap (λ l. slice_get l j) (sym same)))
 
 -- past the last place nothing is told
 pub told_end : (rs : List Record) (conn : ConnId) (n i before index : ℕ) → n ≡ length rs → n ≤ i → i ≤ n → before ≡ length (flat_map (λ place. events rs place conn) (range_with_len 1 i)) → before ≤ index → None ≡ slice_get (inbox rs conn) index

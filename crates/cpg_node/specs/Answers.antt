@@ -1,5 +1,5 @@
 -- What a call may answer where memory may be refused.
-use Rattle.std.specs.Prelude.{◌≡◌, ℕ, List, map, Option, Some, None, Result, Ok, Err, option_map}
+use Rattle.std.specs.Prelude.{◌≡◌, ℕ, List, [], map, Option, Some, None, IsSome, Result, Ok, Err, option_map}
 use Rattle.cpg_cred.specs.Listed.{Listed}
 use Rattle.cpg_cred.specs.declared.refusals.Refusal.TheVariants as refusal
 use Rattle.cpg_cred.specs.declared.refusals.Refused.{Refused}
@@ -36,30 +36,30 @@ CanBeSpelled f = IsFrame f × FrameFits f
 abbrev pub spelled : List Frame → List (List ℕ)
 spelled frames = map (spelling Two) frames
 
--- What `frame` answers, and the node after it: Malformed exactly where nothing is spelled, Memory only where something is, else
--- the first refusal that fits, or what is sent. A refusal leaves the node as it was.
+-- What `frame` answers, and the node after it: Malformed exactly where nothing is spelled, else the first refusal that fits, or
+-- what is sent; Memory only where no refusal fits. A refusal leaves the node as it was.
 abbrev pub IsFrameAnswer : {X : Type 0} → (X → List (List ℕ)) → NodeValue → Option Frame → Result X Refusal → NodeValue → Type 0
 IsFrameAnswer items x None answer new = (answer ≡ Err refusal.Malformed) × (new ≡ x)
 IsFrameAnswer items x (Some f) (Ok bytes) new = (frame_refusal x f ≡ None) × (items bytes ≡ spelled (answers_to x f)) × (new ≡ after_frame x f)
-IsFrameAnswer items x (Some f) (Err refusal.Memory) new = new ≡ x
+IsFrameAnswer items x (Some f) (Err refusal.Memory) new = (frame_refusal x f ≡ None) × (new ≡ x)
 IsFrameAnswer items x (Some f) (Err why) new = (frame_refusal x f ≡ Some why) × (new ≡ x)
 
--- What `take` answers: NoConnection, or the next event; or Memory in its place.
+-- What `take` answers: NoConnection, or the next event; or Memory in the place of one that is there.
 abbrev pub IsTakeAnswer : NodeValue → ℕ → Option Client → Result (Option Event) Refusal → Type 0
 IsTakeAnswer x conn None answer = answer ≡ Err refusal.NoConnection
 IsTakeAnswer x conn (Some c) (Ok event) = event ≡ next_event x conn c
-IsTakeAnswer x conn (Some c) (Err why) = why ≡ refusal.Memory
+IsTakeAnswer x conn (Some c) (Err why) = (why ≡ refusal.Memory) × IsSome (next_event x conn c)
 
 -- What `list` answers: NoConnection, the denial, the listing; or Memory in its place.
 abbrev pub IsListAnswer : NodeValue → List ℕ → Option Client → Result (List (ℕ × ℕ)) Refusal → Type 0
 IsListAnswer x g None answer = answer ≡ Err refusal.NoConnection
 IsListAnswer x g (Some c) answer = Answers (list_for x c g) answer
 
--- What `groups` answers: NoConnection, the names; or Memory in their place.
+-- What `groups` answers: NoConnection, the names; or Memory in the place of some.
 abbrev pub IsGroupsAnswer : NodeValue → Option Client → Result (List (List ℕ)) Refusal → Type 0
 IsGroupsAnswer x None answer = answer ≡ Err refusal.NoConnection
 IsGroupsAnswer x (Some c) (Ok names) = AreGroups (records_of x) (asker_by x c) names
-IsGroupsAnswer x (Some c) (Err why) = why ≡ refusal.Memory
+IsGroupsAnswer x (Some c) (Err why) = (why ≡ refusal.Memory) × ¬ AreGroups (records_of x) (asker_by x c) []
 
 -- what is told of an open connection
 abbrev pub connection_of : NodeValue → ℕ → Option Connection

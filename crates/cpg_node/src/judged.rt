@@ -110,6 +110,7 @@ impl Judged {
         ensures ok { IfOk result (λ event. event ≡ slice_get (inbox (judged self.old) conn) index) }
         ensures few { IfOk result (λ event. IsSome event → index < 2097152) }
         ensures memory { IsOkUnless result Refusal.Memory }
+        ensures some { OnErr result (IsSome (slice_get (inbox (judged self.old) conn) index)) }
     {
         let from = self.cursor_for(conn, index);
         let sought = seek(alloc, &self.policy, from, index)?;

@@ -11,8 +11,10 @@ ghost use Rattle.cpg_wire.specs.declared.codes.Version.TheVariants.{Two};
 ghost use Rattle.cpg_ring.specs.States.{safe_mark};
 ghost use Rattle.cpg_wire.specs.Reading.{frame_of};
 ghost use Rattle.cpg_wire.specs.Spelling.{spelling};
+ghost use Rattle.cpg_wire.specs.Views.{frame_seen};
+ghost use Rattle.cpg_entry.specs.Ranges.{IsFrame};
 ghost use Rattle.cpg_node.specs.Nodes.{records_of, open_client, new_value, conn_id};
-ghost use Rattle.cpg_node.specs.Calls.{connect_refusal, connected, submit_refusal, submitted, closed_refusal, disconnected, answers_to, next_place, next_record, delivered, next_event, took};
+ghost use Rattle.cpg_node.specs.Calls.{connect_refusal, connected, submit_refusal, submitted, closed_refusal, disconnected, frame_refusal, answers_to, next_place, next_record, delivered, next_event, took};
 ghost use Rattle.cpg_node.specs.Answers.{CanBeSpelled, IsNodeMade, IsFrameAnswer, IsListAnswer, IsGroupsAnswer, IsTakeAnswer, connection_of};
 
 use crate::clients::{open_client, put_client};
@@ -26,7 +28,7 @@ use cpg_entry::{Call, Entry, Frame, MOST_CONNECTIONS, Op, Token, token_fits};
 use cpg_group::{ConnId, Event, Names, Processes, Record};
 use cpg_ring::{Ring, Settings};
 use cpg_rules::{Asker, Table};
-use cpg_wire::{decode, encode_token};
+use cpg_wire::{FrameView, encode_token};
 use std::alloc::Global;
 use std::marker::Model;
 
@@ -173,14 +175,25 @@ impl Node {
         }
     }
 
-    /// Hears a frame, and gives what is to be sent: the packets of the token's visit, then the token.
-    pub fn frame(&mut self, bytes: &[u8]) -> Result<Vec<Bytes>, Refusal>
-        ensures answer { IsFrameAnswer (λ list. list.items) self.old (frame_of bytes.now) result self.new }
+    /// Why the frame is refused, if it is.
+    fn frame_refusal(&self, view: &FrameView<'_>) -> Option<Refusal>
+        ensures { result ≡ frame_refusal self.now (frame_seen view.now) }
+    {
+        match view {
+            FrameView::Packet(packet) => self.ring.data_refusal(packet.ring, packet.place),
+            FrameView::Token(token) => self.ring.token_refusal(token.ring, token.hop, token.seq),
+        }
+    }
+
+    /// Hears a frame that was read.
+    fn hear(&mut self, frame: Frame) -> Result<Vec<Bytes>, Refusal>
+        requires { IsFrame frame }
+        ensures answer { IsFrameAnswer (λ list. list.items) self.old (Some frame) result self.new }
         ensures few { IfOk result (λ list. length list.items ≤ 41) }
-        ensures range { OnOk result (IfSome (frame_of bytes.now) (λ f. All CanBeSpelled (answers_to self.old f))) }
+        ensures range { OnOk result (All CanBeSpelled (answers_to self.old frame)) }
         ensures kept { records_of self.new ≡ records_of self.old }
     {
-        match decode(self.alloc, bytes)? {
+        match frame {
             Frame::Packet(packet) => {
                 hear_packet(&mut self.ring, packet)?;
                 Ok(Vec::new(self.alloc))
@@ -190,6 +203,24 @@ impl Node {
                 Ok(list)
             }
         }
+    }
+
+    /// Hears a frame, and gives what is to be sent: the packets of the token's visit, then the token. What is
+    /// refused for its numbers is not copied before, so it asks for no memory.
+    pub fn frame(&mut self, bytes: &[u8]) -> Result<Vec<Bytes>, Refusal>
+        ensures answer { IsFrameAnswer (λ list. list.items) self.old (frame_of bytes.now) result self.new }
+        ensures few { IfOk result (λ list. length list.items ≤ 41) }
+        ensures range { OnOk result (IfSome (frame_of bytes.now) (λ f. All CanBeSpelled (answers_to self.old f))) }
+        ensures kept { records_of self.new ≡ records_of self.old }
+    {
+        let Some(view) = FrameView::read(bytes) else {
+            return Err(Refusal::Malformed);
+        };
+        if let Some(refusal) = self.frame_refusal(&view) {
+            return Err(refusal);
+        }
+        let frame = view.copy(self.alloc)?;
+        self.hear(frame)
     }
 
     /// The node's last token sent, to be sent again.

@@ -48,7 +48,7 @@ pub newest_sent : (s : Settings) (w : World) (g : Good s w) → Contains w.sent 
 newest_sent s w g = (g.inv.tokens g.newest.hop g.newest g.inv.newest).1
 
 -- where the same tokens were sent the newest is the same
-same_newest : (s : Settings) (w v : World) (g : Good s w) (h : Good s v) → ((u : Token) → Contains w.sent (frame.Token u) → Contains v.sent (frame.Token u)) → ((u : Token) → Contains v.sent (frame.Token u) → Contains w.sent (frame.Token u)) → h.newest ≡ g.newest
+pub same_newest : (s : Settings) (w v : World) (g : Good s w) (h : Good s v) → ((u : Token) → Contains w.sent (frame.Token u) → Contains v.sent (frame.Token u)) → ((u : Token) → Contains v.sent (frame.Token u) → Contains w.sent (frame.Token u)) → h.newest ≡ g.newest
 same_newest s w v g h to from =
     let l : g.newest.hop ≤ h.newest.hop = most_hop s v h g.newest (to g.newest (newest_sent s w g)) in
     ⊎_elim
@@ -107,7 +107,7 @@ one_event s lost w v e Goal later is h = record {
   goal = subst Goal (sym is) h;
 }
 
-item_later : {X : Type 0} (xs ys : List X) (k : ℕ) (x : X) → slice_get ys k ≡ Some x → item (xs ++ ys) (suc (length xs + k)) ≡ Some x
+pub item_later : {X : Type 0} (xs ys : List X) (k : ℕ) (x : X) → slice_get ys k ≡ Some x → item (xs ++ ys) (suc (length xs + k)) ≡ Some x
 item_later [] ys k x e = let same : k ≡ 0 + k = omega arith in subst (λ j. slice_get ys j ≡ Some x) same e
 item_later (y ∷ xs) ys k x e = let same : suc (length xs + k) ≡ suc (length xs) + k = omega arith in subst (λ j. slice_get (y ∷ (xs ++ ys)) j ≡ Some x) same (item_later xs ys k x e)
 
@@ -167,7 +167,7 @@ next_visit s h (suc i) low high =
     (cases_lt i (h % s.nodes))
 
 -- what is asked for and held is sent again
-served_has : (s : Settings) (held : HeldPlaces) (asked : List ℕ) (place : ℕ) (e : Entry) → Contains asked place → get held place ≡ Some e → Contains (served s held asked) (record { ring = s.ring; place = place; entry = e })
+pub served_has : (s : Settings) (held : HeldPlaces) (asked : List ℕ) (place : ℕ) (e : Entry) → Contains asked place → get held place ≡ Some e → Contains (served s held asked) (record { ring = s.ring; place = place; entry = e })
 served_has s held [] place e c h = absurd (contains_none place c)
 served_has s held (q ∷ asked) place e c h = ⊎_elim
     (λ (same : q ≡ place). subst (λ k. Contains (cons_option (packet_at s held k) (served s held asked)) packet) (sym same) (subst (λ o. Contains (cons_option (option_map (λ e. record { ring = s.ring; place = place; entry = e }) o) (served s held asked)) packet) (sym h) (0, omega arith, refl)))

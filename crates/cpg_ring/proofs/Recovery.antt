@@ -24,7 +24,7 @@ record Level (s : Settings) (lost last top d : ℕ) (w : World) : Type 0 where
   whole : wanted_places w ≡ last
   low : (n : ℕ) (r : NodeState) → item w.nodes n ≡ Some r → d ≤ r.delivered
 
-same_node : (w : World) (n : ℕ) (r q : NodeState) → item w.nodes n ≡ Some r → item w.nodes n ≡ Some q → r ≡ q
+pub same_node : (w : World) (n : ℕ) (r q : NodeState) → item w.nodes n ≡ Some r → item w.nodes n ≡ Some q → r ≡ q
 same_node w n r q a b = same_Some r q (sym a ∙ b)
 
 abbrev level_after : (s : Settings) (lost last top d : ℕ) (w v : World) (l : Level s lost last top d w) (h : Hopped s lost w v l.alive) → hop_of l.alive < top → Level s lost last top d v
@@ -65,7 +65,7 @@ holds_after s lost w v a h m place le x = ⊎_elim
     (λ (apart : m ≢ node_of s (hop_of a)). (x.0, h.others m apart ∙ x.1, x.2))
     (cases_eq m (node_of s (hop_of a)))
 
-holds_or_lacks : (held : HeldPlaces) (place : ℕ) → Holds held place ⊎ (get held place ≡ None)
+pub holds_or_lacks : (held : HeldPlaces) (place : ℕ) → Holds held place ⊎ (get held place ≡ None)
 holds_or_lacks held place = by_value (get held place) refl
   where
     by_value : (o : Option Entry) → get held place ≡ o → Holds held place ⊎ (get held place ≡ None)

@@ -223,7 +223,7 @@ gets_data s w n r p g is sent None ok =
       own = f.own;
     }
 
-all_own : (n : ℕ) (entries : List Entry) → AllByRecursion (λ e. e.node ≡ n) entries → by_node n entries ≡ entries
+pub all_own : (n : ℕ) (entries : List Entry) → AllByRecursion (λ e. e.node ≡ n) entries → by_node n entries ≡ entries
 all_own n [] h = refl
 all_own n (e ∷ entries) h = ap (λ b. cond b (e ∷ by_node n entries) (by_node n entries)) (eq-eqb e.node n h.0) ∙ ap (λ l. e ∷ l) (all_own n entries h.1)
 
@@ -337,7 +337,7 @@ one_turn s w e g n =
     let next = kept s w e g in
     turn_is s (happens s w e) next.good n ∙ (next.turns n ∙ ap (λ l. l ++ admits w n e) (sym (turn_is s w g n)))
 
-all_turns : (s : Settings) (w : World) (events : List Event) → Good s w → (n : ℕ) → entries_of (run s w events) n ≡ entries_of w n ++ admitted s w n events
+pub all_turns : (s : Settings) (w : World) (events : List Event) → Good s w → (n : ℕ) → entries_of (run s w events) n ≡ entries_of w n ++ admitted s w n events
 all_turns s w [] g n = sym (append-nil (entries_of w n))
 all_turns s w (e ∷ events) g n =
     all_turns s (happens s w e) events (kept s w e g).good n

@@ -140,7 +140,7 @@ tours_quiet s w L n r new frames is alike t = record {
 node_apart : (s : Settings) (h k : ℕ) → h < k → node_of s h ≡ node_of s k → h + s.nodes ≤ k
 node_apart s h k l same = round_apart s.nodes h k l (omega arith)
 
-next_round : (s : Settings) (h : ℕ) → node_of s (h + s.nodes) ≡ node_of s h
+pub next_round : (s : Settings) (h : ℕ) → node_of s (h + s.nodes) ≡ node_of s h
 next_round s h = ap (λ m. m + 1) (add-mod_right h s.nodes)
 
 first_round : (s : Settings) (h : ℕ) → h < s.nodes → node_of s h ≡ suc h

@@ -4,6 +4,7 @@ pub mod Moves
 pub mod Worlds
 pub mod Claims
 pub mod Progress
+pub mod Fairness
 pub mod Laws
 pub mod Rings
 pub mod Answers

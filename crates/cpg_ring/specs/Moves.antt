@@ -5,14 +5,18 @@ use Rattle.cpg_cred.specs.declared.refusals.Refusal.TheVariants.{Foreign, Implau
 use Rattle.cpg_ring.specs.declared.settings.TheConstants.{WINDOW, MOST_WAITING}
 use Rattle.cpg_ring.specs.States.{Entry, Packet, Token, Refusal, Settings, NodeState, is_held, calls}
 
--- why a node refuses data, if it does: the first that fits
-abbrev pub data_refusal : Settings → NodeState → Packet → Option Refusal
-data_refusal s r p =
-    if not (p.ring == s.ring) then Some Foreign
-    else if nat_lt s.places p.place then Some Implausible
-    else if is_held r.held p.place then Some Held
-    else if nat_lt (r.delivered + WINDOW) p.place then Some FarAhead
+-- why a node refuses data of a ring for a place, if it does: the first that fits
+abbrev pub place_refusal : Settings → NodeState → ℕ → ℕ → Option Refusal
+place_refusal s r ring place =
+    if not (ring == s.ring) then Some Foreign
+    else if nat_lt s.places place then Some Implausible
+    else if is_held r.held place then Some Held
+    else if nat_lt (r.delivered + WINDOW) place then Some FarAhead
     else None
+
+-- which its ring and its place alone decide
+abbrev pub data_refusal : Settings → NodeState → Packet → Option Refusal
+data_refusal s r p = place_refusal s r p.ring p.place
 
 -- the node that holds the packet, too
 abbrev pub after_data : NodeState → Packet → NodeState

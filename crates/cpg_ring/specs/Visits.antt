@@ -21,15 +21,19 @@ is_past hop (Some last) = nat_le hop last
 abbrev pub is_implausible : Settings → NodeState → ℕ → Bool
 is_implausible s r seq = list_any (nat_lt seq) (keys r.held) || nat_lt s.places seq
 
--- why node n refuses a token, if it does: the first that fits
-abbrev pub token_refusal : Settings → ℕ → NodeState → Token → Option Refusal
-token_refusal s n r t =
-    if not (t.ring == s.ring) then Some Foreign
-    else if not (node_of s t.hop == n) then Some NotMine
-    else if is_past t.hop r.last_hop then Some Stale
-    else if is_implausible s r t.seq then Some Implausible
-    else if nat_le s.hops t.hop then Some RingEnd
+-- why node n refuses a token of a ring, a hop and a seq, if it does: the first that fits
+abbrev pub hop_refusal : Settings → ℕ → NodeState → ℕ → ℕ → ℕ → Option Refusal
+hop_refusal s n r ring hop seq =
+    if not (ring == s.ring) then Some Foreign
+    else if not (node_of s hop == n) then Some NotMine
+    else if is_past hop r.last_hop then Some Stale
+    else if is_implausible s r seq then Some Implausible
+    else if nat_le s.hops hop then Some RingEnd
     else None
+
+-- which these three numbers of it alone decide
+abbrev pub token_refusal : Settings → ℕ → NodeState → Token → Option Refusal
+token_refusal s n r t = hop_refusal s n r t.ring t.hop t.seq
 
 -- the packet of what is held at a place
 abbrev pub packet_at : Settings → HeldPlaces → ℕ → Option Packet

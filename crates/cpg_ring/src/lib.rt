@@ -2,7 +2,8 @@
 //!
 //! The token and its visits are those of Totem's single ring; burst, window and limits are this project's
 //! own. Proved: `every_schedule`, for every list of events, `no_dead_end`, that what is lost can be recovered,
-//! and that each call of `Ring` is the definition.
+//! `bounded_wait`, after how many hops it is where no more is lost, and that each call of `Ring` is the
+//! definition.
 #![tactic(auto)]
 
 mod held;
@@ -20,5 +21,7 @@ pub use cpg_entry::{
 };
 pub use ring::{Ring, are_settings};
 pub use settings::{BURST, MOST_WAITING, Settings, WINDOW};
-pub use theorem::{every_packet, every_place, every_schedule, every_visit, limits, no_dead_end};
+pub use theorem::{
+    bounded_wait, every_packet, every_place, every_schedule, every_visit, limits, no_dead_end,
+};
 pub use visit::{Packets, Visit};

@@ -7,7 +7,7 @@ ghost use Rattle.std.specs.Prelude.{None, ◌≡◌, ◌↔◌, ◌+◌, ◌≤�
 ghost use Rattle.std.specs.Option.{option_copied};
 ghost use Rattle.cpg_ring.specs.States.{IsSettings, is_held, is_call, calls, safe_mark};
 ghost use Rattle.cpg_ring.specs.Visits.{burst_size, is_past, placed, reach, next_requests, is_own_or_none, next_aru, next_aru_id, next_token};
-ghost use Rattle.cpg_ring.specs.Moves.{is_full, after_data, after_entry, after_delivery, next_entry};
+ghost use Rattle.cpg_ring.specs.Moves.{is_full, place_refusal, after_data, after_entry, after_delivery, next_entry};
 ghost use Rattle.cpg_entry.specs.Ranges.{IsToken};
 ghost use Rattle.cpg_ring.specs.Laws.{AllHeld};
 ghost use Rattle.cpg_ring.specs.Rings.{refusal_of, visit_of, visited, with_state, data_refusal_of, full_refusal};
@@ -181,19 +181,21 @@ impl Ring {
         }
     }
 
-    fn data_refusal(&self, packet: &Packet) -> Option<Refusal>
-        ensures { result ≡ data_refusal_of self.now packet.now }
+    /// Why data of that ring for that place is refused, if it is: the first that fits of Foreign,
+    /// Implausible, Held, FarAhead. It needs no memory, and no packet yet.
+    pub fn data_refusal(&self, ring: u32, place: u32) -> Option<Refusal>
+        ensures { result ≡ place_refusal self.now.settings self.now.state ring place }
     {
-        if packet.ring != self.settings.ring {
+        if ring != self.settings.ring {
             return Some(Refusal::Foreign);
         }
-        if self.settings.places < packet.place {
+        if self.settings.places < place {
             return Some(Refusal::Implausible);
         }
-        if self.held.holds(packet.place) {
+        if self.held.holds(place) {
             return Some(Refusal::Held);
         }
-        if self.held.delivered() + WINDOW < packet.place {
+        if self.held.delivered() + WINDOW < place {
             return Some(Refusal::FarAhead);
         }
         None
@@ -207,7 +209,7 @@ impl Ring {
         ensures err { OnErr result (self.new ≡ self.old) }
         ensures back { IfErr result (λ refused. refused.back ≡ packet) }
     {
-        if let Some(refusal) = self.data_refusal(&packet) {
+        if let Some(refusal) = self.data_refusal(packet.ring, packet.place) {
             return Err(Refused {
                 refusal,
                 back: packet,

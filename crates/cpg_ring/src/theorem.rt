@@ -1,6 +1,6 @@
 //! The theorem of the ring: what holds in every world that any list of events leads to.
 
-ghost use Rattle.std.specs.Prelude.{◌≡◌, ◌^◌, ℕ, None};
+ghost use Rattle.std.specs.Prelude.{◌≡◌, ◌<◌, ◌^◌, ℕ, None};
 ghost use Rattle.std.specs.List.{All};
 ghost use Rattle.cpg_ring.specs.States.{Settings, IsSettings, NodeState, Token, Packet};
 ghost use Rattle.cpg_ring.specs.Visits.{token_refusal, visit_step};
@@ -10,6 +10,7 @@ ghost use Rattle.cpg_ring.specs.Laws.{IsVisit, StaysHeld, IsOwnPacket};
 ghost use Rattle.cpg_ring.specs.Worlds.{World, Reached};
 ghost use Rattle.cpg_ring.specs.Claims.{Chain, Agreement, Safe, OnceInOrder};
 ghost use Rattle.cpg_ring.specs.Progress.{CatchesUp, DeliveredTo, HasHops, Recovers, hops_for};
+ghost use Rattle.cpg_ring.specs.Fairness.{Bounded, Fair, HasTurn, IsNewest};
 ghost use Rattle.cpg_ring.specs.declared.settings.TheConstants.{BURST, MOST_WAITING, WINDOW};
 
 /// Holds of every ring and every world that a list of events leads to: frames may be lost, come again
@@ -46,6 +47,14 @@ pub fn every_packet()
 pub fn no_dead_end()
     ensures catches_up { (s : Settings) (w : World) → IsSettings s → Reached s w → CatchesUp s w }
     ensures recovers { (s : Settings) (w : World) (done : ℕ) → IsSettings s → Reached s w → DeliveredTo w done → HasHops s w (hops_for s w done) → Recovers s w }
+{}
+
+/// Holds of every ring and every world that a list of events leads to. After so many good turns, in each of
+/// which the token makes one hop and no packet that is sent is lost, all is recovered and an entry has its
+/// place (`fair`). Below the last hop such a turn is possible (`has_turn`).
+pub fn bounded_wait()
+    ensures fair { (s : Settings) (w v : World) (turns : ℕ) → IsSettings s → Reached s w → Fair s turns w v → Bounded s w v turns }
+    ensures has_turn { (s : Settings) (w : World) (t : Token) → IsSettings s → Reached s w → IsNewest w t → t.hop < s.hops → HasTurn s w }
 {}
 
 /// The numbers of a ring: of a visit, of the queue, and of its settings.

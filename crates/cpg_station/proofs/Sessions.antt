@@ -76,7 +76,7 @@ said_take who before after s now result known up same kept answer = by_result re
 
     by_result : (r : Result (Option Event) Refusal) → IsTakeAnswer s.node who.id.conn (Some b.client) r → IsTakeFor who before now after r
     by_result (Ok event) is = over_front s before after (λ front. event ≡ slice_get (inbox front who.id) who.taken) up (is ∙ ap (λ (w : Connection). slice_get (inbox (audit_of s.node) w.id) w.taken) b.told)
-    by_result (Err why) is = subst (λ w. GivesNot now before w) (sym is) (stays_up s now before after up same kept)
+    by_result (Err why) is = subst (λ w. GivesNot now before w) (sym is.0) (stays_up s now before after up same kept)
 
 pub said_groups : (who : Connection) (before after : SeatValue) (s : StationValue) (result : Result (List (List ℕ)) Refusal) → IsKnown s.node who → BringsUp s before after
     → IsGroupsAnswer s.node (open_client s.node who.id.conn) result → IsGroupsFor who before s after result
@@ -87,7 +87,7 @@ said_groups who before after s result known up answer = by_result result (subst 
 
     by_result : (r : Result (List (List ℕ)) Refusal) → IsGroupsAnswer s.node (Some b.client) r → IsGroupsFor who before s after r
     by_result (Ok names) is = over_front s before after (λ front. AreGroups front (asker_of who) names) up (subst (λ a. AreGroups (audit_of s.node) a names) (client_asks s.node who b) is)
-    by_result (Err why) is = subst (λ w. GivesNot s before w) (sym is) (stays_up s s before after up refl refl)
+    by_result (Err why) is = subst (λ w. GivesNot s before w) (sym is.0) (stays_up s s before after up refl refl)
 
 pub said_list : (who : Connection) (g : List ℕ) (before after : SeatValue) (s : StationValue) (result : Result (List (ℕ × ℕ)) Refusal) → IsKnown s.node who → BringsUp s before after
     → IsListAnswer s.node g (open_client s.node who.id.conn) result → IsListFor who g before s after result

@@ -57,7 +57,9 @@ fn act(
 }
 
 /// Brings the event about, and gives its answer; or memory was refused, and nothing happened.
-fn answer_to(
+///
+/// The event's node is one of the world's.
+pub fn answer_to(
     alloc: Global,
     world: &mut World,
     event: &WorldEvent,

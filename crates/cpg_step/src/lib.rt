@@ -15,7 +15,10 @@ mod scripts;
 #[cfg(test)]
 mod tests;
 
+pub use acting::answer_to;
 pub use commands::{Command, Look};
 pub use cpg_script::Fault;
+pub use printing::{put_answer, put_frame};
 pub use reading::{read_node, read_node_alone};
 pub use running::run_script;
+pub use scripts::read_commands;

@@ -1,10 +1,13 @@
 -- From what a decoder answers to what the grammar says.
 use Rattle.std.proofs.Common.{◌≡◌, ℕ, List, Option, Some, None, Result, Ok, Err, ◌⊎◌, refl, inl, inr}
-use Rattle.std.specs.Prelude.{◌↔◌, IfOk, IfErr, IsSome}
+use Rattle.std.specs.Prelude.{◌↔◌, IfOk, IfErr, IfSome, IsSome}
+use Rattle.std.specs.Option.{option_map}
 use Rattle.cpg_cred.specs.declared.refusals.Refusal.{Refusal}
 use Rattle.cpg_cred.specs.declared.refusals.Refusal.TheVariants.{Memory, Malformed}
 use Rattle.cpg_entry.specs.declared.frames.Frame.{Frame}
 use Rattle.cpg_wire.specs.Answering.{Answers}
+use Rattle.cpg_wire.specs.declared.frames.FrameView.{FrameView}
+use Rattle.cpg_wire.specs.Views.{frame_seen}
 use Rattle.cpg_entry.specs.Ranges.{IsFrame}
 use Rattle.cpg_entry.specs.Widths.{FrameFits}
 use Rattle.cpg_wire.specs.Reading.{frame_of}
@@ -32,6 +35,11 @@ refused bytes (Ok frame) h = tt
 refused bytes (Err Memory) h = inr refl
 refused bytes (Err Malformed) h = inl refl
 refused bytes (Err _) h = absurd h
+
+-- what a view shows of bytes is as the grammar has it
+pub seen_in_range : (bytes : List ℕ) (view : Option FrameView) → IsBytes bytes → frame_of bytes ≡ option_map frame_seen view → IfSome view (λ v. IsFrame (frame_seen v) × FrameFits (frame_seen v))
+seen_in_range bytes (Some v) fits h = let spelled = read_is_spelled bytes (frame_seen v) fits h in (spelled.1.0, spelled.1.1)
+seen_in_range bytes None fits h = tt
 
 pub in_range : (bytes : List ℕ) (answer : Result Frame Refusal) → IfOk answer (λ frame. Spells bytes frame) → IfOk answer (λ frame. IsFrame frame × FrameFits frame)
 in_range bytes (Ok frame) h = (h.1.0, h.1.1)

@@ -3,7 +3,7 @@
 //! The bytes are read to their end before any memory is asked for. Proved: what is read is the definition
 //! `frame_of`, which answers exactly what the grammar `Spells` says.
 
-ghost use Rattle.std.specs.Prelude.{◌≡◌, ◌↔◌, ◌⊎◌, IfOk, IfErr, IsOkUnless, option_map};
+ghost use Rattle.std.specs.Prelude.{◌≡◌, ◌↔◌, ◌⊎◌, IfOk, IfErr, IfSome, IsOkUnless, option_map};
 ghost use Rattle.cpg_entry.specs.declared.frames.Frame.{Frame};
 ghost use Rattle.cpg_wire.specs.Answering.{Answers};
 ghost use Rattle.cpg_entry.specs.Ranges.{IsFrame};
@@ -19,7 +19,7 @@ use crate::tokens::TokenView;
 use cpg_entry::{Frame, Refusal};
 use std::alloc::Global;
 
-/// A frame that takes no memory.
+/// A frame that takes no memory: its texts are those of the bytes.
 #[derive(Drop)]
 pub enum FrameView<'a> {
     Packet(PacketView<'a>),
@@ -27,9 +27,17 @@ pub enum FrameView<'a> {
 }
 
 impl<'a> FrameView<'a> {
-    /// The frame that all of the bytes spell.
-    #[tactic(auto, unfolding(crate::specs::Reading::frame_of, crate::specs::Reading::frame_at))]
+    /// The frame that all of the bytes spell, in either version; none where they spell none. It keeps the
+    /// rules, and asks for no memory: who refuses a frame for its numbers need not copy it.
     pub fn read(bytes: &'a [u8]) -> Option<FrameView<'a>>
+        ensures exact { frame_of bytes.now ≡ option_map frame_seen result }
+        ensures range { IfSome result (λ view. IsFrame (frame_seen view) × FrameFits (frame_seen view)) }
+    {
+        FrameView::read_whole(bytes)
+    }
+
+    #[tactic(auto, unfolding(crate::specs::Reading::frame_of, crate::specs::Reading::frame_at))]
+    fn read_whole(bytes: &'a [u8]) -> Option<FrameView<'a>>
         ensures { frame_of bytes.now ≡ option_map frame_seen result }
     {
         let mut input = Input::of(bytes);

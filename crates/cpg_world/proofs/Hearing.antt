@@ -76,7 +76,7 @@ unheard frames n k x f why y is refuses same =
     )
 
 pub heard_err : {X : Type 0} (items : X → List (List ℕ)) (frames : List Frame) (n k : ℕ) (x : NodeValue) (f : Frame) (why : Refusal) (y : NodeValue) → item frames k ≡ Some f → IsFrameAnswer items x (Some f) (Err why) y → IsMet frames (events.Frame n k) x (Err why) y frames
-heard_err items frames n k x f refusal.Memory y is h = (h, refl, subst IsSome (sym is) refl)
+heard_err items frames n k x f refusal.Memory y is h = (h.1, refl, subst IsSome (sym is) refl)
 heard_err items frames n k x f refusal.Access y is h = unheard frames n k x f refusal.Access y is h.0 h.1
 heard_err items frames n k x f refusal.NoConnection y is h = unheard frames n k x f refusal.NoConnection y is h.0 h.1
 heard_err items frames n k x f refusal.BadName y is h = unheard frames n k x f refusal.BadName y is h.0 h.1

@@ -1,8 +1,9 @@
 -- What the calls of a world answer.
-use Rattle.std.specs.Prelude.{◌≡◌, ◌≢◌, ℕ, ◌≤◌, List, length, take, Option, Some, None, IsSome, Result, Ok, Err, IsOk}
+use Rattle.std.specs.Prelude.{◌≡◌, ◌≢◌, ℕ, ◌≤◌, List, [], length, take, Option, Some, None, IsSome, Result, Ok, Err, IsOk}
 use Rattle.cpg_cred.specs.Listed.{Listed}
 use Rattle.cpg_cred.specs.declared.refusals.Refusal.{Refusal}
 use Rattle.cpg_cred.specs.declared.refusals.Refusal.TheVariants.{Range, Memory}
+use Rattle.cpg_record.specs.Listings.{AreGroups}
 use Rattle.cpg_wire.specs.declared.codes.Version.TheVariants.{Two}
 use Rattle.cpg_wire.specs.Spelling.{spelling}
 use Rattle.cpg_ring.specs.States.{Frame, IsSettings}
@@ -10,8 +11,8 @@ use Rattle.cpg_ring.specs.declared.settings.Settings.{Settings}
 use Rattle.cpg_world_laws.specs.declared.events.WorldEvent.{WorldEvent}
 use Rattle.cpg_ring.specs.Worlds.{item}
 use Rattle.cpg_node.specs.declared.connections.Client.{Client}
-use Rattle.cpg_node.specs.Nodes.{NodeValue, open_client}
-use Rattle.cpg_node.specs.Calls.{connect_refusal, submit_refusal, closed_refusal, next_place, list_for}
+use Rattle.cpg_node.specs.Nodes.{NodeValue, records_of, asker_by, open_client}
+use Rattle.cpg_node.specs.Calls.{connect_refusal, submit_refusal, closed_refusal, next_place, next_event, list_for}
 use Rattle.cpg_world_laws.specs.declared.events.WorldEvent.TheVariants.{Connect, Submit, Disconnect, Frame as Arrival, Timer, Deliver, Take, List as Listing, Groups}
 use Rattle.cpg_world_laws.specs.Worlds.{WorldValue, node_in, happens, runs, new_world}
 use Rattle.cpg_world_laws.specs.Replies.{Answer, IsReply, AreReplies}
@@ -28,7 +29,18 @@ abbrev pub IsLetList : NodeValue → List ℕ → Option Client → Type 0
 IsLetList x g None = ⊥
 IsLetList x g (Some c) = IsOk (list_for x c g)
 
--- At a node an event may ask for memory: it is not refused, or the frame is there, or a place is held to be delivered.
+-- an event that the connection has not taken
+abbrev pub HasNext : NodeValue → ℕ → Option Client → Type 0
+HasNext x conn None = ⊥
+HasNext x conn (Some c) = IsSome (next_event x conn c)
+
+-- a group that the connection is shown
+abbrev pub IsShownSome : NodeValue → Option Client → Type 0
+IsShownSome x None = ⊥
+IsShownSome x (Some c) = ¬ AreGroups (records_of x) (asker_by x c) []
+
+-- At a node an event may ask for memory: it is not refused, and there is something to enter, to hear, to deliver, to take or to
+-- show.
 abbrev pub MayGrow : List Frame → WorldEvent → NodeValue → Type 0
 MayGrow sent (Connect n pid cred) x = connect_refusal x cred ≡ None
 MayGrow sent (Submit n conn call) x = submit_refusal x conn call ≡ None
@@ -36,9 +48,9 @@ MayGrow sent (Disconnect n conn) x = closed_refusal (open_client x conn) ≡ Non
 MayGrow sent (Arrival n k) x = IsSome (item sent k)
 MayGrow sent (Timer n) x = Unit {0}
 MayGrow sent (Deliver n) x = IsSome (next_place x)
-MayGrow sent (Take n conn) x = closed_refusal (open_client x conn) ≡ None
+MayGrow sent (Take n conn) x = HasNext x conn (open_client x conn)
 MayGrow sent (Listing n conn g) x = IsLetList x g (open_client x conn)
-MayGrow sent (Groups n conn) x = closed_refusal (open_client x conn) ≡ None
+MayGrow sent (Groups n conn) x = IsShownSome x (open_client x conn)
 
 -- the node is there, and may ask for memory
 abbrev pub MayGrowAt : List Frame → WorldEvent → Option NodeValue → Type 0

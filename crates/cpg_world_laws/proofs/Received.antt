@@ -19,6 +19,7 @@ use Rattle.cpg_ring.specs.Visits.{token_refusal, up_to}
 use Rattle.cpg_ring.specs.Moves.{data_refusal, after_delivery}
 use Rattle.cpg_ring.specs.Worlds.{Move as Reading, item, with_item, agreed, receive, receive_token, receive_data}
 use Rattle.cpg_ring.proofs.Lists.{item_with_same, item_with_other, with_item_cases}
+use Rattle.cpg_ring.proofs.Growth.{agreed_grows}
 use Rattle.cpg_node.specs.declared.connections.Client.{Client}
 use Rattle.cpg_node.specs.Nodes.{NodeValue, new_value, records_of, inbox_of, conn_id, open_client, if_open}
 use Rattle.cpg_node.specs.Calls.{connect_refusal, connected, submit_refusal, submitted, with_entry, ended_by, frame_refusal, after_frame, answers_to, taken_by, counted, next_event}
@@ -29,7 +30,6 @@ use Rattle.cpg_world_laws.specs.Worlds.{WorldValue, Move, unless, hears, moves, 
 use Rattle.cpg_world_laws.specs.Replies.{Answer, IsReply, IsAnswerAt, IsAnswerOf, take_answer}
 use Rattle.cpg_world_laws.specs.Claims.{IsAgreed, taken_in, had, given_by, gives}
 use Rattle.cpg_world_laws.proofs.Lists.{item_map, map_with_as, take_less}
-use Rattle.cpg_world_laws.proofs.Growing.{agreed_grows}
 use Rattle.cpg_record.proofs.Inboxes.{inbox_grows}
 
 abbrev pub AllAgreed : WorldValue → Type 0

@@ -12,7 +12,7 @@ use Rattle.cpg_ring.specs.Claims.{Agreement}
 use Rattle.cpg_ring.specs.Progress as progress
 use Rattle.cpg_ring.specs.Progress.{AllDelivered, DeliveredTo, HasHops, NoneWaits, hops_for}
 use Rattle.cpg_node.specs.declared.connections.Client.{Client}
-use Rattle.cpg_node.specs.Nodes.{conn_id, delivered_entries, inbox_of}
+use Rattle.cpg_node.specs.Nodes.{NodeValue, conn_id, delivered_entries, inbox_of}
 use Rattle.cpg_world_laws.specs.declared.events.WorldEvent.{WorldEvent}
 use Rattle.cpg_world_laws.specs.Worlds.{WorldValue, happens, runs, Reached, ring_world}
 use Rattle.cpg_world_laws.specs.Claims.{taken_in}
@@ -31,32 +31,36 @@ pub record Below : Type 0 where
   pub catches_up : (s : Settings) (w : ring.World) → IsSettings s → ring.Reached s w → progress.CatchesUp s w
   pub recovers : (s : Settings) (w : ring.World) (done : ℕ) → IsSettings s → ring.Reached s w → DeliveredTo w done → HasHops s w (hops_for s w done) → progress.Recovers s w
 
-reached_runs : (w : WorldValue) (es : List WorldEvent) → Reached w → Reached (runs w es)
+pub reached_runs : (w : WorldValue) (es : List WorldEvent) → Reached w → Reached (runs w es)
 reached_runs w [] reached = reached
 reached_runs w (e ∷ es) reached = reached_runs (happens w e) es (reached_on w e reached)
 
-settings_runs : (w : WorldValue) (es : List WorldEvent) → IsSettings w.settings → IsSettings (runs w es).settings
+pub settings_runs : (w : WorldValue) (es : List WorldEvent) → IsSettings w.settings → IsSettings (runs w es).settings
 settings_runs w [] settings = settings
 settings_runs w (e ∷ es) settings = settings_runs (happens w e) es (subst IsSettings (sym (same_settings w e).0) settings)
 
-hearing_carries : Carries progress.IsHearing IsHearing
+pub hearing_carries : Carries progress.IsHearing IsHearing
 hearing_carries = record { no_call = λ e h. h; no_end = λ e h. h; arrives = λ n k h. tt; fires = λ n h. absurd h; delivers = λ n h. tt }
 
 loss_carries : (lost : ℕ) → Carries (progress.IsAfterLoss lost) (IsAfterLoss lost)
 loss_carries lost = record { no_call = λ e h. h; no_end = λ e h. h; arrives = λ n k h. h; fires = λ n h. tt; delivers = λ n h. tt }
+
+-- where all is delivered, a node delivered all that is agreed
+pub all_entries : (w : WorldValue) → Agreement w.settings (ring_world w) → AllDelivered (ring_world w) → (n : ℕ) (x : NodeValue) → item w.nodes n ≡ Some x → delivered_entries x.ring.state ≡ agreed w.sent
+all_entries w held delivered n x at =
+    let there : item (ring_world w).nodes n ≡ Some x.ring.state = item_map state_of w.nodes n ∙ ap (option_map state_of) at in
+    let are = delivered_are x.ring.state.held (agreed w.sent) x.ring.state.delivered
+    (λ place low high. held.delivered_held n x.ring.state place there low high)
+    (λ place e g. held.held_as_agreed n x.ring.state place e there g) in
+    let all : x.ring.state.delivered ≡ length (agreed w.sent) = delivered n x.ring.state there in
+    are.1 ∙ take_all x.ring.state.delivered (agreed w.sent) (omega arith)
 
 module _ (below : Below) where
   -- where a node delivered all, a connection that took its inbox has had all that is agreed
   all_told : (w : WorldValue) → IsSettings w.settings → Reached w → AllDelivered (ring_world w) → AllTook w → AllTold w
   all_told w settings reached delivered took n conn x c at opens =
       let r = ring_reached w reached in
-      let held : Agreement w.settings (ring_world w) = below.agreement w.settings (ring_world w) settings (r.events, r.run) in
-      let there : item (ring_world w).nodes n ≡ Some x.ring.state = item_map state_of w.nodes n ∙ ap (option_map state_of) at in
-      let are = delivered_are x.ring.state.held (agreed w.sent) x.ring.state.delivered
-      (λ place low high. held.delivered_held n x.ring.state place there low high)
-      (λ place e g. held.held_as_agreed n x.ring.state place e there g) in
-      let all : x.ring.state.delivered ≡ length (agreed w.sent) = delivered n x.ring.state there in
-      let entries : delivered_entries x.ring.state ≡ agreed w.sent = are.1 ∙ take_all x.ring.state.delivered (agreed w.sent) (omega arith) in
+      let entries : delivered_entries x.ring.state ≡ agreed w.sent = all_entries w (below.agreement w.settings (ring_world w) settings (r.events, r.run)) delivered n x at in
       ap (λ (o : Option Client). take (taken_in o) (inbox_of x conn)) (open_is x conn c opens)
       ∙ (take_all c.taken (inbox_of x conn) (took n conn x c at opens)
       ∙ ap (λ (es : List Entry). inbox (judged es) (conn_id x conn)) entries)

@@ -6,7 +6,7 @@
 ghost use Rattle.std.specs.Prelude.{◌≡◌, ◌+◌, ◌≤◌, ◌<◌, ◌^◌, ◌&&◌, ◌||◌, ◌++◌, ◌-◌, min, not, length, take, drop, OnOk, OnErr, IfOk, IsOkUnless, nat_le, nat_lt, ◌==◌};
 ghost use Rattle.std.specs.List.{filter};
 ghost use Rattle.cpg_ring.specs.States.{is_held};
-ghost use Rattle.cpg_ring.specs.Visits.{burst_size, is_past, placed, reach, up_to, next_requests, is_own_or_none, sets_aru, next_aru, next_aru_id, next_token};
+ghost use Rattle.cpg_ring.specs.Visits.{burst_size, hop_refusal, is_past, placed, reach, up_to, next_requests, is_own_or_none, sets_aru, next_aru, next_aru_id, next_token};
 ghost use Rattle.cpg_entry.specs.Ranges.{Ascends, IsToken};
 ghost use Rattle.cpg_ring.specs.Laws.{NoneAbove};
 ghost use Rattle.cpg_ring.specs.Rings.{refusal_of, visit_of, visited};
@@ -97,23 +97,24 @@ fn add_above(requests: &mut Vec<u32>, asked: &[u32], end: u32) -> Result<(), Ref
 }
 
 impl Ring {
-    /// The first refusal of the token that fits.
-    fn token_refusal(&self, token: &Token) -> Option<Refusal>
-        ensures { result ≡ refusal_of self.now token.now }
+    /// Why a token of that ring, hop and seq is refused, if it is: the first that fits of Foreign, NotMine,
+    /// Stale, Implausible, RingEnd. It needs no memory, and no token yet.
+    pub fn token_refusal(&self, ring: u32, hop: u64, seq: u32) -> Option<Refusal>
+        ensures { result ≡ hop_refusal self.now.settings self.now.node self.now.state ring hop seq }
     {
-        if token.ring != self.settings.ring {
+        if ring != self.settings.ring {
             return Some(Refusal::Foreign);
         }
-        if token.hop % u64::from(self.settings.nodes) + 1 != u64::from(self.node.get()) {
+        if hop % u64::from(self.settings.nodes) + 1 != u64::from(self.node.get()) {
             return Some(Refusal::NotMine);
         }
-        if is_past(token.hop, self.last_hop) {
+        if is_past(hop, self.last_hop) {
             return Some(Refusal::Stale);
         }
-        if self.held.holds_above(token.seq) || self.settings.places < token.seq {
+        if self.held.holds_above(seq) || self.settings.places < seq {
             return Some(Refusal::Implausible);
         }
-        if self.settings.hops <= token.hop {
+        if self.settings.hops <= hop {
             return Some(Refusal::RingEnd);
         }
         None
@@ -248,7 +249,7 @@ impl Ring {
         ensures answer { IsAnswer (refusal_of self.now token.now) (λ visit. visit ≡ visit_of self.now token.now) result }
         ensures in_range { IfOk result (λ visit. IsInRange self.now.settings visit) }
     {
-        if let Some(refusal) = self.token_refusal(token) {
+        if let Some(refusal) = self.token_refusal(token.ring, token.hop, token.seq) {
             return Err(refusal);
         }
         let count = self.burst_size(token.seq);

@@ -1,0 +1,107 @@
+-- commands drawn, one after the other
+use Rattle.std.proofs.Common.{◌≡◌, ℕ, ◌+◌, ◌<◌, ◌≤◌, List, [], ◌∷◌, ◌++◌, length, drop, get_or, codes, Option, Some, Result, Ok, Err, refl, sym, ap, subst, ◌∙◌, append_assoc, append-nil}
+use Rattle.std.specs.List.{concat, flat_map}
+use Rattle.std.specs.Prelude.{OnOk}
+use Rattle.cpg_cred.specs.declared.refusals.Refusal.{Refusal}
+use Rattle.std.proofs.lemmas.List.{drop_more, drop_all}
+use Rattle.cpg_ring.specs.Worlds.{item}
+use Rattle.cpg_node.specs.Nodes.{NodeValue}
+use Rattle.cpg_world_laws.specs.Replies.{Answer, IsReply}
+use Rattle.cpg_step.specs.Lines.{answer_line}
+use Rattle.cpg_draw.proofs.Joined.{joined, rows_joined}
+use Rattle.cpg_draw.specs.Arrows.{arrows_of, seq_brought, with_brought}
+use Rattle.cpg_draw.specs.Columns.{columns}
+use Rattle.cpg_draw.specs.Words.{brought_text, sent_text, lost_texts}
+use Rattle.cpg_world.proofs.Running.{as_many_nodes}
+use Rattle.cpg_world_laws.specs.declared.events.WorldEvent.{WorldEvent}
+use Rattle.cpg_world_laws.specs.Worlds.{WorldValue, node_in, happens}
+use Rattle.cpg_step.specs.declared.commands.Look.{Look as LookValue}
+use Rattle.cpg_step.specs.declared.commands.Command.{Command}
+use Rattle.cpg_step.specs.declared.commands.Command.TheVariants.{Act, Look}
+use Rattle.cpg_draw.specs.declared.arrows.Arrow.{Arrow}
+use Rattle.cpg_draw.specs.Rows.{brings, sent_by, first_arrows, row_text, event_text, state_text, look_row, act_row, arrows_after, rows_of, head_of, IsPicture}
+use Rattle.cpg_draw.specs.Steps.{IsActed, AreRows, GoesOn}
+
+-- the parts of an event's row, put one after the other
+pub row_acted : (row : ℕ) (arrows : List Arrow) (w v : WorldValue) (e : WorldEvent) (x : NodeValue) (answer : Answer) (old first second new : List ℕ) (known sent later : List Arrow)
+    → IsReply w e answer → v ≡ happens w e
+    → first ≡ old ++ columns (node_in e) (item arrows (brings e)) (length w.nodes)
+    → known ≡ with_brought arrows (brings e)
+    → sent ≡ arrows_of (length w.sent + 1) row (node_in e) (seq_brought (item w.sent (brings e))) (drop (length w.sent) v.sent)
+    → item v.nodes (node_in e) ≡ Some x
+    → second ≡ first ++ (row_text row ++ event_text e ++ brought_text (item arrows (brings e)) ++ flat_map sent_text sent ++ state_text (Some x) ++ codes ": ")
+    → new ≡ second ++ answer_line answer → later ≡ known ++ sent → IsActed row arrows w e old later v new
+row_acted row arrows w v e x answer old first second new known sent later replied happened columned noted sends there said answered joint =
+    let begun : sent ≡ sent_by row w e = sends ∙ ap (λ (u : WorldValue). arrows_of (length w.sent + 1) row (node_in e) (seq_brought (item w.sent (brings e))) (drop (length w.sent) u.sent)) happened in
+    let state : state_text (Some x) ≡ state_text (item (happens w e).nodes (node_in e)) = ap state_text (sym there ∙ ap (λ (u : WorldValue). item u.nodes (node_in e)) happened) in
+    record {
+      answer = answer;
+      replied = replied;
+      happened = happened;
+      noted = joint ∙ (ap (λ x. x ++ sent) noted ∙ ap (λ x. with_brought arrows (brings e) ++ x) begun);
+      put = joined old (columns (node_in e) (item arrows (brings e)) (length w.nodes)) (row_text row) (event_text e) (brought_text (item arrows (brings e)))
+          (flat_map sent_text sent) (flat_map sent_text (sent_by row w e)) (state_text (Some x)) (state_text (item (happens w e).nodes (node_in e)))
+          (codes ": ") (answer_line answer) first second new columned (ap (flat_map sent_text) begun) state said answered;
+    }
+
+-- an event's row stands before those that follow it
+pub act_goes_on : (row : ℕ) (arrows : List Arrow) (w : WorldValue) (e : WorldEvent) (old : List ℕ) (then : List Arrow) (v : WorldValue) (new : List ℕ)
+    → IsActed row arrows w e old then v new → GoesOn row arrows w (Act e) old then v new
+act_goes_on row arrows w e old then v new acted later whole h =
+    let there : AreRows (row + 1) then (happens w e) later new whole = subst (λ x. AreRows (row + 1) then x later new whole) acted.happened h in
+    let rest : AreRows (row + 1) (arrows_after row arrows w e) (happens w e) later new whole = subst (λ x. AreRows (row + 1) x (happens w e) later new whole) acted.noted there in
+    record {
+      answers = acted.answer ∷ rest.answers;
+      replies = (acted.replied, rest.replies);
+      put = rows_joined old new whole (act_row row arrows w e acted.answer) (rows_of (row + 1) (arrows_after row arrows w e) (happens w e) later rest.answers) acted.put rest.put;
+    }
+
+-- and so does the row of a command that only looks
+pub look_goes_on : (row : ℕ) (arrows : List Arrow) (w : WorldValue) (l : LookValue) (old new : List ℕ)
+    → new ≡ old ++ look_row row arrows w l → GoesOn row arrows w (Look l) old arrows w new
+look_goes_on row arrows w l old new put later whole rest = record {
+  answers = rest.answers;
+  replies = rest.replies;
+  put = rows_joined old new whole (look_row row arrows w l) (rows_of (row + 1) arrows w later rest.answers) put rest.put;
+}
+
+-- an event leaves as many nodes
+pub as_many_acted : (row : ℕ) (arrows : List Arrow) (w : WorldValue) (e : WorldEvent) (old : List ℕ) (then : List Arrow) (v : WorldValue) (new : List ℕ)
+    → IsActed row arrows w e old then v new → length v.nodes ≡ length w.nodes
+as_many_acted row arrows w e old then v new acted = ap (λ (x : WorldValue). length x.nodes) acted.happened ∙ as_many_nodes w e
+
+-- the rows after one command more
+pub step_rows : (commands : List Command) (i : ℕ) (c : Command) (arrows then first : List Arrow) (w v start : WorldValue) (old new begun : List ℕ)
+    → i < length commands → get_or commands i c ≡ c
+    → ((whole : List ℕ) → AreRows (i + 1) arrows w (drop i commands) old whole → AreRows 1 first start commands begun whole)
+    → GoesOn (i + 1) arrows w c old then v new
+    → (whole : List ℕ) → AreRows (i + 1 + 1) then v (drop (i + 1) commands) new whole → AreRows 1 first start commands begun whole
+step_rows commands i c arrows then first w v start old new begun within e known goes whole rest =
+    known whole (subst (λ cs. AreRows (i + 1) arrows w cs old whole) (sym (drop_more commands i c within ∙ ap (λ x. x ∷ drop (i + 1) commands) e)) (goes (drop (i + 1) commands) whole rest))
+
+-- no command is left, and the lost frames are put
+pub last_rows : (commands : List Command) (i : ℕ) (arrows first : List Arrow) (w start : WorldValue) (old new begun : List ℕ)
+    → length commands ≤ i
+    → ((whole : List ℕ) → AreRows (i + 1) arrows w (drop i commands) old whole → AreRows 1 first start commands begun whole)
+    → new ≡ old ++ lost_texts arrows → AreRows 1 first start commands begun new
+last_rows commands i arrows first w start old new begun all known lost =
+    known new (subst (λ cs. AreRows (i + 1) arrows w cs old new) (sym (drop_all i commands all)) ended)
+  where
+    ended : AreRows (i + 1) arrows w [] old new
+    ended = record { answers = []; replies = tt; put = lost ∙ ap (λ x. old ++ x) (sym (append-nil (lost_texts arrows))) }
+
+-- the head and the rows are the picture
+pub picture_drawn : (w : WorldValue) (commands : List Command) (arrows : List Arrow) (top text : List ℕ)
+    → arrows ≡ first_arrows w → top ≡ head_of (length w.nodes) arrows → AreRows 1 arrows w commands top text → IsPicture w commands text
+picture_drawn w commands arrows top text known headed rows =
+    let there : AreRows 1 (first_arrows w) w commands top text = subst (λ x. AreRows 1 x w commands top text) known rows in
+    record {
+      answers = there.answers;
+      replies = there.replies;
+      drawn = there.put ∙ ap (λ x. x ++ concat (rows_of 1 (first_arrows w) w commands there.answers)) (headed ∙ ap (head_of (length w.nodes)) known);
+    }
+
+-- what follows where the call went well
+pub where_ok : {P Q : Type 0} (r : Result (Unit {0}) Refusal) → (P → Q) → OnOk r P → OnOk r Q
+where_ok (Ok done) f h = f h
+where_ok (Err why) f h = h

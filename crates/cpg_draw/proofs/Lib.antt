@@ -1,0 +1,3 @@
+pub mod Drawn
+pub mod Joined
+pub mod Sent

@@ -1,0 +1,30 @@
+use Rattle.std.proofs.Common.{◌≡◌, ◌<◌, ◌≤◌, ◌+◌, ◌++◌, length, sym, ap, subst, ◌∙◌, arith}
+use Rattle.cpg_draw.specs.Steps.{AreRows, GoesOn}
+use Rattle.cpg_draw.specs.Words.{lost_texts}
+use Rattle.cpg_draw.proofs.Drawn.{step_rows, last_rows, where_ok}
+use Rattle.cpg_draw.proofs.drawing.draw_rows.Goals as goal
+
+pub loop-command-preserved : goal.loop-command-preserved
+loop-command-preserved c =
+    let i = c.loop-command.command-index in
+    let within : i < length c.args.commands.now = omega arith in
+    let counted = ap (λ n. n + 1) c.loop-command.invariant.counted in
+    let goes = subst (λ n. GoesOn n c.loop-command.arrows.items c.loop-command.world c.command-item.result c.loop-command.text.items c.draw_command.new.arrows.items c.draw_command.new.world c.draw_command.new.text.items) counted c.in_ok-draw_command.ensures.ok in
+    record {
+      counted = counted;
+      drawn = step_rows c.args.commands.now i c.command-item.result c.loop-command.arrows.items c.draw_command.new.arrows.items c.args.arrows.now.items c.loop-command.world c.draw_command.new.world c.args.world.now c.loop-command.text.items c.draw_command.new.text.items c.args.text.now.items within (sym c.command-item.is) c.loop-command.invariant.drawn goes;
+      nodes = c.in_ok-draw_command.ensures.nodes ∙ c.loop-command.invariant.nodes;
+    }
+
+pub returns-clause-ok : goal.returns-clause-ok
+returns-clause-ok c =
+    let i = c.loop-command.command-index in
+    let old = c.loop-command.text.items in
+    let new = c.put_lost.new.line.items in
+    let all : length c.args.commands.now ≤ i = omega arith in
+    let known : c.as_slice.result.now ≡ c.loop-command.arrows.items = c.as_slice.ensures.value in
+    where_ok {P = new ≡ old ++ lost_texts c.as_slice.result.now} {Q = AreRows 1 c.args.arrows.now.items c.args.world.now c.args.commands.now c.args.text.now.items new}
+    c.put_lost.result
+    (λ put. last_rows c.args.commands.now i c.loop-command.arrows.items c.args.arrows.now.items c.loop-command.world c.args.world.now old new c.args.text.now.items all
+    c.loop-command.invariant.drawn (put ∙ ap (λ arrows. old ++ lost_texts arrows) known))
+    c.put_lost.ensures.ok

@@ -1,0 +1,6 @@
+pub mod Arrows
+pub mod Columns
+pub mod Drawing
+pub mod Rows
+pub mod Steps
+pub mod Words

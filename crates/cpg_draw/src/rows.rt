@@ -1,0 +1,227 @@
+//! The rows of a picture, one for each command.
+//!
+//! Proved: what is put at the text's end is the definition of `specs/Rows.antt`.
+
+ghost use Rattle.std.specs.Prelude.{◌≡◌, ◌≤◌, ◌++◌, codes, decimal, length, None, Some, OnOk, IfOk, IfErr, IsOkUnless};
+ghost use Rattle.std.specs.List.{flat_map};
+ghost use Rattle.cpg_ring.specs.Worlds.{item};
+ghost use Rattle.cpg_world_laws.specs.Worlds.{node_in};
+ghost use Rattle.cpg_step.specs.Commands.{IsWithin, LooksWithin};
+ghost use Rattle.cpg_step.specs.Lines.{answer_line};
+ghost use Rattle.cpg_draw.specs.Arrows.{arrows_of};
+ghost use Rattle.cpg_draw.specs.Columns.{columns};
+ghost use Rattle.cpg_draw.specs.Rows.{brings, numbered, event_text, state_text, row_text, look_at, look_text, look_row};
+ghost use Rattle.cpg_draw.specs.Steps.{IsActed, GoesOn};
+ghost use Rattle.cpg_draw.specs.Words.{brought_text, sent_text};
+
+use crate::arrows::{Arrow, find_arrow, note_brought};
+use crate::columns::put_columns;
+use crate::frames::{push_arrows, seq_at};
+use crate::words::{put_brought, put_sent};
+use cpg_cred::{NodeId, Refusal};
+use cpg_node::Node;
+use cpg_script::put;
+use cpg_step::{Command, Look, answer_to, put_answer};
+use cpg_text::push_number;
+use cpg_world::{Reply, World, WorldEvent};
+use std::alloc::Global;
+
+/// The node of an event.
+fn node_of(event: &WorldEvent) -> NodeId
+    ensures { result ≡ node_in event.now }
+{
+    match event {
+        WorldEvent::Connect(id, _, _) => *id,
+        WorldEvent::Submit(id, _, _) => *id,
+        WorldEvent::Disconnect(id, _) => *id,
+        WorldEvent::Frame(id, _) => *id,
+        WorldEvent::Timer(id) => *id,
+        WorldEvent::Deliver(id) => *id,
+        WorldEvent::Take(id, _) => *id,
+        WorldEvent::List(id, _, _) => *id,
+        WorldEvent::Groups(id, _) => *id,
+    }
+}
+
+/// The number of the frame that the event brings, 0 where it brings none.
+fn brought_by(event: &WorldEvent) -> usize
+    ensures { result ≡ brings event.now }
+{
+    match event {
+        WorldEvent::Frame(_, number) => *number,
+        _ => 0,
+    }
+}
+
+fn put_numbered(text: &mut Vec<u8>, word: &str, number: u64) -> Result<(), Refusal>
+    ensures ok { OnOk result (text.new.items ≡ text.old.items ++ numbered word.now number) }
+    ensures memory { IsOkUnless result Refusal.Memory }
+{
+    put(text, word)?;
+    put(text, " ")?;
+    push_number(text, number)
+}
+
+/// Puts an event, as a row names it.
+fn put_event(text: &mut Vec<u8>, event: &WorldEvent) -> Result<(), Refusal>
+    ensures ok { OnOk result (text.new.items ≡ text.old.items ++ event_text event.now) }
+    ensures memory { IsOkUnless result Refusal.Memory }
+{
+    match event {
+        WorldEvent::Connect(_, _, _) => put(text, "connect"),
+        WorldEvent::Submit(_, conn, _) => put_numbered(text, "call", u64::from(*conn)),
+        WorldEvent::Disconnect(_, conn) => put_numbered(text, "disconnect", u64::from(*conn)),
+        WorldEvent::Frame(_, number) => put_numbered(text, "frame", *number as u64),
+        WorldEvent::Timer(_) => put(text, "timer"),
+        WorldEvent::Deliver(_) => put(text, "deliver"),
+        WorldEvent::Take(_, conn) => put_numbered(text, "take", u64::from(*conn)),
+        WorldEvent::List(_, conn, _) => put_numbered(text, "list", u64::from(*conn)),
+        WorldEvent::Groups(_, conn) => put_numbered(text, "groups", u64::from(*conn)),
+    }
+}
+
+/// Puts how many entries wait at the node, and its safe mark.
+fn put_state(text: &mut Vec<u8>, node: &Node) -> Result<(), Refusal>
+    ensures ok { OnOk result (text.new.items ≡ text.old.items ++ state_text (Some node.now)) }
+    ensures memory { IsOkUnless result Refusal.Memory }
+{
+    put(text, ", waiting ")?;
+    push_number(text, node.waiting() as u64)?;
+    put(text, ", safe ")?;
+    push_number(text, u64::from(node.safe()))
+}
+
+fn put_row_number(text: &mut Vec<u8>, row: u64) -> Result<(), Refusal>
+    ensures ok { OnOk result (text.new.items ≡ text.old.items ++ row_text row) }
+    ensures memory { IsOkUnless result Refusal.Memory }
+{
+    put(text, "  ")?;
+    push_number(text, row)?;
+    put(text, " ")
+}
+
+/// Puts what a row says of an event: what it brings and sends, and the node after it.
+fn put_event_row(
+    text: &mut Vec<u8>,
+    row: u64,
+    event: &WorldEvent,
+    arrow: Option<Arrow>,
+    sent: &[Arrow],
+    node: &Node,
+) -> Result<(), Refusal>
+    ensures ok { OnOk result (text.new.items ≡ text.old.items ++ (row_text row ++ event_text event.now ++ brought_text arrow ++ flat_map sent_text sent.now ++ state_text (Some node.now) ++ codes ": ")) }
+    ensures memory { IsOkUnless result Refusal.Memory }
+{
+    put_row_number(text, row)?;
+    put_event(text, event)?;
+    put_brought(text, arrow)?;
+    put_sent(text, sent)?;
+    put_state(text, node)?;
+    put(text, ": ")
+}
+
+/// Does an event, and puts its row.
+fn draw_event(
+    alloc: Global,
+    text: &mut Vec<u8>,
+    arrows: &mut Vec<Arrow>,
+    row: u64,
+    world: &mut World,
+    event: &WorldEvent,
+) -> Result<(), Refusal>
+    requires { node_in event.now ≤ length world.old.nodes }
+    ensures ok { OnOk result (IsActed row arrows.old.items world.old event.now text.old.items arrows.new.items world.new text.new.items) }
+    ensures memory { IsOkUnless result Refusal.Memory }
+{
+    let number = brought_by(event);
+    let node = node_of(event);
+    let arrow = find_arrow(arrows.as_slice(), number);
+    let seq = seq_at(alloc, world, number)?;
+    let before = world.sent();
+    put_columns(text, world.nodes(), node.get(), arrow)?;
+    let answer = answer_to(alloc, world, event)?;
+    note_brought(arrows, number);
+    let mut sent = Vec::new(alloc);
+    push_arrows(alloc, &mut sent, world, (row, node.get(), seq), before)?;
+    put_event_row(text, row, event, arrow, sent.as_slice(), world.node(node))?;
+    put_answer(alloc, text, &answer)?;
+    arrows.append(&mut sent)?;
+    Ok(())
+}
+
+/// Puts what a row says of a command that only looks.
+fn put_look(text: &mut Vec<u8>, arrows: &[Arrow], world: &World, look: &Look) -> Result<(), Refusal>
+    requires { LooksWithin (length world.now.nodes) look.now }
+    ensures ok { OnOk result (text.new.items ≡ text.old.items ++ look_text arrows.now world.now look.now) }
+    ensures memory { IsOkUnless result Refusal.Memory }
+{
+    match look {
+        Look::Show(number) => {
+            put_numbered(text, "show", *number)?;
+            put_brought(text, find_arrow(arrows, *number as usize))
+        }
+        Look::Audit(node) => {
+            put(text, "audit")?;
+            put_state(text, world.node(*node))
+        }
+        Look::Rules(node, _) => {
+            put(text, "rules")?;
+            put_state(text, world.node(*node))
+        }
+        Look::Safe(node) => {
+            put(text, "safe")?;
+            put_state(text, world.node(*node))
+        }
+    }
+}
+
+/// The node that is looked at, 0 where it is none.
+fn looked_at(look: &Look) -> u8
+    ensures { result ≡ look_at look.now }
+{
+    match look {
+        Look::Show(_) => 0,
+        Look::Audit(node) => node.get(),
+        Look::Rules(node, _) => node.get(),
+        Look::Safe(node) => node.get(),
+    }
+}
+
+/// Puts the row of a command that only looks.
+fn draw_look(
+    text: &mut Vec<u8>,
+    arrows: &[Arrow],
+    row: u64,
+    world: &World,
+    look: &Look,
+) -> Result<(), Refusal>
+    requires { LooksWithin (length world.now.nodes) look.now }
+    ensures ok { OnOk result (text.new.items ≡ text.old.items ++ look_row row arrows.now world.now look.now) }
+    ensures memory { IsOkUnless result Refusal.Memory }
+{
+    put_columns(text, world.nodes(), looked_at(look), None)?;
+    put_row_number(text, row)?;
+    put_look(text, arrows, world, look)?;
+    put(text, "\n")
+}
+
+/// Does a command, and puts its row.
+#[tactic(auto, using(crate::proofs::Drawn::act_goes_on, crate::proofs::Drawn::look_goes_on, crate::proofs::Drawn::as_many_acted))]
+pub(crate) fn draw_command(
+    alloc: Global,
+    text: &mut Vec<u8>,
+    arrows: &mut Vec<Arrow>,
+    row: u64,
+    world: &mut World,
+    command: &Command,
+) -> Result<(), Refusal>
+    requires { IsWithin (length world.old.nodes) command.now }
+    ensures ok { OnOk result (GoesOn row arrows.old.items world.old command.now text.old.items arrows.new.items world.new text.new.items) }
+    ensures nodes { OnOk result (length world.new.nodes ≡ length world.old.nodes) }
+    ensures memory { IsOkUnless result Refusal.Memory }
+{
+    match command {
+        Command::Act(event) => draw_event(alloc, text, arrows, row, world, event),
+        Command::Look(look) => draw_look(text, arrows.as_slice(), row, world, look),
+    }
+}

@@ -1,0 +1,68 @@
+-- A fair stretch of a world is one of its ring.
+use Rattle.std.proofs.Common.{◌≡◌, ℕ, zero, suc, ◌<◌, List, [], ◌∷◌, refl, sym, ap, ◌∙◌, subst}
+use Rattle.cpg_record.specs.Events.{inbox}
+use Rattle.cpg_record.specs.Judging.{judged}
+use Rattle.cpg_ring.specs.States.{Entry, Token, IsSettings}
+use Rattle.cpg_ring.specs.declared.settings.Settings.{Settings}
+use Rattle.cpg_ring.specs.Worlds as ring
+use Rattle.cpg_ring.specs.Claims.{Agreement}
+use Rattle.cpg_ring.specs.Progress as progress
+use Rattle.cpg_ring.specs.Fairness as fairness
+use Rattle.cpg_ring.specs.Fairness.{Bounded, GoodHop, IsNewest}
+use Rattle.cpg_node.specs.Nodes.{conn_id}
+use Rattle.cpg_world_laws.specs.declared.events.WorldEvent.{WorldEvent}
+use Rattle.cpg_world_laws.specs.Worlds.{WorldValue, happens, runs, Reached, ring_world}
+use Rattle.cpg_world_laws.specs.Progress.{IsHearing}
+use Rattle.cpg_world_laws.specs.Fairness.{GoodTurn, Fair, BoundedWait, HasTurn}
+use Rattle.cpg_world_laws.proofs.Projecting.{Numbered, ring_events}
+use Rattle.cpg_world_laws.proofs.Reached.{ring_reached, runs_ring, numbered_runs, same_settings}
+use Rattle.cpg_world_laws.proofs.Lifting.{lifted}
+use Rattle.cpg_world_laws.proofs.Recovering.{reached_runs, settings_runs, hearing_carries, all_entries}
+
+-- What the ring promises.
+pub record Below : Type 0 where
+  pub agreement : (s : Settings) (w : ring.World) → IsSettings s → ring.Reached s w → Agreement s w
+  pub fair : (s : Settings) (w v : ring.World) (turns : ℕ) → IsSettings s → ring.Reached s w → fairness.Fair s turns w v → Bounded s w v turns
+  pub has_turn : (s : Settings) (w : ring.World) (t : Token) → IsSettings s → ring.Reached s w → IsNewest w t → t.hop < s.hops → fairness.HasTurn s w
+
+settings_kept : (w : WorldValue) (es : List WorldEvent) → (runs w es).settings ≡ w.settings
+settings_kept w [] = refl
+settings_kept w (e ∷ es) = settings_kept (happens w e) es ∙ (same_settings w e).0
+
+turn_is : (w v : WorldValue) → Numbered w → GoodTurn w v → fairness.GoodTurn w.settings (ring_world w) (ring_world v)
+turn_is w v numbered t = record {
+  events = ring_events w t.events;
+  leads = sym (runs_ring w t.events numbered) ∙ ap ring_world t.leads;
+  good = t.good;
+}
+
+fair_is : (k : ℕ) (w v : WorldValue) → Numbered w → Fair k w v → fairness.Fair w.settings k (ring_world w) (ring_world v)
+fair_is zero w v numbered is = ap ring_world is
+fair_is (suc k) w v numbered (x, turn, rest) =
+    let same : x.settings ≡ w.settings = ap (λ (u : WorldValue). u.settings) (sym turn.leads) ∙ settings_kept w turn.events in
+    (ring_world x, turn_is w x numbered turn, subst (λ s. fairness.Fair s k (ring_world x) (ring_world v)) same (fair_is k x v (subst Numbered turn.leads (numbered_runs w turn.events numbered)) rest))
+
+fair_reached : (k : ℕ) (w v : WorldValue) → IsSettings w.settings → Reached w → Fair k w v → IsSettings v.settings × Reached v
+fair_reached zero w v settings reached is = (subst (λ (u : WorldValue). IsSettings u.settings) is settings, subst Reached is reached)
+fair_reached (suc k) w v settings reached (x, turn, rest) = fair_reached k x v
+    (subst (λ (u : WorldValue). IsSettings u.settings) turn.leads (settings_runs w turn.events settings))
+    (subst Reached turn.leads (reached_runs w turn.events reached))
+    rest
+
+pub bounded : Below → (w v : WorldValue) (turns : ℕ) → IsSettings w.settings → Reached w → Fair turns w v → BoundedWait w v turns
+bounded below w v turns settings reached fair =
+    let r = ring_reached w reached in
+    record {
+      ring = below.fair w.settings (ring_world w) (ring_world v) turns settings (r.events, r.run) (fair_is turns w v r.numbered fair);
+      told = λ n conn x c delivered at opens took.
+          let end = fair_reached turns w v settings reached fair in
+          let there = ring_reached v end.1 in
+          took ∙ ap (λ (es : List Entry). inbox (judged es) (conn_id x conn)) (all_entries v (below.agreement v.settings (ring_world v) end.0 (there.events, there.run)) delivered n x at);
+    }
+
+pub has_turn : Below → (w : WorldValue) (t : Token) → IsSettings w.settings → Reached w → IsNewest (ring_world w) t → t.hop < w.settings.hops → HasTurn w
+has_turn below w t settings reached new room =
+    let r = ring_reached w reached in
+    let a = below.has_turn w.settings (ring_world w) t settings (r.events, r.run) new room in
+    let turn = lifted progress.IsHearing IsHearing hearing_carries w r.numbered a.events a.hearing in
+    record { events = turn.events; hearing = turn.kind; good = subst (GoodHop (ring_world w)) (sym turn.same) a.good }
