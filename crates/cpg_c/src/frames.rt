@@ -2,7 +2,7 @@
 
 ghost use Rattle.std.specs.Prelude.{◌≡◌};
 ghost use Rattle.std.specs.List.{slice_get};
-ghost use Rattle.cpg_node.specs.Calls.{next_place};
+ghost use Rattle.cpg_node.specs.Calls.{place_to_deliver};
 ghost use Rattle.cpg_embed.specs.Frames.{IsFrameStatus, IsTimerStatus, IsNext, IsDelivered};
 ghost use Rattle.cpg_c.specs.Handles.{AtHandle};
 
@@ -58,7 +58,7 @@ pub extern "C" fn cpgring_next(
 /// Judges the next place and takes it as delivered, if it is there.
 #[unsafe(no_mangle)]
 pub extern "C" fn cpgring_deliver(alloc: Global, handle: &mut Handle, place: &mut u32) -> u32
-    ensures { AtHandle handle.old.slot.held result handle.new.slot.held (λ e new. IsDelivered e (next_place e.node) result place.new new) }
+    ensures { AtHandle handle.old.slot.held result handle.new.slot.held (λ e new. IsDelivered e (place_to_deliver e.node) result place.new new) }
 {
     let Some(mut boxed) = handle.take(alloc) else {
         return CLOSED;

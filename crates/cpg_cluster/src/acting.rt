@@ -12,7 +12,7 @@ use crate::asking::serve;
 use crate::commands::{Ask, Command};
 use crate::printing::put_answer;
 use crate::replies::Reply;
-use cpg_cred::{Cred, NodeId, Refusal};
+use cpg_cred::{Cred, NodeId, Refusal, is_memory};
 use cpg_daemon::{BoardName, Running, Session};
 use std::alloc::Global;
 use std::sync::Wait;
@@ -150,13 +150,6 @@ fn answer<B: BoardName, G, H: Wait + Clock>(
         Command::Close(number) => close(rt, running, sessions, *number),
         Command::Safe(node) => Ok(Reply::Safe(running.safe(rt, *node))),
     }
-}
-
-/// Whether memory was refused.
-fn is_memory(answer: &Result<Reply, Refusal>) -> bool
-    ensures { IsTrue result ↔ (answer.now ≡ Err Refusal.Memory) }
-{
-    matches!(answer, Err(Refusal::Memory))
 }
 
 /// What the command is answered where memory was not refused.

@@ -17,4 +17,4 @@ pub use admission::{AcceptList, Via};
 pub use bases::By;
 pub use credentials::Cred;
 pub use nodes::{MOST_NODES, NodeId, limits};
-pub use refusals::{Refusal, Refused};
+pub use refusals::{Refusal, Refused, is_memory};

@@ -1,6 +1,6 @@
 //! How a call says no.
 
-ghost use Rattle.std.specs.Prelude.{◌≡◌};
+ghost use Rattle.std.specs.Prelude.{◌≡◌, ◌↔◌, Err, IsTrue};
 
 use crate::bases::By;
 use std::alloc::{AllocError, AllocFailed};
@@ -146,4 +146,20 @@ pub struct Refused<T> {
     pub refusal: Refusal,
     /// What was handed in, as it was.
     pub back: T,
+}
+
+impl<T: Drop> Refused<T> {
+    /// The refusal alone.
+    pub fn into_refusal(self) -> Refusal
+        ensures { result ≡ self.refusal }
+    {
+        self.refusal
+    }
+}
+
+/// Whether memory was refused.
+pub fn is_memory<T>(answer: &Result<T, Refusal>) -> bool
+    ensures { IsTrue result ↔ (answer.now ≡ Err Refusal.Memory) }
+{
+    matches!(answer, Err(Refusal::Memory))
 }

@@ -9,19 +9,12 @@ use crate::lines::{Incoming, Lines, Outgoing, ROOM};
 use crate::stopping::Room;
 use bytes::Bytes;
 use cpg_board::Board;
-use cpg_cred::{AcceptList, NodeId, Refusal, Refused};
+use cpg_cred::{AcceptList, NodeId, Refusal};
 use cpg_link::link;
 use cpg_node::{Node, Settings};
 use cpg_station::{BoardName, Station};
 use std::alloc::Global;
 use std::sync::{Mutex, Wait};
-
-/// The refusal alone.
-fn refusal_in(refused: Refused<AcceptList>) -> Refusal
-    ensures { result ≡ refused.refusal }
-{
-    refused.refusal
-}
 
 /// A new station of that node, with a list of the same users and groups and a seat that has seen nothing.
 fn new_station<B: BoardName>(
@@ -42,7 +35,7 @@ fn new_station<B: BoardName>(
     };
     match Node::new(alloc, settings, id, list.copy(alloc)?) {
         Ok(node) => Ok(Station::new(node, board.seat())),
-        Err(refused) => Err(refusal_in(refused)),
+        Err(refused) => Err(refused.into_refusal()),
     }
 }
 

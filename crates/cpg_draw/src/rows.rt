@@ -18,30 +18,13 @@ use crate::arrows::{Arrow, find_arrow, note_brought};
 use crate::columns::put_columns;
 use crate::frames::{push_arrows, seq_at};
 use crate::words::{put_brought, put_sent};
-use cpg_cred::{NodeId, Refusal};
+use cpg_cred::Refusal;
 use cpg_node::Node;
 use cpg_script::put;
 use cpg_step::{Command, Look, answer_to, put_answer};
 use cpg_text::push_number;
 use cpg_world::{Reply, World, WorldEvent};
 use std::alloc::Global;
-
-/// The node of an event.
-fn node_of(event: &WorldEvent) -> NodeId
-    ensures { result ≡ node_in event.now }
-{
-    match event {
-        WorldEvent::Connect(id, _, _) => *id,
-        WorldEvent::Submit(id, _, _) => *id,
-        WorldEvent::Disconnect(id, _) => *id,
-        WorldEvent::Frame(id, _) => *id,
-        WorldEvent::Timer(id) => *id,
-        WorldEvent::Deliver(id) => *id,
-        WorldEvent::Take(id, _) => *id,
-        WorldEvent::List(id, _, _) => *id,
-        WorldEvent::Groups(id, _) => *id,
-    }
-}
 
 /// The number of the frame that the event brings, 0 where it brings none.
 fn brought_by(event: &WorldEvent) -> usize
@@ -134,7 +117,7 @@ fn draw_event(
     ensures memory { IsOkUnless result Refusal.Memory }
 {
     let number = brought_by(event);
-    let node = node_of(event);
+    let node = event.node();
     let arrow = find_arrow(arrows.as_slice(), number);
     let seq = seq_at(alloc, world, number)?;
     let before = world.sent();

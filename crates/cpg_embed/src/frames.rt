@@ -2,7 +2,7 @@
 
 ghost use Rattle.std.specs.Prelude.{◌≡◌};
 ghost use Rattle.std.specs.List.{slice_get};
-ghost use Rattle.cpg_node.specs.Calls.{next_place};
+ghost use Rattle.cpg_node.specs.Calls.{place_to_deliver};
 ghost use Rattle.cpg_embed.specs.Frames.{IsFrameStatus, IsTimerStatus, IsNext, IsDelivered};
 
 use crate::endpoints::Endpoint;
@@ -80,7 +80,7 @@ impl Endpoint {
 
     /// Judges the next place and takes it as delivered, if it is there.
     pub fn deliver(&mut self, place: &mut u32) -> u32
-        ensures { IsDelivered self.old (next_place self.old.node) result place.new self.new }
+        ensures { IsDelivered self.old (place_to_deliver self.old.node) result place.new self.new }
     {
         match self.node.deliver() {
             Ok(Some(next)) => {

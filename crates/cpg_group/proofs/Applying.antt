@@ -57,7 +57,7 @@ ids_low rs g =
 
 -- ---- what is kept
 
--- judged records have one seat for each connection at most
+-- judged records have one membership for each connection at most
 pub one_each : (rs : List Record) → AreJudged rs → OneEach rs
 one_each rs are = subst OneEach (sym are) (one_from [] (entries_of rs) (λ c. omega arith))
 

@@ -29,7 +29,7 @@ use Rattle.cpg_record.proofs.Cuts.{low_below, quiet_since, quiet_from_start}
 use Rattle.cpg_record.proofs.Growing.{group_of_push, is_conn-true}
 use Rattle.cpg_record.proofs.Nexts.{groups_stay}
 use Rattle.cpg_record.proofs.Positions.{places_from-push, sound}
-use Rattle.cpg_record.proofs.Seats.{is_conn-itself}
+use Rattle.cpg_record.proofs.Lasting.{is_conn-itself}
 use Rattle.cpg_group.specs.declared.trails.Stop.{Stop}
 use Rattle.cpg_group.specs.Trails.{group_at, join_after, join_by, joined_by, joined_in, kept_trail, or_no_trail, AreTrails, IsTrail, KeptTrails, StandsBy}
 use Rattle.cpg_group.proofs.Kept.{lookup-push, lookup-set}

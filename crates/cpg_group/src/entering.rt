@@ -26,21 +26,21 @@ fn enter_group(
     alloc: Global,
     group: &mut Group,
     records: &[Record],
-    seat: Option<&Name>,
+    joined: Option<&Name>,
     place: u32,
     next: &mut Record,
 ) -> Result<(), Refusal>
     requires draft { next.old.members ≡ [] }
     requires can { is_allowed (verdict records.now next.old.entry) ≡ true → CanChange group.old place (record_of records.now next.old.entry) }
     requires group { group.old ≡ standing_for records.now (entry_group records.now next.old.entry next.old.entry.op) }
-    requires seat { option_copied seat ≡ group_of records.now (conn_of next.old.entry) }
+    requires joined { option_copied joined ≡ group_of records.now (conn_of next.old.entry) }
     ensures ok { OnOk result (next.new ≡ record_of records.now next.old.entry) }
     ensures past { OnOk result (group.new ≡ (if is_allowed (verdict records.now next.old.entry) then changed place (record_of records.now next.old.entry) group.old else group.old)) }
     ensures same { OnErr result (group.new ≡ group.old) }
     ensures err { OnErr result (next.new.entry ≡ next.old.entry) }
     ensures memory { IsOkUnless result Refusal.Memory }
 {
-    judging::judge_draft_in(alloc, records, group, seat, next)?;
+    judging::judge_draft_in(alloc, records, group, joined, next)?;
     if !next.verdict.is_allowed() {
         return Ok(());
     }
@@ -92,11 +92,11 @@ fn enter_groups(
     ensures err { OnErr result (next.new.entry ≡ next.old.entry) }
     ensures memory { IsOkUnless result Refusal.Memory }
 {
-    let seat = group_now(records, trail);
-    match judging::find_entry_group(records, seat, &next.entry) {
-        None => judging::judge_draft_in(alloc, records, &groups.none, seat, next),
+    let joined = group_now(records, trail);
+    match judging::find_entry_group(records, joined, &next.entry) {
+        None => judging::judge_draft_in(alloc, records, &groups.none, joined, next),
         Some(name) => match groups.kept.get_mut(name.as_slice()) {
-            Some(group) => enter_group(alloc, group, records, seat, place, next),
+            Some(group) => enter_group(alloc, group, records, joined, place, next),
             None => enter_apart(alloc, groups, records, trail, place, next),
         },
     }

@@ -21,18 +21,18 @@ use std::alloc::Global;
 fn judge_join(
     records: &[Record],
     group: &Group,
-    seat: Option<&Name>,
+    joined: Option<&Name>,
     entry: &Entry,
     name: &[u8],
 ) -> Verdict
     requires group { group.now ≡ standing records.now name.now }
-    requires seat { option_copied seat ≡ group_of records.now (conn_of entry.now) }
+    requires joined { option_copied joined ≡ group_of records.now (conn_of entry.now) }
     ensures { result ≡ join_verdict records.now entry.now name.now }
 {
     match group.table().decide(Right::Join, entry.asker()) {
         Decision::Denied(by) => Verdict::Denied(Reason::of(by)),
         Decision::Allowed(by) => {
-            if seat.is_some() {
+            if joined.is_some() {
                 Verdict::Denied(Reason::Joined)
             } else if group.has_process(entry) {
                 Verdict::Denied(Reason::Twice)
@@ -56,11 +56,11 @@ fn judge_leave(group: Option<&Name>) -> Verdict
 }
 
 /// A send: Closed where the connection is in no group, then the right in its group.
-fn judge_send(records: &[Record], group: &Group, seat: Option<&Name>, entry: &Entry) -> Verdict
-    requires { group.now ≡ standing_for records.now (option_copied seat) }
-    ensures { result ≡ send_verdict records.now entry.now (option_copied seat.entry) }
+fn judge_send(records: &[Record], group: &Group, joined: Option<&Name>, entry: &Entry) -> Verdict
+    requires { group.now ≡ standing_for records.now (option_copied joined) }
+    ensures { result ≡ send_verdict records.now entry.now (option_copied joined.entry) }
 {
-    if seat.is_none() {
+    if joined.is_none() {
         return Verdict::Denied(Reason::Closed);
     }
     match group.table().decide(Right::Send, entry.asker()) {
@@ -114,17 +114,17 @@ fn judge_remove(rules: &Table, entry: &Entry, id: u32) -> Verdict
     }
 }
 
-/// The verdict on an entry of that group whose connection is in the group `seat`.
+/// The verdict on an entry of that group whose connection is in the group `joined`.
 #[inline(always)]
-fn judge_entry(records: &[Record], group: &Group, seat: Option<&Name>, entry: &Entry) -> Verdict
+fn judge_entry(records: &[Record], group: &Group, joined: Option<&Name>, entry: &Entry) -> Verdict
     requires group { group.now ≡ standing_for records.now (entry_group records.now entry.now entry.now.op) }
-    requires seat { option_copied seat ≡ group_of records.now (conn_of entry.now) }
+    requires joined { option_copied joined ≡ group_of records.now (conn_of entry.now) }
     ensures { result ≡ verdict records.now entry.now }
 {
     match &entry.op {
-        Op::Act(Call::Join(name)) => judge_join(records, group, seat, entry, name.as_slice()),
-        Op::Act(Call::Leave) => judge_leave(seat),
-        Op::Act(Call::Send(_)) => judge_send(records, group, seat, entry),
+        Op::Act(Call::Join(name)) => judge_join(records, group, joined, entry, name.as_slice()),
+        Op::Act(Call::Leave) => judge_leave(joined),
+        Op::Act(Call::Send(_)) => judge_send(records, group, joined, entry),
         Op::Act(Call::Insert(_, index, _)) => judge_insert(group.table(), entry, *index),
         Op::Act(Call::Remove(_, id)) => judge_remove(group.table(), entry, *id),
         Op::Gone => Verdict::Allowed(By::Free),
@@ -134,17 +134,17 @@ fn judge_entry(records: &[Record], group: &Group, seat: Option<&Name>, entry: &E
 /// The group that the entry names, else the one that its connection is in.
 pub(crate) fn find_entry_group<'a>(
     records: &[Record],
-    seat: Option<&'a Name>,
+    joined: Option<&'a Name>,
     entry: &'a Entry,
 ) -> Option<&'a Name>
-    requires { option_copied seat ≡ group_of records.now (conn_of entry.now) }
+    requires { option_copied joined ≡ group_of records.now (conn_of entry.now) }
     ensures { option_copied result ≡ entry_group records.now entry.now entry.now.op }
 {
     match &entry.op {
         Op::Act(Call::Join(group)) => Some(group),
         Op::Act(Call::Insert(group, _, _)) => Some(group),
         Op::Act(Call::Remove(group, _)) => Some(group),
-        _ => seat,
+        _ => joined,
     }
 }
 
@@ -197,25 +197,25 @@ pub(crate) fn draft_of(alloc: Global, entry: Entry) -> Record
     }
 }
 
-/// Judges the entry of a draft in place, as one of that group, whose connection is in the group `seat`.
+/// Judges the entry of a draft in place, as one of that group, whose connection is in the group `joined`.
 #[inline(always)]
 pub(crate) fn judge_draft_in(
     alloc: Global,
     records: &[Record],
     standing: &Group,
-    seat: Option<&Name>,
+    joined: Option<&Name>,
     next: &mut Record,
 ) -> Result<(), Refusal>
     requires draft { next.old.members ≡ [] }
     requires group { standing.now ≡ standing_for records.now (entry_group records.now next.old.entry next.old.entry.op) }
-    requires seat { option_copied seat ≡ group_of records.now (conn_of next.old.entry) }
+    requires joined { option_copied joined ≡ group_of records.now (conn_of next.old.entry) }
     ensures ok { OnOk result (next.new ≡ record_of records.now next.old.entry) }
     ensures err { OnErr result (next.new.entry ≡ next.old.entry) }
     ensures memory { IsOkUnless result Refusal.Memory }
     ensures some { OnErr result (entry_group records.now next.old.entry next.old.entry.op ≢ None) }
 {
-    next.verdict = judge_entry(records, standing, seat, &next.entry);
-    let group = copy_name(alloc, find_entry_group(records, seat, &next.entry))?;
+    next.verdict = judge_entry(records, standing, joined, &next.entry);
+    let group = copy_name(alloc, find_entry_group(records, joined, &next.entry))?;
     next.group = group;
     let members = collect_members_with(alloc, records, standing, next)?;
     next.members = members;
@@ -238,9 +238,9 @@ pub(crate) fn judge_draft(
     ensures memory { IsOkUnless result Refusal.Memory }
     ensures some { OnErr result (entry_group records.now next.old.entry next.old.entry.op ≢ None) }
 {
-    let seat = group_now(records, trail);
-    let standing = groups.of_name(find_entry_group(records, seat, &next.entry));
-    judge_draft_in(alloc, records, standing, seat, next)
+    let joined = group_now(records, trail);
+    let standing = groups.of_name(find_entry_group(records, joined, &next.entry));
+    judge_draft_in(alloc, records, standing, joined, next)
 }
 
 /// The record of an entry over the records before it, with the entry moved into it. A refusal gives the

@@ -152,10 +152,6 @@ fn list_of(alloc: Global, users: &[u32]) -> Result<AcceptList, Refusal> {
     Ok(list)
 }
 
-fn refusal_in<T: Drop>(refused: Refused<T>) -> Refusal {
-    refused.refusal
-}
-
 /// A new node of that number in a ring of so many, which lets users 7 and 8 in.
 fn new_node(alloc: Global, number: u8, nodes: u8) -> Result<Node, Refusal> {
     let settings = Settings {
@@ -166,14 +162,14 @@ fn new_node(alloc: Global, number: u8, nodes: u8) -> Result<Node, Refusal> {
     };
     let id = node(number)?;
     let list = list_of(alloc, [7, 8].as_slice())?;
-    Node::new(alloc, settings, id, list).map_err(|refused| refusal_in(refused))
+    Node::new(alloc, settings, id, list).map_err(|refused| refused.into_refusal())
 }
 
 /// Node 1 has so many leaves wait.
 fn fill(one: &mut Node, count: usize) -> Result<(), Refusal> {
     for _ in 0..count {
         if let Err(refused) = one.submit(1, Call::Leave) {
-            return Err(refusal_in(refused));
+            return Err(refused.into_refusal());
         }
     }
     Ok(())

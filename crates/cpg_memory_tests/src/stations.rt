@@ -10,18 +10,13 @@ use crate::frames::FIRST;
 use crate::nodes::submitted;
 use crate::short::{Short, event_in_short};
 use cpg_board::{Board, Seat};
-use cpg_cred::{AcceptList, By, NodeId, Refusal, Refused};
+use cpg_cred::{AcceptList, By, NodeId, Refusal};
 use cpg_node::{Node, Settings};
 use cpg_record::Verdict;
 use cpg_station::{BoardName, Station};
 use std::alloc::Global;
 use std::marker::Brand;
 use std::test::Fail;
-
-/// The refusal alone.
-fn refusal_in<T: Drop>(refused: Refused<T>) -> Refusal {
-    refused.refusal
-}
 
 /// Node 1 of 1, which lets in user 0 alone.
 fn new_node(alloc: Global, id: NodeId) -> Result<Node, Refusal>
@@ -33,7 +28,7 @@ fn new_node(alloc: Global, id: NodeId) -> Result<Node, Refusal>
         places: 100,
         hops: 100,
     };
-    Node::new(alloc, settings, id, AcceptList::new(alloc)).map_err(|refused| refusal_in(refused))
+    Node::new(alloc, settings, id, AcceptList::new(alloc)).map_err(|refused| refused.into_refusal())
 }
 
 /// Its station, with a new seat of the board.

@@ -29,7 +29,7 @@ use Rattle.cpg_node.specs.Calls.{answers_to, after_frame}
 use Rattle.cpg_wire.specs.declared.codes.Version.TheVariants.{Two}
 use Rattle.cpg_wire.specs.Spelling.{spelling}
 use Rattle.std.proofs.lemmas.List.{map-append, length-map}
-use Rattle.cpg_ring.specs.Worlds.{Move, item, receive_token}
+use Rattle.cpg_ring.specs.Worlds.{RingOutcome, item, receive_token}
 use Rattle.cpg_ring.proofs.Lists.{item_within}
 use Rattle.cpg_node.specs.declared.connections.Client.{Client}
 use Rattle.cpg_node.specs.Answers.{spelled, CanBeSpelled}
@@ -209,8 +209,8 @@ spelled_push fs f bs b are is = ap (λ l. l ++ b ∷ []) are ∙ (ap (λ x. spel
 -- what a node that accepts a token sends, and the node after it
 pub token_heard : (x : NodeValue) (t : Token) → refusal_of x.ring t ≡ None → (answers_to x (frame.Token t) ≡ map frame.Packet (visit_of x.ring t).packets ++ frame.Token (visit_of x.ring t).token ∷ []) × (after_frame x (frame.Token t) ≡ with_ring x (visited x.ring t).state)
 token_heard x t none = (
-  ap (λ r. let move : Move = receive_token x.ring.settings x.ring.node x.ring.state t r in move.1) none,
-  ap (λ r. let move : Move = receive_token x.ring.settings x.ring.node x.ring.state t r in with_ring x move.0) none,
+  ap (λ r. let move : RingOutcome = receive_token x.ring.settings x.ring.node x.ring.state t r in move.1) none,
+  ap (λ r. let move : RingOutcome = receive_token x.ring.settings x.ring.node x.ring.state t r in with_ring x move.0) none,
 )
 
 -- a visit sends at most 41 frames: 32 again, 8 new, the token

@@ -19,7 +19,7 @@ use Rattle.cpg_record.specs.Judging.{record_of}
 use Rattle.cpg_record.specs.Listings.{listing}
 use Rattle.cpg_ring.specs.States.{Frame, Refusal}
 use Rattle.cpg_ring.specs.Moves.{after_entry, next_entry}
-use Rattle.cpg_ring.specs.Worlds.{Move, with_item, receive, deliver}
+use Rattle.cpg_ring.specs.Worlds.{RingOutcome, with_item, receive, deliver}
 use Rattle.cpg_ring.specs.Rings.{refusal_of, data_refusal_of, full_refusal}
 use Rattle.cpg_node.specs.declared.connections.Client.{Client}
 use Rattle.cpg_node.specs.Nodes.{NodeValue, with_ring, with_clients, records_of, inbox_of, open_client, entry_by, asker_by}
@@ -92,7 +92,7 @@ frame_refusal x (frame.Packet p) = data_refusal_of x.ring p
 frame_refusal x (frame.Token t) = refusal_of x.ring t
 
 -- what a frame does at the node's part of the ring, and what it sends
-abbrev pub heard : NodeValue → Frame → Move
+abbrev pub heard : NodeValue → Frame → RingOutcome
 heard x f = receive x.ring.settings x.ring.node (Some f) x.ring.state
 
 abbrev pub after_frame : NodeValue → Frame → NodeValue
@@ -103,8 +103,8 @@ abbrev pub answers_to : NodeValue → Frame → List Frame
 answers_to x f = (heard x f).1
 
 -- Deliver: the next place, if it is held.
-abbrev pub next_place : NodeValue → Option ℕ
-next_place x = option_map (λ e. suc x.ring.state.delivered) (next_entry x.ring.state)
+abbrev pub place_to_deliver : NodeValue → Option ℕ
+place_to_deliver x = option_map (λ e. suc x.ring.state.delivered) (next_entry x.ring.state)
 
 abbrev pub delivered : NodeValue → NodeValue
 delivered x = with_ring x (deliver x.ring.state).0
@@ -121,12 +121,12 @@ abbrev pub counted : NodeValue → ℕ → Client → Option Event → NodeValue
 counted x conn c None = x
 counted x conn c (Some event) = with_client x conn (record c { taken = suc c.taken })
 
-abbrev pub taken_by : NodeValue → ℕ → Option Client → NodeValue
-taken_by x conn None = x
-taken_by x conn (Some c) = counted x conn c (next_event x conn c)
+abbrev pub node_after_take : NodeValue → ℕ → Option Client → NodeValue
+node_after_take x conn None = x
+node_after_take x conn (Some c) = counted x conn c (next_event x conn c)
 
 abbrev pub took : NodeValue → ℕ → NodeValue
-took x conn = taken_by x conn (open_client x conn)
+took x conn = node_after_take x conn (open_client x conn)
 
 -- List: the members of the group over what was delivered, or what denies the connection the listing.
 abbrev pub list_for : NodeValue → Client → List ℕ → Result (List (ℕ × ℕ)) By

@@ -14,14 +14,14 @@ ghost use Rattle.cpg_wire.specs.Spelling.{spelling};
 ghost use Rattle.cpg_wire.specs.Views.{frame_seen};
 ghost use Rattle.cpg_entry.specs.Ranges.{IsFrame};
 ghost use Rattle.cpg_node.specs.Nodes.{records_of, open_client, new_value, conn_id};
-ghost use Rattle.cpg_node.specs.Calls.{connect_refusal, connected, submit_refusal, submitted, closed_refusal, disconnected, frame_refusal, answers_to, next_place, next_record, delivered, next_event, took};
+ghost use Rattle.cpg_node.specs.Calls.{connect_refusal, connected, submit_refusal, submitted, closed_refusal, disconnected, frame_refusal, answers_to, place_to_deliver, next_record, delivered, next_event, took};
 ghost use Rattle.cpg_node.specs.Answers.{CanBeSpelled, IsNodeMade, IsFrameAnswer, IsListAnswer, IsGroupsAnswer, IsTakeAnswer, connection_of};
 
 use crate::clients::{open_client, put_client};
 use crate::connections::{Client, Connection};
 use crate::judged::Judged;
 use crate::names::call_refusal;
-use crate::ringing::{hear_packet, hear_token, refusal_in};
+use crate::ringing::{hear_packet, hear_token};
 use bytes::Bytes;
 use cpg_cred::{AcceptList, Cred, NodeId, Refusal, Refused};
 use cpg_entry::{Call, Entry, Frame, MOST_CONNECTIONS, Op, Token, token_fits};
@@ -171,7 +171,7 @@ impl Node {
                 );
                 Ok(())
             }
-            Err(refused) => Err(refusal_in(refused)),
+            Err(refused) => Err(refused.into_refusal()),
         }
     }
 
@@ -270,16 +270,16 @@ impl Node {
 
     /// Judges the next place and takes it as delivered, if it is held.
     pub fn deliver(&mut self) -> Result<Option<u32>, Refusal>
-        ensures ok { IfOk result (λ place. (place ≡ next_place self.old) × (self.new ≡ delivered self.old)) }
+        ensures ok { IfOk result (λ place. (place ≡ place_to_deliver self.old) × (self.new ≡ delivered self.old)) }
         ensures err { OnErr result (self.new ≡ self.old) }
         ensures memory { IsOkUnless result Refusal.Memory }
-        ensures none { next_place self.old ≡ None → result ≡ Ok None }
+        ensures none { place_to_deliver self.old ≡ None → result ≡ Ok None }
     {
         match self.judge_next()? {
             None => Ok(None),
             Some(next) => match self.commit(next) {
                 Ok(()) => Ok(Some(self.ring.delivered())),
-                Err(refused) => Err(refusal_in(refused)),
+                Err(refused) => Err(refused.into_refusal()),
             },
         }
     }

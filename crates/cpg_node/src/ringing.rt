@@ -10,18 +10,11 @@ ghost use Rattle.cpg_node.specs.Answers.{spelled, CanBeSpelled};
 ghost use Rattle.cpg_node.specs.Kept.{IsSound, IsKeptBy};
 
 use bytes::Bytes;
-use cpg_cred::{Refusal, Refused};
+use cpg_cred::Refusal;
 use cpg_entry::{Packet, Token};
 use cpg_ring::{Ring, Visit};
 use cpg_wire::{encode_data, encode_token};
 use std::alloc::Global;
-
-/// The refusal alone.
-pub(crate) fn refusal_in<T: Drop>(refused: Refused<T>) -> Refusal
-    ensures { result ≡ refused.refusal }
-{
-    refused.refusal
-}
 
 fn spell_packets(alloc: Global, packets: &[Packet]) -> Result<Vec<Bytes>, Refusal>
     requires { All IsPacket packets.now }
@@ -57,7 +50,8 @@ pub(crate) fn hear_packet(ring: &mut Ring, packet: Packet) -> Result<(), Refusal
     ensures err { OnErr result (ring.new ≡ ring.old) }
     ensures kept { IsKeptBy ring.old ring.new }
 {
-    ring.on_data(packet).map_err(|refused| refusal_in(refused))
+    ring.on_data(packet)
+        .map_err(|refused| refused.into_refusal())
 }
 
 /// Accepts the token and gives what is to be sent, or the first refusal that fits; after a refusal the ring

@@ -18,8 +18,8 @@ use Rattle.cpg_record.specs.declared.records.Record.{Record}
 use Rattle.cpg_record.specs.Connections.{conn_of, conn_in, is_conn, member_of}
 use Rattle.cpg_record.specs.Events.{hears_change, inbox, moves_of, news_by}
 use Rattle.cpg_record.specs.Judging.{judged, record_of, entry_group}
-use Rattle.cpg_record.specs.Laws.{InGroup, is_seat, RecordsListTheirMembers}
-use Rattle.cpg_record.specs.Membership.{group_of, is_member, members, Seat, seats}
+use Rattle.cpg_record.specs.Laws.{InGroup, is_membership, RecordsListTheirMembers}
+use Rattle.cpg_record.specs.Membership.{group_of, is_member, members, Membership, memberships}
 use Rattle.cpg_record.specs.Places.{record_at, records_before}
 use Rattle.cpg_record.specs.Receiving.{AreMoves, HasLeft, IsChange, HearsChangesExactly}
 use Rattle.cpg_record.proofs.Denials.{prefixes_are_judged_alike}
@@ -27,8 +27,8 @@ use Rattle.cpg_record.proofs.Elsewhere.{among, flip, lists_members}
 use Rattle.cpg_record.proofs.Growing.{is_conn-true}
 use Rattle.cpg_record.proofs.Inboxes.{in_single}
 use Rattle.cpg_record.proofs.Kept.{Contains-filter, Contains-from_filter}
-use Rattle.cpg_record.proofs.Once.{at_conn, count, no_seat, one_from}
-use Rattle.cpg_record.proofs.Seats.{is_conn-itself, seats_are_memberships}
+use Rattle.cpg_record.proofs.Once.{at_conn, count, no_membership, one_from}
+use Rattle.cpg_record.proofs.Lasting.{is_conn-itself, memberships_are_lasting_joins}
 use Rattle.cpg_record.proofs.Told.{heard, hears, first_records, group_in_first, member_in_first, record_is}
 
 -- ---- the member that a connection is
@@ -41,31 +41,31 @@ turned a b false is = flip a b (is_conn b a) refl is
 abbrev picked : ConnId → List Member → List Member
 picked c list = filter (λ (member : Member). is_conn (conn_in member) c) list
 
-none_picked : (c : ConnId) (g : List ℕ) (ss : List Seat) → count (at_conn c) ss ≡ 0 → picked c (among g ss) ≡ []
+none_picked : (c : ConnId) (g : List ℕ) (ss : List Membership) → count (at_conn c) ss ≡ 0 → picked c (among g ss) ≡ []
 none_picked c g [] none = refl
 none_picked c g (s ∷ ss) none = by_case (is_conn c (conn_in s.member)) (bytes_eq s.group g) refl (none_picked c g ss) none
   where
     by_case : (b n : Bool) → is_conn c (conn_in s.member) ≡ b → (count (at_conn c) ss ≡ 0 → picked c (among g ss) ≡ []) → cond b 1 0 + count (at_conn c) ss ≡ 0 →
-        picked c (map (λ (seat : Seat). seat.member) (cond n (s ∷ filter (λ (seat : Seat). bytes_eq seat.group g) ss) (filter (λ (seat : Seat). bytes_eq seat.group g) ss))) ≡ []
+        picked c (map (λ (membership : Membership). membership.member) (cond n (s ∷ filter (λ (membership : Membership). bytes_eq membership.group g) ss) (filter (λ (membership : Membership). bytes_eq membership.group g) ss))) ≡ []
     by_case true n is others k = absurd (omega arith)
     by_case false false is others k = others (omega arith)
     by_case false true is others k =
         ap (λ (b : Bool). cond b (s.member ∷ picked c (among g ss)) (picked c (among g ss))) (turned c (conn_in s.member) false is) ∙ others (omega arith)
 
-one_picked : (c : ConnId) (g : List ℕ) (ss : List Seat) → count (at_conn c) ss ≤ 1 → list_any (is_seat c g) ss ≡ true → (m : Member) × (picked c (among g ss) ≡ m ∷ [])
+one_picked : (c : ConnId) (g : List ℕ) (ss : List Membership) → count (at_conn c) ss ≤ 1 → list_any (is_membership c g) ss ≡ true → (m : Member) × (picked c (among g ss) ≡ m ∷ [])
 one_picked c g [] one has = absurd (cc)
 one_picked c g (s ∷ ss) one has = by_case (is_conn c (conn_in s.member)) (bytes_eq s.group g) refl (one_picked c g ss) one has
   where
-    by_case : (b n : Bool) → is_conn c (conn_in s.member) ≡ b → (count (at_conn c) ss ≤ 1 → list_any (is_seat c g) ss ≡ true → (m : Member) × (picked c (among g ss) ≡ m ∷ [])) →
-        cond b 1 0 + count (at_conn c) ss ≤ 1 → ((b && n) || list_any (is_seat c g) ss) ≡ true →
-        (m : Member) × (picked c (map (λ (seat : Seat). seat.member) (cond n (s ∷ filter (λ (seat : Seat). bytes_eq seat.group g) ss) (filter (λ (seat : Seat). bytes_eq seat.group g) ss))) ≡ m ∷ [])
+    by_case : (b n : Bool) → is_conn c (conn_in s.member) ≡ b → (count (at_conn c) ss ≤ 1 → list_any (is_membership c g) ss ≡ true → (m : Member) × (picked c (among g ss) ≡ m ∷ [])) →
+        cond b 1 0 + count (at_conn c) ss ≤ 1 → ((b && n) || list_any (is_membership c g) ss) ≡ true →
+        (m : Member) × (picked c (map (λ (membership : Membership). membership.member) (cond n (s ∷ filter (λ (membership : Membership). bytes_eq membership.group g) ss) (filter (λ (membership : Membership). bytes_eq membership.group g) ss))) ≡ m ∷ [])
     by_case true true is others k h = (
       s.member,
       ap (λ (b : Bool). cond b (s.member ∷ picked c (among g ss)) (picked c (among g ss))) (turned c (conn_in s.member) true is)
           ∙ ap (λ (list : List Member). s.member ∷ list) (none_picked c g ss (omega arith)),
     )
     by_case true false is others k h =
-        let none : list_any (is_seat c g) ss ≡ false = no_seat c g ss (omega arith) in
+        let none : list_any (is_membership c g) ss ≡ false = no_membership c g ss (omega arith) in
         absurd (cc)
     by_case false false is others k h = others (omega arith) h
     by_case false true is others k h =
@@ -77,7 +77,7 @@ the_member : (es : List Entry) (n : ℕ) (c : ConnId) (g : List ℕ) → InGroup
 the_member es n c g inside =
     let P : List Record → Type 0 = λ (rs : List Record). InGroup rs c g → (m : Member) × (picked c (members rs g) ≡ m ∷ []) in
     subst P (prefixes_are_judged_alike es n)
-    (λ i. one_picked c g (seats (judged (take n es))) (one_from [] (take n es) (λ d. omega arith) c) ((seats_are_memberships (judged (take n es)) c g).0 i)) inside
+    (λ i. one_picked c g (memberships (judged (take n es))) (one_from [] (take n es) (λ d. omega arith) c) ((memberships_are_lasting_joins (judged (take n es)) c g).0 i)) inside
 
 -- ---- who left
 

@@ -16,13 +16,13 @@ use Rattle.cpg_record.specs.declared.records.Record.{Record}
 use Rattle.cpg_record.specs.Connections.{conn_of, conn_in, is_conn}
 use Rattle.cpg_record.specs.Judging.{judged, with_judgement, record_of, draft, entry_group}
 use Rattle.cpg_record.specs.Laws.{OthersKeepMembers, MembersAreIn}
-use Rattle.cpg_record.specs.Membership.{is_allowed, Seat, seats, members, members_in, group_of, is_named, is_member}
+use Rattle.cpg_record.specs.Membership.{is_allowed, Membership, memberships, members, members_in, group_of, is_named, is_member}
 use Rattle.cpg_record.specs.Steps.{members_by, without}
 use Rattle.cpg_record.specs.Verdicts.{op_verdict}
 use Rattle.cpg_record.proofs.Growing.{is_conn-true, members_push}
 use Rattle.cpg_record.proofs.Kept.{any_passes, passes_any}
 use Rattle.cpg_record.proofs.Once.{count, at_conn, group_is_membership, OneEach, one_from}
-use Rattle.cpg_record.proofs.Seats.{is_conn-itself}
+use Rattle.cpg_record.proofs.Lasting.{is_conn-itself}
 
 -- a group that is there and has the name is that group
 pub named_group : (o : Option (List ℕ)) (g : List ℕ) → (is_named o g ≡ true) ↔ (o ≡ Some g)
@@ -42,22 +42,22 @@ flip a b true is h =
     let t : is_conn a b ≡ true = subst (λ (c : ConnId). is_conn a c ≡ true) (sym same) (is_conn-itself a) in
     absurd (cc)
 
--- the members among seats of a group
-abbrev pub among : List ℕ → List Seat → List Member
-among g ss = map (λ (seat : Seat). seat.member) (filter (λ (seat : Seat). bytes_eq seat.group g) ss)
+-- the members among memberships of a group
+abbrev pub among : List ℕ → List Membership → List Member
+among g ss = map (λ (membership : Membership). membership.member) (filter (λ (membership : Membership). bytes_eq membership.group g) ss)
 
--- the group of the connection's first seat
-abbrev pub first_group : ConnId → List Seat → Option (List ℕ)
-first_group conn ss = option_map (λ (seat : Seat). seat.group) (find (λ (seat : Seat). is_conn conn (conn_in seat.member)) ss)
+-- the group of the connection's first membership
+abbrev pub first_group : ConnId → List Membership → Option (List ℕ)
+first_group conn ss = option_map (λ (membership : Membership). membership.group) (find (λ (membership : Membership). is_conn conn (conn_in membership.member)) ss)
 
--- without the connection's seats nobody goes
-none_goes : (conn : ConnId) (g : List ℕ) (ss : List Seat) → count (at_conn conn) ss ≡ 0 → without conn (among g ss) ≡ among g ss
+-- without the connection's memberships nobody goes
+none_goes : (conn : ConnId) (g : List ℕ) (ss : List Membership) → count (at_conn conn) ss ≡ 0 → without conn (among g ss) ≡ among g ss
 none_goes conn g [] none = refl
 none_goes conn g (s ∷ ss) none = by_case (is_conn conn (conn_in s.member)) (bytes_eq s.group g) refl (none_goes conn g ss) none
   where
     by_case : (b n : Bool) → is_conn conn (conn_in s.member) ≡ b → (count (at_conn conn) ss ≡ 0 → without conn (among g ss) ≡ among g ss) → cond b 1 0 + count (at_conn conn) ss ≡ 0 →
-        without conn (map (λ (seat : Seat). seat.member) (cond n (s ∷ filter (λ (seat : Seat). bytes_eq seat.group g) ss) (filter (λ (seat : Seat). bytes_eq seat.group g) ss)))
-        ≡ map (λ (seat : Seat). seat.member) (cond n (s ∷ filter (λ (seat : Seat). bytes_eq seat.group g) ss) (filter (λ (seat : Seat). bytes_eq seat.group g) ss))
+        without conn (map (λ (membership : Membership). membership.member) (cond n (s ∷ filter (λ (membership : Membership). bytes_eq membership.group g) ss) (filter (λ (membership : Membership). bytes_eq membership.group g) ss)))
+        ≡ map (λ (membership : Membership). membership.member) (cond n (s ∷ filter (λ (membership : Membership). bytes_eq membership.group g) ss) (filter (λ (membership : Membership). bytes_eq membership.group g) ss))
     by_case true n is others k = absurd (omega arith)
     by_case false false is others k = others (omega arith)
     by_case false true is others k =
@@ -65,15 +65,15 @@ none_goes conn g (s ∷ ss) none = by_case (is_conn conn (conn_in s.member)) (by
         ∙ ap (λ (ms : List Member). s.member ∷ ms) (others (omega arith))
 
 -- a connection that is in another group, or in none, doesn't go from this one
-pub stays_there : (conn : ConnId) (g : List ℕ) (ss : List Seat) → count (at_conn conn) ss ≤ 1 → is_named (first_group conn ss) g ≡ false → without conn (among g ss) ≡ among g ss
+pub stays_there : (conn : ConnId) (g : List ℕ) (ss : List Membership) → count (at_conn conn) ss ≤ 1 → is_named (first_group conn ss) g ≡ false → without conn (among g ss) ≡ among g ss
 stays_there conn g [] one other = refl
 stays_there conn g (s ∷ ss) one other = by_case (is_conn conn (conn_in s.member)) (bytes_eq s.group g) refl refl (stays_there conn g ss) one other
   where
     by_case : (b n : Bool) → is_conn conn (conn_in s.member) ≡ b → bytes_eq s.group g ≡ n →
         (count (at_conn conn) ss ≤ 1 → is_named (first_group conn ss) g ≡ false → without conn (among g ss) ≡ among g ss) → cond b 1 0 + count (at_conn conn) ss ≤ 1 →
-        is_named (option_map (λ (seat : Seat). seat.group) (cond b (Some s) (find (λ (seat : Seat). is_conn conn (conn_in seat.member)) ss))) g ≡ false →
-        without conn (map (λ (seat : Seat). seat.member) (cond n (s ∷ filter (λ (seat : Seat). bytes_eq seat.group g) ss) (filter (λ (seat : Seat). bytes_eq seat.group g) ss)))
-        ≡ map (λ (seat : Seat). seat.member) (cond n (s ∷ filter (λ (seat : Seat). bytes_eq seat.group g) ss) (filter (λ (seat : Seat). bytes_eq seat.group g) ss))
+        is_named (option_map (λ (membership : Membership). membership.group) (cond b (Some s) (find (λ (membership : Membership). is_conn conn (conn_in membership.member)) ss))) g ≡ false →
+        without conn (map (λ (membership : Membership). membership.member) (cond n (s ∷ filter (λ (membership : Membership). bytes_eq membership.group g) ss) (filter (λ (membership : Membership). bytes_eq membership.group g) ss)))
+        ≡ map (λ (membership : Membership). membership.member) (cond n (s ∷ filter (λ (membership : Membership). bytes_eq membership.group g) ss) (filter (λ (membership : Membership). bytes_eq membership.group g) ss))
     by_case true true is named others k h = absurd (cc)
     by_case true false is named others k h = none_goes conn g ss (omega arith)
     by_case false false is named others k h = others (omega arith) h
@@ -89,11 +89,11 @@ elsewhere_by : (rs : List Record) (e : Entry) (op : Op) (g : List ℕ) (v : Bool
     cond v (members_by e op g (members rs g)) (members rs g) ≡ members rs g
 elsewhere_by rs e op g false one other = refl
 elsewhere_by rs e (Act (Join h)) g true one other = other_name e (members rs g) (bytes_eq h g) other
-elsewhere_by rs e (Act Leave) g true one other = stays_there (conn_of e) g (seats rs) (one (conn_of e)) other
+elsewhere_by rs e (Act Leave) g true one other = stays_there (conn_of e) g (memberships rs) (one (conn_of e)) other
 elsewhere_by rs e (Act (Send m)) g true one other = refl
 elsewhere_by rs e (Act (Insert h index rule)) g true one other = refl
 elsewhere_by rs e (Act (Remove h id)) g true one other = refl
-elsewhere_by rs e Gone g true one other = stays_there (conn_of e) g (seats rs) (one (conn_of e)) other
+elsewhere_by rs e Gone g true one other = stays_there (conn_of e) g (memberships rs) (one (conn_of e)) other
 
 -- a judged record changes the members of its own group alone
 pub elsewhere_of : (rs : List Record) (e : Entry) (g : List ℕ) → OneEach rs → is_named (entry_group rs e e.op) g ≡ false → members (rs ++ record_of rs e ∷ []) g ≡ members rs g
@@ -128,33 +128,33 @@ lists_members rs e g is =
 
 -- ---- who is a member
 
--- no seat, no member
-none_there : (conn : ConnId) (g : List ℕ) (ss : List Seat) → count (at_conn conn) ss ≡ 0 → list_any (λ member. is_conn conn (conn_in member)) (among g ss) ≡ false
+-- no membership, no member
+none_there : (conn : ConnId) (g : List ℕ) (ss : List Membership) → count (at_conn conn) ss ≡ 0 → list_any (λ member. is_conn conn (conn_in member)) (among g ss) ≡ false
 none_there conn g [] none = refl
 none_there conn g (s ∷ ss) none = by_case (is_conn conn (conn_in s.member)) (bytes_eq s.group g) refl (none_there conn g ss) none
   where
     by_case : (b n : Bool) → is_conn conn (conn_in s.member) ≡ b → (count (at_conn conn) ss ≡ 0 → list_any (λ member. is_conn conn (conn_in member)) (among g ss) ≡ false) → cond b 1 0 + count (at_conn conn) ss ≡ 0 →
-        list_any (λ member. is_conn conn (conn_in member)) (map (λ (seat : Seat). seat.member) (cond n (s ∷ filter (λ (seat : Seat). bytes_eq seat.group g) ss) (filter (λ (seat : Seat). bytes_eq seat.group g) ss))) ≡ false
+        list_any (λ member. is_conn conn (conn_in member)) (map (λ (membership : Membership). membership.member) (cond n (s ∷ filter (λ (membership : Membership). bytes_eq membership.group g) ss) (filter (λ (membership : Membership). bytes_eq membership.group g) ss))) ≡ false
     by_case true n is others k = absurd (omega arith)
     by_case false false is others k = others (omega arith)
     by_case false true is others k = ap (λ (b : Bool). b || list_any (λ member. is_conn conn (conn_in member)) (among g ss)) is ∙ others (omega arith)
 
--- the first seat's group has the connection as a member, and no other
-pub first_there : (conn : ConnId) (g : List ℕ) (ss : List Seat) → count (at_conn conn) ss ≤ 1 → is_named (first_group conn ss) g ≡ list_any (λ member. is_conn conn (conn_in member)) (among g ss)
+-- the first membership's group has the connection as a member, and no other
+pub first_there : (conn : ConnId) (g : List ℕ) (ss : List Membership) → count (at_conn conn) ss ≤ 1 → is_named (first_group conn ss) g ≡ list_any (λ member. is_conn conn (conn_in member)) (among g ss)
 first_there conn g [] one = refl
 first_there conn g (s ∷ ss) one = by_case (is_conn conn (conn_in s.member)) (bytes_eq s.group g) refl refl (first_there conn g ss) one
   where
     by_case : (b n : Bool) → is_conn conn (conn_in s.member) ≡ b → bytes_eq s.group g ≡ n →
         (count (at_conn conn) ss ≤ 1 → is_named (first_group conn ss) g ≡ list_any (λ member. is_conn conn (conn_in member)) (among g ss)) → cond b 1 0 + count (at_conn conn) ss ≤ 1 →
-        is_named (option_map (λ (seat : Seat). seat.group) (cond b (Some s) (find (λ (seat : Seat). is_conn conn (conn_in seat.member)) ss))) g
-        ≡ list_any (λ member. is_conn conn (conn_in member)) (map (λ (seat : Seat). seat.member) (cond n (s ∷ filter (λ (seat : Seat). bytes_eq seat.group g) ss) (filter (λ (seat : Seat). bytes_eq seat.group g) ss)))
+        is_named (option_map (λ (membership : Membership). membership.group) (cond b (Some s) (find (λ (membership : Membership). is_conn conn (conn_in membership.member)) ss))) g
+        ≡ list_any (λ member. is_conn conn (conn_in member)) (map (λ (membership : Membership). membership.member) (cond n (s ∷ filter (λ (membership : Membership). bytes_eq membership.group g) ss) (filter (λ (membership : Membership). bytes_eq membership.group g) ss)))
     by_case true true is named others k = named ∙ sym (ap (λ (b : Bool). b || list_any (λ member. is_conn conn (conn_in member)) (among g ss)) is)
     by_case true false is named others k = named ∙ sym (none_there conn g ss (omega arith))
     by_case false false is named others k = others (omega arith)
     by_case false true is named others k = others (omega arith) ∙ sym (ap (λ (b : Bool). b || list_any (λ member. is_conn conn (conn_in member)) (among g ss)) is)
 
 listed_in : (es : List Entry) (conn : ConnId) (g : List ℕ) → is_member (judged es) conn g ≡ list_any (λ member. is_conn conn (conn_in member)) (members (judged es) g)
-listed_in es conn g = first_there conn g (seats (judged es)) (one_from [] es (λ c. omega arith) conn)
+listed_in es conn g = first_there conn g (memberships (judged es)) (one_from [] es (λ c. omega arith) conn)
 
 pub members_are_in : MembersAreIn
 members_are_in es conn g =

@@ -8,7 +8,7 @@ pub mod Inboxes
 pub mod Kept
 pub mod Judging
 pub mod Reasoned
-pub mod Seats
+pub mod Lasting
 pub mod Shown
 pub mod Told
 pub mod Why

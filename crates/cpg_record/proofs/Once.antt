@@ -1,4 +1,4 @@
--- A connection has at most one seat, and a process stands at most once in a group.
+-- A connection has at most one membership, and a process stands at most once in a group.
 use Rattle.std.proofs.Common.{◌≡◌, ℕ, ◌+◌, ◌≤◌, Bool, true, false, not, ◌&&◌, ◌||◌, ◌==◌, cond, List, [], ◌∷◌, ◌++◌, length, refl, sym, ap, subst, ◌∙◌, arith, Some}
 use Rattle.std.specs.Prelude.{count_by, is_some, option_map, nat_le, ◌↔◌}
 use Rattle.std.specs.Str.{bytes_eq}
@@ -23,13 +23,13 @@ use Rattle.cpg_record.specs.declared.verdicts.Reason.TheVariants as reason
 use Rattle.cpg_record.specs.declared.verdicts.Verdict.TheVariants.{Allowed, Denied}
 use Rattle.cpg_record.specs.Connections.{conn_of, conn_in, is_conn, member_of}
 use Rattle.cpg_record.specs.Judging.{judged, with_judgement, record_of}
-use Rattle.cpg_record.specs.Laws.{is_seat, OneSeatEach, OnceInAGroup, GroupIsMembership}
-use Rattle.cpg_record.specs.Membership.{is_allowed, Seat, seats, taken_by, members, group_of}
+use Rattle.cpg_record.specs.Laws.{is_membership, OneMembershipEach, OnceInAGroup, GroupIsMembership}
+use Rattle.cpg_record.specs.Membership.{is_allowed, Membership, memberships, taken_by_join, members, group_of}
 use Rattle.cpg_record.specs.RuleTables.{rules_of}
 use Rattle.cpg_record.specs.Steps.{members_by}
 use Rattle.cpg_record.specs.Verdicts.{decided, has_process, join_verdict, op_verdict}
-use Rattle.cpg_record.proofs.Growing.{is_conn-true, members_push, seats_push, stays}
-use Rattle.cpg_record.proofs.Seats.{seats_are_memberships}
+use Rattle.cpg_record.proofs.Growing.{is_conn-true, members_push, memberships_push, stays}
+use Rattle.cpg_record.proofs.Lasting.{memberships_are_lasting_joins}
 
 -- ---- counting
 
@@ -87,47 +87,47 @@ pub allowed_join : (rs : List Record) (e : Entry) (g : List ℕ) → is_allowed 
 allowed_join rs e g h =
     join_passed (decide (rules_of rs g) right.Join (asker_of e)) (is_some (group_of rs (conn_of e))) (has_process e (members rs g)) (nat_le MOST_MEMBERS (length (members rs g))) h
 
--- ---- one seat each
+-- ---- one membership each
 
-abbrev pub at_conn : ConnId → Seat → Bool
-at_conn conn seat = is_conn conn (conn_in seat.member)
+abbrev pub at_conn : ConnId → Membership → Bool
+at_conn conn membership = is_conn conn (conn_in membership.member)
 
 abbrev pub OneEach : List Record → Type 0
-OneEach rs = (conn : ConnId) → count (at_conn conn) (seats rs) ≤ 1
+OneEach rs = (conn : ConnId) → count (at_conn conn) (memberships rs) ≤ 1
 
--- a connection without a seat takes one
+-- a connection without a membership takes one
 take_one : (rs : List Record) (r : Record) (e : Entry) (g : List ℕ) (conn : ConnId) (mine : Bool) → is_conn conn (conn_of e) ≡ mine →
     OneEach rs → is_some (group_of rs (conn_of e)) ≡ false →
-    count (at_conn conn) (filter (stays r) (seats rs)) + (cond mine 1 0 + 0) ≤ 1
+    count (at_conn conn) (filter (stays r) (memberships rs)) + (cond mine 1 0 + 0) ≤ 1
 take_one rs r e g conn true is one free =
     let same : conn ≡ conn_of e = is_conn-true conn (conn_of e) is in
-    let none : count (at_conn conn) (seats rs) ≡ 0 =
-    ap (λ (c : ConnId). count (at_conn c) (seats rs)) same ∙ count_not_found (λ (seat : Seat). seat.group) (at_conn (conn_of e)) (seats rs) free in
-    omega (arith, count_filter (at_conn conn) (stays r) (seats rs))
-take_one rs r e g conn false is one free = omega (arith, count_filter (at_conn conn) (stays r) (seats rs), one conn)
+    let none : count (at_conn conn) (memberships rs) ≡ 0 =
+    ap (λ (c : ConnId). count (at_conn c) (memberships rs)) same ∙ count_not_found (λ (membership : Membership). membership.group) (at_conn (conn_of e)) (memberships rs) free in
+    omega (arith, count_filter (at_conn conn) (stays r) (memberships rs))
+take_one rs r e g conn false is one free = omega (arith, count_filter (at_conn conn) (stays r) (memberships rs), one conn)
 
 one_by : (rs : List Record) (r : Record) (e : Entry) (op : Op) (conn : ConnId) (v : Bool) → is_allowed (op_verdict rs e op) ≡ v → OneEach rs →
-    count (at_conn conn) (filter (stays r) (seats rs)) + count (at_conn conn) (cond v (taken_by e op) []) ≤ 1
-one_by rs r e op conn false is one = omega (arith, count_filter (at_conn conn) (stays r) (seats rs), one conn)
+    count (at_conn conn) (filter (stays r) (memberships rs)) + count (at_conn conn) (cond v (taken_by_join e op) []) ≤ 1
+one_by rs r e op conn false is one = omega (arith, count_filter (at_conn conn) (stays r) (memberships rs), one conn)
 one_by rs r e (Act (Join g)) conn true is one = take_one rs r e g conn (is_conn conn (conn_of e)) refl one (allowed_join rs e g is).0
-one_by rs r e (Act Leave) conn true is one = omega (arith, count_filter (at_conn conn) (stays r) (seats rs), one conn)
-one_by rs r e (Act (Send m)) conn true is one = omega (arith, count_filter (at_conn conn) (stays r) (seats rs), one conn)
-one_by rs r e (Act (Insert g index rule)) conn true is one = omega (arith, count_filter (at_conn conn) (stays r) (seats rs), one conn)
-one_by rs r e (Act (Remove g id)) conn true is one = omega (arith, count_filter (at_conn conn) (stays r) (seats rs), one conn)
-one_by rs r e Gone conn true is one = omega (arith, count_filter (at_conn conn) (stays r) (seats rs), one conn)
+one_by rs r e (Act Leave) conn true is one = omega (arith, count_filter (at_conn conn) (stays r) (memberships rs), one conn)
+one_by rs r e (Act (Send m)) conn true is one = omega (arith, count_filter (at_conn conn) (stays r) (memberships rs), one conn)
+one_by rs r e (Act (Insert g index rule)) conn true is one = omega (arith, count_filter (at_conn conn) (stays r) (memberships rs), one conn)
+one_by rs r e (Act (Remove g id)) conn true is one = omega (arith, count_filter (at_conn conn) (stays r) (memberships rs), one conn)
+one_by rs r e Gone conn true is one = omega (arith, count_filter (at_conn conn) (stays r) (memberships rs), one conn)
 
 one_push : (rs : List Record) (e : Entry) → OneEach rs → OneEach (rs ++ record_of rs e ∷ [])
 one_push rs e one conn =
     let r : Record = record_of rs e in
-    rw (seats_push rs (record_of rs e), count_append (at_conn conn) (filter (stays (record_of rs e)) (seats rs)) (cond (is_allowed (op_verdict rs e e.op)) (taken_by e e.op) []))
+    rw (memberships_push rs (record_of rs e), count_append (at_conn conn) (filter (stays (record_of rs e)) (memberships rs)) (cond (is_allowed (op_verdict rs e e.op)) (taken_by_join e e.op) []))
     (one_by rs (record_of rs e) e e.op conn (is_allowed (op_verdict rs e e.op)) refl one)
 
 pub one_from : (rs : List Record) (es : List Entry) → OneEach rs → OneEach (fold with_judgement rs es)
 one_from rs [] one = one
 one_from rs (e ∷ es) one = one_from (rs ++ record_of rs e ∷ []) es (one_push rs e one)
 
-pub one_seat_each : OneSeatEach
-one_seat_each es conn = rw (← count_is (at_conn conn) (seats (judged es))) (one_from [] es (λ c. omega arith) conn)
+pub one_membership_each : OneMembershipEach
+one_membership_each es conn = rw (← count_is (at_conn conn) (memberships (judged es))) (one_from [] es (λ c. omega arith) conn)
 
 -- ---- once in a group
 
@@ -181,20 +181,20 @@ once_in_a_group es g node pid = rw (← count_is (is_process node pid) (members 
 
 -- ---- the group of a connection
 
--- a connection without a seat has none in a group
-pub no_seat : (conn : ConnId) (g : List ℕ) (ss : List Seat) → count (at_conn conn) ss ≡ 0 → list_any (is_seat conn g) ss ≡ false
-no_seat conn g [] none = refl
-no_seat conn g (s ∷ ss) none = by_case (at_conn conn s) (no_seat conn g ss) none
+-- a connection without a membership has none in a group
+pub no_membership : (conn : ConnId) (g : List ℕ) (ss : List Membership) → count (at_conn conn) ss ≡ 0 → list_any (is_membership conn g) ss ≡ false
+no_membership conn g [] none = refl
+no_membership conn g (s ∷ ss) none = by_case (at_conn conn s) (no_membership conn g ss) none
   where
-    by_case : (b : Bool) → (count (at_conn conn) ss ≡ 0 → list_any (is_seat conn g) ss ≡ false) → cond b 1 0 + count (at_conn conn) ss ≡ 0 →
-        ((b && bytes_eq s.group g) || list_any (is_seat conn g) ss) ≡ false
+    by_case : (b : Bool) → (count (at_conn conn) ss ≡ 0 → list_any (is_membership conn g) ss ≡ false) → cond b 1 0 + count (at_conn conn) ss ≡ 0 →
+        ((b && bytes_eq s.group g) || list_any (is_membership conn g) ss) ≡ false
     by_case true others k = absurd (omega arith)
     by_case false others k = others (omega arith)
 
--- the first seat decides where no other is there
-only_seat : (s : Seat) (g : List ℕ) (b others : Bool) → bytes_eq s.group g ≡ b → others ≡ false → ((b || others) ≡ true) ↔ (Some s.group ≡ Some g)
-only_seat s g true others is none = ((λ h. ap Some ((bytes_eq-Decides s.group g).0 is)), (λ h. refl))
-only_seat s g false others is none = (
+-- the first membership decides where no other is there
+only_membership : (s : Membership) (g : List ℕ) (b others : Bool) → bytes_eq s.group g ≡ b → others ≡ false → ((b || others) ≡ true) ↔ (Some s.group ≡ Some g)
+only_membership s g true others is none = ((λ h. ap Some ((bytes_eq-Decides s.group g).0 is)), (λ h. refl))
+only_membership s g false others is none = (
   (λ h. absurd (cc)),
   (λ h.
       let same : s.group ≡ g = cc in
@@ -202,20 +202,20 @@ only_seat s g false others is none = (
       absurd (cc)),
 )
 
--- where one seat at most is the connection's, the first is
-first_seat : (conn : ConnId) (g : List ℕ) (ss : List Seat) → count (at_conn conn) ss ≤ 1 →
-    (list_any (is_seat conn g) ss ≡ true) ↔ (option_map (λ (seat : Seat). seat.group) (find (at_conn conn) ss) ≡ Some g)
-first_seat conn g [] one = ((λ h. absurd (cc)), (λ h. absurd (cc)))
-first_seat conn g (s ∷ ss) one = by_case (at_conn conn s) (first_seat conn g ss) one
+-- where one membership at most is the connection's, the first is
+first_membership : (conn : ConnId) (g : List ℕ) (ss : List Membership) → count (at_conn conn) ss ≤ 1 →
+    (list_any (is_membership conn g) ss ≡ true) ↔ (option_map (λ (membership : Membership). membership.group) (find (at_conn conn) ss) ≡ Some g)
+first_membership conn g [] one = ((λ h. absurd (cc)), (λ h. absurd (cc)))
+first_membership conn g (s ∷ ss) one = by_case (at_conn conn s) (first_membership conn g ss) one
   where
-    by_case : (b : Bool) → (count (at_conn conn) ss ≤ 1 → (list_any (is_seat conn g) ss ≡ true) ↔ (option_map (λ (seat : Seat). seat.group) (find (at_conn conn) ss) ≡ Some g)) →
+    by_case : (b : Bool) → (count (at_conn conn) ss ≤ 1 → (list_any (is_membership conn g) ss ≡ true) ↔ (option_map (λ (membership : Membership). membership.group) (find (at_conn conn) ss) ≡ Some g)) →
         cond b 1 0 + count (at_conn conn) ss ≤ 1 →
-        (((b && bytes_eq s.group g) || list_any (is_seat conn g) ss) ≡ true) ↔ (option_map (λ (seat : Seat). seat.group) (cond b (Some s) (find (at_conn conn) ss)) ≡ Some g)
-    by_case true others k = only_seat s g (bytes_eq s.group g) (list_any (is_seat conn g) ss) refl (no_seat conn g ss (omega arith))
+        (((b && bytes_eq s.group g) || list_any (is_membership conn g) ss) ≡ true) ↔ (option_map (λ (membership : Membership). membership.group) (cond b (Some s) (find (at_conn conn) ss)) ≡ Some g)
+    by_case true others k = only_membership s g (bytes_eq s.group g) (list_any (is_membership conn g) ss) refl (no_membership conn g ss (omega arith))
     by_case false others k = others (omega arith)
 
 pub group_is_membership : GroupIsMembership
 group_is_membership es conn g =
-    let seat = seats_are_memberships (judged es) conn g in
-    let first = first_seat conn g (seats (judged es)) (one_from [] es (λ c. omega arith) conn) in
-    ((λ i. first.0 (seat.0 i)), (λ h. seat.1 (first.1 h)))
+    let membership = memberships_are_lasting_joins (judged es) conn g in
+    let first = first_membership conn g (memberships (judged es)) (one_from [] es (λ c. omega arith) conn) in
+    ((λ i. first.0 (membership.0 i)), (λ h. membership.1 (first.1 h)))

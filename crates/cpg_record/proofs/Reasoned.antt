@@ -45,26 +45,26 @@ not_so true says = ((λ h. absurd (cc)), (λ n. absurd (n (says.0 refl))))
 not_so false says = ((λ h a. absurd (let never = says.1 a in cc)), (λ n. refl))
 
 -- the computed group is the one that the connection is in
-abbrev pub Seated : List Record → Type 0
-Seated rs = (c : ConnId) (g : List ℕ) → InGroup rs c g ↔ (group_of rs c ≡ Some g)
+abbrev pub Grouped : List Record → Type 0
+Grouped rs = (c : ConnId) (g : List ℕ) → InGroup rs c g ↔ (group_of rs c ≡ Some g)
 
-in_some : (rs : List Record) → Seated rs → (c : ConnId) → (is_some (group_of rs c) ≡ true) ↔ IsInSome rs c
-in_some rs seated c = ((λ h. by_group (group_of rs c) refl h), (λ (g, i). ap is_some ((seated c g).0 i)))
+in_some : (rs : List Record) → Grouped rs → (c : ConnId) → (is_some (group_of rs c) ≡ true) ↔ IsInSome rs c
+in_some rs grouped c = ((λ h. by_group (group_of rs c) refl h), (λ (g, i). ap is_some ((grouped c g).0 i)))
   where
     by_group : (o : Option (List ℕ)) → group_of rs c ≡ o → is_some o ≡ true → IsInSome rs c
     by_group None is h = absurd (cc)
-    by_group (Some g) is h = (g, (seated c g).1 is)
+    by_group (Some g) is h = (g, (grouped c g).1 is)
 
 -- a connection that is in no group has none
-none_of : (rs : List Record) → Seated rs → (c : ConnId) → (group_of rs c ≡ None) ↔ (¬ IsInSome rs c)
-none_of rs seated c = (
-  (λ none (g, i). let some = (seated c g).0 i in absurd (cc)),
+none_of : (rs : List Record) → Grouped rs → (c : ConnId) → (group_of rs c ≡ None) ↔ (¬ IsInSome rs c)
+none_of rs grouped c = (
+  (λ none (g, i). let some = (grouped c g).0 i in absurd (cc)),
   (λ out. by_group (group_of rs c) refl out),
 )
   where
     by_group : (o : Option (List ℕ)) → group_of rs c ≡ o → (¬ IsInSome rs c) → o ≡ None
     by_group None is out = refl
-    by_group (Some g) is out = absurd (out (g, (seated c g).1 is))
+    by_group (Some g) is out = absurd (out (g, (grouped c g).1 is))
 
 same_process : (e : Entry) (m : Member) → (((m.node == e.node) && (m.pid == e.pid)) ≡ true) ↔ ((m.node ≡ e.node) × (m.pid ≡ e.pid))
 same_process e m = (
@@ -119,87 +119,87 @@ join_is rs e g (decision.Allowed b) false false true says j t f =
 join_is rs e g (decision.Allowed b) false false false says j t f =
     (says, (not_so false j).0 refl, (not_so false t).0 refl, leb-false MOST_MEMBERS (length (members rs g)) f)
 
-join_from : (rs : List Record) → Seated rs → (e : Entry) (g : List ℕ) (v : Verdict) → IsJoinVerdict rs e g v → join_verdict rs e g ≡ v
-join_from rs seated e g (Denied (reason.Rule id)) says =
+join_from : (rs : List Record) → Grouped rs → (e : Entry) (g : List ℕ) (v : Verdict) → IsJoinVerdict rs e g v → join_verdict rs e g ≡ v
+join_from rs grouped e g (Denied (reason.Rule id)) says =
     let d : decide (rules_of rs g) right.Join (asker_of e) ≡ decision.Denied (by.Rule id) = decides_so (rules_of rs g) right.Join (asker_of e) Deny (by.Rule id) says in
     ap (λ (x : Decision). join_by x (is_some (group_of rs (conn_of e))) (has_process e (members rs g)) (leb MOST_MEMBERS (length (members rs g)))) d
-join_from rs seated e g (Denied reason.Joined) (lets, inside) =
+join_from rs grouped e g (Denied reason.Joined) (lets, inside) =
     let d : decide (rules_of rs g) right.Join (asker_of e) ≡ decision.Allowed lets.0 = decides_so (rules_of rs g) right.Join (asker_of e) Allow lets.0 lets.1 in
-    let j : is_some (group_of rs (conn_of e)) ≡ true = (in_some rs seated (conn_of e)).1 inside in
+    let j : is_some (group_of rs (conn_of e)) ≡ true = (in_some rs grouped (conn_of e)).1 inside in
     λ i. join_by (d i) (j i) (has_process e (members rs g)) (leb MOST_MEMBERS (length (members rs g)))
-join_from rs seated e g (Denied reason.Twice) (lets, outside, member) =
+join_from rs grouped e g (Denied reason.Twice) (lets, outside, member) =
     let d : decide (rules_of rs g) right.Join (asker_of e) ≡ decision.Allowed lets.0 = decides_so (rules_of rs g) right.Join (asker_of e) Allow lets.0 lets.1 in
-    let j : is_some (group_of rs (conn_of e)) ≡ false = (not_so (is_some (group_of rs (conn_of e))) (in_some rs seated (conn_of e))).1 outside in
+    let j : is_some (group_of rs (conn_of e)) ≡ false = (not_so (is_some (group_of rs (conn_of e))) (in_some rs grouped (conn_of e))).1 outside in
     let t : has_process e (members rs g) ≡ true = (member_already rs e g).1 member in
     λ i. join_by (d i) (j i) (t i) (leb MOST_MEMBERS (length (members rs g)))
-join_from rs seated e g (Denied reason.Full) (lets, outside, other, many) =
+join_from rs grouped e g (Denied reason.Full) (lets, outside, other, many) =
     let d : decide (rules_of rs g) right.Join (asker_of e) ≡ decision.Allowed lets.0 = decides_so (rules_of rs g) right.Join (asker_of e) Allow lets.0 lets.1 in
-    let j : is_some (group_of rs (conn_of e)) ≡ false = (not_so (is_some (group_of rs (conn_of e))) (in_some rs seated (conn_of e))).1 outside in
+    let j : is_some (group_of rs (conn_of e)) ≡ false = (not_so (is_some (group_of rs (conn_of e))) (in_some rs grouped (conn_of e))).1 outside in
     let t : has_process e (members rs g) ≡ false = (not_so (has_process e (members rs g)) (member_already rs e g)).1 other in
     let f : leb MOST_MEMBERS (length (members rs g)) ≡ true = le-leb MOST_MEMBERS (length (members rs g)) many in
     λ i. join_by (d i) (j i) (t i) (f i)
-join_from rs seated e g (Allowed basis) (says, outside, other, few) =
+join_from rs grouped e g (Allowed basis) (says, outside, other, few) =
     let d : decide (rules_of rs g) right.Join (asker_of e) ≡ decision.Allowed basis = decides_so (rules_of rs g) right.Join (asker_of e) Allow basis says in
-    let j : is_some (group_of rs (conn_of e)) ≡ false = (not_so (is_some (group_of rs (conn_of e))) (in_some rs seated (conn_of e))).1 outside in
+    let j : is_some (group_of rs (conn_of e)) ≡ false = (not_so (is_some (group_of rs (conn_of e))) (in_some rs grouped (conn_of e))).1 outside in
     let t : has_process e (members rs g) ≡ false = (not_so (has_process e (members rs g)) (member_already rs e g)).1 other in
     let f : leb MOST_MEMBERS (length (members rs g)) ≡ false = lt-leb MOST_MEMBERS (length (members rs g)) few in
     λ i. join_by (d i) (j i) (t i) (f i)
-join_from rs seated e g (Denied reason.Default) is = absurd is
-join_from rs seated e g (Denied reason.Closed) is = absurd is
-join_from rs seated e g (Denied reason.Position) is = absurd is
-join_from rs seated e g (Denied reason.TableFull) is = absurd is
-join_from rs seated e g (Denied reason.Absent) is = absurd is
+join_from rs grouped e g (Denied reason.Default) is = absurd is
+join_from rs grouped e g (Denied reason.Closed) is = absurd is
+join_from rs grouped e g (Denied reason.Position) is = absurd is
+join_from rs grouped e g (Denied reason.TableFull) is = absurd is
+join_from rs grouped e g (Denied reason.Absent) is = absurd is
 
 -- ---- leaves
 
-leave_is : (rs : List Record) → Seated rs → (e : Entry) (o : Option (List ℕ)) → group_of rs (conn_of e) ≡ o → IsLeaveVerdict rs e (leave_verdict o)
-leave_is rs seated e None is = (none_of rs seated (conn_of e)).0 is
-leave_is rs seated e (Some g) is = (g, (seated (conn_of e) g).1 is)
+leave_is : (rs : List Record) → Grouped rs → (e : Entry) (o : Option (List ℕ)) → group_of rs (conn_of e) ≡ o → IsLeaveVerdict rs e (leave_verdict o)
+leave_is rs grouped e None is = (none_of rs grouped (conn_of e)).0 is
+leave_is rs grouped e (Some g) is = (g, (grouped (conn_of e) g).1 is)
 
-leave_from : (rs : List Record) → Seated rs → (e : Entry) (v : Verdict) → IsLeaveVerdict rs e v → leave_verdict (group_of rs (conn_of e)) ≡ v
-leave_from rs seated e (Denied reason.Closed) outside = ap leave_verdict ((none_of rs seated (conn_of e)).1 outside)
-leave_from rs seated e (Allowed by.Free) (g, inside) = ap leave_verdict ((seated (conn_of e) g).0 inside)
-leave_from rs seated e (Allowed by.Root) is = absurd is
-leave_from rs seated e (Allowed by.Default) is = absurd is
-leave_from rs seated e (Allowed (by.Rule id)) is = absurd is
-leave_from rs seated e (Denied (reason.Rule id)) is = absurd is
-leave_from rs seated e (Denied reason.Default) is = absurd is
-leave_from rs seated e (Denied reason.Joined) is = absurd is
-leave_from rs seated e (Denied reason.Twice) is = absurd is
-leave_from rs seated e (Denied reason.Full) is = absurd is
-leave_from rs seated e (Denied reason.Position) is = absurd is
-leave_from rs seated e (Denied reason.TableFull) is = absurd is
-leave_from rs seated e (Denied reason.Absent) is = absurd is
+leave_from : (rs : List Record) → Grouped rs → (e : Entry) (v : Verdict) → IsLeaveVerdict rs e v → leave_verdict (group_of rs (conn_of e)) ≡ v
+leave_from rs grouped e (Denied reason.Closed) outside = ap leave_verdict ((none_of rs grouped (conn_of e)).1 outside)
+leave_from rs grouped e (Allowed by.Free) (g, inside) = ap leave_verdict ((grouped (conn_of e) g).0 inside)
+leave_from rs grouped e (Allowed by.Root) is = absurd is
+leave_from rs grouped e (Allowed by.Default) is = absurd is
+leave_from rs grouped e (Allowed (by.Rule id)) is = absurd is
+leave_from rs grouped e (Denied (reason.Rule id)) is = absurd is
+leave_from rs grouped e (Denied reason.Default) is = absurd is
+leave_from rs grouped e (Denied reason.Joined) is = absurd is
+leave_from rs grouped e (Denied reason.Twice) is = absurd is
+leave_from rs grouped e (Denied reason.Full) is = absurd is
+leave_from rs grouped e (Denied reason.Position) is = absurd is
+leave_from rs grouped e (Denied reason.TableFull) is = absurd is
+leave_from rs grouped e (Denied reason.Absent) is = absurd is
 
 -- ---- sends
 
-send_is : (rs : List Record) → Seated rs → (e : Entry) (o : Option (List ℕ)) → group_of rs (conn_of e) ≡ o → IsSendVerdict rs e (send_verdict rs e o)
-send_is rs seated e None is = (none_of rs seated (conn_of e)).0 is
-send_is rs seated e (Some g) is =
+send_is : (rs : List Record) → Grouped rs → (e : Entry) (o : Option (List ℕ)) → group_of rs (conn_of e) ≡ o → IsSendVerdict rs e (send_verdict rs e o)
+send_is rs grouped e None is = (none_of rs grouped (conn_of e)).0 is
+send_is rs grouped e (Some g) is =
     by_decision (decide (rules_of rs g) right.Send (asker_of e)) (decided_so (rules_of rs g) right.Send (asker_of e))
   where
     by_decision : (d : Decision) → DecidedSo (rules_of rs g) right.Send (asker_of e) d → IsSendVerdict rs e (decided d Allowed)
-    by_decision (decision.Allowed b) says = (g, (seated (conn_of e) g).1 is, says)
-    by_decision (decision.Denied (by.Rule id)) says = (g, (seated (conn_of e) g).1 is, says)
+    by_decision (decision.Allowed b) says = (g, (grouped (conn_of e) g).1 is, says)
+    by_decision (decision.Denied (by.Rule id)) says = (g, (grouped (conn_of e) g).1 is, says)
     by_decision (decision.Denied by.Default) says = let never = says.1 in absurd (cc)
     by_decision (decision.Denied by.Root) says = absurd says
     by_decision (decision.Denied by.Free) says = absurd says
 
-send_from : (rs : List Record) → Seated rs → (e : Entry) (v : Verdict) → IsSendVerdict rs e v → send_verdict rs e (group_of rs (conn_of e)) ≡ v
-send_from rs seated e (Denied reason.Closed) outside = ap (send_verdict rs e) ((none_of rs seated (conn_of e)).1 outside)
-send_from rs seated e (Denied (reason.Rule id)) (g, inside, says) =
-    ap (send_verdict rs e) ((seated (conn_of e) g).0 inside)
+send_from : (rs : List Record) → Grouped rs → (e : Entry) (v : Verdict) → IsSendVerdict rs e v → send_verdict rs e (group_of rs (conn_of e)) ≡ v
+send_from rs grouped e (Denied reason.Closed) outside = ap (send_verdict rs e) ((none_of rs grouped (conn_of e)).1 outside)
+send_from rs grouped e (Denied (reason.Rule id)) (g, inside, says) =
+    ap (send_verdict rs e) ((grouped (conn_of e) g).0 inside)
     ∙ ap (λ (d : Decision). decided d Allowed) (decides_so (rules_of rs g) right.Send (asker_of e) Deny (by.Rule id) says)
-send_from rs seated e (Allowed basis) (g, inside, says) =
-    ap (send_verdict rs e) ((seated (conn_of e) g).0 inside)
+send_from rs grouped e (Allowed basis) (g, inside, says) =
+    ap (send_verdict rs e) ((grouped (conn_of e) g).0 inside)
     ∙ ap (λ (d : Decision). decided d Allowed) (decides_so (rules_of rs g) right.Send (asker_of e) Allow basis says)
-send_from rs seated e (Denied reason.Default) is = absurd is
-send_from rs seated e (Denied reason.Joined) is = absurd is
-send_from rs seated e (Denied reason.Twice) is = absurd is
-send_from rs seated e (Denied reason.Full) is = absurd is
-send_from rs seated e (Denied reason.Position) is = absurd is
-send_from rs seated e (Denied reason.TableFull) is = absurd is
-send_from rs seated e (Denied reason.Absent) is = absurd is
+send_from rs grouped e (Denied reason.Default) is = absurd is
+send_from rs grouped e (Denied reason.Joined) is = absurd is
+send_from rs grouped e (Denied reason.Twice) is = absurd is
+send_from rs grouped e (Denied reason.Full) is = absurd is
+send_from rs grouped e (Denied reason.Position) is = absurd is
+send_from rs grouped e (Denied reason.TableFull) is = absurd is
+send_from rs grouped e (Denied reason.Absent) is = absurd is
 
 -- ---- the right to edit
 
@@ -322,30 +322,30 @@ end_from (Denied why) is = absurd is
 
 -- ---- all ops
 
-verdict_is : (rs : List Record) → Seated rs → (e : Entry) (op : Op) → IsVerdict rs e op (op_verdict rs e op)
-verdict_is rs seated e (Act (Join g)) =
+verdict_is : (rs : List Record) → Grouped rs → (e : Entry) (op : Op) → IsVerdict rs e op (op_verdict rs e op)
+verdict_is rs grouped e (Act (Join g)) =
     join_is rs e g (decide (rules_of rs g) right.Join (asker_of e)) (is_some (group_of rs (conn_of e))) (has_process e (members rs g)) (leb MOST_MEMBERS (length (members rs g)))
-    (decided_so (rules_of rs g) right.Join (asker_of e)) (in_some rs seated (conn_of e)) (member_already rs e g) refl
-verdict_is rs seated e (Act Leave) = leave_is rs seated e (group_of rs (conn_of e)) refl
-verdict_is rs seated e (Act (Send message)) = send_is rs seated e (group_of rs (conn_of e)) refl
-verdict_is rs seated e (Act (Insert g index rule)) =
+    (decided_so (rules_of rs g) right.Join (asker_of e)) (in_some rs grouped (conn_of e)) (member_already rs e g) refl
+verdict_is rs grouped e (Act Leave) = leave_is rs grouped e (group_of rs (conn_of e)) refl
+verdict_is rs grouped e (Act (Send message)) = send_is rs grouped e (group_of rs (conn_of e)) refl
+verdict_is rs grouped e (Act (Insert g index rule)) =
     insert_is (rules_of rs g) e index (edit_decision (rules_of rs g) e) (ltb (length (rules_of rs g)) index) (leb MOST_RULES (length (rules_of rs g))) (edit_decided (rules_of rs g) e) refl refl
-verdict_is rs seated e (Act (Remove g id)) =
+verdict_is rs grouped e (Act (Remove g id)) =
     remove_is (rules_of rs g) e id (edit_decision (rules_of rs g) e) (has_id id (rules_of rs g)) (edit_decided (rules_of rs g) e) (has_rule (rules_of rs g) id)
-verdict_is rs seated e Gone = tt
+verdict_is rs grouped e Gone = tt
 
-verdict_from : (rs : List Record) → Seated rs → (e : Entry) (op : Op) (v : Verdict) → IsVerdict rs e op v → op_verdict rs e op ≡ v
-verdict_from rs seated e (Act (Join g)) v is = join_from rs seated e g v is
-verdict_from rs seated e (Act Leave) v is = leave_from rs seated e v is
-verdict_from rs seated e (Act (Send message)) v is = send_from rs seated e v is
-verdict_from rs seated e (Act (Insert g index rule)) v is = insert_from (rules_of rs g) e index v is
-verdict_from rs seated e (Act (Remove g id)) v is = remove_from (rules_of rs g) e id v is
-verdict_from rs seated e Gone v is = end_from v is
+verdict_from : (rs : List Record) → Grouped rs → (e : Entry) (op : Op) (v : Verdict) → IsVerdict rs e op v → op_verdict rs e op ≡ v
+verdict_from rs grouped e (Act (Join g)) v is = join_from rs grouped e g v is
+verdict_from rs grouped e (Act Leave) v is = leave_from rs grouped e v is
+verdict_from rs grouped e (Act (Send message)) v is = send_from rs grouped e v is
+verdict_from rs grouped e (Act (Insert g index rule)) v is = insert_from (rules_of rs g) e index v is
+verdict_from rs grouped e (Act (Remove g id)) v is = remove_from (rules_of rs g) e id v is
+verdict_from rs grouped e Gone v is = end_from v is
 
 pub verdicts_name_what_decided : VerdictsNameWhatDecided
 verdicts_name_what_decided es place r stands v =
-    let seated : Seated (records_before (judged es) place) = λ c g. group_in_first es (place - 1) c g in
+    let grouped : Grouped (records_before (judged es) place) = λ c g. group_in_first es (place - 1) c g in
     let said : r.verdict ≡ op_verdict (records_before (judged es) place) r.entry r.entry.op = ap (λ (q : Record). q.verdict) (record_is es place r stands) in (
-      (λ is. subst (λ (x : Verdict). IsVerdict (records_before (judged es) place) r.entry r.entry.op x) (sym said ∙ is) (verdict_is (records_before (judged es) place) seated r.entry r.entry.op)),
-      (λ is. said ∙ verdict_from (records_before (judged es) place) seated r.entry r.entry.op v is),
+      (λ is. subst (λ (x : Verdict). IsVerdict (records_before (judged es) place) r.entry r.entry.op x) (sym said ∙ is) (verdict_is (records_before (judged es) place) grouped r.entry r.entry.op)),
+      (λ is. said ∙ verdict_from (records_before (judged es) place) grouped r.entry r.entry.op v is),
     )

@@ -21,11 +21,11 @@ use Rattle.cpg_record.specs.declared.records.Record.{Record}
 use Rattle.cpg_record.specs.Connections.{conn_of, conn_in, member_of}
 use Rattle.cpg_record.specs.Laws.{InGroup}
 use Rattle.cpg_record.specs.Listings.{processes, shown, list_decision}
-use Rattle.cpg_record.specs.Membership.{is_allowed, ends, Seat, seats, taken, taken_by, members}
+use Rattle.cpg_record.specs.Membership.{is_allowed, ends, Membership, memberships, taken, taken_by_join, members}
 use Rattle.cpg_record.specs.RuleTables.{rules_of}
 use Rattle.cpg_record.specs.Showing.{HasProcess, HasMember, MayList, ListingsShowMembers, GroupsWithMembersAreNamed}
 use Rattle.cpg_record.proofs.Kept.{Contains-behind, Contains-filter, Contains-from_filter}
-use Rattle.cpg_record.proofs.Seats.{lasting}
+use Rattle.cpg_record.proofs.Lasting.{lasting}
 use Rattle.cpg_record.proofs.Why.{decided_so, decides_so, DecidedSo}
 
 -- ---- elements of a mapped list
@@ -42,10 +42,10 @@ Contains-from_map f (x ∷ xs) y (suc k, below, at) =
     let later = Contains-from_map f xs y (k, omega arith, at) in
     (later.0, Contains-behind x xs later.0 later.1, later.2)
 
--- ---- seats, each with the join that took it
+-- ---- memberships, each with the join that took it
 
 -- the connection is in the group by a join that makes it that member
-abbrev JoinedAs : List Record → Seat → Type 0
+abbrev JoinedAs : List Record → Membership → Type 0
 JoinedAs rs s = (i : InGroup rs (conn_in s.member) s.group) × (member_of i.join.entry ≡ s.member)
 
 alone : {X : Type 0} (x y : X) → Contains (x ∷ []) y → x ≡ y
@@ -55,17 +55,17 @@ alone x y (suc k, below, at) = absurd (omega arith)
 nothing : {X : Type 0} (y : X) → Contains [] y → ⊥
 nothing y (k, below, at) = omega arith
 
--- what a seat of a record says of it
-record TakenBy (e : Entry) (v : Bool) (op : Op) (s : Seat) : Type 0 where
+-- what a membership of a record says of it
+record TakenBy (e : Entry) (v : Bool) (op : Op) (s : Membership) : Type 0 where
   allowed : v ≡ true
   joins : op ≡ Act (Join s.group)
   is : member_of e ≡ s.member
 
-taken_so : (e : Entry) (v : Bool) (op : Op) (s : Seat) → Contains (cond v (taken_by e op) []) s → TakenBy e v op s
+taken_so : (e : Entry) (v : Bool) (op : Op) (s : Membership) → Contains (cond v (taken_by_join e op) []) s → TakenBy e v op s
 taken_so e false op s h = absurd (nothing s h)
 taken_so e true (Act (Join g)) s h =
     let same = alone (record { group = g; member = member_of e }) s h in
-    record { allowed = refl; joins = ap (λ (t : Seat). Act (Join t.group)) same; is = ap (λ (t : Seat). t.member) same }
+    record { allowed = refl; joins = ap (λ (t : Membership). Act (Join t.group)) same; is = ap (λ (t : Membership). t.member) same }
 taken_so e true (Act Leave) s h = absurd (nothing s h)
 taken_so e true (Act (Send message)) s h = absurd (nothing s h)
 taken_so e true (Act (Insert g index rule)) s h = absurd (nothing s h)
@@ -76,13 +76,13 @@ no_end : (b : Bool) → not b ≡ true → b ≡ false
 no_end true h = absurd (cc)
 no_end false h = refl
 
-seat_joined : (rs : List Record) (s : Seat) → Contains (seats rs) s → JoinedAs rs s
-seat_joined [] s h = absurd (nothing s h)
-seat_joined (r ∷ later) s h = ⊎_elim own (λ there. further (seat_joined later s there)) (Contains-append_cases (lasting r later) (seats later) s h)
+membership_joined : (rs : List Record) (s : Membership) → Contains (memberships rs) s → JoinedAs rs s
+membership_joined [] s h = absurd (nothing s h)
+membership_joined (r ∷ later) s h = ⊎_elim own (λ there. further (membership_joined later s there)) (Contains-append_cases (lasting r later) (memberships later) s h)
   where
     own : Contains (lasting r later) s → JoinedAs (r ∷ later) s
     own here =
-        let kept = Contains-from_filter (λ (seat : Seat). not (list_any (ends (conn_in seat.member)) later)) (taken r) s here in
+        let kept = Contains-from_filter (λ (membership : Membership). not (list_any (ends (conn_in membership.member)) later)) (taken r) s here in
         let t = taken_so r.entry (is_allowed r.verdict) r.entry.op s kept.1 in
         (record { before = []; join = r; after = later; stands = refl; by = ap conn_in (sym t.is); joins = t.joins; allowed = t.allowed; lasts = no_end (list_any (ends (conn_in s.member)) later) kept.0 }, t.is)
 
@@ -90,42 +90,42 @@ seat_joined (r ∷ later) s h = ⊎_elim own (λ there. further (seat_joined lat
     further j =
         (record { before = r ∷ j.0.before; join = j.0.join; after = j.0.after; stands = ap (λ xs. r ∷ xs) j.0.stands; by = j.0.by; joins = j.0.joins; allowed = j.0.allowed; lasts = j.0.lasts }, j.1)
 
--- the seat that a join takes
-abbrev seat_by : Entry → List ℕ → Seat
-seat_by e g = record { group = g; member = member_of e }
+-- the membership that a join takes
+abbrev membership_by : Entry → List ℕ → Membership
+membership_by e g = record { group = g; member = member_of e }
 
-own_seat : (e : Entry) (v : Bool) (op : Op) (g : List ℕ) (later : List Record) → v ≡ true → op ≡ Act (Join g) → list_any (ends (conn_of e)) later ≡ false →
-    Contains (filter (λ (seat : Seat). not (list_any (ends (conn_in seat.member)) later)) (cond v (taken_by e op) [])) (seat_by e g)
-own_seat e v op g later allowed joins lasts =
-    rw (allowed, joins) (Contains-filter (λ (seat : Seat). not (list_any (ends (conn_in seat.member)) later)) (seat_by e g ∷ []) (seat_by e g) (ap not lasts) (0, omega arith, refl))
+own_membership : (e : Entry) (v : Bool) (op : Op) (g : List ℕ) (later : List Record) → v ≡ true → op ≡ Act (Join g) → list_any (ends (conn_of e)) later ≡ false →
+    Contains (filter (λ (membership : Membership). not (list_any (ends (conn_in membership.member)) later)) (cond v (taken_by_join e op) [])) (membership_by e g)
+own_membership e v op g later allowed joins lasts =
+    rw (allowed, joins) (Contains-filter (λ (membership : Membership). not (list_any (ends (conn_in membership.member)) later)) (membership_by e g ∷ []) (membership_by e g) (ap not lasts) (0, omega arith, refl))
 
-lasts_on : (before : List Record) (r : Record) (after : List Record) (s : Seat) → Contains (lasting r after) s → Contains (seats (before ++ r ∷ after)) s
-lasts_on [] r after s h = Contains-append_left (lasting r after) (seats after) s h
-lasts_on (q ∷ before) r after s h = Contains-append_right (lasting q (before ++ r ∷ after)) (seats (before ++ r ∷ after)) s (lasts_on before r after s h)
+lasts_on : (before : List Record) (r : Record) (after : List Record) (s : Membership) → Contains (lasting r after) s → Contains (memberships (before ++ r ∷ after)) s
+lasts_on [] r after s h = Contains-append_left (lasting r after) (memberships after) s h
+lasts_on (q ∷ before) r after s h = Contains-append_right (lasting q (before ++ r ∷ after)) (memberships (before ++ r ∷ after)) s (lasts_on before r after s h)
 
-joined_seat : (rs : List Record) (conn : ConnId) (g : List ℕ) (i : InGroup rs conn g) → Contains (seats rs) (seat_by i.join.entry g)
-joined_seat rs conn g i =
+joined_membership : (rs : List Record) (conn : ConnId) (g : List ℕ) (i : InGroup rs conn g) → Contains (memberships rs) (membership_by i.join.entry g)
+joined_membership rs conn g i =
     let lasts = subst (λ (c : ConnId). list_any (ends c) i.after ≡ false) i.by i.lasts in
-    subst (λ (list : List Record). Contains (seats list) (seat_by i.join.entry g)) (sym i.stands)
-    (lasts_on i.before i.join i.after (seat_by i.join.entry g) (own_seat i.join.entry (is_allowed i.join.verdict) i.join.entry.op g i.after i.allowed i.joins lasts))
+    subst (λ (list : List Record). Contains (memberships list) (membership_by i.join.entry g)) (sym i.stands)
+    (lasts_on i.before i.join i.after (membership_by i.join.entry g) (own_membership i.join.entry (is_allowed i.join.verdict) i.join.entry.op g i.after i.allowed i.joins lasts))
 
 -- ---- members
 
 -- each member of a group joined it as that member
 pub member_joined : (rs : List Record) (g : List ℕ) (m : Member) → Contains (members rs g) m → (i : InGroup rs (conn_in m) g) × (member_of i.join.entry ≡ m)
 member_joined rs g m h =
-    let of_seat = Contains-from_map (λ (s : Seat). s.member) (filter (λ (s : Seat). bytes_eq s.group g) (seats rs)) m h in
-    let kept = Contains-from_filter (λ (s : Seat). bytes_eq s.group g) (seats rs) of_seat.0 of_seat.1 in
-    let joined = seat_joined rs of_seat.0 kept.1 in
-    let named : of_seat.0.group ≡ g = (bytes_eq-Decides of_seat.0.group g).0 kept.0 in
+    let of_membership = Contains-from_map (λ (s : Membership). s.member) (filter (λ (s : Membership). bytes_eq s.group g) (memberships rs)) m h in
+    let kept = Contains-from_filter (λ (s : Membership). bytes_eq s.group g) (memberships rs) of_membership.0 of_membership.1 in
+    let joined = membership_joined rs of_membership.0 kept.1 in
+    let named : of_membership.0.group ≡ g = (bytes_eq-Decides of_membership.0.group g).0 kept.0 in
     subst (λ (name : List ℕ). (i : InGroup rs (conn_in m) name) × (member_of i.join.entry ≡ m)) named
-    (subst (λ (n : Member). (i : InGroup rs (conn_in n) of_seat.0.group) × (member_of i.join.entry ≡ n)) of_seat.2 joined)
+    (subst (λ (n : Member). (i : InGroup rs (conn_in n) of_membership.0.group) × (member_of i.join.entry ≡ n)) of_membership.2 joined)
 
 -- and whoever joined it is a member
 pub joined_member : (rs : List Record) (conn : ConnId) (g : List ℕ) (i : InGroup rs conn g) → Contains (members rs g) (member_of i.join.entry)
 joined_member rs conn g i =
-    Contains-map (λ (s : Seat). s.member) (filter (λ (s : Seat). bytes_eq s.group g) (seats rs)) (seat_by i.join.entry g)
-    (Contains-filter (λ (s : Seat). bytes_eq s.group g) (seats rs) (seat_by i.join.entry g) ((bytes_eq-Decides g g).1 refl) (joined_seat rs conn g i))
+    Contains-map (λ (s : Membership). s.member) (filter (λ (s : Membership). bytes_eq s.group g) (memberships rs)) (membership_by i.join.entry g)
+    (Contains-filter (λ (s : Membership). bytes_eq s.group g) (memberships rs) (membership_by i.join.entry g) ((bytes_eq-Decides g g).1 refl) (joined_membership rs conn g i))
 
 -- ---- processes
 

@@ -20,14 +20,14 @@ use Rattle.cpg_record.specs.Judging.{judged, record_of, entry_group}
 use Rattle.cpg_record.specs.Laws.{InGroup, EachIsJudgedByThoseBefore}
 use Rattle.cpg_record.specs.Membership.{group_of, is_allowed, is_member}
 use Rattle.cpg_record.specs.Places.{record_at, records_before}
-use Rattle.cpg_record.specs.Receiving.{IsSent, ReceivesExactly, EditsTable, IsEdit, HearsEditsExactly, IsAnswered, is_verdict, place_of, HearsVerdictsExactly}
+use Rattle.cpg_record.specs.Receiving.{IsSent, ReceivesExactly, EditsTable, IsEdit, HearsEditsExactly, IsVerdictOn, is_verdict, place_of, HearsVerdictsExactly}
 use Rattle.cpg_record.proofs.Denials.{prefixes_are_judged_alike, each_entry_is_judged}
 use Rattle.cpg_record.proofs.Elsewhere.{named_group}
 use Rattle.cpg_record.proofs.Growing.{is_conn-true}
 use Rattle.cpg_record.proofs.Inboxes.{told_from_inbox, inbox_from_told, in_single, single_in, nothing}
 use Rattle.cpg_record.proofs.Judging.{Each-judged}
 use Rattle.cpg_record.proofs.Once.{group_is_membership}
-use Rattle.cpg_record.proofs.Seats.{is_conn-itself}
+use Rattle.cpg_record.proofs.Lasting.{is_conn-itself}
 
 -- ---- judged records at their places
 
@@ -286,7 +286,7 @@ pub hears_verdicts_exactly : HearsVerdictsExactly
 hears_verdicts_exactly es c place verdict = (from_inbox, to_inbox)
   where
     by_own : (p : ℕ) (r : Record) (b : Bool) → record_at (judged es) p ≡ Some r → is_conn c (conn_of r.entry) ≡ b →
-        Contains (cond b (event.Verdict p r.verdict ∷ []) []) (event.Verdict place verdict) → IsAnswered (judged es) place c verdict
+        Contains (cond b (event.Verdict p r.verdict ∷ []) []) (event.Verdict place verdict) → IsVerdictOn (judged es) place c verdict
     by_own p r true stands own has =
         let same : event.Verdict p r.verdict ≡ event.Verdict place verdict = in_single (event.Verdict p r.verdict) (event.Verdict place verdict) has in
         let at : p ≡ place = cc in
@@ -295,20 +295,20 @@ hears_verdicts_exactly es c place verdict = (from_inbox, to_inbox)
 
     by_part : (p : ℕ) (r : Record) → record_at (judged es) p ≡ Some r →
         Contains (answer p r c) (event.Verdict place verdict) ⊎ Contains (option_to_list (news p (records_before (judged es) p) r c r.group)) (event.Verdict place verdict) →
-        IsAnswered (judged es) place c verdict
+        IsVerdictOn (judged es) place c verdict
     by_part p r stands (inl answered) = by_own p r (is_conn c (conn_of r.entry)) stands refl answered
     by_part p r stands (inr other) =
         let h = heard_at (judged es) c (event.Verdict place verdict) p r stands (in_option (news p (records_before (judged es) p) r c r.group) (event.Verdict place verdict) other) in
         let never = (news_place h.place (records_before (judged es) h.place) h.r c h.g h.r.entry.op (event.Verdict place verdict) h.says).1 in
         absurd (cc)
 
-    from_inbox : Contains (inbox (judged es) c) (event.Verdict place verdict) → IsAnswered (judged es) place c verdict
+    from_inbox : Contains (inbox (judged es) c) (event.Verdict place verdict) → IsVerdictOn (judged es) place c verdict
     from_inbox has =
         let at = told_from_inbox (judged es) c (event.Verdict place verdict) has in
         by_part at.place at.r at.stands
         (Contains-append_cases (answer at.place at.r c) (option_to_list (news at.place (records_before (judged es) at.place) at.r c at.r.group)) (event.Verdict place verdict) at.tells)
 
-    to_inbox : IsAnswered (judged es) place c verdict → Contains (inbox (judged es) c) (event.Verdict place verdict)
+    to_inbox : IsVerdictOn (judged es) place c verdict → Contains (inbox (judged es) c) (event.Verdict place verdict)
     to_inbox a =
         let own : is_conn c (conn_of a.r.entry) ≡ true = subst (λ (x : ConnId). is_conn c x ≡ true) a.own (is_conn-itself c) in
         let list : answer place a.r c ≡ event.Verdict place verdict ∷ [] =

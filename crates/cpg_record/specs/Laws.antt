@@ -12,7 +12,7 @@ use Rattle.cpg_record.specs.declared.records.Record.{Record}
 use Rattle.cpg_record.specs.Connections.{conn_of, conn_in, is_conn}
 use Rattle.cpg_record.specs.Events.{events, answer}
 use Rattle.cpg_record.specs.Judging.{judged, entries_of, record_of}
-use Rattle.cpg_record.specs.Membership.{is_allowed, ends, Seat, seats, members, group_of}
+use Rattle.cpg_record.specs.Membership.{is_allowed, ends, Membership, memberships, members, group_of}
 use Rattle.cpg_record.specs.Places.{record_at}
 use Rattle.cpg_record.specs.RuleTables.{edited, rules_of}
 use Rattle.cpg_record.specs.Steps.{members_after}
@@ -28,14 +28,14 @@ pub record InGroup (records : List Record) (conn : ConnId) (g : List ℕ) : Type
   pub allowed : is_allowed join.verdict ≡ true
   pub lasts : list_any (ends conn) after ≡ false
 
--- a seat of the connection in the group
-abbrev pub is_seat : ConnId → List ℕ → Seat → Bool
-is_seat conn g seat = is_conn conn (conn_in seat.member) && bytes_eq seat.group g
+-- a membership of the connection in the group
+abbrev pub is_membership : ConnId → List ℕ → Membership → Bool
+is_membership conn g membership = is_conn conn (conn_in membership.member) && bytes_eq membership.group g
 
--- a connection has a seat in a group exactly where it is in it
-abbrev pub SeatsAreMemberships : Type 0
-SeatsAreMemberships = (records : List Record) (conn : ConnId) (g : List ℕ) →
-    InGroup records conn g ↔ (list_any (is_seat conn g) (seats records) ≡ true)
+-- a connection has a membership in a group exactly where it is in it
+abbrev pub MembershipsAreLastingJoins : Type 0
+MembershipsAreLastingJoins = (records : List Record) (conn : ConnId) (g : List ℕ) →
+    InGroup records conn g ↔ (list_any (is_membership conn g) (memberships records) ≡ true)
 
 -- over judged records, the group that is computed for a connection is the one that it is in
 abbrev pub GroupIsMembership : Type 0
@@ -92,9 +92,9 @@ abbrev pub MembersAreIn : Type 0
 MembersAreIn = (entries : List Entry) (conn : ConnId) (g : List ℕ) →
     InGroup (judged entries) conn g ↔ ((member : Member) × Contains (members (judged entries) g) member × (conn_in member ≡ conn))
 
--- a connection has at most one seat
-abbrev pub OneSeatEach : Type 0
-OneSeatEach = (entries : List Entry) (conn : ConnId) → count_by (λ seat. is_conn conn (conn_in seat.member)) (seats (judged entries)) ≤ 1
+-- a connection has at most one membership
+abbrev pub OneMembershipEach : Type 0
+OneMembershipEach = (entries : List Entry) (conn : ConnId) → count_by (λ membership. is_conn conn (conn_in membership.member)) (memberships (judged entries)) ≤ 1
 
 -- a process stands at most once in a group
 abbrev pub OnceInAGroup : Type 0

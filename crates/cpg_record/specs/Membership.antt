@@ -30,36 +30,36 @@ abbrev pub ends : ConnId → Record → Bool
 ends conn r = is_allowed r.verdict && is_end r.entry.op && is_conn conn (conn_of r.entry)
 
 -- a member with its group
-pub record Seat : Type 0 where
+pub record Membership : Type 0 where
   pub group : List ℕ
   pub member : Member
 
--- the seat that an entry takes where it is allowed: a join's
-abbrev pub taken_by : Entry → Op → List Seat
-taken_by entry (Act (Join g)) = record { group = g; member = member_of entry } ∷ []
-taken_by entry _ = []
+-- the membership that an entry takes where it is allowed: a join's
+abbrev pub taken_by_join : Entry → Op → List Membership
+taken_by_join entry (Act (Join g)) = record { group = g; member = member_of entry } ∷ []
+taken_by_join entry _ = []
 
--- the seat that a record takes: an allowed join's
-abbrev pub taken : Record → List Seat
-taken r = if is_allowed r.verdict then taken_by r.entry r.entry.op else []
+-- the membership that a record takes: an allowed join's
+abbrev pub taken : Record → List Membership
+taken r = if is_allowed r.verdict then taken_by_join r.entry r.entry.op else []
 
--- the seats that allowed joins took and that no later record ends, in the order of the joins
-abbrev pub seats : List Record → List Seat
-seats [] = []
-seats (r ∷ later) = filter (λ seat. not (list_any (ends (conn_in seat.member)) later)) (taken r) ++ seats later
+-- the memberships that allowed joins took and that no later record ends, in the order of the joins
+abbrev pub memberships : List Record → List Membership
+memberships [] = []
+memberships (r ∷ later) = filter (λ membership. not (list_any (ends (conn_in membership.member)) later)) (taken r) ++ memberships later
 
 -- the members of a group, in the order of their joins
 abbrev pub members : List Record → List ℕ → List Member
-members records g = map (λ seat. seat.member) (filter (λ seat. bytes_eq seat.group g) (seats records))
+members records g = map (λ membership. membership.member) (filter (λ membership. bytes_eq membership.group g) (memberships records))
 
 -- the members of the group that is there, and nobody where there is none
 abbrev pub members_in : List Record → Option (List ℕ) → List Member
 members_in records None = []
 members_in records (Some g) = members records g
 
--- the group of the connection's first seat, if it has one; over judged records it has no other
+-- the group of the connection's first membership, if it has one; over judged records it has no other
 abbrev pub group_of : List Record → ConnId → Option (List ℕ)
-group_of records conn = option_map (λ seat. seat.group) (find (λ seat. is_conn conn (conn_in seat.member)) (seats records))
+group_of records conn = option_map (λ membership. membership.group) (find (λ membership. is_conn conn (conn_in membership.member)) (memberships records))
 
 -- the group is there and has that name
 abbrev pub is_named : Option (List ℕ) → List ℕ → Bool

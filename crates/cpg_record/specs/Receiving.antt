@@ -134,7 +134,7 @@ HearsEditsExactly = (entries : List Entry) (conn : ConnId) (place : ℕ) (g : Li
 -- ---- verdicts
 
 -- the entry at that place is the connection's own, and that is its verdict
-pub record IsAnswered (records : List Record) (place : ℕ) (conn : ConnId) (verdict : Verdict) : Type 0 where
+pub record IsVerdictOn (records : List Record) (place : ℕ) (conn : ConnId) (verdict : Verdict) : Type 0 where
   pub r : Record
   pub stands : record_at records place ≡ Some r
   pub own : conn ≡ conn_of r.entry
@@ -143,4 +143,4 @@ pub record IsAnswered (records : List Record) (place : ℕ) (conn : ConnId) (ver
 -- a connection is told exactly the verdicts on its own entries
 abbrev pub HearsVerdictsExactly : Type 0
 HearsVerdictsExactly = (entries : List Entry) (conn : ConnId) (place : ℕ) (verdict : Verdict) →
-    Contains (inbox (judged entries) conn) (event.Verdict place verdict) ↔ IsAnswered (judged entries) place conn verdict
+    Contains (inbox (judged entries) conn) (event.Verdict place verdict) ↔ IsVerdictOn (judged entries) place conn verdict

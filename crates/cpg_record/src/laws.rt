@@ -1,16 +1,16 @@
 //! What follows from the definitions. Each function has nothing to do: its contract is the law.
 
 ghost use Rattle.cpg_record.specs.Bounds.{JudgedWithinBounds};
-ghost use Rattle.cpg_record.specs.Laws.{SeatsAreMemberships, GroupIsMembership, MembersAfterOneMore, RulesAfterOneMore, DenialChangesNothing, PrefixesAreJudgedAlike, EachEntryIsJudged, EachIsJudgedByThoseBefore, RecordsListTheirMembers, OthersKeepMembers, MembersAreIn, OneSeatEach, OnceInAGroup};
+ghost use Rattle.cpg_record.specs.Laws.{MembershipsAreLastingJoins, GroupIsMembership, MembersAfterOneMore, RulesAfterOneMore, DenialChangesNothing, PrefixesAreJudgedAlike, EachEntryIsJudged, EachIsJudgedByThoseBefore, RecordsListTheirMembers, OthersKeepMembers, MembersAreIn, OneMembershipEach, OnceInAGroup};
 ghost use Rattle.cpg_record.specs.Nexts.{TellsExactly, GroupsStay, MembersStay, NextIsAtTheCut};
 ghost use Rattle.cpg_record.specs.Receiving.{InboxesOnlyGrow, PlacesTellAtMostTwo, ToldInOrder, ReceivesExactly, HearsChangesExactly, HearsEditsExactly, HearsVerdictsExactly};
 ghost use Rattle.cpg_record.specs.Reasons.{DeniedListingsNameTheirRule, VerdictsNameWhatDecided};
 ghost use Rattle.cpg_record.specs.Showing.{ListingsShowMembers, GroupsWithMembersAreNamed};
 
-/// A connection has a seat in a group exactly where it is in it: an allowed join of it to the group
+/// A connection has a membership in a group exactly where it is in it: an allowed join of it to the group
 /// stands somewhere, and no later record ends it.
-pub fn seats_are_memberships()
-    ensures { SeatsAreMemberships }
+pub fn memberships_are_lasting_joins()
+    ensures { MembershipsAreLastingJoins }
 {}
 
 /// Over judged records, the group that is computed for a connection is the one that it is in.
@@ -64,9 +64,9 @@ pub fn members_are_in()
     ensures { MembersAreIn }
 {}
 
-/// A connection has at most one seat.
-pub fn one_seat_each()
-    ensures { OneSeatEach }
+/// A connection has at most one membership.
+pub fn one_membership_each()
+    ensures { OneMembershipEach }
 {}
 
 /// A process stands at most once in a group.

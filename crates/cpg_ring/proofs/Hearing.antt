@@ -8,7 +8,7 @@ use Rattle.cpg_entry.specs.declared.frames.Frame.TheVariants as frame
 use Rattle.cpg_cred.specs.declared.refusals.Refusal.TheVariants.{Foreign, Held, FarAhead, Implausible}
 use Rattle.cpg_ring.specs.States.{Entry, Packet, Frame, Settings, NodeState, Holds, is_held}
 use Rattle.cpg_ring.specs.Moves.{data_refusal, after_delivery}
-use Rattle.cpg_ring.specs.Worlds.{World, Event, Arrive, Deliver, Move, item, with_item, receive, receive_data, deliver, moved, happens, run, agreed}
+use Rattle.cpg_ring.specs.Worlds.{World, Event, Arrive, Deliver, RingOutcome, item, with_item, receive, receive_data, deliver, moved, happens, run, agreed}
 use Rattle.cpg_ring.specs.Claims.{waiting_at}
 use Rattle.cpg_ring.specs.Progress.{all_waiting, IsHearing, CatchesUp}
 use Rattle.cpg_ring.proofs.Lists.{item_there, item_within, item_with_same, item_with_other, length-with_item}
@@ -27,7 +27,7 @@ run_append s w (e ∷ early) late = run_append s (happens s w e) early late
 abbrev pub put : World → ℕ → NodeState → World
 put w n r = record { nodes = with_item w.nodes n r; sent = w.sent }
 
-moves_to : (w : World) (n : ℕ) (r new : NodeState) (move : NodeState → Move) → item w.nodes n ≡ Some r → (move r).0 ≡ new → (move r).1 ≡ [] → moved w n (item w.nodes n) move ≡ put w n new
+moves_to : (w : World) (n : ℕ) (r new : NodeState) (move : NodeState → RingOutcome) → item w.nodes n ≡ Some r → (move r).0 ≡ new → (move r).1 ≡ [] → moved w n (item w.nodes n) move ≡ put w n new
 moves_to w n r new move is state frames = ap (λ o. moved w n o move) is ∙ (λ i. record { nodes = with_item w.nodes n (state i); sent = (ap (λ f. w.sent ++ f) frames ∙ append-nil w.sent) i })
 
 -- What hearing and delivering leave: all that was sent and that waits is as before, and no node delivered less.
@@ -164,11 +164,11 @@ one_place s Kind w n r f is arrives delivers =
     let h = hears s r p (is_held r.held p.place) refl in
     let q = (receive_data r p (if is_held r.held p.place then Some Held else None)).0 in
     let got : receive s n (item w.sent f.k) r ≡ receive_data r p (if is_held r.held p.place then Some Held else None) = ap (λ o. receive s n o r) f.is ∙ ap (receive_data r p) (next_refusal s r p f.ring room place) in
-    let first : happens s w (Arrive n f.k) ≡ put w n q = moves_to w n r q (receive s n (item w.sent f.k)) is (ap (λ (m : Move). m.0) got) (ap (λ (m : Move). m.1) got ∙ h.1) in
+    let first : happens s w (Arrive n f.k) ≡ put w n q = moves_to w n r q (receive s n (item w.sent f.k)) is (ap (λ (m : RingOutcome). m.0) got) (ap (λ (m : RingOutcome). m.1) got ∙ h.1) in
     let there : item (put w n q).nodes n ≡ Some q = item_with_same w.nodes n q r is in
     let held : is_held q.held (suc q.delivered) ≡ true = ap (λ d. is_held q.held (suc d)) h.0.same ∙ (ap (is_held q.held) (sym place) ∙ h.0.has) in
     let gives : deliver q ≡ (after_delivery q, []) = ap (λ b. if b then (after_delivery q, []) else (q, [])) held in
-    let second : happens s (put w n q) (Deliver n) ≡ put (put w n q) n (after_delivery q) = moves_to (put w n q) n q (after_delivery q) deliver there (ap (λ (m : Move). m.0) gives) (ap (λ (m : Move). m.1) gives) in
+    let second : happens s (put w n q) (Deliver n) ≡ put (put w n q) n (after_delivery q) = moves_to (put w n q) n q (after_delivery q) deliver there (ap (λ (m : RingOutcome). m.0) gives) (ap (λ (m : RingOutcome). m.1) gives) in
     let whole : run s w (Arrive n f.k ∷ Deliver n ∷ []) ≡ put (put w n q) n (after_delivery q) = ap (λ v. happens s v (Deliver n)) first ∙ second in
     let one : Heard w (put w n q) = heard_put w n r q is h.0.later in
     let two : Heard (put w n q) (put (put w n q) n (after_delivery q)) = heard_put (put w n q) n q (after_delivery q) there (record { waiting = refl; last_hop = refl; delivered = omega arith; held = λ place h. h }) in
@@ -188,7 +188,7 @@ one_place s Kind w n r f is arrives delivers =
 pub held_place : (s : Settings) (Kind : Event → Type 0) (w : World) (n : ℕ) (r : NodeState) → item w.nodes n ≡ Some r → Holds r.held (suc r.delivered) → Kind (Deliver n) → Leads s Kind w (Delivered n (suc r.delivered))
 held_place s Kind w n r is held delivers =
     let gives : deliver r ≡ (after_delivery r, []) = ap (λ b. if b then (after_delivery r, []) else (r, [])) (ap is_some held.1) in
-    let whole : run s w (Deliver n ∷ []) ≡ put w n (after_delivery r) = moves_to w n r (after_delivery r) deliver is (ap (λ (m : Move). m.0) gives) (ap (λ (m : Move). m.1) gives) in
+    let whole : run s w (Deliver n ∷ []) ≡ put w n (after_delivery r) = moves_to w n r (after_delivery r) deliver is (ap (λ (m : RingOutcome). m.0) gives) (ap (λ (m : RingOutcome). m.1) gives) in
     let goal : Delivered n (suc r.delivered) (put w n (after_delivery r)) = (after_delivery r, item_with_same w.nodes n (after_delivery r) r is, omega arith) in
     record {
       events = Deliver n ∷ [];

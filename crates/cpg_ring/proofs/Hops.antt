@@ -11,7 +11,7 @@ use Rattle.cpg_cred.specs.declared.refusals.Refusal.TheVariants.{RingEnd}
 use Rattle.cpg_ring.specs.States.{Entry, Packet, Token, Frame, Settings, HeldPlaces, Holds, NodeState, is_held}
 use Rattle.cpg_ring.specs.Visits.{VisitStep, node_of, token_refusal, packet_at, burst_size, served, placed, visit_step, after_visit, up_to, is_wanted, next_requests}
 use Rattle.cpg_ring.specs.Laws.{AllHeld}
-use Rattle.cpg_ring.specs.Worlds.{World, Event, Arrive, Timer, Move, item, accept, receive, receive_token, send_again, moved, happens, run, agreed}
+use Rattle.cpg_ring.specs.Worlds.{World, Event, Arrive, Timer, RingOutcome, item, accept, receive, receive_token, send_again, moved, happens, run, agreed}
 use Rattle.cpg_ring.specs.Progress.{wanted_places, IsAfterLoss}
 use Rattle.cpg_ring.proofs.Asking.{contains_cons, contains_head}
 use Rattle.cpg_ring.proofs.Lists.{with_item_cases, get_end, item_there, item_within, item_with_same, item_with_other, contains_none, contains_one}
@@ -252,7 +252,7 @@ hops s lost w a some room =
     let v : World = after w n new F in
     let goes : token_refusal s n r L ≡ None = newest_goes s w g.list g.tokens L r g.inv is ∙ ap (λ b. if b then Some RingEnd else None) (lt-leb s.hops L.hop room) in
     let got : receive s n (item w.sent a.k) r ≡ accept r L step = ap (λ o. receive s n o r) a.is ∙ ap (receive_token s n r L) goes in
-    let happened : happens s w (Arrive n a.k) ≡ v = ap (λ o. moved w n o (receive s n (item w.sent a.k))) is ∙ ap (λ (m : Move). after w n m.0 m.1) got in
+    let happened : happens s w (Arrive n a.k) ≡ v = ap (λ o. moved w n o (receive s n (item w.sent a.k))) is ∙ ap (λ (m : RingOutcome). after w n m.0 m.1) got in
     let fit : L.seq ≤ s.places = g.inv.room in
     let l : length now ≡ min (burst_size s r L.seq) (length r.waiting) = length-take (burst_size s r L.seq) r.waiting in
     let inv : Inv s v (g.list ++ now) (g.tokens ++ t' ∷ []) t' = visited s w g.list g.tokens L n r now rest g.inv is refl (omega arith) (All-drop (λ e. e.node ≡ n) (burst_size s r L.seq) r.waiting (g.inv.nodes n r is).own) in

@@ -253,8 +253,8 @@ module _ (s : Settings) (lost last : ℕ) (some : 1 ≤ s.nodes) where
         };
       }
 
-  next_place : (top higher d : ℕ) (w : World) (l : Level s lost last top d w) → suc d ≤ total w → top + (s.nodes + s.nodes) ≤ higher → higher ≤ s.hops → Reaches s lost w (Level s lost last higher (suc d))
-  next_place top higher d w l le le' room = reaches_then s lost w (Available s lost last higher d) (Level s lost last higher (suc d)) (available top higher d w l le le' room) (spread higher d)
+  further_place : (top higher d : ℕ) (w : World) (l : Level s lost last top d w) → suc d ≤ total w → top + (s.nodes + s.nodes) ≤ higher → higher ≤ s.hops → Reaches s lost w (Level s lost last higher (suc d))
+  further_place top higher d w l le le' room = reaches_then s lost w (Available s lost last higher d) (Level s lost last higher (suc d)) (available top higher d w l le le' room) (spread higher d)
 
   -- an entry waits at node m
   abbrev Waits : ℕ → World → Type 0
@@ -333,7 +333,7 @@ module _ (s : Settings) (lost last : ℕ) (some : 1 ≤ s.nodes) where
   -- one place more is delivered everywhere, or nothing is left to do
   one_more : (top higher d : ℕ) (w : World) (l : Level s lost last top d w) → top + 3 * s.nodes ≤ higher → higher ≤ s.hops → Reaches s lost w (λ v. Done v ⊎ Level s lost last higher (suc d) v)
   one_more top higher d w l le room = ⊎_elim
-      (λ (less : d < total w). reaches_map s lost w (Level s lost last higher (suc d)) (λ v. Done v ⊎ Level s lost last higher (suc d) v) (λ v x. inr x) (next_place top higher d w l less (omega arith) room))
+      (λ (less : d < total w). reaches_map s lost w (Level s lost last higher (suc d)) (λ v. Done v ⊎ Level s lost last higher (suc d) v) (λ v x. inr x) (further_place top higher d w l less (omega arith) room))
       (λ (ge : total w ≤ d).
       let all : total w ≡ d = let h = level_within top d w l in omega arith in
       let full = fits w l.alive.good in
@@ -350,7 +350,7 @@ module _ (s : Settings) (lost last : ℕ) (some : 1 ≤ s.nodes) where
       let l₁ : Level s lost last (top + s.nodes) d w = record { alive = l.alive; hop = omega arith; whole = l.whole; low = l.low } in
       reaches_then s lost w (Risen (top + s.nodes) d) (λ v. Done v ⊎ Level s lost last higher (suc d) v)
       (raise_loop (top + s.nodes) d x.0 w l₁ m.0 (omega arith) all places x.2 m.3 (omega arith))
-      (λ v y. reaches_map s lost v (Level s lost last higher (suc d)) (λ u. Done u ⊎ Level s lost last higher (suc d) u) (λ u z. inr z) (next_place (top + s.nodes) higher d v y.0 y.1 (omega arith) room)))
+      (λ v y. reaches_map s lost v (Level s lost last higher (suc d)) (λ u. Done u ⊎ Level s lost last higher (suc d) u) (λ u z. inr z) (further_place (top + s.nodes) higher d v y.0 y.1 (omega arith) room)))
       (find_waits w (length w.nodes) (omega arith)))
       (λ (g : s.places ≤ total w). done (inr (omega arith)))
       (cases_lt (total w) s.places))

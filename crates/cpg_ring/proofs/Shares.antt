@@ -7,7 +7,7 @@ use Rattle.std.proofs.lemmas.List.Elements.{filter-append}
 use Rattle.cpg_ring.specs.States.{Entry, Token, Frame, Settings, NodeState}
 use Rattle.cpg_ring.specs.Visits.{node_of, burst_size}
 use Rattle.cpg_ring.specs.Worlds.{World, item, agreed}
-use Rattle.cpg_ring.specs.Claims.{by_node, waiting_at, entries_of, admitted}
+use Rattle.cpg_ring.specs.Claims.{by_node, waiting_at, ring_entries, admitted}
 use Rattle.cpg_ring.specs.Progress.{AllDelivered, DeliveredTo}
 use Rattle.cpg_ring.specs.Fairness.{Bounded, GoodTurn, Fair, Placed, TookPlaces, turns_for, rounds_for}
 use Rattle.cpg_ring.proofs.Lists.{item_within}
@@ -27,7 +27,7 @@ count w n = length (by_node n (agreed w.sent))
 
 -- and how many were admitted there
 abbrev known : World → ℕ → ℕ
-known w n = length (entries_of w n)
+known w n = length (ring_entries w n)
 
 known_is : (w : World) (n : ℕ) (r : NodeState) → item w.nodes n ≡ Some r → known w n ≡ count w n + length r.waiting
 known_is w n r is = ap (λ o. length (by_node n (agreed w.sent) ++ waiting_at o)) is ∙ length-append (by_node n (agreed w.sent)) r.waiting
@@ -43,8 +43,8 @@ count_grows w v n frames is =
 
 known_grows : (s : Settings) (w v : World) (g : Good s w) (n : ℕ) → GoodTurn s w v → known w n ≤ known v n
 known_grows s w v g n turn =
-    let all = ap (λ (l : List Entry). length l) (ap (λ (u : World). entries_of u n) (sym turn.leads) ∙ all_turns s w turn.events g n) in
-    let sum = length-append (entries_of w n) (admitted s w n turn.events) in
+    let all = ap (λ (l : List Entry). length l) (ap (λ (u : World). ring_entries u n) (sym turn.leads) ∙ all_turns s w turn.events g n) in
+    let sum = length-append (ring_entries w n) (admitted s w n turn.events) in
     omega arith
 
 -- what was sent and admitted, and what came to it
@@ -52,14 +52,14 @@ record Onward (w v : World) (n : ℕ) : Type 0 where
   frames : List Frame
   sent : v.sent ≡ w.sent ++ frames
   more : List Entry
-  entries : entries_of v n ≡ entries_of w n ++ more
+  entries : ring_entries v n ≡ ring_entries w n ++ more
 
 onward_then : (w v u : World) (n : ℕ) → Onward w v n → Onward v u n → Onward w u n
 onward_then w v u n a b = record {
   frames = a.frames ++ b.frames;
   sent = b.sent ∙ (ap (λ l. l ++ b.frames) a.sent ∙ append_assoc w.sent a.frames b.frames);
   more = a.more ++ b.more;
-  entries = b.entries ∙ (ap (λ l. l ++ b.more) a.entries ∙ append_assoc (entries_of w n) a.more b.more);
+  entries = b.entries ∙ (ap (λ l. l ++ b.more) a.entries ∙ append_assoc (ring_entries w n) a.more b.more);
 }
 
 turn_onward : (s : Settings) (w v : World) (g : Good s w) (n : ℕ) → GoodTurn s w v → Onward w v n
@@ -72,11 +72,11 @@ turn_onward s w v g n turn =
           ∙ (append_assoc (w.sent ++ t.early.frames) t.visit.frames t.late.frames
           ∙ append_assoc w.sent t.early.frames (t.visit.frames ++ t.late.frames)));
       more = admitted s w n turn.events;
-      entries = ap (λ (u : World). entries_of u n) (sym turn.leads) ∙ all_turns s w turn.events g n;
+      entries = ap (λ (u : World). ring_entries u n) (sym turn.leads) ∙ all_turns s w turn.events g n;
     }
 
 fair_onward : (s : Settings) (k : ℕ) (w v : World) (g : Good s w) (n : ℕ) → Fair s k w v → Onward w v n
-fair_onward s zero w v g n is = subst (λ u. Onward w u n) is record { frames = []; sent = sym (append-nil w.sent); more = []; entries = sym (append-nil (entries_of w n)) }
+fair_onward s zero w v g n is = subst (λ u. Onward w u n) is record { frames = []; sent = sym (append-nil w.sent); more = []; entries = sym (append-nil (ring_entries w n)) }
 fair_onward s (suc k) w v g n (x, turn, rest) = onward_then w x v n (turn_onward s w x g n turn) (fair_onward s k x v (turn_of s w x g turn).0 n rest)
 
 -- where so many entries more have places, they are the first that waited

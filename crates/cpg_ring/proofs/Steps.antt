@@ -11,8 +11,8 @@ use Rattle.cpg_ring.specs.States.{Entry, Packet, Token, Frame, Refusal, Settings
 use Rattle.cpg_cred.specs.declared.refusals.Refusal.TheVariants.{Foreign, Held, FarAhead, Implausible}
 use Rattle.cpg_ring.specs.Visits.{node_of, token_refusal, burst_size, visit_step, up_to}
 use Rattle.cpg_ring.specs.Moves.{data_refusal, is_full, after_entry, new_node, first_token}
-use Rattle.cpg_ring.specs.Worlds.{World, Event, Enqueue, EnqueueEnd, Arrive, Timer, Deliver, Move, item, with_item, enqueue, enqueue_end, accept, receive, receive_token, receive_data, send_again, deliver, moved, happens, run, start, Reached}
-use Rattle.cpg_ring.specs.Claims.{Chain, Agreement, Safe, OnceInOrder, by_node, waiting_at, entries_of, if_room, if_there, admits, admitted}
+use Rattle.cpg_ring.specs.Worlds.{World, Event, Enqueue, EnqueueEnd, Arrive, Timer, Deliver, RingOutcome, item, with_item, enqueue, enqueue_end, accept, receive, receive_token, receive_data, send_again, deliver, moved, happens, run, start, Reached}
+use Rattle.cpg_ring.specs.Claims.{Chain, Agreement, Safe, OnceInOrder, by_node, waiting_at, ring_entries, if_room, if_there, admits, admitted}
 use Rattle.cpg_ring.proofs.Lists.{contains_none, contains_one, item_within, contains_item, item_there, item_with_same, item_with_other}
 use Rattle.cpg_ring.proofs.Holding.{put_agrees, put_grows}
 use Rattle.cpg_ring.proofs.Invariant.{Inv, NodeFits, FrameFits, after, node_later, quiet}
@@ -102,7 +102,7 @@ pub record Next (s : Settings) (w w' : World) (g : Good s w) (put : ℕ → List
   pub turns : (m : ℕ) → by_node m good.list ++ waiting_at (item w'.nodes m) ≡ (by_node m g.list ++ waiting_at (item w.nodes m)) ++ put m
 
 -- an event of a node that is not there does nothing
-at_node : (s : Settings) (w : World) (n : ℕ) (move : NodeState → Move) (g : Good s w) (put : ℕ → List Entry) → ((m : ℕ) → m ≢ n → put m ≡ []) → (item w.nodes n ≡ None → put n ≡ []) → ((r : NodeState) → item w.nodes n ≡ Some r → Moved s w n r (move r).0 (move r).1 g (put n)) → (o : Option NodeState) → item w.nodes n ≡ o → Next s w (moved w n o move) g put
+at_node : (s : Settings) (w : World) (n : ℕ) (move : NodeState → RingOutcome) (g : Good s w) (put : ℕ → List Entry) → ((m : ℕ) → m ≢ n → put m ≡ []) → (item w.nodes n ≡ None → put n ≡ []) → ((r : NodeState) → item w.nodes n ≡ Some r → Moved s w n r (move r).0 (move r).1 g (put n)) → (o : Option NodeState) → item w.nodes n ≡ o → Next s w (moved w n o move) g put
 at_node s w n move g put apart none there None is = record {
   good = g;
   turns = λ m. ⊎_elim
@@ -163,7 +163,7 @@ waits s w e r g is =
 enqueues : (s : Settings) (w : World) (e : Entry) (r : NodeState) (g : Good s w) → item w.nodes e.node ≡ Some r → Moved s w e.node r (enqueue e r).0 (enqueue e r).1 g (if_room (Some r) e)
 enqueues s w e r g is = by_room (is_full r)
   where
-    moves : Bool → Move
+    moves : Bool → RingOutcome
     moves b = if b then (r, []) else (after_entry r e, [])
 
     by_room : (b : Bool) → Moved s w e.node r (moves b).0 (moves b).1 g (if b then [] else e ∷ [])
@@ -176,7 +176,7 @@ delivers s w n r g is = by_held (get r.held (suc r.delivered)) refl
     f : NodeFits g.list g.newest.hop (w.sent ++ []) n r
     f = as_before s w n r g [] is
 
-    moves : Option Entry → Move
+    moves : Option Entry → RingOutcome
     moves o = if is_some o then (record r { delivered = suc r.delivered }, []) else (r, [])
 
     by_held : (o : Option Entry) → get r.held (suc r.delivered) ≡ o → Moved s w n r (moves o).0 (moves o).1 g []
@@ -329,21 +329,21 @@ agreement s w g = record {
 pub every_safe : (s : Settings) (w : World) → Good s w → Safe s w
 every_safe s w g = record { held_up_to_mark = λ n m r q place. g.tours.safe n m r q place }
 
-turn_is : (s : Settings) (w : World) (g : Good s w) (n : ℕ) → entries_of w n ≡ by_node n g.list ++ waiting_at (item w.nodes n)
+turn_is : (s : Settings) (w : World) (g : Good s w) (n : ℕ) → ring_entries w n ≡ by_node n g.list ++ waiting_at (item w.nodes n)
 turn_is s w g n = ap (λ A. by_node n A ++ waiting_at (item w.nodes n)) (agreed_is s w g.list g.tokens g.newest g.inv)
 
-one_turn : (s : Settings) (w : World) (e : Event) → Good s w → (n : ℕ) → entries_of (happens s w e) n ≡ entries_of w n ++ admits w n e
+one_turn : (s : Settings) (w : World) (e : Event) → Good s w → (n : ℕ) → ring_entries (happens s w e) n ≡ ring_entries w n ++ admits w n e
 one_turn s w e g n =
     let next = kept s w e g in
     turn_is s (happens s w e) next.good n ∙ (next.turns n ∙ ap (λ l. l ++ admits w n e) (sym (turn_is s w g n)))
 
-pub all_turns : (s : Settings) (w : World) (events : List Event) → Good s w → (n : ℕ) → entries_of (run s w events) n ≡ entries_of w n ++ admitted s w n events
-all_turns s w [] g n = sym (append-nil (entries_of w n))
+pub all_turns : (s : Settings) (w : World) (events : List Event) → Good s w → (n : ℕ) → ring_entries (run s w events) n ≡ ring_entries w n ++ admitted s w n events
+all_turns s w [] g n = sym (append-nil (ring_entries w n))
 all_turns s w (e ∷ events) g n =
     all_turns s (happens s w e) events (kept s w e g).good n
-    ∙ (ap (λ l. l ++ admitted s (happens s w e) n events) (one_turn s w e g n) ∙ append_assoc (entries_of w n) (admits w n e) (admitted s (happens s w e) n events))
+    ∙ (ap (λ l. l ++ admitted s (happens s w e) n events) (one_turn s w e g n) ∙ append_assoc (ring_entries w n) (admits w n e) (admitted s (happens s w e) n events))
 
-from_new : (s : Settings) (n : ℕ) (events : List Event) → entries_of (run s (start s) events) n ≡ admitted s (start s) n events
+from_new : (s : Settings) (n : ℕ) (events : List Event) → ring_entries (run s (start s) events) n ≡ admitted s (start s) n events
 from_new s n events = all_turns s (start s) events (from_start s []) n ∙ ap (λ l. l ++ admitted s (start s) n events) (nothing (item (start s).nodes n) refl)
   where
     made : (o : Option ℕ) (r : NodeState) → option_map (new_node s) o ≡ Some r → r.waiting ≡ []
@@ -360,6 +360,6 @@ from_new s n events = all_turns s (start s) events (from_start s []) n ∙ ap (�
 
 pub in_order : (s : Settings) (w : World) → Reached s w → OnceInOrder s w
 in_order s w led = record {
-  placed_as_admitted = λ n events is. ap (λ v. entries_of v n) (sym is) ∙ from_new s n events;
+  placed_as_admitted = λ n events is. ap (λ v. ring_entries v n) (sym is) ∙ from_new s n events;
   later_after = λ n events. all_turns s w events (reached s w led) n;
 }

@@ -9,7 +9,7 @@ use Rattle.cpg_entry.specs.declared.frames.Frame.TheVariants as frame
 use Rattle.cpg_ring.specs.States.{Entry, Packet, Token, Frame, Refusal, Settings, HeldPlaces, Holds, NodeState, is_held}
 use Rattle.cpg_ring.specs.Visits.{VisitStep, token_refusal, burst_size, served, placed, visit_step, after_visit, up_to}
 use Rattle.cpg_ring.specs.Moves.{data_refusal, is_full, new_node, first_token}
-use Rattle.cpg_ring.specs.Worlds.{World, Event, Enqueue, EnqueueEnd, Arrive, Timer, Deliver, Move, item, with_item, enqueue, receive, receive_token, receive_data, send_again, deliver, moved, happens, run, start, Reached}
+use Rattle.cpg_ring.specs.Worlds.{World, Event, Enqueue, EnqueueEnd, Arrive, Timer, Deliver, RingOutcome, item, with_item, enqueue, receive, receive_token, receive_data, send_again, deliver, moved, happens, run, start, Reached}
 use Rattle.cpg_ring.proofs.Lists.{get_end, contains_none, contains_one, contains_item, item_with_same, item_with_other}
 use Rattle.cpg_ring.proofs.Invariant.{after}
 use Rattle.cpg_ring.proofs.Refusals.{newest_or_lower, accepted_is_newest}
@@ -99,7 +99,7 @@ visit_stores s w n r t is most x =
     old_frame new wider (frame.Token u) c = let l = most u c in omega arith
     old_frame new wider (frame.Packet p) c = stored_later w.nodes n r new x.token.hop x.token.hop (frame.Packet p) is (record { at = wider }) (omega arith) (x.frames (frame.Packet p) c)
 
-node_stores : (w : World) (n : ℕ) (move : NodeState → Move) → Stores w → ((r : NodeState) → item w.nodes n ≡ Some r → Stores (after w n (move r).0 (move r).1)) → (o : Option NodeState) → item w.nodes n ≡ o → Stores (moved w n o move)
+node_stores : (w : World) (n : ℕ) (move : NodeState → RingOutcome) → Stores w → ((r : NodeState) → item w.nodes n ≡ Some r → Stores (after w n (move r).0 (move r).1)) → (o : Option NodeState) → item w.nodes n ≡ o → Stores (moved w n o move)
 node_stores w n move x there None is = x
 node_stores w n move x there (Some r) is = there r is
 
@@ -119,7 +119,7 @@ most_hop s w g u c = ⊎_elim
 pub kept_stores : (s : Settings) (w : World) (e : Event) → Good s w → Stores w → Stores (happens s w e)
 kept_stores s w (Enqueue e) g x = node_stores w e.node (enqueue e) x (λ r is. by_room r is (is_full r)) (item w.nodes e.node) refl
   where
-    moves : NodeState → Bool → Move
+    moves : NodeState → Bool → RingOutcome
     moves r b = if b then (r, []) else (record r { waiting = r.waiting ++ e ∷ [] }, [])
 
     by_room : (r : NodeState) → item w.nodes e.node ≡ Some r → (b : Bool) → Stores (after w e.node (moves r b).0 (moves r b).1)
@@ -128,7 +128,7 @@ kept_stores s w (Enqueue e) g x = node_stores w e.node (enqueue e) x (λ r is. b
 kept_stores s w (EnqueueEnd e) g x = node_stores w e.node _ x (λ r is. stores_quiet w e.node r _ [] is (none_sent w) (record { at = λ place h. h }) refl x) (item w.nodes e.node) refl
 kept_stores s w (Deliver n) g x = node_stores w n deliver x (λ r is. by_held r is (is_held r.held (suc r.delivered))) (item w.nodes n) refl
   where
-    moves : NodeState → Bool → Move
+    moves : NodeState → Bool → RingOutcome
     moves r b = if b then (record r { delivered = suc r.delivered }, []) else (r, [])
 
     by_held : (r : NodeState) → item w.nodes n ≡ Some r → (b : Bool) → Stores (after w n (moves r b).0 (moves r b).1)

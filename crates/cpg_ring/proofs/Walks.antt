@@ -9,7 +9,7 @@ use Rattle.cpg_ring.specs.States.{Entry, Packet, Token, Frame, Refusal, Settings
 use Rattle.cpg_ring.specs.Visits.{VisitStep, node_of, token_refusal, burst_size, served, placed, visit_step, after_visit}
 use Rattle.cpg_ring.specs.Moves.{data_refusal, is_full, after_entry, after_delivery}
 use Rattle.cpg_ring.specs.Laws.{AllHeld}
-use Rattle.cpg_ring.specs.Worlds.{World, Event, Enqueue, EnqueueEnd, Arrive, Timer, Deliver, Move, item, with_item, enqueue, enqueue_end, accept, receive, receive_token, receive_data, send_again, deliver, moved, happens, run}
+use Rattle.cpg_ring.specs.Worlds.{World, Event, Enqueue, EnqueueEnd, Arrive, Timer, Deliver, RingOutcome, item, with_item, enqueue, enqueue_end, accept, receive, receive_token, receive_data, send_again, deliver, moved, happens, run}
 use Rattle.cpg_ring.specs.Claims.{by_node}
 use Rattle.cpg_ring.proofs.Lists.{item_with_same, item_with_other, contains_none, contains_one, contains_item}
 use Rattle.cpg_ring.proofs.Invariant.{Inv, after}
@@ -164,7 +164,7 @@ visits s w g n r is mine =
 abbrev pub Kind : (s : Settings) (w : World) → Good s w → World → Type 0
 Kind s w g v = Quiet w v ⊎ Visit s w v g
 
-by_node_there : (s : Settings) (w : World) (g : Good s w) (n : ℕ) (move : NodeState → Move) → ((r : NodeState) → item w.nodes n ≡ Some r → Kind s w g (after w n (move r).0 (move r).1)) → (o : Option NodeState) → item w.nodes n ≡ o → Kind s w g (moved w n o move)
+by_node_there : (s : Settings) (w : World) (g : Good s w) (n : ℕ) (move : NodeState → RingOutcome) → ((r : NodeState) → item w.nodes n ≡ Some r → Kind s w g (after w n (move r).0 (move r).1)) → (o : Option NodeState) → item w.nodes n ≡ o → Kind s w g (moved w n o move)
 by_node_there s w g n move there None is = inl (quiet_same w)
 by_node_there s w g n move there (Some r) is = there r is
 
@@ -178,11 +178,11 @@ module _ (s : Settings) (w : World) (g : Good s w) (n : ℕ) (r : NodeState) (is
   enters : (e : Entry) → Kind s w g (after w n (after_entry r e) [])
   enters e = inl (quiet_put w n r (after_entry r e) [] is record { delivered = omega arith; held = λ place h. h; waiting = let l = length-append r.waiting (e ∷ []) in omega arith } nothing)
 
-  by_room : (e : Entry) (b : Bool) → let m : Move = if b then (r, []) else (after_entry r e, []) in Kind s w g (after w n m.0 m.1)
+  by_room : (e : Entry) (b : Bool) → let m : RingOutcome = if b then (r, []) else (after_entry r e, []) in Kind s w g (after w n m.0 m.1)
   by_room e true = idle
   by_room e false = enters e
 
-  by_held : (b : Bool) → let m : Move = if b then (after_delivery r, []) else (r, []) in Kind s w g (after w n m.0 m.1)
+  by_held : (b : Bool) → let m : RingOutcome = if b then (after_delivery r, []) else (r, []) in Kind s w g (after w n m.0 m.1)
   by_held true = inl (quiet_put w n r (after_delivery r) [] is record { delivered = omega arith; held = λ place h. h; waiting = omega arith } nothing)
   by_held false = idle
 

@@ -55,8 +55,8 @@ waiting_at None = []
 waiting_at (Some r) = r.waiting
 
 -- node n's entries that took places, and then those that wait
-abbrev pub entries_of : World → ℕ → List Entry
-entries_of w n = by_node n (agreed w.sent) ++ waiting_at (item w.nodes n)
+abbrev pub ring_entries : World → ℕ → List Entry
+ring_entries w n = by_node n (agreed w.sent) ++ waiting_at (item w.nodes n)
 
 -- a call is admitted at a node that is there and isn't full
 abbrev pub if_room : Option NodeState → Entry → List Entry
@@ -84,6 +84,6 @@ admitted s w n (e ∷ es) = admits w n e ++ admitted s (happens s w e) n es
 -- Once, in order: a node's entries take places in the order in which they were admitted, each once.
 pub record OnceInOrder (s : Settings) (w : World) : Type 0 where
   -- whatever events led here from a new world: the entries placed are a beginning of those that they admitted, and the others wait
-  pub placed_as_admitted : (n : ℕ) (events : List Event) → run s (start s) events ≡ w → entries_of w n ≡ admitted s (start s) n events
+  pub placed_as_admitted : (n : ℕ) (events : List Event) → run s (start s) events ≡ w → ring_entries w n ≡ admitted s (start s) n events
   -- and what later events admit comes after those
-  pub later_after : (n : ℕ) (events : List Event) → entries_of (run s w events) n ≡ entries_of w n ++ admitted s w n events
+  pub later_after : (n : ℕ) (events : List Event) → ring_entries (run s w events) n ≡ ring_entries w n ++ admitted s w n events

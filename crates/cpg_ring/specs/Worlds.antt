@@ -36,48 +36,48 @@ pub data Event : Type 0 where
   Deliver : (node : ℕ) → Event
 
 -- a node's state after an event, and what it sends
-abbrev pub Move : Type 0
-Move = NodeState × List Frame
+abbrev pub RingOutcome : Type 0
+RingOutcome = NodeState × List Frame
 
 -- a call waits unless the node is full
-abbrev pub enqueue : Entry → NodeState → Move
+abbrev pub enqueue : Entry → NodeState → RingOutcome
 enqueue e r = if is_full r then (r, []) else (after_entry r e, [])
 
 -- an end waits always
-abbrev pub enqueue_end : Entry → NodeState → Move
+abbrev pub enqueue_end : Entry → NodeState → RingOutcome
 enqueue_end e r = (after_entry r e, [])
 
 -- an accepted visit sends its packets, and then the token
-abbrev pub accept : NodeState → Token → VisitStep → Move
+abbrev pub accept : NodeState → Token → VisitStep → RingOutcome
 accept r t v = (after_visit r t v, map frame.Packet v.packets ++ frame.Token v.token ∷ [])
 
 -- a token comes that is refused, or not
-abbrev pub receive_token : Settings → ℕ → NodeState → Token → Option Refusal → Move
+abbrev pub receive_token : Settings → ℕ → NodeState → Token → Option Refusal → RingOutcome
 receive_token s n r t (Some why) = (r, [])
 receive_token s n r t None = accept r t (visit_step s n r t)
 
 -- a packet comes that is refused, or not
-abbrev pub receive_data : NodeState → Packet → Option Refusal → Move
+abbrev pub receive_data : NodeState → Packet → Option Refusal → RingOutcome
 receive_data r p (Some why) = (r, [])
 receive_data r p None = (after_data r p, [])
 
 -- a frame comes, if there is one
-abbrev pub receive : Settings → ℕ → Option Frame → NodeState → Move
+abbrev pub receive : Settings → ℕ → Option Frame → NodeState → RingOutcome
 receive s n None r = (r, [])
 receive s n (Some (frame.Packet p)) r = receive_data r p (data_refusal s r p)
 receive s n (Some (frame.Token t)) r = receive_token s n r t (token_refusal s n r t)
 
 -- the last token goes out again, if there is one
-abbrev pub send_again : NodeState → Option Token → Move
+abbrev pub send_again : NodeState → Option Token → RingOutcome
 send_again r None = (r, [])
 send_again r (Some t) = (r, frame.Token t ∷ [])
 
 -- the next place is delivered, if it is held
-abbrev pub deliver : NodeState → Move
+abbrev pub deliver : NodeState → RingOutcome
 deliver r = if is_held r.held (suc r.delivered) then (after_delivery r, []) else (r, [])
 
 -- one node moves, if it is there
-abbrev pub moved : World → ℕ → Option NodeState → (NodeState → Move) → World
+abbrev pub moved : World → ℕ → Option NodeState → (NodeState → RingOutcome) → World
 moved w n None move = w
 moved w n (Some r) move = record { nodes = with_item w.nodes n (move r).0; sent = w.sent ++ (move r).1 }
 

@@ -21,7 +21,7 @@ use Rattle.cpg_record.specs.Listings.{listing, AreGroups}
 use Rattle.cpg_node.specs.declared.connections.Client.{Client}
 use Rattle.cpg_node.specs.declared.connections.Connection.{Connection}
 use Rattle.cpg_node.specs.Answers.{IsTakeAnswer, IsListAnswer, IsGroupsAnswer, connection_of}
-use Rattle.cpg_node.specs.Calls.{submit_refusal, submit_refusal_by, closed_refusal, call_refusal, first_of, took, taken_by, counted, next_event}
+use Rattle.cpg_node.specs.Calls.{submit_refusal, submit_refusal_by, closed_refusal, call_refusal, first_of, took, node_after_take, counted, next_event}
 use Rattle.cpg_node.specs.Nodes.{NodeValue, open_client, if_open, conn_id, asker_by}
 use Rattle.cpg_board.specs.Seats.{SeatValue}
 use Rattle.cpg_station.specs.Serving.{BringsUp, StaysDown, GivesNot, IsKnown, asker_of, OverFront, IsTakeFor, IsListFor, IsGroupsFor, SubmitRefuses, KeepsWatch, moved_on}
@@ -123,7 +123,7 @@ told_of x conn c = record { id = conn_id x conn; pid = c.pid; cred = c.cred; tak
 pub told_after : (x y : NodeValue) (who : Connection) (event : Option Event) → IsKnown x who → y ≡ took x who.id.conn → IsTakeAnswer x who.id.conn (open_client x who.id.conn) (Ok event)
     → connection_of y who.id.conn ≡ Some (moved_on who event)
 told_after x y who event known later answer =
-    ap (λ z. connection_of z who.id.conn) later ∙ ap (λ o. connection_of (taken_by x who.id.conn o) who.id.conn) b.is_open ∙ by_event event (subst (λ o. IsTakeAnswer x who.id.conn o (Ok event)) b.is_open answer)
+    ap (λ z. connection_of z who.id.conn) later ∙ ap (λ o. connection_of (node_after_take x who.id.conn o) who.id.conn) b.is_open ∙ by_event event (subst (λ o. IsTakeAnswer x who.id.conn o (Ok event)) b.is_open answer)
   where
     b : Behind x who
     b = client_of x who known

@@ -7,7 +7,7 @@ use Rattle.cpg_record.specs.declared.records.Record.{Record}
 use Rattle.cpg_record.specs.Judging.{judged, with_judgement, record_of}
 use Rattle.cpg_record.specs.Places.{record_at}
 use Rattle.cpg_ring.specs.States.{Entry, NodeState}
-use Rattle.cpg_ring.specs.Worlds.{Move}
+use Rattle.cpg_ring.specs.Worlds.{RingOutcome}
 use Rattle.cpg_ring.specs.Moves.{next_entry, after_delivery}
 use Rattle.cpg_node.specs.Nodes.{NodeValue, delivered_entries}
 use Rattle.cpg_node.specs.Calls.{next_record, delivered}
@@ -53,7 +53,7 @@ kept_more audit seat x keeps there =
     let n : length (audit ++ x ∷ []) ≡ suc (length audit) = omega (arith, length-append audit (x ∷ [])) in
     (ap (λ k. take k (records_of seat)) n ∙ take_next (records_of seat) (length audit) x there ∙ ap (λ l. l ++ x ∷ []) keeps.0, omega (arith, keeps.1, n))
 
-abbrev gone_on : NodeState → Bool → Move
+abbrev gone_on : NodeState → Bool → RingOutcome
 gone_on r b = if b then (after_delivery r, []) else (r, [])
 
 -- a delivery adds the judgement of the next place to the records

@@ -9,8 +9,8 @@ use Rattle.cpg_board.specs.Seats.{SeatValue, records_of}
 use Rattle.cpg_station.specs.Stations.{StationValue, audit_of}
 
 -- the place that the node delivers next
-abbrev pub next_place : StationValue → ℕ
-next_place s = suc (length (audit_of s.node))
+abbrev pub station_place : StationValue → ℕ
+station_place s = suc (length (audit_of s.node))
 
 -- a record that is another than the wanted one
 abbrev pub IsAnother : Option Record → Record → Type 0
@@ -18,19 +18,19 @@ IsAnother found wanted = (standing : Record) × (found ≡ Some standing) × (st
 
 -- the seat has another record at the next place than the node's judgement of it
 abbrev pub FindsAnother : StationValue → Type 0
-FindsAnother s = (wanted : Record) × (next_record s.node ≡ Some wanted) × IsAnother (record_at (records_of s.seat) (next_place s)) wanted
+FindsAnother s = (wanted : Record) × (next_record s.node ≡ Some wanted) × IsAnother (record_at (records_of s.seat) (station_place s)) wanted
 
 -- A place is delivered: the judgement of the node's next entry is the record that the seat has there, and
 -- the node is one place further.
 pub record Delivers (place : ℕ) (old new : StationValue) : Type 0 where
-  pub next : place ≡ next_place old
+  pub next : place ≡ station_place old
   pub stands : next_record old.node ≡ record_at (records_of new.seat) place
   pub node : new.node ≡ delivered old.node
   pub halted : new.halted ≡ old.halted
 
 -- the seat is as it was, or it knows the node's judgement of the next place, which stands there
 abbrev pub KnowsNoOther : StationValue → SeatValue → Type 0
-KnowsNoOther s after = (after ≡ s.seat) ⊎ ((wanted : Record) × (next_record s.node ≡ Some wanted) × (record_at (records_of after) (next_place s) ≡ Some wanted))
+KnowsNoOther s after = (after ≡ s.seat) ⊎ ((wanted : Record) × (next_record s.node ≡ Some wanted) × (record_at (records_of after) (station_place s) ≡ Some wanted))
 
 -- Nothing is delivered, and the node is as it was. Memory: the seat is too, or the judgement stands and the seat knows it. BoardFull: all
 -- is as it was, and the seat knows every cell. Differs: another record stands at the place, and halted is set.

@@ -7,7 +7,7 @@ ghost use Rattle.cpg_station.specs.Stations.{audit_of};
 use crate::{BoardName, Station};
 use bytes::Bytes;
 use cpg_board::{Board, Seat};
-use cpg_cred::{AcceptList, By, Cred, NodeId, Refusal, Refused};
+use cpg_cred::{AcceptList, By, Cred, NodeId, Refusal};
 use cpg_entry::{Call, Message, Name};
 use cpg_node::{Event, Node, Settings};
 use cpg_record::Verdict;
@@ -54,11 +54,6 @@ fn new_list(alloc: Global) -> Result<AcceptList, Refusal> {
     }
 }
 
-/// The refusal alone.
-fn refusal_in<T: Drop>(refused: Refused<T>) -> Refusal {
-    refused.refusal
-}
-
 /// A new node of that number in a ring of two, with that list.
 fn node_with(alloc: Global, id: NodeId, list: AcceptList) -> Result<Node, Refusal>
     ensures { IfOk result (λ node. audit_of node ≡ []) }
@@ -69,7 +64,7 @@ fn node_with(alloc: Global, id: NodeId, list: AcceptList) -> Result<Node, Refusa
         places: 100,
         hops: 100,
     };
-    Node::new(alloc, settings, id, list).map_err(|refused| refusal_in(refused))
+    Node::new(alloc, settings, id, list).map_err(|refused| refused.into_refusal())
 }
 
 /// A new node of that number, which lets user 7 in.
@@ -101,7 +96,7 @@ fn connect<B: BoardName>(station: &mut Station<B>, pid: u32) -> Result<(), Refus
 fn submit<B: BoardName>(station: &mut Station<B>, call: Call) -> Result<(), Refusal> {
     station
         .submit(1, call)
-        .map_err(|refused| refusal_in(refused))
+        .map_err(|refused| refused.into_refusal())
 }
 
 fn join(alloc: Global) -> Result<Call, Refusal> {

@@ -3,7 +3,7 @@
 //! Proved: what is put is the text of the command's lines, and the world is the one after it; want of memory
 //! leaves the world as it was, or the one after the command where its lines had no room.
 
-ghost use Rattle.std.specs.Prelude.{◌≡◌, ◌≤◌, ◌↔◌, ◌⊎◌, ◌∷◌, [], Err, IsTrue, length, OnOk, OnErr, IfOk, IsOkUnless};
+ghost use Rattle.std.specs.Prelude.{◌≡◌, ◌≤◌, ◌⊎◌, ◌∷◌, [], length, OnOk, OnErr, IfOk, IsOkUnless};
 ghost use Rattle.cpg_world_laws.specs.Worlds.{node_in, happens};
 ghost use Rattle.cpg_world_laws.specs.Replies.{IsReply};
 ghost use Rattle.cpg_step.specs.declared.commands.Command.TheVariants as commands;
@@ -14,7 +14,7 @@ ghost use Rattle.cpg_step.specs.Steps.{IsDone, MayBeDone};
 use crate::commands::Command;
 use crate::looking::put_look;
 use crate::printing::put_answer;
-use cpg_cred::Refusal;
+use cpg_cred::{Refusal, is_memory};
 use cpg_world::{Reply, World, WorldEvent};
 use std::alloc::Global;
 
@@ -74,11 +74,4 @@ pub fn answer_to(
         return Err(Refusal::Memory);
     }
     Ok(answer)
-}
-
-/// Whether memory was refused.
-fn is_memory(answer: &Result<Reply, Refusal>) -> bool
-    ensures { IsTrue result ↔ (answer.now ≡ Err Refusal.Memory) }
-{
-    matches!(answer, Err(Refusal::Memory))
 }

@@ -2,7 +2,7 @@
 
 use crate::entering::node;
 use bytes::Bytes;
-use cpg_cred::{AcceptList, Cred, Refused};
+use cpg_cred::{AcceptList, Cred};
 use cpg_entry::{Call, NodeId, Refusal};
 use cpg_node::{Node, Settings};
 use std::alloc::Global;
@@ -42,11 +42,6 @@ pub fn list_of(alloc: Global, users: &[u32]) -> Result<AcceptList, Refusal> {
     }
 }
 
-/// The refusal alone.
-fn refusal_in<T: Drop>(refused: Refused<T>) -> Refusal {
-    refused.refusal
-}
-
 /// A new node with that list.
 fn new_node(
     alloc: Global,
@@ -54,7 +49,7 @@ fn new_node(
     id: NodeId,
     list: AcceptList,
 ) -> Result<Node, Refusal> {
-    Node::new(alloc, settings, id, list).map_err(|refused| refusal_in(refused))
+    Node::new(alloc, settings, id, list).map_err(|refused| refused.into_refusal())
 }
 
 /// A new node of that number, which lets those users in.
@@ -70,7 +65,7 @@ pub fn node_with(
 /// What the connection is answered that submits the call.
 pub fn submit(node: &mut Node, conn: u16, call: Call) -> Result<(), Refusal> {
     node.submit(conn, call)
-        .map_err(|refused| refusal_in(refused))
+        .map_err(|refused| refused.into_refusal())
 }
 
 /// The node hears the frame. Gives how many frames it sends.

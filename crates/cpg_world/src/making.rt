@@ -8,7 +8,6 @@ ghost use Rattle.cpg_ring.specs.Visits.{up_to};
 ghost use Rattle.cpg_node.specs.Nodes.{new_value};
 ghost use Rattle.cpg_node.specs.Answers.{spelled, CanBeSpelled};
 
-use crate::meeting::refusal_in;
 use bytes::Bytes;
 use cpg_cred::{AcceptList, NodeId, Refusal};
 use cpg_entry::{Places, Token};
@@ -31,9 +30,9 @@ fn new_node(
 {
     match NodeId::new(number) {
         None => Err(Refusal::Range),
-        Some(id) => Node::new(alloc, settings, id, list.copy(alloc)?).map_err(|refused| refusal_in(
-            refused,
-        )),
+        Some(id) => Node::new(alloc, settings, id, list.copy(alloc)?).map_err(
+            |refused| refused.into_refusal(),
+        ),
     }
 }
 

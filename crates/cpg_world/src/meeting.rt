@@ -1,23 +1,15 @@
 //! One event at its node.
 
-ghost use Rattle.std.specs.Prelude.{◌≡◌, ◌↔◌, ◌∷◌, [], suc, length, Result, Err, IsTrue};
+ghost use Rattle.std.specs.Prelude.{◌≡◌, ◌∷◌, [], suc, length, Result};
 ghost use Rattle.cpg_world_laws.specs.declared.events.WorldEvent.TheVariants as events;
-ghost use Rattle.cpg_world_laws.specs.Worlds.{node_in};
 ghost use Rattle.cpg_world.specs.Kept.{frames_of, AreSpelled, IsMet};
 
 use bytes::Bytes;
-use cpg_cred::{Cred, NodeId, Refusal, Refused};
+use cpg_cred::{Cred, NodeId, Refusal};
 use cpg_entry::{Call, Name};
 use cpg_node::Node;
 use cpg_wire::reads_what_is_spelled;
 use cpg_world_laws::{Reply, WorldEvent};
-
-/// The refusal alone.
-pub(crate) fn refusal_in<T: Drop>(refused: Refused<T>) -> Refusal
-    ensures { result ≡ refused.refusal }
-{
-    refused.refusal
-}
 
 fn meet_connect(
     node: &mut Node,
@@ -43,7 +35,7 @@ fn meet_submit(
 {
     match node.submit(conn, call) {
         Ok(()) => Ok(Reply::Admitted),
-        Err(refused) => Err(refusal_in(refused)),
+        Err(refused) => Err(refused.into_refusal()),
     }
 }
 
@@ -133,30 +125,6 @@ fn meet_timer(node: &mut Node, id: NodeId, sent: &mut Vec<Bytes>) -> Result<Repl
             sent.push_reserved(bytes);
             Ok(Reply::Sent(1))
         }
-    }
-}
-
-/// Whether memory was refused.
-pub(crate) fn is_memory(answer: &Result<Reply, Refusal>) -> bool
-    ensures { IsTrue result ↔ (answer.now ≡ Err Refusal.Memory) }
-{
-    matches!(answer, Err(Refusal::Memory))
-}
-
-/// The node that an event is for.
-pub(crate) fn node_of(event: &WorldEvent) -> NodeId
-    ensures { result ≡ node_in event.now }
-{
-    match event {
-        WorldEvent::Connect(id, _, _) => *id,
-        WorldEvent::Submit(id, _, _) => *id,
-        WorldEvent::Disconnect(id, _) => *id,
-        WorldEvent::Frame(id, _) => *id,
-        WorldEvent::Timer(id) => *id,
-        WorldEvent::Deliver(id) => *id,
-        WorldEvent::Take(id, _) => *id,
-        WorldEvent::List(id, _, _) => *id,
-        WorldEvent::Groups(id, _) => *id,
     }
 }
 

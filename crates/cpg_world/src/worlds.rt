@@ -9,10 +9,10 @@ ghost use Rattle.cpg_world.specs.Kept.{IsAnswered};
 ghost use Rattle.cpg_world.specs.Runs.{IsWorldMade, IsStep, HaveRun, IsSpelledBy};
 
 use crate::making::{first_frames, new_nodes};
-use crate::meeting::{is_memory, meet, node_of};
+use crate::meeting::meet;
 use crate::runs::{Replies, Run};
 use bytes::Bytes;
-use cpg_cred::{AcceptList, NodeId, Refusal};
+use cpg_cred::{AcceptList, NodeId, Refusal, is_memory};
 use cpg_node::{Node, Settings};
 use cpg_ring::are_settings;
 use cpg_wire::reads_what_is_spelled;
@@ -79,7 +79,7 @@ impl World {
         ensures world { IsTrueWorld self.new }
     {
         every_run();
-        let id = node_of(&event);
+        let id = event.node();
         let node = &mut self.nodes[id.get() as usize - 1];
         meet(node, &mut self.sent, event)
     }
@@ -154,7 +154,7 @@ impl World {
         let nodes = self.nodes.len();
         events
             .iter()
-            .all(|event| node_of(event).get() as usize <= nodes)
+            .all(|event| event.node().get() as usize <= nodes)
     }
 
     /// The node of that number, which is one of the world's.

@@ -14,7 +14,7 @@ use Rattle.cpg_node.specs.Nodes.{delivered_entries, records_of, conn_id}
 use Rattle.cpg_world_laws.specs.declared.events.WorldEvent.{WorldEvent}
 use Rattle.cpg_world_laws.specs.Worlds.{WorldValue, happens, runs, Reached, ring_world}
 use Rattle.cpg_world_laws.specs.Replies.{Answer, AtEach, IsReply, AreReplies}
-use Rattle.cpg_world_laws.specs.Claims.{JudgedByThoseBefore, had, given, gives, admitted, entries_of, IsTrueWorld, IsTrueRun, AdmitsExactly, ListsExactly, EndsExactly, ChangesNothing}
+use Rattle.cpg_world_laws.specs.Claims.{JudgedByThoseBefore, had, given, gives, admitted, node_entries, IsTrueWorld, IsTrueRun, AdmitsExactly, ListsExactly, EndsExactly, ChangesNothing}
 use Rattle.cpg_world_laws.proofs.Lists.{item_map}
 use Rattle.cpg_world_laws.proofs.Growing.{delivered_are}
 use Rattle.cpg_world_laws.proofs.Projecting.{Numbered, ring_events, state_of}
@@ -109,11 +109,11 @@ module _ (below : Below) where
   agreed_after w [] settings reached = agreed_of w settings reached
   agreed_after w (e ∷ es) settings reached = agreed_after (happens w e) es (settings_on w e settings) (reached_on w e reached)
 
-  in_order : (w : WorldValue) (es : List WorldEvent) → IsSettings w.settings → Reached w → (n : ℕ) → entries_of (runs w es) n ≡ entries_of w n ++ admitted w n es
+  in_order : (w : WorldValue) (es : List WorldEvent) → IsSettings w.settings → Reached w → (n : ℕ) → node_entries (runs w es) n ≡ node_entries w n ++ admitted w n es
   in_order w es settings reached n =
-      ap (λ (v : ring.World). claims.entries_of v n) (runs_ring w es r.numbered)
+      ap (λ (v : ring.World). claims.ring_entries v n) (runs_ring w es r.numbered)
       ∙ ((below.in_order w.settings (ring_world w) settings (r.events, r.run)).later_after n later
-      ∙ ap (λ l. entries_of w n ++ l) (run_admits w n es r.numbered))
+      ∙ ap (λ l. node_entries w n ++ l) (run_admits w n es r.numbered))
     where
       r : RingReached w
       r = ring_reached w reached

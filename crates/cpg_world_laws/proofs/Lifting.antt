@@ -22,7 +22,7 @@ pub record Carries (Kind : ring.Event → Type 0) (Other : WorldEvent → Type 0
   pub delivers : (n : ℕ) → Kind (Delivery n) → Other (Deliver n)
 
 -- an event that does at its node what the ring's event does
-lifts : (w : WorldValue) (n : ℕ) (e : WorldEvent) (at : ring.Event) (move : NodeState → ring.Move) → Numbered w → node_in e ≡ n → ((x : NodeValue) → event_at e x ≡ at ∷ []) → ring.happens w.settings (ring_world w) at ≡ ring.moved (ring_world w) n (item (ring_world w).nodes n) move → ring_world (happens w e) ≡ ring.happens w.settings (ring_world w) at
+lifts : (w : WorldValue) (n : ℕ) (e : WorldEvent) (at : ring.Event) (move : NodeState → ring.RingOutcome) → Numbered w → node_in e ≡ n → ((x : NodeValue) → event_at e x ≡ at ∷ []) → ring.happens w.settings (ring_world w) at ≡ ring.moved (ring_world w) n (item (ring_world w).nodes n) move → ring_world (happens w e) ≡ ring.happens w.settings (ring_world w) at
 lifts w n e at move numbered node one is = by_node (item w.nodes (node_in e)) refl
   where
     by_node : (o : Option NodeValue) → item w.nodes (node_in e) ≡ o → ring_world (happens w e) ≡ ring.happens w.settings (ring_world w) at

@@ -13,10 +13,10 @@ use Rattle.cpg_ring.specs.Worlds as ring
 use Rattle.cpg_ring.specs.Worlds.{item, with_item, Enqueue, EnqueueEnd, Arrive, Timer as Timeout, Deliver as Delivery, enqueue, enqueue_end, receive, receive_token, receive_data, send_again, deliver}
 use Rattle.cpg_node.specs.declared.connections.Client.{Client}
 use Rattle.cpg_node.specs.Nodes.{NodeValue, open_client, entry_by}
-use Rattle.cpg_node.specs.Calls.{connect_refusal, connected, submit_refusal_by, submit_refusal, with_entry, ended_by, call_refusal, first_of, after_frame, answers_to, delivered, took, taken_by, counted, next_event}
+use Rattle.cpg_node.specs.Calls.{connect_refusal, connected, submit_refusal_by, submit_refusal, with_entry, ended_by, call_refusal, first_of, after_frame, answers_to, delivered, took, node_after_take, counted, next_event}
 use Rattle.cpg_world_laws.specs.declared.events.WorldEvent.{WorldEvent}
 use Rattle.cpg_world_laws.specs.declared.events.WorldEvent.TheVariants.{Connect, Submit, Disconnect, Frame as Arrival, Timer, Deliver, Take, List as Listing, Groups}
-use Rattle.cpg_world_laws.specs.Worlds.{WorldValue, Move, unless, hears, moves, node_in, moved, happens, ring_world, entry_of, if_admitted, admits}
+use Rattle.cpg_world_laws.specs.Worlds.{WorldValue, NodeOutcome, unless, hears, moves, node_in, moved, happens, ring_world, entry_of, if_admitted, admits}
 use Rattle.cpg_world_laws.proofs.Lists.{item_map, map_with, with_as}
 
 abbrev pub state_of : NodeValue → NodeState
@@ -55,16 +55,16 @@ ring_events w [] = []
 ring_events w (e ∷ es) = ring_event w e ++ ring_events (happens w e) es
 
 -- a node moves in the ring as it does in the world
-pub record Same (m : Move) (r : ring.Move) : Type 0 where
+pub record Same (m : NodeOutcome) (r : ring.RingOutcome) : Type 0 where
   pub state : state_of m.0 ≡ r.0
   pub sent : m.1 ≡ r.1
 
 -- nothing of the ring moves
-abbrev pub Still : NodeValue → Move → Type 0
+abbrev pub Still : NodeValue → NodeOutcome → Type 0
 Still x m = Same m (state_of x, [])
 
 -- the ring's part of a world where a node moved
-ring_moved : (w : WorldValue) (n : ℕ) (m : Move) (r : ring.Move) → Same m r → ◌≡◌ {A = ring.World} (record { nodes = map state_of (with_item w.nodes n m.0); sent = w.sent ++ m.1 }) (record { nodes = with_item (map state_of w.nodes) n r.0; sent = w.sent ++ r.1 })
+ring_moved : (w : WorldValue) (n : ℕ) (m : NodeOutcome) (r : ring.RingOutcome) → Same m r → ◌≡◌ {A = ring.World} (record { nodes = map state_of (with_item w.nodes n m.0); sent = w.sent ++ m.1 }) (record { nodes = with_item (map state_of w.nodes) n r.0; sent = w.sent ++ r.1 })
 ring_moved w n m r same =
     ap (λ (nodes : List NodeState). let world : ring.World = record { nodes = nodes; sent = w.sent ++ m.1 } in world) (map_with state_of w.nodes n m.0 ∙ ap (with_item (map state_of w.nodes) n) same.state)
     ∙ ap (λ (more : List Frame). let world : ring.World = record { nodes = with_item (map state_of w.nodes) n r.0; sent = w.sent ++ more } in world) same.sent
@@ -73,16 +73,16 @@ pub item_state : (w : WorldValue) (n : ℕ) (o : Option NodeValue) → item w.no
 item_state w n o is = item_map state_of w.nodes n ∙ ap (option_map state_of) is
 
 -- where nothing of the ring moves, the ring's part stays
-pub still : (w : WorldValue) (n : ℕ) (x : NodeValue) (m : Move) → item w.nodes n ≡ Some x → Still x m → ring_world (moved w n (Some x) (λ _. m)) ≡ ring_world w
+pub still : (w : WorldValue) (n : ℕ) (x : NodeValue) (m : NodeOutcome) → item w.nodes n ≡ Some x → Still x m → ring_world (moved w n (Some x) (λ _. m)) ≡ ring_world w
 still w n x m is s = ring_moved w n m (state_of x, []) s
     ∙ (ap (λ (nodes : List NodeState). let world : ring.World = record { nodes = nodes; sent = w.sent ++ [] } in world) (with_as (map state_of w.nodes) n (state_of x) (item_state w n (Some x) is))
     ∙ ap (λ (sent : List Frame). let world : ring.World = record { nodes = map state_of w.nodes; sent = sent } in world) (append-nil w.sent))
 
 -- where it moves as the ring's event does, so does the ring's part
-moves_as : (w : WorldValue) (n : ℕ) (x : NodeValue) (m : Move) (move : NodeState → ring.Move) → item w.nodes n ≡ Some x → Same m (move (state_of x)) → ring_world (moved w n (Some x) (λ _. m)) ≡ ring.moved (ring_world w) n (item (ring_world w).nodes n) move
+moves_as : (w : WorldValue) (n : ℕ) (x : NodeValue) (m : NodeOutcome) (move : NodeState → ring.RingOutcome) → item w.nodes n ≡ Some x → Same m (move (state_of x)) → ring_world (moved w n (Some x) (λ _. m)) ≡ ring.moved (ring_world w) n (item (ring_world w).nodes n) move
 moves_as w n x m move is s = ring_moved w n m (move (state_of x)) s ∙ ap (λ o. ring.moved (ring_world w) n o move) (sym (item_state w n (Some x) is))
 
-still_unless : (r : Option Refusal) (x : NodeValue) (m : Move) → Still x m → Still x (unless r x m)
+still_unless : (r : Option Refusal) (x : NodeValue) (m : NodeOutcome) → Still x m → Still x (unless r x m)
 still_unless None x m s = s
 still_unless (Some why) x m s = record { state = refl; sent = refl }
 
@@ -93,7 +93,7 @@ still_took x conn = by_client (open_client x conn)
     by_event c None = record { state = refl; sent = refl }
     by_event c (Some event) = record { state = refl; sent = refl }
 
-    by_client : (o : Option Client) → Still x (taken_by x conn o, [])
+    by_client : (o : Option Client) → Still x (node_after_take x conn o, [])
     by_client None = record { state = refl; sent = refl }
     by_client (Some c) = by_event c (next_event x conn c)
 
@@ -107,7 +107,7 @@ again_same x = by_token x.ring.state.last_token
 delivers_same : (x : NodeValue) → Same (delivered x, []) (deliver x.ring.state)
 delivers_same x = record { state = refl; sent = by_test (is_held x.ring.state.held (suc x.ring.state.delivered)) }
   where
-    by_test : (b : Bool) → [] ≡ (let move : ring.Move = if b then (after_delivery x.ring.state, []) else (x.ring.state, []) in move.1)
+    by_test : (b : Bool) → [] ≡ (let move : ring.RingOutcome = if b then (after_delivery x.ring.state, []) else (x.ring.state, []) in move.1)
     by_test true = refl
     by_test false = refl
 
@@ -142,8 +142,8 @@ submits w n conn call x is number (Some c) None r = by_full (is_full x.ring.stat
     by_full true full h = absurd (no_refusal (call_refusal call) h)
     by_full false full h =
         moves_as w n x (with_entry x conn (Act call) (Some c), []) (enqueue e) is (record {
-          state = sym (ap (λ b. let move : ring.Move = if b then (x.ring.state, []) else (after_entry x.ring.state e, []) in move.0) full);
-          sent = sym (ap (λ b. let move : ring.Move = if b then (x.ring.state, []) else (after_entry x.ring.state e, []) in move.1) full);
+          state = sym (ap (λ b. let move : ring.RingOutcome = if b then (x.ring.state, []) else (after_entry x.ring.state e, []) in move.0) full);
+          sent = sym (ap (λ b. let move : ring.RingOutcome = if b then (x.ring.state, []) else (after_entry x.ring.state e, []) in move.1) full);
         })
         ∙ ap (λ m. ring.moved (ring_world w) m (item (ring_world w).nodes m) (enqueue e)) (sym number)
 

@@ -14,11 +14,11 @@ use Rattle.cpg_ring.specs.Worlds.{item, with_item, start}
 use Rattle.cpg_ring.proofs.Lists.{with_item_cases, get_push_cases}
 use Rattle.cpg_node.specs.declared.connections.Client.{Client}
 use Rattle.cpg_node.specs.Nodes.{NodeValue, new_value, open_client}
-use Rattle.cpg_node.specs.Calls.{connect_refusal, connected, submit_refusal, submitted, with_entry, ended_by, frame_refusal, after_frame, answers_to, taken_by, counted, next_event}
+use Rattle.cpg_node.specs.Calls.{connect_refusal, connected, submit_refusal, submitted, with_entry, ended_by, frame_refusal, after_frame, answers_to, node_after_take, counted, next_event}
 use Rattle.cpg_entry.specs.declared.calls.Op.TheVariants.{Act}
 use Rattle.cpg_world_laws.specs.declared.events.WorldEvent.{WorldEvent}
 use Rattle.cpg_world_laws.specs.declared.events.WorldEvent.TheVariants.{Connect, Submit, Disconnect, Frame as Arrival, Timer, Deliver, Take, List as Listing, Groups}
-use Rattle.cpg_world_laws.specs.Worlds.{WorldValue, Move, unless, hears, moves, node_in, moved, happens, runs, new_world, Reached, ring_world}
+use Rattle.cpg_world_laws.specs.Worlds.{WorldValue, NodeOutcome, unless, hears, moves, node_in, moved, happens, runs, new_world, Reached, ring_world}
 use Rattle.cpg_world_laws.proofs.Lists.{map_through}
 use Rattle.cpg_world_laws.proofs.Projecting.{Stands, Numbered, ring_event, ring_events, projects, state_of}
 
@@ -31,7 +31,7 @@ record Stays (x y : NodeValue) : Type 0 where
 stays : (x : NodeValue) → Stays x x
 stays x = record { settings = refl; number = refl; list = refl }
 
-stays_unless : (r : Option Refusal) (x : NodeValue) (m : Move) → Stays x m.0 → Stays x (unless r x m).0
+stays_unless : (r : Option Refusal) (x : NodeValue) (m : NodeOutcome) → Stays x m.0 → Stays x (unless r x m).0
 stays_unless None x m s = s
 stays_unless (Some why) x m s = stays x
 
@@ -60,7 +60,7 @@ stays_moves sent (Take n conn) x = by_client (open_client x conn)
     by_event c None = stays x
     by_event c (Some event) = record { settings = refl; number = refl; list = refl }
 
-    by_client : (o : Option Client) → Stays x (taken_by x conn o)
+    by_client : (o : Option Client) → Stays x (node_after_take x conn o)
     by_client None = stays x
     by_client (Some c) = by_event c (next_event x conn c)
 stays_moves sent (Listing n conn g) x = stays x

@@ -17,16 +17,16 @@ use Rattle.cpg_ring.specs.States.{Entry, Frame, NodeState, is_held}
 use Rattle.cpg_ring.specs.declared.settings.Settings.{Settings}
 use Rattle.cpg_ring.specs.Visits.{token_refusal, up_to}
 use Rattle.cpg_ring.specs.Moves.{data_refusal, after_delivery}
-use Rattle.cpg_ring.specs.Worlds.{Move as Reading, item, with_item, agreed, receive, receive_token, receive_data}
+use Rattle.cpg_ring.specs.Worlds.{RingOutcome as Reading, item, with_item, agreed, receive, receive_token, receive_data}
 use Rattle.cpg_ring.proofs.Lists.{item_with_same, item_with_other, with_item_cases}
 use Rattle.cpg_ring.proofs.Growth.{agreed_grows}
 use Rattle.cpg_node.specs.declared.connections.Client.{Client}
 use Rattle.cpg_node.specs.Nodes.{NodeValue, new_value, records_of, inbox_of, conn_id, open_client, if_open}
-use Rattle.cpg_node.specs.Calls.{connect_refusal, connected, submit_refusal, submitted, with_entry, ended_by, frame_refusal, after_frame, answers_to, taken_by, counted, next_event}
+use Rattle.cpg_node.specs.Calls.{connect_refusal, connected, submit_refusal, submitted, with_entry, ended_by, frame_refusal, after_frame, answers_to, node_after_take, counted, next_event}
 use Rattle.cpg_world_laws.specs.declared.events.WorldEvent.{WorldEvent}
 use Rattle.cpg_world_laws.specs.declared.events.WorldEvent.TheVariants.{Connect, Submit, Disconnect, Frame as Arrival, Timer, Deliver, Take, List as Listing, Groups}
 use Rattle.cpg_world_laws.specs.declared.replies.Reply.TheVariants as reply
-use Rattle.cpg_world_laws.specs.Worlds.{WorldValue, Move, unless, hears, moves, node_in, moved, happens, new_world}
+use Rattle.cpg_world_laws.specs.Worlds.{WorldValue, NodeOutcome, unless, hears, moves, node_in, moved, happens, new_world}
 use Rattle.cpg_world_laws.specs.Replies.{Answer, IsReply, IsAnswerAt, IsAnswerOf, take_answer}
 use Rattle.cpg_world_laws.specs.Claims.{IsAgreed, taken_in, had, given_by, gives}
 use Rattle.cpg_world_laws.proofs.Lists.{item_map, map_with_as, take_less}
@@ -77,7 +77,7 @@ pub record Goes (x y : NodeValue) : Type 0 where
 goes_same : (x y : NodeValue) → y.ring.state.delivered ≡ x.ring.state.delivered → y.ring.node ≡ x.ring.node → Goes x y
 goes_same x y d n = record { delivered = omega arith; number = n }
 
-goes_unless : (r : Option Refusal) (x : NodeValue) (m : Move) → Goes x m.0 → Goes x (unless r x m).0
+goes_unless : (r : Option Refusal) (x : NodeValue) (m : NodeOutcome) → Goes x m.0 → Goes x (unless r x m).0
 goes_unless None x m g = g
 goes_unless (Some why) x m g = goes_same x x refl refl
 
@@ -122,7 +122,7 @@ goes_moves sent (Take n conn) x = by_client (open_client x conn)
     by_event c None = goes_same x x refl refl
     by_event c (Some event) = goes_same x (counted x conn c (Some event)) refl refl
 
-    by_client : (o : Option Client) → Goes x (taken_by x conn o)
+    by_client : (o : Option Client) → Goes x (node_after_take x conn o)
     by_client None = goes_same x x refl refl
     by_client (Some c) = by_event c (next_event x conn c)
 goes_moves sent (Listing n conn g) x = goes_same x x refl refl
@@ -171,7 +171,7 @@ taken_new cs c (suc k) is = taken_push cs c k is
 abbrev SameTaken : NodeValue → NodeValue → Type 0
 SameTaken x y = (conn : ℕ) → taken_in (item y.clients conn) ≡ taken_in (item x.clients conn)
 
-same_unless : (r : Option Refusal) (x : NodeValue) (m : Move) → SameTaken x m.0 → SameTaken x (unless r x m).0
+same_unless : (r : Option Refusal) (x : NodeValue) (m : NodeOutcome) → SameTaken x m.0 → SameTaken x (unless r x m).0
 same_unless None x m s = s
 same_unless (Some why) x m s = λ conn. refl
 
@@ -230,7 +230,7 @@ quiet_step x y conn within grows same = record {
     t = taken_in (item x.clients conn)
 
 -- a Take gives the next event to its connection
-take_step : (x : NodeValue) (other : ℕ) (o : Option Client) → open_client x other ≡ o → (conn : ℕ) → taken_in (item x.clients conn) ≤ length (inbox_of x conn) → Step x (taken_by x other o) conn (if other == conn then given_by (take_answer x other o) else [])
+take_step : (x : NodeValue) (other : ℕ) (o : Option Client) → open_client x other ≡ o → (conn : ℕ) → taken_in (item x.clients conn) ≤ length (inbox_of x conn) → Step x (node_after_take x other o) conn (if other == conn then given_by (take_answer x other o) else [])
 take_step x other None is conn within = by_test (other == conn)
   where
     by_test : (b : Bool) → Step x x conn (if b then [] else [])

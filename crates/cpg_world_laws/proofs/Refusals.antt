@@ -15,12 +15,12 @@ use Rattle.cpg_ring.specs.States.{Frame}
 use Rattle.cpg_ring.specs.Worlds.{item}
 use Rattle.cpg_node.specs.declared.connections.Client.{Client}
 use Rattle.cpg_node.specs.Nodes.{NodeValue, open_client}
-use Rattle.cpg_node.specs.Calls.{connect_refusal, connected, submit_refusal, submitted, closed_refusal, ended_by, frame_refusal, after_frame, answers_to, taken_by}
+use Rattle.cpg_node.specs.Calls.{connect_refusal, connected, submit_refusal, submitted, closed_refusal, ended_by, frame_refusal, after_frame, answers_to, node_after_take}
 use Rattle.cpg_world_laws.specs.declared.events.WorldEvent.{WorldEvent}
 use Rattle.cpg_world_laws.specs.declared.events.WorldEvent.TheVariants.{Connect, Submit, Disconnect, Frame as Arrival, Timer, Deliver, Take, List as Listing, Groups}
 use Rattle.cpg_world_laws.specs.declared.replies.Reply.{Reply}
 use Rattle.cpg_world_laws.specs.declared.replies.Reply.TheVariants as reply
-use Rattle.cpg_world_laws.specs.Worlds.{WorldValue, Move, unless, hears, moves, node_in, moved}
+use Rattle.cpg_world_laws.specs.Worlds.{WorldValue, NodeOutcome, unless, hears, moves, node_in, moved}
 use Rattle.cpg_world_laws.specs.Replies.{Answer, or_reply, frame_answer, take_answer, IsAnswerAt, IsAnswerOf, IsReply}
 use Rattle.cpg_world_laws.specs.Claims.{IsLetIn, AtNode, Admits, AdmitsExactly, ChangesNothing}
 use Rattle.cpg_world_laws.proofs.Lists.{with_as}
@@ -28,16 +28,16 @@ use Rattle.cpg_world_laws.proofs.Projecting.{Numbered}
 
 -- ---- nothing moves where an event is refused
 
-idle : (w : WorldValue) (n : ℕ) (x : NodeValue) (m : Move) → item w.nodes n ≡ Some x → m ≡ (x, []) → moved w n (Some x) (λ _. m) ≡ w
+idle : (w : WorldValue) (n : ℕ) (x : NodeValue) (m : NodeOutcome) → item w.nodes n ≡ Some x → m ≡ (x, []) → moved w n (Some x) (λ _. m) ≡ w
 idle w n x m is none =
-    ap (λ (k : Move). moved w n (Some x) (λ _. k)) none
+    ap (λ (k : NodeOutcome). moved w n (Some x) (λ _. k)) none
     ∙ (ap (λ (nodes : List NodeValue). let world : WorldValue = record { settings = w.settings; list = w.list; nodes = nodes; sent = w.sent ++ [] } in world) (with_as w.nodes n x is)
     ∙ ap (λ (sent : List Frame). let world : WorldValue = record { settings = w.settings; list = w.list; nodes = w.nodes; sent = sent } in world) (append-nil w.sent))
 
 no_ok : {X Y : Type 0} (x : X) (why : Y) → ◌≡◌ {A = Result X Y} (Ok x) (Err why) → ⊥
 no_ok x why h = cc
 
-refused : (r : Option Refusal) (q : Reply) (why : Refusal) (x : NodeValue) (m : Move) → Err why ≡ or_reply r q → unless r x m ≡ (x, [])
+refused : (r : Option Refusal) (q : Reply) (why : Refusal) (x : NodeValue) (m : NodeOutcome) → Err why ≡ or_reply r q → unless r x m ≡ (x, [])
 refused None q why x m h = absurd (no_ok q why (sym h))
 refused (Some other) q why x m h = refl
 
@@ -46,7 +46,7 @@ stays sent (Connect n pid cred) x why h = refused (connect_refusal x cred) _ why
 stays sent (Submit n conn call) x why h = refused (submit_refusal x conn call) _ why x (submitted x conn call, []) h
 stays sent (Disconnect n conn) x why h = by_client (open_client x conn) h
   where
-    by_client : (o : Option Client) → Err why ≡ or_reply (closed_refusal o) reply.Closed → ◌≡◌ {A = Move} (ended_by x conn o, []) (x, [])
+    by_client : (o : Option Client) → Err why ≡ or_reply (closed_refusal o) reply.Closed → ◌≡◌ {A = NodeOutcome} (ended_by x conn o, []) (x, [])
     by_client None h = refl
     by_client (Some c) h = absurd (no_ok _ why (sym h))
 stays sent (Arrival n k) x why h = by_frame (item sent k) h
@@ -58,7 +58,7 @@ stays sent (Timer n) x why h = absurd (no_ok _ why (sym h))
 stays sent (Deliver n) x why h = absurd (no_ok _ why (sym h))
 stays sent (Take n conn) x why h = by_client (open_client x conn) h
   where
-    by_client : (o : Option Client) → Err why ≡ take_answer x conn o → ◌≡◌ {A = Move} (taken_by x conn o, []) (x, [])
+    by_client : (o : Option Client) → Err why ≡ take_answer x conn o → ◌≡◌ {A = NodeOutcome} (node_after_take x conn o, []) (x, [])
     by_client None h = refl
     by_client (Some c) h = absurd (no_ok _ why (sym h))
 stays sent (Listing n conn g) x why h = refl

@@ -11,7 +11,7 @@ use Rattle.cpg_ring.specs.Worlds.{item}
 use Rattle.cpg_ring.proofs.Lists.{item_within, item_with_same, with_item_cases, length-with_item}
 use Rattle.cpg_node.specs.declared.connections.Client.{Client}
 use Rattle.cpg_node.specs.Nodes.{NodeValue, delivered_entries, inbox_of, if_open, open_client}
-use Rattle.cpg_node.specs.Calls.{next_event, counted, took, taken_by, with_client}
+use Rattle.cpg_node.specs.Calls.{next_event, counted, took, node_after_take, with_client}
 use Rattle.cpg_world_laws.specs.declared.events.WorldEvent.{WorldEvent}
 use Rattle.cpg_world_laws.specs.declared.events.WorldEvent.TheVariants.{Take}
 use Rattle.cpg_world_laws.specs.Worlds.{WorldValue, moved, happens, runs, ring_world}
@@ -180,7 +180,7 @@ module _ (Other : WorldEvent → Type 0) (may : (n conn : ℕ) → Other (Take n
           let y : NodeValue = with_client x conn d in
           let there : item x.clients conn ≡ Some c = open_is x conn c opens in
           let v : WorldValue = moved w n (Some x) (λ _. (y, [])) in
-          let took_is : took x conn ≡ y = ap (taken_by x conn) opens ∙ ap (counted x conn c) some in
+          let took_is : took x conn ≡ y = ap (node_after_take x conn) opens ∙ ap (counted x conn c) some in
           let happened : happens w (Take n conn) ≡ v = ap (λ o. moved w n o (λ z. (took z conn, []))) is ∙ ap (λ (z : NodeValue). moved w n (Some x) (λ _. (z, []))) took_is in
           let ended : c.ended ≡ false = not_ended (item x.clients conn) c opens in
           let opened : open_client y conn ≡ Some d = ap if_open (item_with_same x.clients conn d c there) ∙ is_open d ended in

@@ -174,8 +174,8 @@ admitted w n [] = []
 admitted w n (e ∷ es) = admits_at n e (item w.nodes n) ++ admitted (happens w e) n es
 
 -- node n's entries that took places, and then those that wait
-abbrev pub entries_of : WorldValue → ℕ → List Entry
-entries_of w n = by_node n (agreed w.sent) ++ waiting_at (item (ring_world w).nodes n)
+abbrev pub node_entries : WorldValue → ℕ → List Entry
+node_entries w n = by_node n (agreed w.sent) ++ waiting_at (item (ring_world w).nodes n)
 
 -- The inboxes of a node have exactly the messages that members of a group were allowed to send at the places that it delivered, each for
 -- the connections that were in the group then; and their events come in order, each once.
@@ -228,7 +228,7 @@ pub record IsTrueRun (w : WorldValue) (events : List WorldEvent) (answers : List
   -- listings show exactly what rules allow, and are denied by a rule that is named
   pub listings : AtEach ListsExactly w events answers
   -- a node's entries take places in the order in which they were admitted, each once
-  pub in_order : (n : ℕ) → entries_of (runs w events) n ≡ entries_of w n ++ admitted w n events
+  pub in_order : (n : ℕ) → node_entries (runs w events) n ≡ node_entries w n ++ admitted w n events
   -- the agreed list only grows
   pub agreed_grows : Begins (agreed w.sent) (agreed (runs w events).sent)
   -- a node goes on from where it was

@@ -7,7 +7,7 @@ use Rattle.cpg_ring.specs.States.{Frame, Refusal}
 use Rattle.cpg_ring.specs.Worlds.{item}
 use Rattle.cpg_node.specs.declared.connections.Client.{Client}
 use Rattle.cpg_node.specs.Nodes.{NodeValue, records_of, asker_by, open_client}
-use Rattle.cpg_node.specs.Calls.{connect_refusal, submit_refusal, closed_refusal, frame_refusal, answers_to, next_place, next_event, list_for}
+use Rattle.cpg_node.specs.Calls.{connect_refusal, submit_refusal, closed_refusal, frame_refusal, answers_to, place_to_deliver, next_event, list_for}
 use Rattle.cpg_world_laws.specs.declared.events.WorldEvent.{WorldEvent}
 use Rattle.cpg_world_laws.specs.declared.events.WorldEvent.TheVariants.{Connect, Submit, Disconnect, Frame as Arrival, Timer, Deliver, Take, List as Listing, Groups}
 use Rattle.cpg_world_laws.specs.declared.replies.Reply.{Reply}
@@ -56,7 +56,7 @@ IsAnswerAt sent (Submit n conn call) x a = a ≡ or_reply (submit_refusal x conn
 IsAnswerAt sent (Disconnect n conn) x a = a ≡ or_reply (closed_refusal (open_client x conn)) reply.Closed
 IsAnswerAt sent (Arrival n k) x a = a ≡ frame_answer x (item sent k)
 IsAnswerAt sent (Timer n) x a = a ≡ Ok (reply.Sent (length (moves sent (Timer n) x).1))
-IsAnswerAt sent (Deliver n) x a = a ≡ Ok (reply.Delivered (next_place x))
+IsAnswerAt sent (Deliver n) x a = a ≡ Ok (reply.Delivered (place_to_deliver x))
 IsAnswerAt sent (Take n conn) x a = a ≡ take_answer x conn (open_client x conn)
 IsAnswerAt sent (Listing n conn g) x a = a ≡ list_answer x g (open_client x conn)
 IsAnswerAt sent (Groups n conn) x a = IsGroupsReply x (open_client x conn) a

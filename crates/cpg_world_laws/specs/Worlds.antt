@@ -28,21 +28,21 @@ pub record WorldValue : Type 0 where
   pub sent : List Frame
 
 -- a node after an event, and the frames that it sends
-abbrev pub Move : Type 0
-Move = NodeValue × List Frame
+abbrev pub NodeOutcome : Type 0
+NodeOutcome = NodeValue × List Frame
 
 -- nothing moves where the event is refused
-abbrev pub unless : Option Refusal → NodeValue → Move → Move
+abbrev pub unless : Option Refusal → NodeValue → NodeOutcome → NodeOutcome
 unless (Some why) x move = (x, [])
 unless None x move = move
 
 -- a frame comes, if there is one of that number
-abbrev pub hears : Option Frame → NodeValue → Move
+abbrev pub hears : Option Frame → NodeValue → NodeOutcome
 hears None x = (x, [])
 hears (Some f) x = unless (frame_refusal x f) x (after_frame x f, answers_to x f)
 
 -- what an event does at its node, where these frames were sent
-abbrev pub moves : List Frame → WorldEvent → NodeValue → Move
+abbrev pub moves : List Frame → WorldEvent → NodeValue → NodeOutcome
 moves sent (Connect n pid cred) x = unless (connect_refusal x cred) x (connected x pid cred, [])
 moves sent (Submit n conn call) x = unless (submit_refusal x conn call) x (submitted x conn call, [])
 moves sent (Disconnect n conn) x = (disconnected x conn, [])
@@ -66,7 +66,7 @@ node_in (Listing n conn g) = n
 node_in (Groups n conn) = n
 
 -- one node moves, if it is there
-abbrev pub moved : WorldValue → ℕ → Option NodeValue → (NodeValue → Move) → WorldValue
+abbrev pub moved : WorldValue → ℕ → Option NodeValue → (NodeValue → NodeOutcome) → WorldValue
 moved w n None move = w
 moved w n (Some x) move = record { settings = w.settings; list = w.list; nodes = with_item w.nodes n (move x).0; sent = w.sent ++ (move x).1 }
 

@@ -12,7 +12,7 @@ invariant_of-self c =
     let e = c.args.event in
     let nodes = c.self.inside.nodes.items in
     let w : WorldValue = record { settings = c.self.inside.settings; list = c.self.inside.list; nodes = nodes; sent = frames_of c.self.inside.sent.items } in
-    let g : c.get.result ≡ node_in e = c.get.ensures.value ∙ c.node_of-id.ensures in
+    let g : c.get.result ≡ node_in e = c.get.ensures.value ∙ c.node-id.ensures in
     let low : 1 ≤ node_in e = subst (λ k. 1 ≤ k) g c.get.ensures.range.0 in
     let high : node_in e ≤ length nodes = subst (λ (v : WorldValue). node_in e ≤ length v.nodes) (sym c.self.view_is) c.requires in
     let x = c.index_mut-node.result.now in
@@ -30,7 +30,7 @@ returns-clause-step c =
     let e = c.args.event in
     let nodes = c.self.inside.nodes.items in
     let w : WorldValue = record { settings = c.self.inside.settings; list = c.self.inside.list; nodes = nodes; sent = frames_of c.self.inside.sent.items } in
-    let g : c.get.result ≡ node_in e = c.get.ensures.value ∙ c.node_of-id.ensures in
+    let g : c.get.result ≡ node_in e = c.get.ensures.value ∙ c.node-id.ensures in
     let low : 1 ≤ node_in e = subst (λ k. 1 ≤ k) g c.get.ensures.range.0 in
     let high : node_in e ≤ length nodes = subst (λ (v : WorldValue). node_in e ≤ length v.nodes) (sym c.self.view_is) c.requires in
     let x = c.index_mut-node.result.now in
