@@ -1,5 +1,7 @@
 //! Calls in short words.
 
+ghost use Rattle.std.specs.Prelude.{◌≡◌, IfOk};
+
 use crate::short::Short;
 use cpg_entry::{Call, Cred, Entry, Message, Name, NodeId, Op, Refusal, Rule};
 use std::alloc::Global;
@@ -53,7 +55,9 @@ fn op(alloc: Global, ask: &Ask) -> Result<Op, Refusal> {
 }
 
 /// The node of that number; `Range` where there is none.
-pub fn node(number: u8) -> Result<NodeId, Refusal> {
+pub fn node(number: u8) -> Result<NodeId, Refusal>
+    ensures { IfOk result (λ node. node ≡ number) }
+{
     NodeId::new(number).ok_or(Refusal::Range)
 }
 

@@ -26,6 +26,8 @@ mod rings;
 #[cfg(test)]
 mod runs;
 #[cfg(test)]
+mod sessions;
+#[cfg(test)]
 mod short;
 #[cfg(test)]
 mod stations;

@@ -19,6 +19,7 @@ use Rattle.cpg_cred.specs.Listed.{Listed}
 use Rattle.cpg_step.specs.declared.commands.Command.{Command}
 use Rattle.cpg_step.specs.Running as step
 use Rattle.cpg_step.specs.Scripts.{commands_of_script}
+use Rattle.cpg_draw.specs.Drawing as draw
 use Rattle.cpg_cluster.specs.declared.commands.Command.{Command as Ask}
 use Rattle.cpg_cluster.specs.Answers.{Sessions}
 use Rattle.cpg_cluster.specs.Lines.{text_of}
@@ -27,9 +28,9 @@ use Rattle.cpg_cluster.specs.Scripts as clustered
 use Rattle.cpg_program.specs.declared.failures.Failure.{Failure}
 use Rattle.cpg_program.specs.declared.failures.Failure.TheVariants as failure
 use Rattle.cpg_program.specs.declared.runs.Run.{Run}
-use Rattle.cpg_program.specs.declared.runs.Run.TheVariants.{Judge, Accept, Step, Cluster}
+use Rattle.cpg_program.specs.declared.runs.Run.TheVariants.{Judge, Accept, Step, Draw, Cluster}
 use Rattle.cpg_program.specs.Words.{list_of_words}
-use Rattle.cpg_program.specs.Runs.{Clusters, ClustersUpTo, FailsLate, HasWrongWord, Prints, Runs, Steps, StepsUpTo, failure_of, failure_told}
+use Rattle.cpg_program.specs.Runs.{Clusters, ClustersUpTo, Draws, DrawsUpTo, FailsLate, HasWrongWord, Prints, Runs, Steps, StepsUpTo, failure_of, failure_told}
 
 front_kept : (a b c : Option (List ℕ)) (text : List ℕ) → AppendsFront a b text → Keeps b c → AppendsFront a c text
 front_kept a b c text f k = record { front = f.front; rest = f.rest; whole = f.whole; written = Appends-kept a b c f.front f.written k }
@@ -140,6 +141,34 @@ steps_kept s (Some list) script None a b c h k = (h.0, h.1, run_kept (commands_o
 steps_kept s (Some list) script (Some (failure.Fault fault)) a b c h k = (h.0, up_to_kept s list script fault.refusal a b c h.1 k)
 steps_kept s (Some list) script (Some failure.BadWord) a b c h k = h
 
+-- of a picture, too
+drawing_kept : (commands : Result (List Command) ℕ) (w : WorldValue) (a b c : Option (List ℕ)) → draw.IsDrawn commands w a b → Keeps b c → draw.IsDrawn commands w a c
+drawing_kept (Ok commands) w a b c h k = (h.0, h.1, Appends-kept a b c h.0 h.2 k)
+drawing_kept (Err line) w a b c h k = h
+
+part_drawing_kept : (commands : Result (List Command) ℕ) (refused : Refusal) (w : WorldValue) (a b c : Option (List ℕ))
+    → draw.Leaves commands refused w a b → Keeps b c → draw.Leaves commands refused w a c
+part_drawing_kept (Err bad) (refusal.BadCommand line) w a b c h k = (h.0, Keeps-trans a b c h.1 k)
+part_drawing_kept (Err bad) refusal.Memory w a b c h k = Keeps-trans a b c h k
+part_drawing_kept (Err bad) refusal.Read w a b c h k = Keeps-trans a b c h k
+part_drawing_kept (Ok commands) refusal.Read w a b c h k = Keeps-trans a b c h k
+part_drawing_kept (Ok commands) refusal.Memory w a b c h k = Keeps-trans a b c h k
+part_drawing_kept (Ok commands) refusal.Write w a b c h k = (h.0, h.1, front_kept a b c h.0 h.2 k)
+part_drawing_kept (Ok commands) _ w a b c h k = h
+part_drawing_kept (Err bad) _ w a b c h k = h
+
+drawn_up_to_kept : (s : Settings) (list : Listed) (script : List ℕ) (refused : Refusal) (a b c : Option (List ℕ))
+    → DrawsUpTo s list script refused a b → Keeps b c → DrawsUpTo s list script refused a c
+drawn_up_to_kept s list script refusal.Range a b c h k = (h.0, Keeps-trans a b c h.1 k)
+drawn_up_to_kept s list script refused a b c h k = part_drawing_kept (commands_of_script s.nodes script) refused (new_world s list) a b c h k
+
+draws_kept : (s : Settings) (list : Option Listed) (script : List ℕ) (end : Option Failure) (a b c : Option (List ℕ))
+    → Draws s list script end a b → Keeps b c → Draws s list script end a c
+draws_kept s None script end a b c h k = (h.0, Keeps-trans a b c h.1 k)
+draws_kept s (Some list) script None a b c h k = (h.0, drawing_kept (commands_of_script s.nodes script) (new_world s list) a b c h.1 k)
+draws_kept s (Some list) script (Some (failure.Fault fault)) a b c h k = (h.0, drawn_up_to_kept s list script fault.refusal a b c h.1 k)
+draws_kept s (Some list) script (Some failure.BadWord) a b c h k = h
+
 -- of a script over a cluster, too
 session_left_kept : (refused : Refusal) (list : Listed) (sessions : Sessions) (met : Ask) (a b c : Option (List ℕ))
     → cluster.LeavesOf refused list sessions met a b → Keeps b c → cluster.LeavesOf refused list sessions met a c
@@ -211,6 +240,7 @@ prints_kept Accept script None a b c h k = (h.0, accepted_kept (accept.admitted_
 prints_kept Accept script (Some (failure.Fault fault)) a b c h k = ends_kept script fault a b c h k
 prints_kept Accept script (Some failure.BadWord) a b c h k = h
 prints_kept (Step settings words) script end a b c h k = steps_kept settings (list_of_words (map (λ word. word.now) words.now)) script end a b c h k
+prints_kept (Draw settings words) script end a b c h k = draws_kept settings (list_of_words (map (λ word. word.now) words.now)) script end a b c h k
 prints_kept (Cluster settings words) script end a b c h k = clusters_kept settings (list_of_words (map (λ word. word.now) words.now)) script end a b c h k
 
 -- what was printed and is told, after the flush

@@ -2,4 +2,5 @@ pub mod Accepting
 pub mod Flushed
 pub mod Fronts
 pub mod Clustered
+pub mod Pictured
 pub mod Started

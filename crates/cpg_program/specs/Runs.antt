@@ -14,13 +14,14 @@ use Rattle.cpg_judge.specs.Judging as judge
 use Rattle.cpg_judge.specs.Scripts.{entries_of_script}
 use Rattle.cpg_step.specs.Running as step
 use Rattle.cpg_step.specs.Scripts.{commands_of_script}
+use Rattle.cpg_draw.specs.Drawing as draw
 use Rattle.cpg_cluster.specs.Running as cluster
 use Rattle.cpg_cluster.specs.Scripts as clustered
 use Rattle.cpg_program.specs.Words.{list_of_words}
 use Rattle.cpg_program.specs.declared.failures.Failure.{Failure}
 use Rattle.cpg_program.specs.declared.failures.Failure.TheVariants.{BadWord, Fault}
 use Rattle.cpg_program.specs.declared.runs.Run.{Run}
-use Rattle.cpg_program.specs.declared.runs.Run.TheVariants.{Judge, Accept, Step, Cluster}
+use Rattle.cpg_program.specs.declared.runs.Run.TheVariants.{Judge, Accept, Step, Draw, Cluster}
 
 -- the exit status: 0, after a fault 1, after a wrong word of the command line 2
 abbrev pub status_after : Option Failure → ℕ
@@ -44,6 +45,18 @@ Steps s (Some list) script None old new = StepsAll s list script old new
 Steps s (Some list) script (Some (Fault fault)) old new = (fault.part ≡ None) × StepsUpTo s list script fault.refusal old new
 Steps s (Some list) script (Some BadWord) old new = ⊥
 
+-- What a refusal leaves written of the picture of a script's run; Range tells that there is no world of those settings.
+abbrev pub DrawsUpTo : Settings → Listed → List ℕ → Refusal → Option (List ℕ) → Option (List ℕ) → Type 0
+DrawsUpTo s list script Range old new = (¬ IsSettings s) × Keeps old new
+DrawsUpTo s list script refused old new = draw.Leaves (commands_of_script s.nodes script) refused (new_world s list) old new
+
+-- what `draw` writes of a script, by the list that its words give: the picture of its run over a new world
+abbrev pub Draws : Settings → Option Listed → List ℕ → Option Failure → Option (List ℕ) → Option (List ℕ) → Type 0
+Draws s None script failure old new = (failure ≡ Some BadWord) × Keeps old new
+Draws s (Some list) script None old new = (length script ≤ MOST_BYTES) × draw.IsDrawn (commands_of_script s.nodes script) (new_world s list) old new
+Draws s (Some list) script (Some (Fault fault)) old new = (fault.part ≡ None) × DrawsUpTo s list script fault.refusal old new
+Draws s (Some list) script (Some BadWord) old new = ⊥
+
 -- The script was run over a cluster of so many nodes that accept by that list, and all its text is written.
 abbrev pub ClustersAll : ℕ → Listed → List ℕ → Option (List ℕ) → Option (List ℕ) → Type 0
 ClustersAll nodes list script old new = (length script ≤ MOST_BYTES) × cluster.IsRun list (clustered.commands_of_script nodes script) old new
@@ -65,6 +78,7 @@ abbrev pub HasWrongWord : Run → Type 0
 HasWrongWord Judge = ⊥
 HasWrongWord Accept = ⊥
 HasWrongWord (Step settings words) = list_of_words (map (λ word. word.now) words.now) ≡ None
+HasWrongWord (Draw settings words) = list_of_words (map (λ word. word.now) words.now) ≡ None
 HasWrongWord (Cluster settings words) = list_of_words (map (λ word. word.now) words.now) ≡ None
 
 -- what a run writes of a script to standard output: all of its text, or after a fault what that fault leaves
@@ -74,6 +88,7 @@ Prints Judge script (Some (Fault fault)) old new = (fault.part ≡ None) × judg
 Prints Accept script None old new = (length script ≤ MOST_BYTES) × accept.IsWritten (accept.admitted_by script) old new
 Prints Accept script (Some (Fault fault)) old new = accept.Ends script fault old new
 Prints (Step settings words) script failure old new = Steps settings (list_of_words (map (λ word. word.now) words.now)) script failure old new
+Prints (Draw settings words) script failure old new = Draws settings (list_of_words (map (λ word. word.now) words.now)) script failure old new
 Prints (Cluster settings words) script failure old new = Clusters settings (list_of_words (map (λ word. word.now) words.now)) script failure old new
 Prints _ script (Some BadWord) old new = ⊥
 

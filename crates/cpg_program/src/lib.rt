@@ -5,6 +5,7 @@
 #![tactic(auto)]
 
 mod clustering;
+mod drawing;
 mod failures;
 mod runs;
 mod stepping;

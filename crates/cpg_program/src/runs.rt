@@ -12,6 +12,7 @@ ghost use Rattle.cpg_program.specs.Runs.{failure_of, failure_told, status_after,
 ghost use Rattle.cpg_program.specs.Telling.{error_text};
 
 use crate::clustering::run_cluster;
+use crate::drawing::draw_over_world;
 use crate::failures::Failure;
 use crate::stepping::step_script;
 use crate::telling::tell_failure;
@@ -35,6 +36,8 @@ pub enum Run<'a> {
     /// `cpgring step`: a script of commands is run over a new world of those settings, whose nodes let in
     /// whom the words let in.
     Step(Settings, &'a [&'a str]),
+    /// `cpgring draw`: the run of such a script over a new world is drawn.
+    Draw(Settings, &'a [&'a str]),
     /// `cpgring run`: a script of sessions is run over a new cluster of those settings, whose nodes let in
     /// whom the words let in.
     Cluster(Settings, &'a [&'a str]),
@@ -192,6 +195,7 @@ where
         Run::Judge => judge_script(alloc, reader, writer)?,
         Run::Accept => accept_script(alloc, reader, writer)?,
         Run::Step(settings, words) => step_script(alloc, settings, words, reader, writer)?,
+        Run::Draw(settings, words) => draw_over_world(alloc, settings, words, reader, writer)?,
         Run::Cluster(settings, words) => {
             run_cluster(rt, alloc, settings, words, reader, writer)?;
         }

@@ -45,7 +45,7 @@ pub fn step_script<R: Read, W: Write>(
 }
 
 /// A new world of those settings, whose nodes let in whom the words let in.
-fn world_by(alloc: Global, settings: Settings, words: &[&str]) -> Result<World, Failure>
+pub fn world_by(alloc: Global, settings: Settings, words: &[&str]) -> Result<World, Failure>
     ensures ok { IfOk result (λ world. IsStarted settings (list_of_words (map (λ word. word.now) words.now)) world) }
     ensures err { IfErr result (λ failure. IsNotStarted settings (list_of_words (map (λ word. word.now) words.now)) failure) }
 {

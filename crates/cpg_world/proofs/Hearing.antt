@@ -14,7 +14,7 @@ use Rattle.cpg_node.specs.Calls.{frame_refusal, after_frame, answers_to}
 use Rattle.cpg_node.specs.Answers.{IsFrameAnswer, CanBeSpelled}
 use Rattle.cpg_world_laws.specs.declared.events.WorldEvent.TheVariants as events
 use Rattle.cpg_world_laws.specs.declared.replies.Reply.TheVariants as reply
-use Rattle.cpg_world_laws.specs.Worlds.{Move, unless, hears}
+use Rattle.cpg_world_laws.specs.Worlds.{NodeOutcome, unless, hears}
 use Rattle.cpg_world_laws.specs.Replies.{or_reply, frame_answer}
 use Rattle.cpg_world.specs.Kept.{frames_of, AreSpelled, IsMet}
 use Rattle.cpg_world.specs.Runs.{IsSpelledBy}
@@ -61,8 +61,8 @@ pub heard_ok : (frames : List Frame) (n k : ℕ) (x y : NodeValue) (f : Frame) (
 heard_ok frames n k x y f count later is none made counted more =
     let hears_is : hears (item frames k) x ≡ (after_frame x f, answers_to x f) = ap (λ o. hears o x) is ∙ ap (λ r. unless r x (after_frame x f, answers_to x f)) none in (
       ap (λ m. Ok (reply.Sent m)) counted ∙ sym (ap (frame_answer x) is ∙ ap (λ r. or_reply r (reply.Sent (length (answers_to x f)))) none),
-      made ∙ sym (ap (λ (m : Move). m.0) hears_is),
-      more ∙ sym (ap (λ (m : Move). frames ++ m.1) hears_is),
+      made ∙ sym (ap (λ (m : NodeOutcome). m.0) hears_is),
+      more ∙ sym (ap (λ (m : NodeOutcome). frames ++ m.1) hears_is),
     )
 
 -- a frame that is refused
@@ -71,8 +71,8 @@ unheard : (frames : List Frame) (n k : ℕ) (x : NodeValue) (f : Frame) (why : R
 unheard frames n k x f why y is refuses same =
     let hears_is : hears (item frames k) x ≡ (x, []) = ap (λ o. hears o x) is ∙ ap (λ r. unless r x (after_frame x f, answers_to x f)) refuses in (
       sym (ap (frame_answer x) is ∙ ap (λ r. or_reply r (reply.Sent (length (answers_to x f)))) refuses),
-      same ∙ sym (ap (λ (m : Move). m.0) hears_is),
-      sym (append-nil frames) ∙ sym (ap (λ (m : Move). frames ++ m.1) hears_is),
+      same ∙ sym (ap (λ (m : NodeOutcome). m.0) hears_is),
+      sym (append-nil frames) ∙ sym (ap (λ (m : NodeOutcome). frames ++ m.1) hears_is),
     )
 
 pub heard_err : {X : Type 0} (items : X → List (List ℕ)) (frames : List Frame) (n k : ℕ) (x : NodeValue) (f : Frame) (why : Refusal) (y : NodeValue) → item frames k ≡ Some f → IsFrameAnswer items x (Some f) (Err why) y → IsMet frames (events.Frame n k) x (Err why) y frames
@@ -110,4 +110,4 @@ heard_err items frames n k x f refusal.Write y is h = unheard frames n k x f ref
 
 -- no frame of that number
 pub unsent : (frames : List Frame) (n k : ℕ) (x : NodeValue) → item frames k ≡ None → IsMet frames (events.Frame n k) x (Err refusal.NoFrame) x frames
-unsent frames n k x is = (sym (ap (frame_answer x) is), sym (ap (λ o. let move : Move = hears o x in move.0) is), sym (append-nil frames) ∙ sym (ap (λ o. let move : Move = hears o x in frames ++ move.1) is))
+unsent frames n k x is = (sym (ap (frame_answer x) is), sym (ap (λ o. let move : NodeOutcome = hears o x in move.0) is), sym (append-nil frames) ∙ sym (ap (λ o. let move : NodeOutcome = hears o x in frames ++ move.1) is))

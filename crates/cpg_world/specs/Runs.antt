@@ -12,7 +12,7 @@ use Rattle.cpg_world_laws.specs.declared.events.WorldEvent.{WorldEvent}
 use Rattle.cpg_ring.specs.Worlds.{item}
 use Rattle.cpg_node.specs.declared.connections.Client.{Client}
 use Rattle.cpg_node.specs.Nodes.{NodeValue, records_of, asker_by, open_client}
-use Rattle.cpg_node.specs.Calls.{connect_refusal, submit_refusal, closed_refusal, next_place, next_event, list_for}
+use Rattle.cpg_node.specs.Calls.{connect_refusal, submit_refusal, closed_refusal, place_to_deliver, next_event, list_for}
 use Rattle.cpg_world_laws.specs.declared.events.WorldEvent.TheVariants.{Connect, Submit, Disconnect, Frame as Arrival, Timer, Deliver, Take, List as Listing, Groups}
 use Rattle.cpg_world_laws.specs.Worlds.{WorldValue, node_in, happens, runs, new_world}
 use Rattle.cpg_world_laws.specs.Replies.{Answer, IsReply, AreReplies}
@@ -47,7 +47,7 @@ MayGrow sent (Submit n conn call) x = submit_refusal x conn call ≡ None
 MayGrow sent (Disconnect n conn) x = closed_refusal (open_client x conn) ≡ None
 MayGrow sent (Arrival n k) x = IsSome (item sent k)
 MayGrow sent (Timer n) x = Unit {0}
-MayGrow sent (Deliver n) x = IsSome (next_place x)
+MayGrow sent (Deliver n) x = IsSome (place_to_deliver x)
 MayGrow sent (Take n conn) x = HasNext x conn (open_client x conn)
 MayGrow sent (Listing n conn g) x = IsLetList x g (open_client x conn)
 MayGrow sent (Groups n conn) x = IsShownSome x (open_client x conn)

@@ -9,13 +9,14 @@ use Rattle.clap.specs.declared.error.kind.ErrorKind.{ErrorKind}
 use Rattle.clap.specs.declared.error.kind.ErrorKind.TheVariants.{DisplayHelp, DisplayVersion, OutOfMemory}
 use Rattle.cpg_ring.specs.declared.settings.Settings.{Settings}
 use Rattle.cpg_program.specs.declared.runs.Run.{Run}
-use Rattle.cpg_program.specs.declared.runs.Run.TheVariants.{Judge, Accept, Step, Cluster}
+use Rattle.cpg_program.specs.declared.runs.Run.TheVariants.{Judge, Accept, Step, Draw, Cluster}
 
 -- the name of the subcommand of a run
 abbrev pub name_of : Run → List ℕ
 name_of Judge = codes "judge"
 name_of Accept = codes "accept"
 name_of (Step settings words) = codes "step"
+name_of (Draw settings words) = codes "draw"
 name_of (Cluster settings words) = codes "run"
 
 -- the number is what the option's text writes, in ten digits
@@ -46,6 +47,11 @@ AreGiven found settings words = AreSettingsGiven found settings × (words ≡ wo
 abbrev pub IsStepGiven : Found → Run → Type 0
 IsStepGiven found (Step settings words) = AreGiven found settings (map (λ word. word.now) words.now)
 IsStepGiven found _ = ⊥
+
+-- it is the picture of a script over a ring whose settings and words were given
+abbrev pub IsDrawGiven : Found → Run → Type 0
+IsDrawGiven found (Draw settings words) = AreGiven found settings (map (λ word. word.now) words.now)
+IsDrawGiven found _ = ⊥
 
 -- it is a script over a cluster whose settings and words were given
 abbrev pub IsClusterGiven : Found → Run → Type 0

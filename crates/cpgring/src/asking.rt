@@ -5,7 +5,7 @@
 ghost use Rattle.std.specs.Prelude.{◌≡◌, Some, None, codes, map, IfSome, IsSome};
 ghost use Rattle.clap.specs.Words.{found_of, subcommand_name_of};
 ghost use Rattle.clap.specs.Values.{kind_of};
-ghost use Rattle.cpgring.specs.Asking.{name_of, words_given, AreSettingsGiven, IsClusterGiven, IsStepGiven, IsStatusOf, Says};
+ghost use Rattle.cpgring.specs.Asking.{name_of, words_given, AreSettingsGiven, IsClusterGiven, IsDrawGiven, IsStepGiven, IsStatusOf, Says};
 
 use crate::commands::{ACCEPT, HOPS, NODES, PLACES, RING, build_command};
 use clap::error::ErrorKind;
@@ -62,6 +62,8 @@ fn run_of<'a>(matches: &'a ArgMatches<'_>) -> Option<Run<'a>>
         Some(Run::Accept)
     } else if name == "step" {
         step_of(given)
+    } else if name == "draw" {
+        draw_of(given)
     } else if name == "run" {
         cluster_of(given)
     } else {
@@ -74,6 +76,13 @@ fn step_of<'a>(given: &'a ArgMatches<'_>) -> Option<Run<'a>>
     ensures { IfSome result (IsStepGiven (found_of given.now)) }
 {
     Some(Run::Step(settings_of(given)?, words_of(given)))
+}
+
+/// The picture of the run of a script of commands with the settings and the words that are given.
+fn draw_of<'a>(given: &'a ArgMatches<'_>) -> Option<Run<'a>>
+    ensures { IfSome result (IsDrawGiven (found_of given.now)) }
+{
+    Some(Run::Draw(settings_of(given)?, words_of(given)))
 }
 
 /// The run of a script of sessions over a cluster with the settings and the words that are given.

@@ -1,8 +1,8 @@
 //! The command line.
 
 use crate::help::{
-    ABOUT, ACCEPT_ABOUT, ACCEPT_HELP, ACCEPT_MORE, EXITS, JUDGE_ABOUT, JUDGE_HELP, JUDGE_MORE,
-    RUN_ABOUT, RUN_HELP, RUN_MORE, STEP_ABOUT, STEP_HELP, STEP_MORE,
+    ABOUT, ACCEPT_ABOUT, ACCEPT_HELP, ACCEPT_MORE, DRAW_ABOUT, DRAW_HELP, DRAW_MORE, JUDGE_ABOUT,
+    JUDGE_HELP, JUDGE_MORE, MORE, RUN_ABOUT, RUN_HELP, RUN_MORE, STEP_ABOUT, STEP_HELP, STEP_MORE,
 };
 use clap::{Arg, ArgAction, Command, value_parser};
 use cpg_cred::MOST_NODES;
@@ -23,17 +23,21 @@ pub const HOPS: &str = "hops";
 
 pub const ACCEPT: &str = "accept";
 
+/// The option that asks for a picture as lines for a terminal.
+const TEXT: &str = "text";
+
 /// The command line of the program.
 pub fn build_command<'a>(alloc: Global) -> Result<Command<'a>, AllocError> {
     Command::new(alloc, "cpgring")
         .version(VERSION)
         .about(ABOUT)
-        .after_help(EXITS)
+        .after_help(MORE)
         .subcommand_required(true)
         .arg_required_else_help(true)
         .subcommand(judge_command(alloc))?
         .subcommand(accept_command(alloc))?
         .subcommand(step_command(alloc)?)?
+        .subcommand(draw_command(alloc)?)?
         .subcommand(run_command(alloc)?)
 }
 
@@ -61,6 +65,24 @@ fn step_command<'a>(alloc: Global) -> Result<Command<'a>, AllocError> {
             .about(STEP_ABOUT)
             .long_about(STEP_HELP)
             .after_long_help(STEP_MORE),
+    )
+}
+
+/// The subcommand `draw`: a ring is set up, and the run of a script of commands over it drawn.
+fn draw_command<'a>(alloc: Global) -> Result<Command<'a>, AllocError> {
+    with_ring(
+        alloc,
+        Command::new(alloc, "draw")
+            .about(DRAW_ABOUT)
+            .long_about(DRAW_HELP)
+            .after_long_help(DRAW_MORE),
+    )?
+    .arg(
+        Arg::new(alloc, TEXT)
+            .long(TEXT)
+            .action(ArgAction::SetTrue)
+            .required(true)
+            .help("Draw lines for a terminal, the one form that there is so far"),
     )
 }
 

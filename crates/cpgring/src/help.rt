@@ -2,7 +2,17 @@
 
 pub const ABOUT: &str = "Closed process groups with access rules, in one agreed order";
 
-pub const EXITS: &str = "\
+pub const MORE: &str = "\
+Example: a process joins a group; how that is judged, and what it is told of it.
+  $ printf '1.1 40 7 100 join db\\n' | cpgring judge
+  1 1.1 40 7 100 join db -> allowed default group db members 1/40
+  records 1
+  inbox 1.1
+  event 1 verdict allowed default
+  event 1 change db members 1/40 left - joined 1/40:join
+
+`cpgring COMMAND --help` explains the script of each command.
+
 Exit status: 0 done; 1 a fault, told on standard error as `cpgring: 41 BadCommand 2`; 2 a fault of the
 command line.";
 
@@ -213,6 +223,50 @@ Exit status: 0 done; 1 a fault, told on standard error; 2 a fault of the command
 word` among them. The faults are `cpgring: 41 BadCommand LINE`, the first line that is no command, before
 which nothing is done or printed; `cpgring: 42 Read`, also where the input is too long; `cpgring: 43 Write`;
 and `cpgring: 1 Memory`, which ends the script at the command that met it.";
+
+pub const DRAW_ABOUT: &str = "Draws the run of a `step` script from standard input";
+
+pub const DRAW_HELP: &str = "\
+Runs the commands of a script over a new ring as `cpgring step` does, and draws what the frames did: the nodes
+are columns, and time goes down, a row for each command. The script and the options are those of `cpgring
+step`; its help has the commands.";
+
+pub const DRAW_MORE: &str = "\
+In a row `*` is the node that the command is at, and an arrow comes in from the node that sent the frame that
+the row brings, marked `o`: --> is data, ==> data that is sent again, ..> the token. The first token, which
+was sent before the script, comes from outside. After the columns stand the row's number and
+
+  COMMAND, WHAT of row ROW, sends K WHAT, waiting COUNT, safe PLACE: ANSWER
+
+COMMAND is its first word, with the frame's or the connection's number; then what the frame is that it brings,
+and the row that sent it; each frame that the row sends, with its number; how many calls wait at the node, and
+its safe mark; and what `cpgring step` prints. WHAT is data PLACE, again PLACE or token HOP. A command that
+only looks has no answer: its row says what the frame is that is shown, or how the node stands.
+
+Last comes a line for each frame that no command brought, `lost K WHAT of row ROW`. Nothing is printed before
+the picture is whole.
+
+Example: frame 2, the data of place 1, never reaches node 2.
+  $ printf '%s\\n' 'connect 1 40 7 100' 'call 1 1 join db' 'call 1 1 send hi' 'frame 1 1' 'frame 2 3' \\
+      'frame 2 4' 'frame 1 5' 'frame 2 6' 'deliver 2' |
+    cpgring draw --text uid:7
+     1   2  row
+     |   |  0 start, sends 1 token 0
+     *   |  1 connect, waiting 0, safe 0: connected 1
+     *   |  2 call 1, waiting 1, safe 0: admitted
+     *   |  3 call 1, waiting 2, safe 0: admitted
+  ..>*   |  4 frame 1, token 0 of row 0, sends 2 data 1, sends 3 data 2, sends 4 token 1, waiting 0, safe 0: sent 3
+     o-->*  5 frame 3, data 2 of row 4, waiting 0, safe 0: sent 0
+     o..>*  6 frame 4, token 1 of row 4, sends 5 token 2, waiting 0, safe 0: sent 1
+     *<..o  7 frame 5, token 2 of row 6, sends 6 again 1, sends 7 token 3, waiting 0, safe 0: sent 2
+     o==>*  8 frame 6, again 1 of row 7, waiting 0, safe 0: sent 0
+     |   *  9 deliver, waiting 0, safe 0: delivered 1
+  lost 2 data 1 of row 4
+  lost 7 token 3 of row 7
+
+Exit status: 0 done; 1 a fault, told on standard error; 2 a fault of the command line, `cpgring: bad accept
+word` among them. The faults are `cpgring: 41 BadCommand LINE`, the first line that is no command; `cpgring: 42
+Read`, also where the input is too long; `cpgring: 43 Write`; and `cpgring: 1 Memory`.";
 
 pub const RUN_ABOUT: &str = "Runs commands from standard input over a running cluster";
 

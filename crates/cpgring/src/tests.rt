@@ -105,6 +105,17 @@ fn asks_to_step(alloc: Global, words: &[&str], settings: Settings, list: &[&str]
     }
 }
 
+/// Whether the words ask for the picture of a script over a ring of those settings, and for those words.
+fn asks_to_draw(alloc: Global, words: &[&str], settings: Settings, list: &[&str]) -> bool {
+    match match_words(alloc, words) {
+        Ok(matches) => match read_run(alloc, &matches) {
+            Ok(Run::Draw(asked, given)) => asked == settings && given == list,
+            _ => false,
+        },
+        Err(_) => false,
+    }
+}
+
 /// Whether the words ask for a script of sessions over a cluster of those settings, and for those words.
 fn asks_to_run(alloc: Global, words: &[&str], settings: Settings, list: &[&str]) -> bool {
     match match_words(alloc, words) {
@@ -145,6 +156,14 @@ fn settings_and_words_are_read(rt: HostRuntime) {
     assert!(rt; asks_to_step(rt.alloc(), &["cpgring", "step"], usual, &[]));
     assert!(rt; asks_to_run(rt.alloc(), &["cpgring", "run", "uid:7"], usual, &["uid:7"]));
     assert!(rt; asks_to_step(rt.alloc(), &long, other, &["gid:9", "uid:7"]));
+    assert!(rt;
+        asks_to_draw(
+            rt.alloc(),
+            &["cpgring", "draw", "--text", "uid:7"],
+            usual,
+            &["uid:7"]
+        )
+    );
 }
 
 #[test]

@@ -1,0 +1,346 @@
+//! Sessions at a running cluster of one node, whose calls go on after Memory. What the node's thread meets it at, the
+//! node makes up for by itself.
+
+ghost use Rattle.std.specs.Prelude.{◌≡◌, ◌≤◌, IfOk};
+
+use crate::again::Stop;
+use crate::entering::{Ask, call, cred, node};
+use crate::short::{Short, event_in_short};
+use cpg_board::Board;
+use cpg_cred::{AcceptList, By, NodeId, Refusal};
+use cpg_daemon::{BoardName, Cluster, PassAll, Running, Session};
+use cpg_entry::Call;
+use cpg_node::Settings;
+use cpg_record::Verdict;
+use std::alloc::Global;
+use std::marker::Brand;
+use std::sync::Wait;
+use std::test::Fail;
+use std::thread;
+use std::thread::Threads;
+use std::time::Clock;
+
+/// How often a call is made before it is taken that memory has run out.
+const TRIES: u32 = 30;
+
+/// How often the next event is asked for, at most.
+const MOST_ASKS: u32 = 200_000;
+
+/// Ring 1 of one node.
+const SETTINGS: Settings = Settings {
+    ring: 1,
+    nodes: 1,
+    places: 100,
+    hops: 1 << 62,
+};
+
+const ALLOWED: Verdict = Verdict::Allowed(By::Default);
+
+/// A session of the process, which belongs to user 0.
+fn connected<B: BoardName, R: Wait>(
+    rt: &R,
+    running: &Running<B, PassAll>,
+    id: NodeId,
+    pid: u32,
+) -> Result<Session<B>, Stop>
+    requires { id ≤ running.now.nodes }
+    ensures { IfOk result (λ session. session.who.id.node ≤ running.now.nodes) }
+{
+    for _ in 0..TRIES {
+        match running.connect(rt, id, pid, cred(0)) {
+            Ok(session) => return Ok(session),
+            Err(Refusal::Memory) => (),
+            Err(_) => return Err(Stop::Refused),
+        }
+    }
+    Err(Stop::Memory)
+}
+
+/// Whether the call is handed in; where it meets Memory it comes back, as it was handed in.
+fn submits<B: BoardName, R: Wait>(
+    rt: &R,
+    running: &Running<B, PassAll>,
+    session: &mut Session<B>,
+    call: Call,
+    handed: &Call,
+) -> Result<bool, Stop>
+    requires { session.old.who.id.node ≤ running.now.nodes }
+    ensures { session.new.who.id.node ≡ session.old.who.id.node }
+{
+    match running.submit(rt, session, call) {
+        Ok(()) => Ok(true),
+        Err(refused) => {
+            if refused.refusal != Refusal::Memory {
+                return Err(Stop::Refused);
+            }
+            if refused.back.equals(handed) {
+                Ok(false)
+            } else {
+                Err(Stop::Changed)
+            }
+        }
+    }
+}
+
+/// Hands in what the process asks.
+fn submitted<B: BoardName, R: Wait>(
+    rt: &R,
+    alloc: Global,
+    running: &Running<B, PassAll>,
+    session: &mut Session<B>,
+    ask: &Ask,
+) -> Result<(), Stop>
+    requires { session.old.who.id.node ≤ running.now.nodes }
+    ensures { session.new.who.id.node ≡ session.old.who.id.node }
+{
+    let handed = call(alloc, ask)?;
+    for _ in 0..TRIES {
+        if submits(rt, running, session, handed.copy(alloc)?, &handed)? {
+            return Ok(());
+        }
+    }
+    Err(Stop::Memory)
+}
+
+/// The next event in short; none where memory is refused, which takes none.
+fn told_once<B: BoardName, R: Wait>(
+    rt: &R,
+    running: &Running<B, PassAll>,
+    session: &mut Session<B>,
+) -> Result<Short, Stop>
+    requires { session.old.who.id.node ≤ running.now.nodes }
+    ensures { session.new.who.id.node ≡ session.old.who.id.node }
+{
+    match running.take(rt, session) {
+        Ok(None) | Err(Refusal::Memory) => Ok(Short::NoEvent),
+        Ok(Some(event)) => Ok(event_in_short(&event)),
+        Err(_) => Err(Stop::Refused),
+    }
+}
+
+/// The next event in short, once there is one.
+fn told<B: BoardName, R: Wait>(
+    rt: &R,
+    running: &Running<B, PassAll>,
+    session: &mut Session<B>,
+) -> Result<Short, Stop>
+    requires { session.old.who.id.node ≤ running.now.nodes }
+    ensures { session.new.who.id.node ≡ session.old.who.id.node }
+{
+    for _ in 0..MOST_ASKS {
+        let short = told_once(rt, running, session)?;
+        if short != Short::NoEvent {
+            return Ok(short);
+        }
+        thread::yield_now();
+    }
+    Err(Stop::Memory)
+}
+
+/// The process asks that, and is told the two events.
+fn goes_on<B: BoardName, R: Wait>(
+    rt: &R,
+    alloc: Global,
+    running: &Running<B, PassAll>,
+    session: &mut Session<B>,
+    ask: &Ask,
+    events: [Short; 2],
+) -> Result<(), Stop>
+    requires { session.old.who.id.node ≤ running.now.nodes }
+    ensures { session.new.who.id.node ≡ session.old.who.id.node }
+{
+    submitted(rt, alloc, running, session, ask)?;
+    if told(rt, running, session)? != events[0] {
+        return Err(Stop::Wrong(0));
+    }
+    if told(rt, running, session)? != events[1] {
+        return Err(Stop::Wrong(1));
+    }
+    Ok(())
+}
+
+/// How many members `db` has, as the session may list them; none where memory is refused.
+fn members_listed<B: BoardName, R: Wait>(
+    rt: &R,
+    running: &Running<B, PassAll>,
+    session: &mut Session<B>,
+) -> Result<Option<usize>, Stop>
+    requires { session.old.who.id.node ≤ running.now.nodes }
+    ensures { session.new.who.id.node ≡ session.old.who.id.node }
+{
+    match running.list(rt, session, b"db") {
+        Ok(list) => Ok(Some(list.as_slice().len())),
+        Err(Refusal::Memory) => Ok(None),
+        Err(_) => Err(Stop::Refused),
+    }
+}
+
+/// How many groups the session may list; none where memory is refused.
+fn groups_listed<B: BoardName, R: Wait>(
+    rt: &R,
+    running: &Running<B, PassAll>,
+    session: &mut Session<B>,
+) -> Result<Option<usize>, Stop>
+    requires { session.old.who.id.node ≤ running.now.nodes }
+    ensures { session.new.who.id.node ≡ session.old.who.id.node }
+{
+    match running.groups(rt, session) {
+        Ok(names) => Ok(Some(names.as_slice().len())),
+        Err(Refusal::Memory) => Ok(None),
+        Err(_) => Err(Stop::Refused),
+    }
+}
+
+/// The session lists one member of one group.
+fn lists_one<B: BoardName, R: Wait>(
+    rt: &R,
+    running: &Running<B, PassAll>,
+    session: &mut Session<B>,
+) -> Result<(), Stop>
+    requires { session.old.who.id.node ≤ running.now.nodes }
+    ensures { session.new.who.id.node ≡ session.old.who.id.node }
+{
+    for _ in 0..TRIES {
+        let members = members_listed(rt, running, session)?;
+        let groups = groups_listed(rt, running, session)?;
+        match (members, groups) {
+            (Some(1), Some(1)) => return Ok(()),
+            (None, _) | (_, None) => (),
+            _ => return Err(Stop::Wrong(2)),
+        }
+    }
+    Err(Stop::Memory)
+}
+
+/// Another session is told all that the session saw.
+fn tells_all<B: BoardName>(
+    running: &Running<B, PassAll>,
+    session: &Session<B>,
+    mut other: Session<B>,
+) -> Result<(), Stop> {
+    for _ in 0..TRIES {
+        match running.tell(&mut other, session.seat()) {
+            Ok(()) if other.seat().len() == session.seat().len() => return Ok(()),
+            Err(Refusal::Memory) => (),
+            _ => return Err(Stop::Wrong(3)),
+        }
+    }
+    Err(Stop::Memory)
+}
+
+/// Closes the session, which comes back where memory is refused, with as many events taken.
+fn closed<B: BoardName, R: Wait>(
+    rt: &R,
+    running: &Running<B, PassAll>,
+    session: Session<B>,
+) -> Result<(), Stop>
+    requires { session.who.id.node ≤ running.now.nodes }
+{
+    let before = session.connection();
+    let mut open = session;
+    for _ in 0..TRIES {
+        match running.close(rt, open) {
+            Ok(()) => return Ok(()),
+            Err(refused) => {
+                if refused.refusal != Refusal::Memory || refused.back.connection() != before {
+                    return Err(Stop::Changed);
+                }
+                open = refused.back;
+            }
+        }
+    }
+    Err(Stop::Memory)
+}
+
+/// A process joins `db`, says `hi`, lists, and leaves; another one sees what it saw.
+fn serves<B: BoardName, R: Wait>(
+    rt: &R,
+    alloc: Global,
+    running: &Running<B, PassAll>,
+    id: NodeId,
+) -> Result<(), Stop>
+    requires { id ≤ running.now.nodes }
+{
+    let mut session = connected(rt, running, id, 40)?;
+    let joined = [Short::Verdict(1, ALLOWED), Short::Change(1, 1, 0, 1)];
+    goes_on(rt, alloc, running, &mut session, &Ask::Join("db"), joined)?;
+    let said = [Short::Verdict(2, ALLOWED), Short::Message(2, id, 40)];
+    goes_on(rt, alloc, running, &mut session, &Ask::Send("hi"), said)?;
+    lists_one(rt, running, &mut session)?;
+    tells_all(running, &session, connected(rt, running, id, 50)?)?;
+    closed(rt, running, session)
+}
+
+/// The row at node 1 of the cluster.
+fn serves_at_first<B: BoardName, R: Wait>(
+    rt: &R,
+    alloc: Global,
+    running: &Running<B, PassAll>,
+) -> Result<(), Stop>
+    requires { 1 ≤ running.now.nodes }
+{
+    match node(1) {
+        Ok(id) => serves(rt, alloc, running, id),
+        Err(refusal) => Err(Stop::from(refusal)),
+    }
+}
+
+/// The row, after which the cluster is stopped.
+fn serves_and_stops<B, R: Threads + Wait>(
+    rt: &R,
+    alloc: Global,
+    cluster: Cluster<B, PassAll>,
+) -> Result<(), Stop>
+where
+    B: BoardName + Send + Sync + 'static,
+    requires { 1 ≤ cluster.nodes }
+{
+    let served = serves_at_first(rt, alloc, &cluster);
+    drop(cluster.stop(rt));
+    served
+}
+
+/// The row at a new cluster with that list.
+fn play_with<B, R>(rt: R, alloc: Global, board: Board, list: &AcceptList) -> Result<(), Stop>
+where
+    B: BoardName + Send + Sync + 'static,
+    R: Threads + Wait + Clock + Copy + Send + 'static,
+    requires { board ≡ B.cells }
+{
+    match Cluster::<B, PassAll>::start(rt, alloc, SETTINGS, board, list, PassAll) {
+        Ok(cluster) => serves_and_stops(&rt, alloc, cluster),
+        Err(refusal) => Err(Stop::from(refusal)),
+    }
+}
+
+/// The row at a new cluster that lets in user 0 alone.
+fn play_on<B, R>(rt: R, alloc: Global, board: Board) -> Result<(), Stop>
+where
+    B: BoardName + Send + Sync + 'static,
+    R: Threads + Wait + Clock + Copy + Send + 'static,
+    requires { board ≡ B.cells }
+{
+    let list = AcceptList::new(alloc);
+    let ended = play_with::<B, R>(rt, alloc, board, &list);
+    drop(list);
+    ended
+}
+
+/// How often the row is played before it is taken that memory has run out.
+const ROWS: u8 = 3;
+
+#[test]
+fn a_session_goes_on(rt: HostRuntime) -> Result<(), Fail> {
+    let alloc = rt.alloc();
+    for _ in 0..ROWS {
+        if let Ok(board) = Board::new(alloc, 100) {
+            let ended = play_on::<Brand, HostRuntime>(rt, alloc, board);
+            if ended != Err(Stop::Memory) {
+                ended?;
+                return Ok(());
+            }
+        }
+    }
+    Err(Stop::Memory)?;
+    Ok(())
+}
