@@ -23,8 +23,9 @@ use std::time::Clock;
 /// How often a call is made before it is taken that memory has run out.
 const TRIES: u32 = 30;
 
-/// How often the next event is asked for, at most.
-const MOST_ASKS: u32 = 200_000;
+/// How often the next event is asked for, at most: a node that lost its token to a refusal sends it again after 64
+/// idle turns, some tenths of a second.
+const MOST_ASKS: u32 = 5_000_000;
 
 /// Ring 1 of one node.
 const SETTINGS: Settings = Settings {
