@@ -1,44 +1,70 @@
 //! What no clause says: that memory suffices for each call, and the printed forms.
 
 use crate::{AcceptList, By, Cred, NodeId, Refusal, Via};
+use std::alloc::Global;
 use std::test::Fail;
 
-#[test]
-fn root_and_the_listed_are_accepted(rt: HostRuntime) -> Result<(), Fail> {
-    let alloc = rt.alloc();
+/// What credentials are answered.
+type Row = (u32, u32, Result<Via, Refusal>);
+
+/// Whether the list answers each row's user and group so.
+fn answers(list: &AcceptList, rows: &[Row]) -> bool {
+    rows.iter().all(|(uid, gid, answer)| {
+        list.accepts(Cred {
+            uid: *uid,
+            gid: *gid,
+        }) == *answer
+    })
+}
+
+/// A list of users 1000 and 7 and groups 20 and 21, some of which are added again.
+fn small_list(alloc: Global) -> Result<AcceptList, Refusal> {
     let mut list = AcceptList::new(alloc);
     list.add_uid(1000)?;
     list.add_uid(1000)?;
     list.add_gid(20)?;
     list.add_gid(20)?;
     list.add_all([1000, 7].as_slice(), [20, 21].as_slice())?;
-    let list = list.copy(alloc)?;
-    let ask = |uid, gid| list.accepts(Cred { uid, gid });
-    assert_eq!(rt; ask(0, 700), Ok(Via::RootUser));
-    assert_eq!(rt; ask(700, 0), Ok(Via::RootGroup));
-    assert_eq!(rt; ask(1000, 9), Ok(Via::User));
-    assert_eq!(rt; ask(7, 9), Ok(Via::User));
-    assert_eq!(rt; ask(9, 20), Ok(Via::Group));
-    assert_eq!(rt; ask(9, 21), Ok(Via::Group));
-    assert_eq!(rt; ask(20, 1000), Err(Refusal::Access));
-    Ok(())
+    list.copy(alloc)
 }
 
 #[test]
-fn long_lists_are_copied(rt: HostRuntime) -> Result<(), Fail> {
-    let alloc = rt.alloc();
+fn root_and_the_listed_are_accepted(rt: HostRuntime) -> Result<(), Fail> {
+    let rows = [
+        (0, 700, Ok(Via::RootUser)),
+        (700, 0, Ok(Via::RootGroup)),
+        (1000, 9, Ok(Via::User)),
+        (7, 9, Ok(Via::User)),
+        (9, 20, Ok(Via::Group)),
+        (9, 21, Ok(Via::Group)),
+        (20, 1000, Err(Refusal::Access)),
+    ];
+    let list = small_list(rt.alloc())?;
+    assert!(rt; answers(&list, &rows));
+    Ok(())
+}
+
+/// A list of 200 users and as many groups.
+fn long_list(alloc: Global) -> Result<AcceptList, Refusal> {
     let mut list = AcceptList::new(alloc);
     list.add_all([].as_slice(), [].as_slice())?;
     for number in 1..=200 {
         list.add_uid(number)?;
         list.add_gid(1000 + number)?;
     }
-    let copy = list.copy(alloc)?;
-    let ask = |uid, gid| copy.accepts(Cred { uid, gid });
-    assert_eq!(rt; ask(1, 9), Ok(Via::User));
-    assert_eq!(rt; ask(200, 9), Ok(Via::User));
-    assert_eq!(rt; ask(201, 1200), Ok(Via::Group));
-    assert_eq!(rt; ask(201, 1201), Err(Refusal::Access));
+    list.copy(alloc)
+}
+
+#[test]
+fn long_lists_are_copied(rt: HostRuntime) -> Result<(), Fail> {
+    let rows = [
+        (1, 9, Ok(Via::User)),
+        (200, 9, Ok(Via::User)),
+        (201, 1200, Ok(Via::Group)),
+        (201, 1201, Err(Refusal::Access)),
+    ];
+    let list = long_list(rt.alloc())?;
+    assert!(rt; answers(&list, &rows));
     Ok(())
 }
 
@@ -50,24 +76,21 @@ fn nodes_are_one_to_eight(rt: HostRuntime) -> Result<(), Fail> {
     Ok(())
 }
 
+/// Whether the refusal is printed so.
+fn prints(alloc: Global, refusal: Refusal, text: &str) -> Result<bool, Fail> {
+    Ok(format!(in alloc; "{refusal}")?.as_str() == text)
+}
+
 #[test]
 fn refusals_are_printed_with_number_and_name(rt: HostRuntime) -> Result<(), Fail> {
-    let alloc = rt.alloc();
-    assert_eq!(rt;
-        format!(in alloc; "{}", Refusal::Access)?.as_str(),
-        "2 Access"
-    );
-    assert_eq!(rt;
-        format!(in alloc; "{}", Refusal::Behind(7))?.as_str(),
-        "19 Behind 7"
-    );
-    assert_eq!(rt;
-        format!(in alloc; "{}", Refusal::Denied(By::Rule(3)))?.as_str(),
-        "21 Denied rule 3"
-    );
-    assert_eq!(rt;
-        format!(in alloc; "{}", Refusal::BadValue(2))?.as_str(),
-        "35 BadValue 2"
-    );
+    let rows = [
+        (Refusal::Access, "2 Access"),
+        (Refusal::Behind(7), "19 Behind 7"),
+        (Refusal::Denied(By::Rule(3)), "21 Denied rule 3"),
+        (Refusal::BadValue(2), "35 BadValue 2"),
+    ];
+    for (refusal, text) in rows {
+        assert!(rt; prints(rt.alloc(), refusal, text)?);
+    }
     Ok(())
 }
