@@ -158,15 +158,28 @@ fn steps_write_to_their_streams(rt: HostRuntime) -> Result<(), Fail> {
 #[test]
 fn pictures_write_to_their_streams(rt: HostRuntime) -> Result<(), Fail> {
     let script = "connect 1 40 7 9\nconnect 2 50 9 8\nframe 1 2\n";
-    let printed = "   1   2  row\n   |   |  0 start, sends 1 token 0\n   *   |  1 connect, waiting 0, safe 0: connected 1\n   |   *  2 connect, waiting 0, safe 0: refused 2 Access\n   *   |  3 frame 2, waiting 0, safe 0: refused 16 NoFrame\nlost 1 token 0 of row 0\n";
+    let printed =
+        "   1   2  row\n   |   |  0 start, sends 1 token 0\n   *   |  1 connect, waiting 0, safe 0: connected 1\n   |   *  2 connect, waiting 0, safe 0: refused 2 Access\n   *   |  3 frame 2, waiting 0, safe 0: refused 16 NoFrame\nlost 1 token 0 of row 0\n";
     let list = ["uid:7"];
     let wrong = ["uid:7", "uid:-7"];
     let bad = "cpgring: 41 BadCommand 2\n";
     let rows: [(Run<'_>, &str, &str, &str, u8); 4] = [
         (Run::Draw(SMALL, &list), script, printed, "", 0),
         (Run::Draw(SMALL, &list), "timer 1\njump", "", bad, 1),
-        (Run::Draw(LARGE, &wrong), "jump", "", "cpgring: bad accept word\n", 2),
-        (Run::Draw(LARGE, &list), "jump", "", "cpgring: 37 Range\n", 1),
+        (
+            Run::Draw(LARGE, &wrong),
+            "jump",
+            "",
+            "cpgring: bad accept word\n",
+            2,
+        ),
+        (
+            Run::Draw(LARGE, &list),
+            "jump",
+            "",
+            "cpgring: 37 Range\n",
+            1,
+        ),
     ];
     for (run, script, printed, told, status) in rows {
         expect(rt, rt.alloc(), run, script, 999, printed, told, status)?;
