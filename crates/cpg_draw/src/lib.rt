@@ -9,8 +9,6 @@ mod columns;
 mod drawing;
 mod frames;
 mod rows;
-#[cfg(test)]
-mod tests;
 mod words;
 
 pub use arrows::{Arrow, Kind};
