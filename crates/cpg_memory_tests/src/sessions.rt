@@ -103,7 +103,8 @@ fn submitted<B: BoardName, R: Wait>(
     Err(Stop::Memory)
 }
 
-/// The next event in short; none where memory is refused, which takes none.
+/// The next event in short; none where memory is refused, which takes none, or where the node, which was refused memory
+/// at its delivery, has a place yet to deliver that the session saw on the board.
 fn told_once<B: BoardName, R: Wait>(
     rt: &R,
     running: &Running<B, PassAll>,
@@ -113,7 +114,7 @@ fn told_once<B: BoardName, R: Wait>(
     ensures { session.new.who.id.node ≡ session.old.who.id.node }
 {
     match running.take(rt, session) {
-        Ok(None) | Err(Refusal::Memory) => Ok(Short::NoEvent),
+        Ok(None) | Err(Refusal::Memory | Refusal::Behind(_)) => Ok(Short::NoEvent),
         Ok(Some(event)) => Ok(event_in_short(&event)),
         Err(_) => Err(Stop::Refused),
     }
