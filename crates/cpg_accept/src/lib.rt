@@ -8,7 +8,5 @@ mod accepting;
 mod admitting;
 mod asks;
 mod parts;
-#[cfg(test)]
-mod tests;
 
 pub use accepting::accept_script;

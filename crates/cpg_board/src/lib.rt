@@ -17,5 +17,3 @@ pub use cpg_record::{MOST_PLACES, Record};
 pub use seats::Seat;
 pub use settling::Settled;
 
-#[cfg(test)]
-mod tests;

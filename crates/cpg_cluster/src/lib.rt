@@ -14,8 +14,6 @@ mod reading;
 mod replies;
 mod running;
 mod scripts;
-#[cfg(test)]
-mod tests;
 
 pub use asking::{MOST_POLLS, limits};
 pub use commands::{Ask, Command};

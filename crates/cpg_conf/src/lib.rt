@@ -12,8 +12,6 @@ mod names;
 mod namings;
 mod nesting;
 mod tables;
-#[cfg(test)]
-mod tests;
 
 pub use conf::read_conf;
 pub use names::{ConfFault, Names};

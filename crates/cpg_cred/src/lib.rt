@@ -10,8 +10,6 @@ mod bases;
 mod credentials;
 mod nodes;
 mod refusals;
-#[cfg(test)]
-mod tests;
 
 pub use admission::{AcceptList, Via};
 pub use bases::By;

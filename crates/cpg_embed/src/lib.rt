@@ -28,5 +28,3 @@ pub use rules::RuleLine;
 pub use statuses::{BUSY, CLOSED, NONE, OK, SPACE, limits, number_of};
 pub use told::Told;
 
-#[cfg(test)]
-mod tests;

@@ -7,19 +7,19 @@ use std::alloc::Global;
 use std::test::Fail;
 
 /// Version 2: ring 1, place 2, node 1, conn 1, pid 40, uid 0, gid 0, Insert `db` 0 deny send uid 7.
-const EDIT: [u8; 39] = [
+pub const EDIT: [u8; 39] = [
     0x43, 2, 1, 0, 0, 0, 1, 0, 0, 0, 2, 1, 0, 1, 0, 0, 0, 0x28, 0, 0, 0, 0, 0, 0, 0, 0, 4, 2, 0x64,
     0x62, 0, 2, 2, 1, 1, 0, 0, 0, 7,
 ];
 
 /// The same with the who uid 7 and node 2.
-const PAIR: [u8; 44] = [
+pub const PAIR: [u8; 44] = [
     0x43, 2, 1, 0, 0, 0, 1, 0, 0, 0, 2, 1, 0, 1, 0, 0, 0, 0x28, 0, 0, 0, 0, 0, 0, 0, 0, 4, 2, 0x64,
     0x62, 0, 2, 2, 2, 1, 0, 0, 0, 7, 3, 0, 0, 0, 2,
 ];
 
 /// The bytes decoded, and the frame encoded again, in version 2.
-fn recoded(alloc: Global, bytes: &[u8]) -> Result<Bytes, Refusal> {
+pub fn recoded(alloc: Global, bytes: &[u8]) -> Result<Bytes, Refusal> {
     match decode(alloc, bytes)? {
         Frame::Packet(packet) => encode_data(alloc, &packet),
         Frame::Token(token) => encode_token(alloc, &token),
@@ -28,7 +28,7 @@ fn recoded(alloc: Global, bytes: &[u8]) -> Result<Bytes, Refusal> {
 
 /// What bytes are to a decoder.
 #[derive(Debug, Clone, Copy, PartialEq, Eq)]
-enum Reading {
+pub enum Reading {
     /// They spell nothing.
     Malformed,
     /// They are of version 2 and the encoding of the frame that they spell, or of version 1 and that encoding
@@ -47,7 +47,7 @@ fn are_its_encoding(alloc: Global, bytes: &[u8], again: &[u8]) -> Result<bool, R
     }
 }
 
-fn reading_of(alloc: Global, bytes: &[u8]) -> Result<Reading, Refusal> {
+pub fn reading_of(alloc: Global, bytes: &[u8]) -> Result<Reading, Refusal> {
     match recoded(alloc, bytes) {
         Ok(again) => match are_its_encoding(alloc, bytes, again.as_slice())? {
             true => Ok(Reading::Frame),

@@ -1,5 +1,6 @@
-//! Tests of altered input: frames of which two bytes are changed, conf texts that are cut short, and streams that
-//! fail, come in pieces or take pieces, for each kind of script. Nothing here is used by the other crates.
+//! Tests of what comes in: frames by their bytes, and with bytes that are changed or lost, conf texts that are cut
+//! short, and streams that fail, come in pieces or take pieces, for whole texts and for each kind of script. Nothing
+//! here is used by the other crates.
 #![tactic(auto)]
 
 #[cfg(test)]
@@ -13,7 +14,11 @@ mod scripts;
 #[cfg(test)]
 mod sessions;
 #[cfg(test)]
+mod spellings;
+#[cfg(test)]
 mod streams;
+#[cfg(test)]
+mod texts;
 
 /// The crate has tests alone; a library has to have an item.
 pub const TESTS_ALONE: bool = true;

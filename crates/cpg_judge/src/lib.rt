@@ -9,8 +9,6 @@ mod inboxes;
 mod judging;
 mod output;
 mod scripts;
-#[cfg(test)]
-mod tests;
 mod texts;
 
 pub use judging::judge_script;

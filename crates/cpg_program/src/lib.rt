@@ -10,8 +10,6 @@ mod failures;
 mod runs;
 mod stepping;
 mod telling;
-#[cfg(test)]
-mod tests;
 mod words;
 
 pub use failures::Failure;

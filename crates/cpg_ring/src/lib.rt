@@ -9,8 +9,6 @@
 mod held;
 mod ring;
 mod settings;
-#[cfg(test)]
-mod tests;
 mod theorem;
 mod visit;
 mod waiting;

@@ -7,8 +7,6 @@
 mod decisions;
 mod rules;
 mod tables;
-#[cfg(test)]
-mod tests;
 
 pub use cpg_cred::{By, Cred, NodeId, Refusal};
 pub use decisions::Decision;

@@ -7,8 +7,6 @@
 mod faults;
 mod lines;
 mod scripts;
-#[cfg(test)]
-mod tests;
 mod words;
 
 pub use faults::{Fault, put_fault};

@@ -14,5 +14,3 @@ mod stations;
 pub use naming::BoardName;
 pub use stations::Station;
 
-#[cfg(test)]
-mod tests;

@@ -12,8 +12,6 @@ mod printing;
 mod reading;
 mod running;
 mod scripts;
-#[cfg(test)]
-mod tests;
 
 pub use acting::answer_to;
 pub use commands::{Command, Look};

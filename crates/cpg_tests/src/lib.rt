@@ -3,6 +3,8 @@
 #![tactic(auto)]
 
 #[cfg(test)]
+mod accepting;
+#[cfg(test)]
 mod comparing;
 #[cfg(test)]
 mod copies;
@@ -30,6 +32,8 @@ mod plain;
 mod plain_events;
 #[cfg(test)]
 mod rejoining;
+#[cfg(test)]
+mod tables;
 #[cfg(test)]
 mod two_nodes;
 

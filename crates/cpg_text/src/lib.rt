@@ -9,8 +9,6 @@ mod lines;
 mod numbers;
 mod percent;
 mod streams;
-#[cfg(test)]
-mod tests;
 mod words;
 
 pub use laws::reads_what_is_spelled;

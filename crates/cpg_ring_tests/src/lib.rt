@@ -1,0 +1,10 @@
+//! Tests of a ring alone, by worked visits, and of the node that C calls. Nothing here is used by the other crates.
+#![tactic(auto)]
+
+#[cfg(test)]
+mod endpoints;
+#[cfg(test)]
+mod rings;
+
+/// The crate has tests alone; a library has to have an item.
+pub const TESTS_ALONE: bool = true;

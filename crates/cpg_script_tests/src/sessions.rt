@@ -1,0 +1,288 @@
+//! Worked rows through `cluster_script`, on clusters with their threads; bad lines, and refusals that are printed.
+
+ghost use Rattle.std.specs.Prelude.{◌≡◌, ◌≤◌};
+
+use cpg_board::Board;
+use cpg_cluster::cluster_script;
+use cpg_cred::{AcceptList, NodeId, Refusal};
+use cpg_daemon::{BoardName, Cluster, Fate, Gate, PassAll, Running};
+use cpg_node::Settings;
+use cpg_script::put;
+use std::alloc::Global;
+use std::marker::Brand;
+use std::sync::Wait;
+use std::test::Fail;
+use std::thread;
+use std::thread::Threads;
+use std::time::Clock;
+
+/// Sessions that are refused, wait, list, audit and close.
+const SESSIONS: &[u8] =
+    b"connect 1 40 7 100\nconnect 2 50 0 0\nconnect 2 60 9 9\ncall 2 insert db 0 deny list uid:8\nwait 2\nconnect 1 60 8 100\ncall 1 join db\nwait 1\nwait 1\ncall 1 send hi\nwait 1\nwait 1\nlist 1 db\ncall 3 leave\nwait 3\nlist 3 db\ngroups 3\naudit 3\nclose 3\n";
+
+/// What they print.
+const SESSIONS_PRINT: &[u8] =
+    b"session 1\nsession 2\nrefused 2 Access\nadmitted\nevent 1 verdict allowed root\nsession 3\nadmitted\nevent 2 verdict allowed default\nevent 2 change db members 1/40 left - joined 1/40:join\nadmitted\nevent 3 verdict allowed default\nevent 3 message db 1 40 hi\nmembers 1/40\nadmitted\nevent 4 verdict denied closed\nrefused 21 Denied rule 1\ngroups\n1 2.1 50 0 0 insert db 0 deny list uid:8 -> allowed root group db members -\n2 1.1 40 7 100 join db -> allowed default group db members 1/40\n3 1.1 40 7 100 send hi -> allowed default group db members 1/40\n4 1.2 60 8 100 leave -> denied closed\nrecords 4\nclosed\n";
+
+/// Settings of ring 1 with so many nodes.
+fn settings_of(nodes: u8) -> Settings
+    ensures { result.nodes ≡ nodes }
+{
+    Settings {
+        ring: 1,
+        nodes,
+        places: 4_096,
+        hops: 1 << 62,
+    }
+}
+
+/// A list of users 7 and 8.
+fn list_of_two(alloc: Global) -> Result<AcceptList, Refusal> {
+    let mut list = AcceptList::new(alloc);
+    list.add_uid(7)?;
+    list.add_uid(8)?;
+    Ok(list)
+}
+
+/// Whether the script ends so over the running nodes, and prints so.
+fn goes<B: BoardName, G, H: Wait + Clock>(
+    rt: &H,
+    alloc: Global,
+    running: &Running<B, G>,
+    script: &[u8],
+    fault: Option<Refusal>,
+    answer: &[u8],
+) -> bool {
+    let mut reader = script;
+    let mut written = Vec::new(alloc);
+    let ended = match cluster_script(rt, alloc, &mut reader, &mut written, running) {
+        Ok(()) => None,
+        Err(fault) => Some(fault.refusal),
+    };
+    ended == fault && written.as_slice() == answer
+}
+
+/// Whether the script prints so over a new cluster of two nodes with that gate.
+fn prints<B, G, R>(
+    rt: R,
+    alloc: Global,
+    board: Board,
+    gate: G,
+    script: &[u8],
+    answer: &[u8],
+) -> Result<bool, Refusal>
+where
+    B: BoardName + Send + Sync + 'static,
+    G: Gate + Send + Sync + Drop + 'static,
+    R: Threads + Wait + Clock + Copy + Send + 'static,
+    requires { board ≡ B.cells }
+{
+    let list = list_of_two(alloc)?;
+    let cluster = Cluster::<B, G>::start(rt, alloc, settings_of(2), board, &list, gate)?;
+    let printed = goes(&rt, alloc, &cluster, script, None, answer);
+    drop(cluster.stop(&rt));
+    Ok(printed)
+}
+
+/// Sessions join, send, list, audit and close.
+#[test]
+fn cluster_sessions(rt: HostRuntime) -> Result<(), Fail> {
+    let board = Board::new(rt.alloc(), 4_096)?;
+    let alloc = rt.alloc();
+    assert!(rt;
+        prints::<Brand, PassAll, HostRuntime>(rt, alloc, board, PassAll, SESSIONS, SESSIONS_PRINT)
+            == Ok(true)
+    );
+    Ok(())
+}
+
+/// The gate that loses the first eight frames of each pair, and repeats all others.
+#[derive(Debug, Clone, Copy)]
+struct Lossy;
+
+impl Gate for Lossy {
+    fn fate(&self, _from: NodeId, _to: NodeId, index: u64) -> Fate {
+        if index <= 8 { Fate::Drop } else { Fate::Repeat }
+    }
+
+    fn may_turn(&self, _node: NodeId, _turn: u64) -> bool {
+        true
+    }
+}
+
+/// Frames that are lost or repeated change no line.
+#[test]
+fn lossy_links(rt: HostRuntime) -> Result<(), Fail> {
+    let board = Board::new(rt.alloc(), 4_096)?;
+    let alloc = rt.alloc();
+    assert!(rt;
+        prints::<Brand, Lossy, HostRuntime>(rt, alloc, board, Lossy, SESSIONS, SESSIONS_PRINT)
+            == Ok(true)
+    );
+    Ok(())
+}
+
+/// Numbers that were never given, and one whose session was closed.
+#[test]
+fn numbers_without_a_session(rt: HostRuntime) -> Result<(), Fail> {
+    let script =
+        b"wait 1\nsafe 1\nconnect 2 60 9 9\nconnect 1 40 0 0\nlist 1 -\ncall 0 leave\nclose 2\nclose 1\nclose 1\ncall 1 leave\nconnect 2 50 0 0\naudit 1\ngroups 2\n";
+    let answer =
+        b"refused 3 NoConnection\nsafe 0\nrefused 2 Access\nsession 1\nmembers -\nrefused 3 NoConnection\nrefused 3 NoConnection\nclosed\nrefused 3 NoConnection\nrefused 3 NoConnection\nsession 2\nrefused 3 NoConnection\ngroups\n";
+    let board = Board::new(rt.alloc(), 4_096)?;
+    let alloc = rt.alloc();
+    assert!(rt;
+        prints::<Brand, PassAll, HostRuntime>(rt, alloc, board, PassAll, script, answer) == Ok(true)
+    );
+    Ok(())
+}
+
+/// Whether the script ends with that bad line, with nothing written.
+fn is_bad<B: BoardName, G, H: Wait + Clock>(
+    rt: &H,
+    alloc: Global,
+    running: &Running<B, G>,
+    script: &[u8],
+    line: u32,
+) -> bool {
+    goes(
+        rt,
+        alloc,
+        running,
+        script,
+        Some(Refusal::BadCommand(line)),
+        b"",
+    )
+}
+
+/// Whether bad lines end scripts before they begin.
+fn refuses_bad_lines<B: BoardName, G, H: Wait + Clock>(
+    rt: &H,
+    alloc: Global,
+    running: &Running<B, G>,
+) -> bool {
+    is_bad(rt, alloc, running, b"safe 1\n# no\nconnect 3 40 7 100\n", 3)
+        && is_bad(rt, alloc, running, b"safe 3", 1)
+        && is_bad(rt, alloc, running, b"connect 1 40 7\n", 1)
+        && is_bad(rt, alloc, running, b"connect 1 40 7 100\nwait\n", 2)
+        && is_bad(rt, alloc, running, b"wait 1 1\n", 1)
+        && is_bad(rt, alloc, running, b"wait 4294967296\n", 1)
+        && is_bad(rt, alloc, running, b"call 1\n", 1)
+        && is_bad(rt, alloc, running, b"list 1\n", 1)
+        && is_bad(rt, alloc, running, b"close 1 now\n", 1)
+        && is_bad(rt, alloc, running, b"timer 1\n", 1)
+}
+
+/// A name and a message that are longer than calls may have are refused in print.
+fn long_calls(alloc: Global) -> Result<Vec<u8>, Refusal> {
+    let mut script = Vec::new(alloc);
+    put(&mut script, "connect 1 40 7 100\ncall 1 join ")?;
+    for _ in 0..129 {
+        put(&mut script, "a")?;
+    }
+    put(&mut script, "\ncall 1 send ")?;
+    for _ in 0..8_193 {
+        put(&mut script, "a")?;
+    }
+    put(&mut script, "\n")?;
+    Ok(script)
+}
+
+/// Whether a halted cluster refuses a connection in print.
+fn refuses_halted<B: BoardName, G, H: Wait + Clock>(
+    rt: &H,
+    alloc: Global,
+    running: &Running<B, G>,
+) -> bool {
+    running.halt(rt);
+    goes(
+        rt,
+        alloc,
+        running,
+        b"connect 1 40 7 100\nconnect 1 60 9 9\n",
+        None,
+        b"refused 20 Stopped\nrefused 20 Stopped\n",
+    )
+}
+
+/// Whether a new cluster of two nodes refuses bad lines, long calls and, once it is halted, connections.
+fn refuses<B, R>(rt: R, alloc: Global, board: Board) -> Result<bool, Refusal>
+where
+    B: BoardName + Send + Sync + 'static,
+    R: Threads + Wait + Clock + Copy + Send + 'static,
+    requires { board ≡ B.cells }
+{
+    let calls = long_calls(alloc)?;
+    let list = list_of_two(alloc)?;
+    let cluster = Cluster::<B, PassAll>::start(rt, alloc, settings_of(2), board, &list, PassAll)?;
+    let bad = refuses_bad_lines(&rt, alloc, &cluster);
+    let long = goes(
+        &rt,
+        alloc,
+        &cluster,
+        calls.as_slice(),
+        None,
+        b"session 1\nrefused 4 BadName\nrefused 5 TooLong\n",
+    );
+    let halted = refuses_halted(&rt, alloc, &cluster);
+    drop(cluster.stop(&rt));
+    Ok(bad && long && halted)
+}
+
+/// What is no command, what no call may have, and what a halted cluster is asked.
+#[test]
+fn refusals(rt: HostRuntime) -> Result<(), Fail> {
+    let board = Board::new(rt.alloc(), 4_096)?;
+    let alloc = rt.alloc();
+    assert!(rt; refuses::<Brand, HostRuntime>(rt, alloc, board) == Ok(true));
+    Ok(())
+}
+
+/// A session sees nothing, and another leaves; the first is shown all records.
+const LEAVES: &[u8] =
+    b"safe 1\nconnect 1 40 0 0\nconnect 1 50 0 0\ncall 2 leave\nwait 2\naudit 1\n";
+
+/// What that prints.
+const LEAVES_PRINT: &[u8] =
+    b"safe 0\nsession 1\nsession 2\nadmitted\nevent 1 verdict denied closed\n1 1.2 50 0 0 leave -> denied closed\nrecords 1\n";
+
+/// Whether the safe mark of node 1 gets to place 1.
+fn gets_safe<B: BoardName, H: Wait>(rt: &H, running: &Running<B, PassAll>) -> bool
+    requires { 1 ≤ running.now.nodes }
+{
+    let Some(node) = NodeId::new(1) else {
+        return false;
+    };
+    for _ in 0..1_000_000u32 {
+        if running.safe(rt, node) == 1 {
+            return true;
+        }
+        thread::yield_now();
+    }
+    false
+}
+
+/// Whether a new cluster of one node prints its safe mark, before the place is held by all and once it is.
+fn prints_safe<B, R>(rt: R, alloc: Global, board: Board) -> Result<bool, Refusal>
+where
+    B: BoardName + Send + Sync + 'static,
+    R: Threads + Wait + Clock + Copy + Send + 'static,
+    requires { board ≡ B.cells }
+{
+    let list = list_of_two(alloc)?;
+    let cluster = Cluster::<B, PassAll>::start(rt, alloc, settings_of(1), board, &list, PassAll)?;
+    let left = goes(&rt, alloc, &cluster, LEAVES, None, LEAVES_PRINT);
+    let safe = gets_safe(&rt, &cluster)
+        && goes(&rt, alloc, &cluster, b"safe 1\n", None, b"safe 1\n");
+    drop(cluster.stop(&rt));
+    Ok(left && safe)
+}
+
+/// One node holds all that there is, once it has sent the token twice.
+#[test]
+fn one_node_is_safe(rt: HostRuntime) -> Result<(), Fail> {
+    let board = Board::new(rt.alloc(), 4_096)?;
+    let alloc = rt.alloc();
+    assert!(rt; prints_safe::<Brand, HostRuntime>(rt, alloc, board) == Ok(true));
+    Ok(())
+}

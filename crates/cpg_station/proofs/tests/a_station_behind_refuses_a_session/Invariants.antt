@@ -1,4 +1,0 @@
-use Rattle.cpg_station.proofs.tests.a_station_behind_refuses_a_session.Given as goal
-
-abbrev pub ghosts-goes : goal.ghosts-goes
-ghosts-goes g a = record { cells = a.board.now }

@@ -1,0 +1,13 @@
+//! Tests of boards, links and stations, each alone or two that are fed by hand. Nothing here is used by the other
+//! crates.
+#![tactic(auto)]
+
+#[cfg(test)]
+mod boards;
+#[cfg(test)]
+mod links;
+#[cfg(test)]
+mod stations;
+
+/// The crate has tests alone; a library has to have an item.
+pub const TESTS_ALONE: bool = true;
