@@ -343,7 +343,7 @@ all_turns s w (e ∷ events) g n =
     all_turns s (happens s w e) events (kept s w e g).good n
     ∙ (ap (λ l. l ++ admitted s (happens s w e) n events) (one_turn s w e g n) ∙ append_assoc (ring_entries w n) (admits w n e) (admitted s (happens s w e) n events))
 
-from_new : (s : Settings) (n : ℕ) (events : List Event) → ring_entries (run s (start s) events) n ≡ admitted s (start s) n events
+pub from_new : (s : Settings) (n : ℕ) (events : List Event) → ring_entries (run s (start s) events) n ≡ admitted s (start s) n events
 from_new s n events = all_turns s (start s) events (from_start s []) n ∙ ap (λ l. l ++ admitted s (start s) n events) (nothing (item (start s).nodes n) refl)
   where
     made : (o : Option ℕ) (r : NodeState) → option_map (new_node s) o ≡ Some r → r.waiting ≡ []

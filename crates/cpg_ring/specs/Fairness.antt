@@ -1,12 +1,12 @@
 -- A bounded wait: what every fair stretch of events brings about, and after how many hops of the token.
-use Rattle.std.specs.Prelude.{◌≡◌, ◌⊎◌, ℕ, zero, suc, ◌+◌, ◌-◌, ◌*◌, ◌/◌, ◌<◌, ◌≤◌, List, ◌++◌, take, drop, length, Some}
+use Rattle.std.specs.Prelude.{◌≡◌, ◌⊎◌, ℕ, zero, suc, ◌+◌, ◌-◌, ◌*◌, ◌/◌, ◌<◌, ◌≤◌, List, [], ◌++◌, take, drop, length, Some}
 use Rattle.std.specs.List.{All, Contains}
 use Rattle.cpg_entry.specs.declared.frames.Frame.TheVariants as frame
 use Rattle.cpg_ring.specs.declared.settings.TheConstants.{WINDOW}
 use Rattle.cpg_ring.specs.States.{Entry, Packet, Token, Settings, NodeState, Holds}
 use Rattle.cpg_ring.specs.Worlds.{World, Event, item, run, agreed}
 use Rattle.cpg_ring.specs.Claims.{by_node}
-use Rattle.cpg_ring.specs.Progress.{AllDelivered, DeliveredTo, IsHearing}
+use Rattle.cpg_ring.specs.Progress.{AllDelivered, DeliveredTo, IsHearing, wanted_places, all_admitted, most_agreed}
 
 -- the token was sent, and none of a later hop
 abbrev pub IsNewest : World → Token → Type 0
@@ -31,6 +31,11 @@ pub record GoodTurn (s : Settings) (w v : World) : Type 0 where
 abbrev pub Fair : Settings → ℕ → World → World → Type 0
 Fair s zero w v = w ≡ v
 Fair s (suc more) w v = (x : World) × GoodTurn s w x × Fair s more x v
+
+-- all events of these turns, in order
+abbrev pub events_of : (s : Settings) (turns : ℕ) (w v : World) → Fair s turns w v → List Event
+events_of s zero w v is = []
+events_of s (suc more) w v (x, turn, rest) = turn.events ++ events_of s more x v rest
 
 -- The turns in which so many places are recovered: for each 32 of them a round, and one more.
 abbrev pub turns_for : Settings → ℕ → ℕ
@@ -59,6 +64,19 @@ pub record Bounded (s : Settings) (w v : World) (turns : ℕ) : Type 0 where
   pub waits_settled : (n before : ℕ) (r : NodeState) → item w.nodes n ≡ Some r → before < length r.waiting → AllDelivered w → rounds_for s before ≤ turns → TookPlaces s w v n (take (suc before) r.waiting)
   -- The wait from any world: before that, what is agreed at the end is recovered, as far as it was not delivered at the beginning.
   pub waits : (n before done : ℕ) (r : NodeState) → item w.nodes n ≡ Some r → before < length r.waiting → DeliveredTo w done → turns_for s (length (agreed v.sent) - done) + rounds_for s before ≤ turns → TookPlaces s w v n (take (suc before) r.waiting)
+
+-- Whatever events follow, as many entries more are agreed or wait as these events admit, no fewer and no more (`OnceInOrder` says which).
+pub record GrowsAsAdmitted (s : Settings) (w : World) (events : List Event) : Type 0 where
+  pub wanted : wanted_places (run s w events) ≡ wanted_places w + all_admitted s w events
+  -- so at most as many places are agreed as are wanted at the beginning and one for each of these, as far as the ring has them
+  pub agreed : length (agreed (run s w events).sent) ≤ most_agreed s w (all_admitted s w events)
+
+-- The wait from any world by numbers that are known at the beginning, where at most so many entries more are admitted in these turns.
+pub record BoundedAtStart (s : Settings) (w v : World) (turns more : ℕ) : Type 0 where
+  -- At the end at most so many places are agreed: those that are agreed at the beginning, one for each entry that waits then or is admitted meanwhile, as far as the ring has them.
+  pub agreed : length (agreed v.sent) ≤ most_agreed s w more
+  -- The wait: before the rounds in which the entry takes its place, so many places are recovered, as far as they were not delivered at the beginning.
+  pub waits : (n before done : ℕ) (r : NodeState) → item w.nodes n ≡ Some r → before < length r.waiting → DeliveredTo w done → turns_for s (most_agreed s w more - done) + rounds_for s before ≤ turns → TookPlaces s w v n (take (suc before) r.waiting)
 
 -- A good turn is possible, in which frames arrive and places are delivered, no more.
 pub record HasTurn (s : Settings) (w : World) : Type 0 where

@@ -3,8 +3,9 @@ use Rattle.std.specs.Prelude.{◌≡◌, ℕ, min, ◌+◌, ◌-◌, ◌*◌, �
 use Rattle.std.specs.List.{All, Contains, sum_by}
 use Rattle.cpg_entry.specs.declared.frames.Frame.TheVariants as frame
 use Rattle.cpg_ring.specs.States.{Token, Settings, NodeState}
+use Rattle.cpg_ring.specs.Visits.{up_to}
 use Rattle.cpg_ring.specs.Worlds.{World, Event, Enqueue, EnqueueEnd, Arrive, Timer, Deliver, item, run, agreed}
-use Rattle.cpg_ring.specs.Claims.{waiting_at}
+use Rattle.cpg_ring.specs.Claims.{waiting_at, admitted}
 
 -- every node delivered all that is agreed
 abbrev pub AllDelivered : World → Type 0
@@ -47,6 +48,14 @@ NoneWaits w = (n : ℕ) (r : NodeState) → item w.nodes n ≡ Some r → r.wait
 -- how many places are wanted: those agreed, and one for each entry that waits
 abbrev pub wanted_places : World → ℕ
 wanted_places w = length (agreed w.sent) + all_waiting w
+
+-- how many calls and ends these events admit, at all nodes
+abbrev pub all_admitted : Settings → World → List Event → ℕ
+all_admitted s w events = sum_by (λ n. length (admitted s w n events)) (up_to s.nodes)
+
+-- The most places that can be agreed once so many entries more are admitted: those wanted now and one for each, as far as the ring has them.
+abbrev pub most_agreed : Settings → World → ℕ → ℕ
+most_agreed s w more = min s.places (wanted_places w + more)
 
 -- every node delivered so many places, or more
 abbrev pub DeliveredTo : World → ℕ → Type 0

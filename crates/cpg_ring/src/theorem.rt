@@ -1,16 +1,16 @@
 //! The theorem of the ring: what holds in every world that any list of events leads to.
 
-ghost use Rattle.std.specs.Prelude.{◌≡◌, ◌<◌, ◌^◌, ℕ, None};
+ghost use Rattle.std.specs.Prelude.{◌≡◌, ◌<◌, ◌≤◌, ◌^◌, ℕ, List, None};
 ghost use Rattle.std.specs.List.{All};
 ghost use Rattle.cpg_ring.specs.States.{Settings, IsSettings, NodeState, Token, Packet};
 ghost use Rattle.cpg_ring.specs.Visits.{token_refusal, visit_step};
 ghost use Rattle.cpg_ring.specs.Moves.{data_refusal, after_data};
 ghost use Rattle.cpg_entry.specs.Ranges.{IsToken};
 ghost use Rattle.cpg_ring.specs.Laws.{IsVisit, StaysHeld, IsOwnPacket};
-ghost use Rattle.cpg_ring.specs.Worlds.{World, Reached};
+ghost use Rattle.cpg_ring.specs.Worlds.{World, Event, Reached};
 ghost use Rattle.cpg_ring.specs.Claims.{Chain, Agreement, Safe, OnceInOrder};
-ghost use Rattle.cpg_ring.specs.Progress.{CatchesUp, DeliveredTo, HasHops, Recovers, hops_for};
-ghost use Rattle.cpg_ring.specs.Fairness.{Bounded, Fair, HasTurn, IsNewest};
+ghost use Rattle.cpg_ring.specs.Progress.{CatchesUp, DeliveredTo, HasHops, Recovers, all_admitted, hops_for};
+ghost use Rattle.cpg_ring.specs.Fairness.{Bounded, BoundedAtStart, Fair, GrowsAsAdmitted, HasTurn, IsNewest, events_of};
 ghost use Rattle.cpg_ring.specs.declared.settings.TheConstants.{BURST, MOST_WAITING, WINDOW};
 
 /// Holds of every ring and every world that a list of events leads to: frames may be lost, come again
@@ -51,9 +51,13 @@ pub fn no_dead_end()
 
 /// Holds of every ring and every world that a list of events leads to. After so many good turns, in each of
 /// which the token makes one hop and no packet that is sent is lost, all is recovered and an entry has its
-/// place (`fair`). Below the last hop such a turn is possible (`has_turn`).
+/// place (`fair`). Whatever events follow, as many entries more are agreed or wait as they admit (`grows`):
+/// so the wait is known at the start, where one knows how many are admitted meanwhile at most (`at_start`).
+/// Below the last hop such a turn is possible (`has_turn`).
 pub fn bounded_wait()
     ensures fair { (s : Settings) (w v : World) (turns : ℕ) → IsSettings s → Reached s w → Fair s turns w v → Bounded s w v turns }
+    ensures grows { (s : Settings) (w : World) (events : List Event) → IsSettings s → Reached s w → GrowsAsAdmitted s w events }
+    ensures at_start { (s : Settings) (w v : World) (turns more : ℕ) (led : Fair s turns w v) → IsSettings s → Reached s w → all_admitted s w (events_of s turns w v led) ≤ more → BoundedAtStart s w v turns more }
     ensures has_turn { (s : Settings) (w : World) (t : Token) → IsSettings s → Reached s w → IsNewest w t → t.hop < s.hops → HasTurn s w }
 {}
 

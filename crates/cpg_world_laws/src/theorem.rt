@@ -1,18 +1,18 @@
 //! What holds of every run of every world.
 
-ghost use Rattle.std.specs.Prelude.{◌≡◌, ◌<◌, ℕ, List};
+ghost use Rattle.std.specs.Prelude.{◌≡◌, ◌<◌, ◌≤◌, ℕ, List};
 ghost use Rattle.cpg_cred.specs.Listed.{Listed};
 ghost use Rattle.cpg_ring.specs.States.{IsSettings, Token};
 ghost use Rattle.cpg_ring.specs.declared.settings.Settings.{Settings};
 ghost use Rattle.cpg_ring.specs.Worlds.{run, start};
 ghost use Rattle.cpg_ring.specs.Progress.{DeliveredTo, HasHops, hops_for};
-ghost use Rattle.cpg_ring.specs.Fairness.{IsNewest};
+ghost use Rattle.cpg_ring.specs.Fairness.{BoundedAtStart, IsNewest};
 ghost use Rattle.cpg_world_laws.specs.declared.events.WorldEvent.{WorldEvent};
 ghost use Rattle.cpg_world_laws.specs.Worlds.{WorldValue, Reached, new_world, runs, ring_world};
 ghost use Rattle.cpg_world_laws.specs.Replies.{Answer, AreReplies};
 ghost use Rattle.cpg_world_laws.specs.Claims.{IsTrueWorld, IsTrueRun};
 ghost use Rattle.cpg_world_laws.specs.Progress.{CatchesUp, Recovers};
-ghost use Rattle.cpg_world_laws.specs.Fairness.{BoundedWait, Fair, HasTurn};
+ghost use Rattle.cpg_world_laws.specs.Fairness.{BoundedWait, Fair, GrowsAsAdmitted, HasTurn, all_admitted, events_of};
 
 use cpg_record::laws::{
     denial_changes_nothing, denied_listings_name_their_rule, each_entry_is_judged,
@@ -54,10 +54,13 @@ pub fn no_dead_end()
 
 /// Holds of every world that a list of events leads to. After so many good turns, in each of which the token
 /// makes one hop and no packet that is sent is lost, all is recovered, an entry has its place, and a
-/// connection that took what its node delivered is told (`fair`). Below the last hop such a turn is possible
-/// (`has_turn`).
+/// connection that took what its node delivered is told (`fair`). Whatever events follow, as many entries
+/// more are agreed or wait as they admit (`grows`): so the wait is known at the start, where one knows how
+/// many are admitted meanwhile at most (`at_start`). Below the last hop such a turn is possible (`has_turn`).
 pub fn bounded_wait()
     ensures fair { (w v : WorldValue) (turns : ℕ) → IsSettings w.settings → Reached w → Fair turns w v → BoundedWait w v turns }
+    ensures grows { (w : WorldValue) (events : List WorldEvent) → IsSettings w.settings → Reached w → GrowsAsAdmitted w events }
+    ensures at_start { (w v : WorldValue) (turns more : ℕ) (led : Fair turns w v) → IsSettings w.settings → Reached w → all_admitted w (events_of turns w v led) ≤ more → BoundedAtStart w.settings (ring_world w) (ring_world v) turns more }
     ensures has_turn { (w : WorldValue) (t : Token) → IsSettings w.settings → Reached w → IsNewest (ring_world w) t → t.hop < w.settings.hops → HasTurn w }
 {
     every_schedule();
