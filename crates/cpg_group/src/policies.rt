@@ -1,22 +1,21 @@
 //! The judged entries, and what they come to.
 
-ghost use Rattle.std.specs.Prelude.{◌≡◌, ◌≢◌, ◌<◌, ◌≤◌, ◌++◌, ◌∷◌, [], None, length, take, OnOk, OnErr, IfOk, IfErr, MatchOption, IsOkUnless};
+ghost use Rattle.std.specs.Prelude.{◌≡◌, ◌≢◌, ◌<◌, ◌≤◌, ◌++◌, ◌∷◌, [], None, length, OnOk, OnErr, IfOk, IfErr, MatchOption, IsOkUnless};
 ghost use Rattle.cpg_entry.specs.declared.calls.Op.TheVariants.{Gone};
 ghost use Rattle.cpg_record.specs.Connections.{conn_of, conns_of};
 ghost use Rattle.cpg_record.specs.Events.{events};
 ghost use Rattle.cpg_record.specs.Judging.{entry_group, judged, most_places, record_of, IsNext};
 ghost use Rattle.cpg_record.specs.Listings.{Answers, AreGroups, listing};
-ghost use Rattle.std.specs.Option.{option_copied};
 ghost use Rattle.cpg_record.specs.Membership.{group_of};
-ghost use Rattle.cpg_record.specs.Nexts.{acts_in, is_made_by, IsNextTold, TellsNoMore};
-ghost use Rattle.cpg_record.specs.Places.{places_of, IsNextOf};
+ghost use Rattle.cpg_record.specs.Nexts.{acts_in, IsNextTold, TellsNoMore};
+ghost use Rattle.cpg_record.specs.Places.{places_of};
 ghost use Rattle.cpg_record.specs.RuleTables.{rules_of};
 ghost use Rattle.cpg_group.specs.Telling.{told};
 
 use crate::listing::{self, Names, Processes};
 use crate::standing::Groups;
 use crate::trails::{Trail, Trails};
-use crate::{entering, judging, nexts, telling, told, trails};
+use crate::{entering, judging, nexts, telling, told};
 use cpg_cred::{Refusal, Refused};
 use cpg_entry::{Entry, Name};
 use cpg_record::{ConnId, Event, Events, Record};
@@ -276,33 +275,6 @@ impl Policy {
             &self.groups,
             place,
         )
-    }
-
-    /// The next place above `after` at which the connection made the entry. Takes no memory, and searches by
-    /// halving.
-    pub fn next_own(&self, after: u32, conn: ConnId) -> Option<u32>
-        ensures { IsNextOf (is_made_by conn) (judged self.now) after result }
-    {
-        trails::next_own(self.trails.of(&conn), after as usize)
-    }
-
-    /// The group that the connection is in after the last place. Takes no memory, and searches by halving.
-    pub fn group_after(&self, last: u32, conn: ConnId) -> Option<&Name>
-        ensures { option_copied result ≡ group_of (take last (judged self.now)) conn }
-    {
-        trails::find_group(
-            self.records.as_slice(),
-            self.trails.of(&conn),
-            last as usize,
-        )
-    }
-
-    /// How many allowed entries of the group stand at places up to the last one. Takes no memory, and searches
-    /// by halving.
-    pub fn count_upto(&self, group: &[u8], last: u32) -> usize
-        ensures { result ≡ length (places_of (acts_in group.now) (take last (judged self.now))) }
-    {
-        told::count_upto(self.places_in(group), last)
     }
 
     /// The trail of the connection, looked up once for all that is asked of it. Takes no memory.

@@ -231,14 +231,6 @@ impl<'a> Trail<'a> {
         }
     }
 
-    /// The next place above `after` at which the connection made the entry. Takes no memory, and searches by
-    /// halving.
-    pub fn next_own(&self, after: u32) -> Option<u32>
-        ensures { IsNextOf (is_made_by self.now.conn) self.now.records after result }
-    {
-        next_own(self.stops, after as usize)
-    }
-
     /// The own place of that index, from 0. Takes no memory.
     pub fn own(&self, index: usize) -> Option<u32>
         ensures { result ≡ slice_get (places_of (is_made_by self.now.conn) self.now.records) index }

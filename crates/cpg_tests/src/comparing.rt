@@ -13,7 +13,9 @@ use crate::plain::{decide, entry_group, group_in, is_over, member_at, rules_of, 
 use crate::plain_events::{acts_in, are_told, hears, is_news_of, is_own};
 use crate::rejoining::events_at;
 use cpg_entry::{Asker, By, Call, Entry, Name, NodeId, Op, Refusal};
-use cpg_group::{ConnId, Event, Member, Policy, Processes, Reason, Record, Verdict, verify};
+use cpg_group::{
+    ConnId, Event, Member, Policy, Processes, Reason, Record, Verdict, count_upto, verify,
+};
 use cpg_rules::{Right, Rule, Table};
 use std::alloc::Global;
 
@@ -268,7 +270,7 @@ fn count_acting(records: &[Record], group: &[u8]) -> usize {
 
 /// Whether the group has as many entries up to the place as the plain program counts.
 fn count_agrees(policy: &Policy, group: &[u8], place: u32) -> bool {
-    policy.count_upto(group, place) == count_acting(upto(policy.records(), place), group)
+    count_upto(policy.places_in(group), place) == count_acting(upto(policy.records(), place), group)
 }
 
 /// Whether the place tells its group what the plain program says, and both groups have so many entries up to
@@ -289,39 +291,17 @@ fn places_agree(policy: &Policy) -> bool {
     true
 }
 
-/// The next places of a connection: that tells it anything, and that it made the entry of.
-#[derive(Clone, Copy, PartialEq, Eq)]
-struct Nexts {
-    told: Option<u32>,
-    own: Option<u32>,
-}
-
-/// What they are above the place, where that is what they are from the one after it on.
-fn nexts_with(later: Nexts, place: u32, upto: &[Record], conn: &ConnId) -> Nexts {
+/// The next place that tells a connection anything, above the one before the place, where that is it above the place.
+fn next_with(later: Option<u32>, place: u32, upto: &[Record], conn: &ConnId) -> Option<u32> {
     match upto.split_last() {
-        Some((past, _)) if is_own(past, conn) => Nexts {
-            told: Some(place),
-            own: Some(place),
-        },
-        Some((past, before)) if hears(past, before, conn) => Nexts {
-            told: Some(place),
-            own: later.own,
-        },
+        Some((past, before)) if is_own(past, conn) || hears(past, before, conn) => Some(place),
         _ => later,
-    }
-}
-
-/// What the policy finds.
-fn nexts_of(policy: &Policy, after: u32, conn: &ConnId) -> Nexts {
-    Nexts {
-        told: policy.next_event(after, *conn),
-        own: policy.next_own(after, *conn),
     }
 }
 
 /// Whether the connection is in the group after the place that the plain program finds.
 fn group_after_agrees(policy: &Policy, place: u32, conn: &ConnId) -> bool {
-    match policy.group_after(place, *conn) {
+    match policy.trail(*conn).group_after(place) {
         Some(name) => { group_in(upto(policy.records(), place), conn) == Some(name.as_slice()) }
         None => group_in(upto(policy.records(), place), conn).is_none(),
     }
@@ -348,28 +328,25 @@ fn events_agree(policy: &Policy, place: u32, conn: &ConnId) -> bool {
     }
 }
 
-/// Whether the place tells the connection what the plain program says, and the next places above it and the
-/// group after it are the plain program's.
-fn step_agrees(policy: &Policy, place: u32, conn: &ConnId, nexts: Nexts) -> bool {
-    nexts_of(policy, place, conn) == nexts
+/// Whether the place tells the connection what the plain program says, and the next place above it and the group after
+/// it are the plain program's.
+fn step_agrees(policy: &Policy, place: u32, conn: &ConnId, next: Option<u32>) -> bool {
+    policy.next_event(place, *conn) == next
         && group_after_agrees(policy, place, conn)
         && events_agree(policy, place, conn)
 }
 
 /// Whether that is so of each place, from the last one back.
 fn conn_agrees(policy: &Policy, conn: &ConnId) -> bool {
-    let mut nexts = Nexts {
-        told: None,
-        own: None,
-    };
+    let mut next = None;
     for above in 0..ENTRIES {
         let place = ENTRIES - above;
-        if !step_agrees(policy, place, conn, nexts) {
+        if !step_agrees(policy, place, conn, next) {
             return false;
         }
-        nexts = nexts_with(nexts, place, upto(policy.records(), place), conn);
+        next = next_with(next, place, upto(policy.records(), place), conn);
     }
-    nexts_of(policy, 0, conn) == nexts
+    policy.next_event(0, *conn) == next
 }
 
 /// Whether that is so of the connection of that number.

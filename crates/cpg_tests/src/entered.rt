@@ -82,22 +82,24 @@ fn are_same(one: Option<&Name>, other: Option<&Name>) -> bool {
     }
 }
 
-/// Whether the own places and groups that the connection's trail lends by number are those that searches find.
+/// Whether the trail lends the connection's own places by number, and after each the group that a search finds.
 fn trail_agrees(policy: &Policy, conn: &ConnId) -> bool {
     let trail = policy.trail(*conn);
-    let mut after = 0u32;
-    for index in 0..=ENTRIES as usize {
-        let own = trail.own(index);
-        let found = policy.group_after(after, *conn);
-        if own != policy.next_own(after, *conn) || !are_same(trail.group_past(index), found) {
+    let mut place = 0u32;
+    let mut count = 0usize;
+    for past in policy.records() {
+        place = place.wrapping_add(1);
+        if ConnId::of(&past.entry) == *conn {
+            if trail.own(count) != Some(place) {
+                return false;
+            }
+            count = count.wrapping_add(1);
+        }
+        if !are_same(trail.group_past(count), trail.group_after(place)) {
             return false;
         }
-        match own {
-            Some(place) => after = place,
-            None => return true,
-        }
     }
-    false
+    trail.own(count).is_none()
 }
 
 /// Whether that is so of the connection of that number.
