@@ -1,8 +1,8 @@
 //! Streams that come in pieces or fail, and the worked forms of words.
 
 use crate::{
-    Lines, Words, first_words, is_ignored, push_message, push_number, read_message, read_number,
-    read_whole, take_words, trim, write_whole,
+    Lines, Words, is_ignored, push_message, push_number, read_message, read_number, read_whole,
+    take_words, trim, write_whole,
 };
 use cpg_cred::Refusal;
 use std::io::{self, Error, ErrorKind, Read, Write};
@@ -163,12 +163,9 @@ fn takes_lines_and_words_apart(rt: HostRuntime) -> Result<(), Fail> {
     let mut lines = Lines::of(b" \tone  two\tthree\r\n\n # four");
     let line = trim(lines.next().ok_or("a line")?);
     assert_eq!(rt; line, b"one  two\tthree".as_slice());
-    let words = first_words(rt.alloc(), 2, line)?;
-    assert_eq!(rt; words.len(), 2);
-    assert_eq!(rt; words[0], b"one".as_slice());
-    assert_eq!(rt; words[1], b"two".as_slice());
     let words = take_words::<2>(line);
     assert_eq!(rt; words.as_slice().len(), 2);
+    assert_eq!(rt; words.as_slice()[0], b"one".as_slice());
     assert_eq!(rt; words.as_slice()[1], b"two".as_slice());
     assert_eq!(rt; Words::of(line).count(), 3);
     assert_eq!(rt; Words::of(b" \t").count(), 0);
