@@ -2,8 +2,9 @@
 //!
 //! Proved: each function reads what the definition in `specs/Commands.antt` says, where there are so many nodes.
 
-ghost use Rattle.std.specs.Prelude.{◌≡◌, ℕ, IfOk, IfSome, IsOkUnless, option_map};
+ghost use Rattle.std.specs.Prelude.{◌≡◌, ℕ, IfOk, IfSome, option_map};
 ghost use Rattle.cpg_text.specs.Lines.{words_of};
+ghost use Rattle.cpg_text.specs.Memory.{IsOkUnlessMemoryFor};
 ghost use Rattle.cpg_print.specs.Calls.{call_of};
 ghost use Rattle.cpg_print.specs.Words.{texts};
 ghost use Rattle.cpg_step.specs.Commands.{node_alone};
@@ -17,7 +18,7 @@ use cpg_entry::Name;
 use cpg_print::read_call;
 use cpg_script::{is, read_u32};
 use cpg_step::{read_node, read_node_alone};
-use cpg_text::first_words;
+use cpg_text::take_words;
 use std::alloc::Global;
 
 /// The words of the longest line, and one more.
@@ -39,9 +40,10 @@ fn read_connect(nodes: u8, words: &[&[u8]]) -> Option<Command>
     }
 }
 
+#[tactic(auto, using(cpg_print::proofs::Somes::mapped))]
 fn read_submit(alloc: Global, words: &[&[u8]]) -> Result<Option<Ask>, Refusal>
     ensures ask { IfOk result (λ found. found ≡ option_map (λ call. Submit call) (call_of (texts words.now))) }
-    ensures memory { IsOkUnless result Refusal.Memory }
+    ensures memory { IsOkUnlessMemoryFor result (option_map (λ call. Submit call) (call_of (texts words.now))) }
 {
     match read_call(alloc, words)? {
         None => Ok(None),
@@ -51,7 +53,7 @@ fn read_submit(alloc: Global, words: &[&[u8]]) -> Result<Option<Ask>, Refusal>
 
 fn read_list(alloc: Global, words: &[&[u8]]) -> Result<Option<Ask>, Refusal>
     ensures ask { IfOk result (λ found. found ≡ list_of (texts words.now)) }
-    ensures memory { IsOkUnless result Refusal.Memory }
+    ensures memory { IsOkUnlessMemoryFor result (list_of (texts words.now)) }
 {
     match words {
         [group] => {
@@ -72,7 +74,7 @@ fn read_alone(asked: Ask, words: &[&[u8]]) -> Option<Ask>
 /// What a session is asked for, by the command's first word and those after the session's number.
 fn read_ask(alloc: Global, word: &[u8], arguments: &[&[u8]]) -> Result<Option<Ask>, Refusal>
     ensures ask { IfOk result (λ found. found ≡ ask_of word.now (texts arguments.now)) }
-    ensures memory { IsOkUnless result Refusal.Memory }
+    ensures memory { IsOkUnlessMemoryFor result (ask_of word.now (texts arguments.now)) }
 {
     if is(word, b"call".as_slice()) {
         read_submit(alloc, arguments)
@@ -101,6 +103,7 @@ fn read_close(number: u32, words: &[&[u8]]) -> Option<Command>
 }
 
 /// The end of a session, or what it is asked for.
+#[tactic(auto, using(cpg_print::proofs::Somes::mapped))]
 fn read_command_to(
     alloc: Global,
     word: &[u8],
@@ -109,7 +112,7 @@ fn read_command_to(
 ) -> Result<Option<Command>, Refusal>
     ensures command { IfOk result (λ found. found ≡ command_to word.now number (texts arguments.now)) }
     ensures within { IfOk result (λ found. IfSome found (λ command. (nodes : ℕ) → IsWithin nodes command)) }
-    ensures memory { IsOkUnless result Refusal.Memory }
+    ensures memory { IsOkUnlessMemoryFor result (command_to word.now number (texts arguments.now)) }
 {
     if is(word, b"close".as_slice()) {
         return Ok(read_close(number, arguments));
@@ -124,7 +127,7 @@ fn read_command_to(
 fn read_session(alloc: Global, word: &[u8], words: &[&[u8]]) -> Result<Option<Command>, Refusal>
     ensures command { IfOk result (λ found. found ≡ session_of word.now (texts words.now)) }
     ensures within { IfOk result (λ found. IfSome found (λ command. (nodes : ℕ) → IsWithin nodes command)) }
-    ensures memory { IsOkUnless result Refusal.Memory }
+    ensures memory { IsOkUnlessMemoryFor result (session_of word.now (texts words.now)) }
 {
     match words {
         [] => Ok(None),
@@ -147,7 +150,7 @@ fn read_safe(nodes: u8, words: &[&[u8]]) -> Option<Command>
 fn read_command(alloc: Global, nodes: u8, words: &[&[u8]]) -> Result<Option<Command>, Refusal>
     ensures command { IfOk result (λ found. found ≡ command_of nodes (texts words.now)) }
     ensures within { IfOk result (λ found. IfSome found (λ command. IsWithin nodes command)) }
-    ensures memory { IsOkUnless result Refusal.Memory }
+    ensures memory { IsOkUnlessMemoryFor result (command_of nodes (texts words.now)) }
 {
     match words {
         [] => Ok(None),
@@ -163,13 +166,14 @@ fn read_command(alloc: Global, nodes: u8, words: &[&[u8]]) -> Result<Option<Comm
     }
 }
 
-/// The command of a line, where there are so many nodes, if it is one.
+/// The command of a line, where there are so many nodes, if it is one. That it is none is told whatever memory
+/// there is.
 #[tactic(auto, using(crate::proofs::Lengths::command_of_first))]
 pub fn command_in_line(alloc: Global, nodes: u8, line: &[u8]) -> Result<Option<Command>, Refusal>
     ensures command { IfOk result (λ found. found ≡ command_of nodes (words_of line.now)) }
     ensures within { IfOk result (λ found. IfSome found (λ command. IsWithin nodes command)) }
-    ensures memory { IsOkUnless result Refusal.Memory }
+    ensures memory { IsOkUnlessMemoryFor result (command_of nodes (words_of line.now)) }
 {
-    let words = first_words(alloc, WORDS, line)?;
+    let words = take_words::<WORDS>(line);
     read_command(alloc, nodes, words.as_slice())
 }

@@ -1,7 +1,9 @@
 //! Scripts of entries, read, checked and judged whole.
 
-ghost use Rattle.std.specs.Prelude.{◌≡◌, ◌≤◌, ◌<◌, ◌+◌, ◌++◌, ◌∷◌, [], ℕ, List, Ok, Err, length, MatchOption, IfOk, IfErr, IfSome, OnOk, IsOkUnless};
+ghost use Rattle.std.specs.Prelude.{◌≡◌, ◌≤◌, ◌<◌, ◌+◌, ◌++◌, ◌∷◌, [], ℕ, List, Ok, Err, None, false, length, MatchOption, IfOk, IfErr, IfSome, OnOk, IsOkUnless};
 ghost use Rattle.cpg_record.specs.Judging.{most_places};
+ghost use Rattle.cpg_text.specs.Lines.{is_ignored, trimmed};
+ghost use Rattle.cpg_text.specs.Memory.{IsOkUnlessMemoryFor};
 ghost use Rattle.cpg_script.specs.Reading.{FailsAs};
 ghost use Rattle.cpg_script.specs.Steps.{items_with};
 ghost use Rattle.cpg_judge.specs.Scripts.{entry_in, entries_of_script};
@@ -13,11 +15,12 @@ use cpg_print::entry_in_line;
 use cpg_text::{Lines, MOST_BYTES, is_ignored, trim};
 use std::alloc::Global;
 
-/// The entry of a trimmed line that follows so many entries, if there is room for one.
+/// The entry of a trimmed line that follows so many entries, if there is room for one. That it is none is told
+/// whatever memory there is.
 fn read_entry(alloc: Global, before: usize, line: &[u8]) -> Result<Option<Entry>, Refusal>
     ensures entry { IfOk result (λ found. found ≡ entry_in before line.now) }
     ensures few { IfOk result (λ found. IfSome found (λ entry. before < most_places)) }
-    ensures memory { IsOkUnless result Refusal.Memory }
+    ensures memory { IsOkUnlessMemoryFor result (entry_in before line.now) }
 {
     if before >= MOST_PLACES as usize {
         return Ok(None);
@@ -37,10 +40,12 @@ fn enter(policy: &mut Policy, entry: Entry) -> Result<(), Refusal>
     }
 }
 
-/// Judges the entry of a line of that number, of which the lines before were judged.
+/// Judges the entry of a line of that number, of which the lines before were judged. A line that is no entry is
+/// `BadCommand`, whatever memory there is.
 fn judge_line(alloc: Global, policy: &mut Policy, number: u32, line: &[u8]) -> Result<(), Refusal>
     ensures ok { OnOk result ((lines : List (List ℕ)) → items_with entry_in policy.old number (line.now ∷ lines) ≡ items_with entry_in policy.new (number + 1) lines) }
     ensures err { IfErr result (λ refusal. (lines : List (List ℕ)) → FailsAs (items_with entry_in policy.old number (line.now ∷ lines)) refusal) }
+    ensures bad { is_ignored (trimmed line.now) ≡ false → entry_in (length policy.old) (trimmed line.now) ≡ None → result ≡ Err (Refusal.BadCommand number) }
 {
     let line = trim(line);
     if is_ignored(line) {

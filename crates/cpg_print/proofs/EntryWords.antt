@@ -1,5 +1,5 @@
 -- entries that are printed are read as those entries again
-use Rattle.std.proofs.Common.{◌≡◌, ℕ, ◌<◌, ◌^◌, ◌∷◌, ◌++◌, true, Some, refl, ap, ◌∙◌, append_assoc, arith}
+use Rattle.std.proofs.Common.{◌≡◌, ℕ, ◌<◌, ◌^◌, ◌∷◌, ◌++◌, true, Some, option_map, refl, ap, ◌∙◌, append_assoc, arith}
 use Rattle.std.specs.Prelude.{codes, decimal}
 use Rattle.cpg_cred.specs.declared.nodes.TheConstants.{MOST_NODES}
 use Rattle.cpg_entry.specs.declared.entries.Entry.{Entry}
@@ -10,7 +10,7 @@ use Rattle.cpg_record.specs.Connections.{conn_of}
 use Rattle.cpg_text.specs.Lines.{words_of}
 use Rattle.cpg_script.specs.Words.{◌>>=◌, u32_of, cut_at}
 use Rattle.cpg_print.specs.Calls.{SendsBytes, op_text}
-use Rattle.cpg_print.specs.Entries.{conn_text, entry_text, conn_in_parts, conn_of_word, entry_by, entry_of}
+use Rattle.cpg_print.specs.Entries.{conn_text, entry_text, conn_in_parts, conn_of_word, caller_of, entry_by, enterable_op, entry_of}
 use Rattle.cpg_print.proofs.CallWords.{op_back}
 use Rattle.cpg_print.proofs.Numerals.{decimal_lacks, decimal_printed, decimal_word, number_back}
 use Rattle.cpg_print.proofs.Spacing.{is_word, cut_first, four_spaced, word_joined}
@@ -47,14 +47,15 @@ entry_spaced entry fits =
     four_spaced (conn_text (conn_of entry)) (decimal entry.pid) (decimal entry.cred.uid) (decimal entry.cred.gid) (op_text entry.op)
     (conn_word entry fits) (u32_word entry.pid fits.pid) (u32_word entry.cred.uid fits.uid) (u32_word entry.cred.gid fits.gid)
 
--- the four words and the op are read as that entry
-by_back : (entry : Entry) → IsEntry entry → EntryFits entry
-    → entry_by (conn_text (conn_of entry)) (decimal entry.pid) (decimal entry.cred.uid) (decimal entry.cred.gid) entry.op ≡ Some entry
-by_back entry is fits = rw (conn_back entry is fits, u32_back entry.pid fits.pid, u32_back entry.cred.uid fits.uid, u32_back entry.cred.gid fits.gid) refl
+-- the four words are read as who makes that entry
+caller_back : (entry : Entry) → IsEntry entry → EntryFits entry
+    → caller_of (conn_text (conn_of entry)) (decimal entry.pid) (decimal entry.cred.uid) (decimal entry.cred.gid)
+    ≡ Some (record { conn = conn_of entry; pid = entry.pid; cred = entry.cred })
+caller_back entry is fits = rw (conn_back entry is fits, u32_back entry.pid fits.pid, u32_back entry.cred.uid fits.uid, u32_back entry.cred.gid fits.gid) refl
 
 -- an entry that is printed is read as that entry
 pub entry_back : (entry : Entry) → IsEntry entry → EntryFits entry → SendsBytes entry.op → entry_of (words_of (entry_text entry)) ≡ Some entry
 entry_back entry is fits bytes =
     ap entry_of (entry_spaced entry fits)
-    ∙ ap (λ op. op >>= entry_by (conn_text (conn_of entry)) (decimal entry.pid) (decimal entry.cred.uid) (decimal entry.cred.gid)) (op_back entry.op is.op fits.op bytes)
-    ∙ by_back entry is fits
+    ∙ ap (λ caller. caller >>= λ c. option_map (λ op. entry_by c op) (enterable_op (words_of (op_text entry.op)))) (caller_back entry is fits)
+    ∙ ap (λ op. option_map (λ o. entry_by (record { conn = conn_of entry; pid = entry.pid; cred = entry.cred }) o) op) (op_back entry.op is.op fits.op bytes)

@@ -2,6 +2,8 @@ pub mod CallWords
 pub mod Conditions
 pub mod EntryWords
 pub mod Lengths
+pub mod Limits
 pub mod Numerals
 pub mod RuleWords
+pub mod Somes
 pub mod Spacing

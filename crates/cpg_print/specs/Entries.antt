@@ -1,5 +1,5 @@
 -- entries as lines, both ways: `NODE.CONN PID UID GID CALL`, with `gone` for CALL where the connection ends
-use Rattle.std.specs.Prelude.{ℕ, List, ◌∷◌, ◌++◌, codes, decimal, Option, Some, None, if◌then◌else◌}
+use Rattle.std.specs.Prelude.{ℕ, List, ◌∷◌, ◌++◌, codes, decimal, Option, Some, None, option_map, if◌then◌else◌}
 use Rattle.cpg_cred.specs.declared.nodes.TheConstants.{MOST_NODES}
 use Rattle.cpg_entry.specs.declared.ranges.TheConstants.{MOST_CONNECTIONS}
 use Rattle.cpg_entry.specs.declared.calls.Op.{Op}
@@ -8,6 +8,7 @@ use Rattle.cpg_record.specs.declared.connections.ConnId.{ConnId}
 use Rattle.cpg_record.specs.Connections.{conn_of}
 use Rattle.cpg_text.specs.Numbers.{number_in}
 use Rattle.cpg_script.specs.Words.{◌>>=◌, u32_of, cut_at}
+use Rattle.cpg_print.specs.declared.entries.Caller.{Caller}
 use Rattle.cpg_print.specs.Calls.{op_of, op_text, is_enterable}
 
 -- NODE.CONN
@@ -31,14 +32,18 @@ conn_in_parts parts = do
 abbrev pub conn_of_word : List ℕ → Option ConnId
 conn_of_word word = cut_at 46 word >>= conn_in_parts
 
--- who makes an entry: NODE.CONN PID UID GID, the op still to come
-abbrev pub entry_by : List ℕ → List ℕ → List ℕ → List ℕ → Op → Option Entry
-entry_by conn pid uid gid op = do
+-- who makes an entry, by NODE.CONN PID UID GID
+abbrev pub caller_of : List ℕ → List ℕ → List ℕ → List ℕ → Option Caller
+caller_of conn pid uid gid = do
   c ← conn_of_word conn
   p ← u32_of pid
   u ← u32_of uid
   g ← u32_of gid
-  Some (record { node = c.node; conn = c.conn; pid = p; cred = record { uid = u; gid = g }; op = op })
+  Some (record { conn = c; pid = p; cred = record { uid = u; gid = g } })
+
+-- the entry of who makes it and its op
+abbrev pub entry_by : Caller → Op → Entry
+entry_by caller op = record { node = caller.conn.node; conn = caller.conn.conn; pid = caller.pid; cred = caller.cred; op = op }
 
 -- the op of the words, within the limits of calls
 abbrev pub enterable_op : List (List ℕ) → Option Op
@@ -46,5 +51,5 @@ enterable_op words = op_of words >>= λ op. if is_enterable op then Some op else
 
 -- the entry of a line's words
 abbrev pub entry_of : List (List ℕ) → Option Entry
-entry_of (conn ∷ pid ∷ uid ∷ gid ∷ words) = enterable_op words >>= entry_by conn pid uid gid
+entry_of (conn ∷ pid ∷ uid ∷ gid ∷ words) = caller_of conn pid uid gid >>= λ caller. option_map (λ op. entry_by caller op) (enterable_op words)
 entry_of _ = None

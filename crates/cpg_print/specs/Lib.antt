@@ -4,5 +4,6 @@ pub mod Entries
 pub mod Events
 pub mod Records
 pub mod Rules
+pub mod Steps
 pub mod Verdicts
 pub mod Words

@@ -1,7 +1,10 @@
 //! Calls and ops as words, both ways.
 
-ghost use Rattle.std.specs.Prelude.{◌≡◌, ◌<◌, ◌++◌, codes, OnOk, IfOk, IfSome, IsOkUnless};
+ghost use Rattle.std.specs.Prelude.{◌≡◌, ◌<◌, ◌++◌, codes, OnOk, IfOk, IfSome, IsOkUnless, option_map};
+ghost use Rattle.cpg_text.specs.Memory.{IsOkUnlessMemoryFor};
+ghost use Rattle.cpg_entry.specs.declared.calls.Call.TheVariants.{Send};
 ghost use Rattle.cpg_print.specs.Calls.{call_text, op_text, join_of, leave_of, send_of, insert_at, insert_of, remove_of, call_of, is_gone, op_of, is_within_limits, is_enterable};
+ghost use Rattle.cpg_print.specs.Steps.{keeps_limits, sends_few};
 ghost use Rattle.cpg_print.specs.Words.{texts};
 ghost use Rattle.cpg_text.specs.Percent.{message_of};
 
@@ -10,7 +13,7 @@ use cpg_cred::Refusal;
 use cpg_entry::{Call, MOST_MESSAGE_BYTES, Message, Name, Op, accepts_name};
 use cpg_rules::Rule;
 use cpg_script::{is, put, put_bytes, read_u32};
-use cpg_text::{plain_message, push_message, push_number, read_message};
+use cpg_text::{message_length, plain_message, push_message, push_number, read_message};
 use std::alloc::Global;
 
 /// Puts a space and CALL, or `gone`, at the line's end.
@@ -55,10 +58,12 @@ fn put_call(line: &mut Vec<u8>, call: &Call) -> Result<(), Refusal>
     }
 }
 
-/// The op that the words of CALL or `gone` say; names and messages of any length.
+/// The op that the words of CALL or `gone` say; names and messages of any length. That they say none is told
+/// whatever memory there is.
+#[tactic(auto, using(crate::proofs::Somes::mapped))]
 pub fn read_op(alloc: Global, words: &[&[u8]]) -> Result<Option<Op>, Refusal>
     ensures ok { IfOk result (λ found. found ≡ op_of (texts words.now)) }
-    ensures memory { IsOkUnless result Refusal.Memory }
+    ensures memory { IsOkUnlessMemoryFor result (op_of (texts words.now)) }
 {
     if is_gone(words) {
         return Ok(Some(Op::Gone));
@@ -75,11 +80,12 @@ fn is_gone(words: &[&[u8]]) -> bool
     }
 }
 
-/// The call that the words of CALL say; names and messages of any length.
+/// The call that the words of CALL say; names and messages of any length. That they say none is told whatever
+/// memory there is.
 #[inline(always)]
 pub fn read_call(alloc: Global, words: &[&[u8]]) -> Result<Option<Call>, Refusal>
     ensures ok { IfOk result (λ found. found ≡ call_of (texts words.now)) }
-    ensures memory { IsOkUnless result Refusal.Memory }
+    ensures memory { IsOkUnlessMemoryFor result (call_of (texts words.now)) }
 {
     match words {
         [] => Ok(None),
@@ -103,7 +109,7 @@ pub fn read_call(alloc: Global, words: &[&[u8]]) -> Result<Option<Call>, Refusal
 
 fn read_join(alloc: Global, arguments: &[&[u8]]) -> Result<Option<Call>, Refusal>
     ensures ok { IfOk result (λ found. found ≡ join_of (texts arguments.now)) }
-    ensures memory { IsOkUnless result Refusal.Memory }
+    ensures memory { IsOkUnlessMemoryFor result (join_of (texts arguments.now)) }
 {
     match arguments {
         [group] => Ok(Some(Call::Join(Name::from_slice(alloc, group)?))),
@@ -122,18 +128,27 @@ fn read_leave(arguments: &[&[u8]]) -> Option<Call>
 
 fn read_send(alloc: Global, arguments: &[&[u8]]) -> Result<Option<Call>, Refusal>
     ensures ok { IfOk result (λ found. found ≡ send_of (texts arguments.now)) }
-    ensures memory { IsOkUnless result Refusal.Memory }
+    ensures memory { IsOkUnlessMemoryFor result (send_of (texts arguments.now)) }
 {
     match arguments {
-        [text] => Ok(read_text(alloc, text)?.map(|message| Call::Send(message))),
+        [text] => read_sent(alloc, text),
         _ => Ok(None),
     }
+}
+
+/// The send of the message that the word spells.
+#[tactic(auto, using(crate::proofs::Somes::mapped))]
+fn read_sent(alloc: Global, text: &[u8]) -> Result<Option<Call>, Refusal>
+    ensures ok { IfOk result (λ found. found ≡ option_map (λ message. Send message) (message_of text.now)) }
+    ensures memory { IsOkUnlessMemoryFor result (option_map (λ message. Send message) (message_of text.now)) }
+{
+    Ok(read_text(alloc, text)?.map(|message| Call::Send(message)))
 }
 
 /// The message that the word spells, copied at once where it does so by its own bytes.
 fn read_text(alloc: Global, text: &[u8]) -> Result<Option<Message>, Refusal>
     ensures ok { IfOk result (λ found. found ≡ message_of text.now) }
-    ensures memory { IsOkUnless result Refusal.Memory }
+    ensures memory { IsOkUnlessMemoryFor result (message_of text.now) }
 {
     match plain_message(text) {
         Some(bytes) => Ok(Some(Message::from_slice(alloc, bytes)?)),
@@ -144,7 +159,7 @@ fn read_text(alloc: Global, text: &[u8]) -> Result<Option<Message>, Refusal>
 #[tactic(auto, using(crate::proofs::Lengths::insert_of_short))]
 fn read_insert(alloc: Global, arguments: &[&[u8]]) -> Result<Option<Call>, Refusal>
     ensures ok { IfOk result (λ found. found ≡ insert_of (texts arguments.now)) }
-    ensures memory { IsOkUnless result Refusal.Memory }
+    ensures memory { IsOkUnlessMemoryFor result (insert_of (texts arguments.now)) }
 {
     match arguments {
         [group, position, effect, right, who @ ..] => {
@@ -163,7 +178,7 @@ fn insert_at(
 ) -> Result<Option<Call>, Refusal>
     requires { IfSome position (λ index. index < 256) }
     ensures ok { IfOk result (λ found. found ≡ insert_at group.now position rule) }
-    ensures memory { IsOkUnless result Refusal.Memory }
+    ensures memory { IsOkUnlessMemoryFor result (insert_at group.now position rule) }
 {
     match (position, rule) {
         (Some(index), Some(rule)) => {
@@ -176,7 +191,7 @@ fn insert_at(
 
 fn read_remove(alloc: Global, arguments: &[&[u8]]) -> Result<Option<Call>, Refusal>
     ensures ok { IfOk result (λ found. found ≡ remove_of (texts arguments.now)) }
-    ensures memory { IsOkUnless result Refusal.Memory }
+    ensures memory { IsOkUnlessMemoryFor result (remove_of (texts arguments.now)) }
 {
     match arguments {
         [group, id] => match read_u32(0, u32::MAX, id) {
@@ -184,6 +199,33 @@ fn read_remove(alloc: Global, arguments: &[&[u8]]) -> Result<Option<Call>, Refus
             Some(id) => Ok(Some(Call::Remove(Name::from_slice(alloc, group)?, id))),
         },
         _ => Ok(None),
+    }
+}
+
+/// Whether what the words of an op say is within the limits of calls. Takes no memory.
+#[tactic(auto, using(crate::proofs::Limits::limits_of_short))]
+pub fn keeps_limits(words: &[&[u8]]) -> bool
+    ensures { result ≡ keeps_limits (texts words.now) }
+{
+    match words {
+        [word, argument, ..] => {
+            if is(word, b"send".as_slice()) {
+                sends_few(argument)
+            } else {
+                accepts_name(argument)
+            }
+        }
+        _ => true,
+    }
+}
+
+/// Whether the word spells a message that is not too long.
+fn sends_few(text: &[u8]) -> bool
+    ensures { result ≡ sends_few text.now }
+{
+    match message_length(text) {
+        None => false,
+        Some(length) => length <= MOST_MESSAGE_BYTES,
     }
 }
 

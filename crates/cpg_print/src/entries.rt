@@ -3,10 +3,11 @@
 ghost use Rattle.std.specs.Prelude.{◌≡◌, ◌++◌, codes, decimal, OnOk, IfOk, IsOkUnless, option_map};
 ghost use Rattle.cpg_record.specs.Connections.{conn_of};
 ghost use Rattle.cpg_text.specs.Lines.{words_of};
-ghost use Rattle.cpg_print.specs.Entries.{conn_text, entry_text, conn_of_word, entry_by, enterable_op, entry_of};
+ghost use Rattle.cpg_text.specs.Memory.{IsOkUnlessMemoryFor};
+ghost use Rattle.cpg_print.specs.Entries.{conn_text, entry_text, conn_of_word, caller_of, entry_by, enterable_op, entry_of};
 ghost use Rattle.cpg_print.specs.Words.{texts};
 
-use crate::calls::{is_enterable, put_op, read_op};
+use crate::calls::{is_enterable, keeps_limits, put_op, read_op};
 use cpg_cred::{Cred, MOST_NODES, NodeId, Refusal};
 use cpg_entry::{Entry, MOST_CONNECTIONS, Op};
 use cpg_record::ConnId;
@@ -59,30 +60,58 @@ fn put_cred(line: &mut Vec<u8>, cred: Cred) -> Result<(), Refusal>
     push_number(line, u64::from(cred.gid))
 }
 
+/// Who makes an entry.
+#[derive(Debug, Clone, Copy)]
+struct Caller {
+    conn: ConnId,
+    pid: u32,
+    cred: Cred,
+}
+
 /// The entry that a line's words say, with an op within its limits.
 #[tactic(auto, using(crate::proofs::Lengths::entry_of_short))]
 fn read_entry(alloc: Global, words: &[&[u8]]) -> Result<Option<Entry>, Refusal>
     ensures ok { IfOk result (λ found. found ≡ entry_of (texts words.now)) }
-    ensures memory { IsOkUnless result Refusal.Memory }
+    ensures memory { IsOkUnlessMemoryFor result (entry_of (texts words.now)) }
 {
     match words {
-        [conn, pid, uid, gid, op @ ..] => match read_enterable(alloc, op)? {
+        [conn, pid, uid, gid, op @ ..] => match read_caller(conn, pid, uid, gid) {
             None => Ok(None),
-            Some(op) => Ok(entry_by(conn, pid, uid, gid, op)),
+            Some(caller) => read_entry_by(alloc, caller, op),
         },
         _ => Ok(None),
     }
 }
 
+/// The entry of that caller whose op the words say.
+#[tactic(auto, using(crate::proofs::Somes::mapped))]
+fn read_entry_by(alloc: Global, caller: Caller, words: &[&[u8]]) -> Result<Option<Entry>, Refusal>
+    ensures ok { IfOk result (λ found. found ≡ option_map (λ op. entry_by caller op) (enterable_op (texts words.now))) }
+    ensures memory { IsOkUnlessMemoryFor result (option_map (λ op. entry_by caller op) (enterable_op (texts words.now))) }
+{
+    match read_enterable(alloc, words)? {
+        None => Ok(None),
+        Some(op) => Ok(Some(entry_by(caller, op))),
+    }
+}
+
+/// The op that the words say, within its limits. Where memory is refused, whether there is one is looked at alone.
 fn read_enterable(alloc: Global, words: &[&[u8]]) -> Result<Option<Op>, Refusal>
     ensures ok { IfOk result (λ found. found ≡ enterable_op (texts words.now)) }
-    ensures memory { IsOkUnless result Refusal.Memory }
+    ensures memory { IsOkUnlessMemoryFor result (enterable_op (texts words.now)) }
 {
-    match read_op(alloc, words)? {
-        None => Ok(None),
-        Some(op) => {
+    match read_op(alloc, words) {
+        Ok(None) => Ok(None),
+        Ok(Some(op)) => {
             if is_enterable(&op) {
                 Ok(Some(op))
+            } else {
+                Ok(None)
+            }
+        }
+        Err(refusal) => {
+            if keeps_limits(words) {
+                Err(refusal)
             } else {
                 Ok(None)
             }
@@ -90,20 +119,32 @@ fn read_enterable(alloc: Global, words: &[&[u8]]) -> Result<Option<Op>, Refusal>
     }
 }
 
-fn entry_by(conn: &[u8], pid: &[u8], uid: &[u8], gid: &[u8], op: Op) -> Option<Entry>
-    ensures { result ≡ entry_by conn.now pid.now uid.now gid.now op }
+/// Who makes an entry, by the words before its op.
+fn read_caller(conn: &[u8], pid: &[u8], uid: &[u8], gid: &[u8]) -> Option<Caller>
+    ensures { result ≡ caller_of conn.now pid.now uid.now gid.now }
 {
     let conn = read_conn(conn)?;
     let pid = read_u32(0, u32::MAX, pid)?;
     let uid = read_u32(0, u32::MAX, uid)?;
     let gid = read_u32(0, u32::MAX, gid)?;
-    Some(Entry {
+    Some(Caller {
+        conn,
+        pid,
+        cred: Cred { uid, gid },
+    })
+}
+
+fn entry_by(caller: Caller, op: Op) -> Entry
+    ensures { result ≡ entry_by caller op }
+{
+    let Caller { conn, pid, cred } = caller;
+    Entry {
         node: conn.node,
         conn: conn.conn,
         pid,
-        cred: Cred { uid, gid },
+        cred,
         op,
-    })
+    }
 }
 
 /// The connection of NODE.CONN.
@@ -120,11 +161,11 @@ fn read_conn(word: &[u8]) -> Option<ConnId>
     })
 }
 
-/// The entry of a line, if it is one.
+/// The entry of a line, if it is one. That it is none is told whatever memory there is.
 #[tactic(auto, using(crate::proofs::Lengths::entry_of_first))]
 pub fn entry_in_line(alloc: Global, line: &[u8]) -> Result<Option<Entry>, Refusal>
     ensures ok { IfOk result (λ found. found ≡ entry_of (words_of line.now)) }
-    ensures memory { IsOkUnless result Refusal.Memory }
+    ensures memory { IsOkUnlessMemoryFor result (entry_of (words_of line.now)) }
 {
     let words = take_words::<WORDS>(line);
     read_entry(alloc, words.as_slice())

@@ -2,7 +2,8 @@
 //!
 //! Proved: the items are those of all the lines that are not ignored, or the refusal names the first bad line.
 
-ghost use Rattle.std.specs.Prelude.{◌≡◌, ◌≤◌, ◌∷◌, ◌++◌, ◌+◌, [], ℕ, List, Ok, Err, All, length, MatchOption, IfOk, IfErr, IfSome, OnOk, IsOkUnless};
+ghost use Rattle.std.specs.Prelude.{◌≡◌, ◌≤◌, ◌∷◌, ◌++◌, ◌+◌, [], ℕ, List, Ok, Err, None, false, All, length, MatchOption, IfOk, IfErr, IfSome, OnOk, IsOkUnless};
+ghost use Rattle.cpg_text.specs.Lines.{is_ignored, trimmed};
 ghost use Rattle.cpg_script.specs.Reading.{read_all, FailsAs};
 ghost use Rattle.cpg_script.specs.Steps.{items_with};
 
@@ -12,7 +13,8 @@ use std::alloc::Global;
 
 /// What a kind of script makes of its lines.
 pub trait ReadsLine {
-    ghost use Rattle.std.specs.Prelude.{◌≡◌, ℕ, List, Option, IfOk, IfSome, IsOkUnless};
+    ghost use Rattle.std.specs.Prelude.{◌≡◌, ℕ, List, Option, IfOk, IfSome};
+    ghost use Rattle.cpg_text.specs.Memory.{IsOkUnlessMemoryFor};
 
     /// What a line says.
     type Item: Drop;
@@ -23,11 +25,12 @@ pub trait ReadsLine {
     // What holds of each item.
     ghost holds: { Self → Self.Item → Type 0 };
 
-    /// The item of a trimmed line that follows so many items, if it says one.
+    /// The item of a trimmed line that follows so many items, if it says one. That it says none is told whatever
+    /// memory there is.
     fn read(&self, alloc: Global, before: usize, line: &[u8]) -> Result<Option<Self::Item>, Refusal>
         ensures item { IfOk result (λ found. found ≡ meaning self.now before line.now) }
         ensures held { IfOk result (λ found. IfSome found (λ item. holds self.now item)) }
-        ensures memory { IsOkUnless result Refusal.Memory };
+        ensures memory { IsOkUnlessMemoryFor result (meaning self.now before line.now) };
 }
 
 /// The items of a script, or `BadCommand` with its first bad line.
@@ -51,7 +54,8 @@ pub fn read_script<R: ReadsLine>(
     Ok(items)
 }
 
-/// Takes in a line of that number, of which the lines before were taken in.
+/// Takes in a line of that number, of which the lines before were taken in. A line that says nothing is
+/// `BadCommand`, whatever memory there is.
 fn take_line<R: ReadsLine>(
     alloc: Global,
     reader: &R,
@@ -63,6 +67,7 @@ fn take_line<R: ReadsLine>(
     ensures ok { OnOk result ((lines : List (List ℕ)) → items_with (R.meaning reader.now) items.old.items number (line.now ∷ lines) ≡ items_with (R.meaning reader.now) items.new.items (number + 1) lines) }
     ensures held { OnOk result (All (λ item. R.holds reader.now item) items.new.items) }
     ensures err { IfErr result (λ refusal. (lines : List (List ℕ)) → FailsAs (items_with (R.meaning reader.now) items.old.items number (line.now ∷ lines)) refusal) }
+    ensures bad { is_ignored (trimmed line.now) ≡ false → R.meaning reader.now (length items.old.items) (trimmed line.now) ≡ None → result ≡ Err (Refusal.BadCommand number) }
 {
     let line = trim(line);
     if is_ignored(line) {

@@ -1,7 +1,7 @@
 //! The worked forms of lines, words, numbers and messages.
 
 use cpg_text::{
-    Lines, Words, first_words, is_ignored, push_message, push_number, read_message, read_number,
+    Lines, Words, is_ignored, message_length, push_message, push_number, read_message, read_number,
     take_words, trim,
 };
 use std::test::Fail;
@@ -11,12 +11,9 @@ fn takes_lines_and_words_apart(rt: HostRuntime) -> Result<(), Fail> {
     let mut lines = Lines::of(b" \tone  two\tthree\r\n\n # four");
     let line = trim(lines.next().ok_or("a line")?);
     assert_eq!(rt; line, b"one  two\tthree".as_slice());
-    let words = first_words(rt.alloc(), 2, line)?;
-    assert_eq!(rt; words.len(), 2);
-    assert_eq!(rt; words[0], b"one".as_slice());
-    assert_eq!(rt; words[1], b"two".as_slice());
     let words = take_words::<2>(line);
     assert_eq!(rt; words.as_slice().len(), 2);
+    assert_eq!(rt; words.as_slice()[0], b"one".as_slice());
     assert_eq!(rt; words.as_slice()[1], b"two".as_slice());
     assert_eq!(rt; Words::of(line).count(), 3);
     assert_eq!(rt; Words::of(b" \t").count(), 0);
@@ -66,6 +63,9 @@ fn spells_messages(rt: HostRuntime) -> Result<(), Fail> {
     assert_eq!(rt; read.as_slice(), b"hello".as_slice());
     let read = read_message(rt.alloc(), b"-%2d%fF~")?.ok_or("a message")?;
     assert_eq!(rt; read.as_slice(), b"--\xFF~".as_slice());
+    assert_eq!(rt; message_length(b"-%2d%fF~"), Some(4));
+    assert_eq!(rt; message_length(b"-"), Some(0));
+    assert!(rt; message_length(b"%2g").is_none());
     assert!(rt; read_message(rt.alloc(), b"%2")?.is_none());
     assert!(rt; read_message(rt.alloc(), b"%2g")?.is_none());
     assert_eq!(rt;

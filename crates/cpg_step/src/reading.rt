@@ -2,20 +2,23 @@
 //!
 //! Proved: each function reads what the definition in `specs/Commands.antt` says, in a ring of so many nodes.
 
-ghost use Rattle.std.specs.Prelude.{◌≡◌, ◌≤◌, OnOk, IfOk, IfSome, IsOkUnless, option_map};
+ghost use Rattle.std.specs.Prelude.{◌≡◌, ◌≤◌, Some, IfOk, IfSome, option_map};
 ghost use Rattle.cpg_text.specs.Lines.{words_of};
+ghost use Rattle.cpg_text.specs.Memory.{IsOkUnlessMemoryFor};
+ghost use Rattle.std.specs.Option.{option_and_then};
+ghost use Rattle.cpg_print.specs.Calls.{call_of};
 ghost use Rattle.cpg_world_laws.specs.Worlds.{node_in};
 ghost use Rattle.cpg_world_laws.specs.declared.events.WorldEvent.TheVariants.{Submit, Disconnect, Take, Groups, Timer, Deliver};
 ghost use Rattle.cpg_print.specs.Words.{texts};
 ghost use Rattle.cpg_step.specs.declared.commands.Look.TheVariants.{Audit, Safe};
-ghost use Rattle.cpg_step.specs.Commands.{node_of, conn_of, u64_of, node_alone, node_and_conn, connect_of, submit_of, frame_of, list_of, event_of, show_of, rules_of, look_of, command_of, LooksWithin, IsWithin};
+ghost use Rattle.cpg_step.specs.Commands.{node_of, conn_of, u64_of, node_alone, node_and_conn, connect_of, submit_of, frame_of, list_of, event_of, show_of, rules_of, look_of, act_or_look, command_of, LooksWithin, IsWithin};
 
 use crate::commands::{Command, Look};
 use cpg_cred::{Cred, MOST_NODES, NodeId, Refusal};
-use cpg_entry::{Call, MOST_CONNECTIONS, Name};
+use cpg_entry::{MOST_CONNECTIONS, Name};
 use cpg_print::read_call;
 use cpg_script::{is, read_u32};
-use cpg_text::{first_words, read_number};
+use cpg_text::{read_number, take_words};
 use cpg_world::WorldEvent;
 use std::alloc::Global;
 
@@ -89,25 +92,35 @@ fn read_connect(nodes: u8, words: &[&[u8]]) -> Option<WorldEvent>
 fn read_submit(alloc: Global, nodes: u8, words: &[&[u8]]) -> Result<Option<WorldEvent>, Refusal>
     ensures event { IfOk result (λ found. found ≡ submit_of nodes (texts words.now)) }
     ensures within { IfOk result (λ found. IfSome found (λ event. node_in event ≤ nodes)) }
-    ensures memory { IsOkUnless result Refusal.Memory }
+    ensures memory { IsOkUnlessMemoryFor result (submit_of nodes (texts words.now)) }
 {
     match words {
         [node, conn, call @ ..] => {
             let (Some(node), Some(conn)) = (read_node(nodes, node), read_conn(conn)) else {
                 return Ok(None);
             };
-            let call = read_call(alloc, call)?;
-            Ok(submit_by(node, conn, call))
+            read_submit_by(alloc, node, conn, call)
         }
         _ => Ok(None),
     }
 }
 
-fn submit_by(node: NodeId, conn: u16, call: Option<Call>) -> Option<WorldEvent>
-    ensures { result ≡ option_map (λ c. Submit node conn c) call }
+/// The submit of that connection whose call the words say.
+#[tactic(auto, using(cpg_print::proofs::Somes::then_some))]
+fn read_submit_by(
+    alloc: Global,
+    node: NodeId,
+    conn: u16,
+    words: &[&[u8]],
+) -> Result<Option<WorldEvent>, Refusal>
+    ensures event { IfOk result (λ found. found ≡ option_and_then (λ c. Some (Submit node conn c)) (call_of (texts words.now))) }
+    ensures at { IfOk result (λ found. IfSome found (λ event. node_in event ≡ node)) }
+    ensures memory { IsOkUnlessMemoryFor result (option_and_then (λ c. Some (Submit node conn c)) (call_of (texts words.now))) }
 {
-    let call = call?;
-    Some(WorldEvent::Submit(node, conn, call))
+    match read_call(alloc, words)? {
+        None => Ok(None),
+        Some(call) => Ok(Some(WorldEvent::Submit(node, conn, call))),
+    }
 }
 
 fn read_frame(nodes: u8, words: &[&[u8]]) -> Option<WorldEvent>
@@ -127,7 +140,7 @@ fn read_frame(nodes: u8, words: &[&[u8]]) -> Option<WorldEvent>
 fn read_list(alloc: Global, nodes: u8, words: &[&[u8]]) -> Result<Option<WorldEvent>, Refusal>
     ensures event { IfOk result (λ found. found ≡ list_of nodes (texts words.now)) }
     ensures within { IfOk result (λ found. IfSome found (λ event. node_in event ≤ nodes)) }
-    ensures memory { IsOkUnless result Refusal.Memory }
+    ensures memory { IsOkUnlessMemoryFor result (list_of nodes (texts words.now)) }
 {
     match words {
         [node, conn, group] => {
@@ -190,7 +203,7 @@ fn read_event(
 ) -> Result<Option<WorldEvent>, Refusal>
     ensures event { IfOk result (λ found. found ≡ event_of nodes word.now (texts arguments.now)) }
     ensures within { IfOk result (λ found. IfSome found (λ event. node_in event ≤ nodes)) }
-    ensures memory { IsOkUnless result Refusal.Memory }
+    ensures memory { IsOkUnlessMemoryFor result (event_of nodes word.now (texts arguments.now)) }
 {
     if is(word, b"connect".as_slice()) {
         Ok(read_connect(nodes, arguments))
@@ -230,7 +243,7 @@ fn read_show(words: &[&[u8]]) -> Option<Look>
 fn read_rules(alloc: Global, nodes: u8, words: &[&[u8]]) -> Result<Option<Look>, Refusal>
     ensures look { IfOk result (λ found. found ≡ rules_of nodes (texts words.now)) }
     ensures within { IfOk result (λ found. IfSome found (λ look. LooksWithin nodes look)) }
-    ensures memory { IsOkUnless result Refusal.Memory }
+    ensures memory { IsOkUnlessMemoryFor result (rules_of nodes (texts words.now)) }
 {
     match words {
         [node, group] => {
@@ -269,7 +282,7 @@ fn read_look(
 ) -> Result<Option<Look>, Refusal>
     ensures look { IfOk result (λ found. found ≡ look_of nodes word.now (texts arguments.now)) }
     ensures within { IfOk result (λ found. IfSome found (λ look. LooksWithin nodes look)) }
-    ensures memory { IsOkUnless result Refusal.Memory }
+    ensures memory { IsOkUnlessMemoryFor result (look_of nodes word.now (texts arguments.now)) }
 {
     if is(word, b"show".as_slice()) {
         Ok(read_show(arguments))
@@ -288,29 +301,43 @@ fn read_look(
 fn read_command(alloc: Global, nodes: u8, words: &[&[u8]]) -> Result<Option<Command>, Refusal>
     ensures command { IfOk result (λ found. found ≡ command_of nodes (texts words.now)) }
     ensures within { IfOk result (λ found. IfSome found (λ command. IsWithin nodes command)) }
-    ensures memory { IsOkUnless result Refusal.Memory }
+    ensures memory { IsOkUnlessMemoryFor result (command_of nodes (texts words.now)) }
 {
     match words {
         [] => Ok(None),
-        [word, arguments @ ..] => {
-            if let Some(event) = read_event(alloc, nodes, word, arguments)? {
-                return Ok(Some(Command::Act(event)));
-            }
-            match read_look(alloc, nodes, word, arguments)? {
-                None => Ok(None),
-                Some(look) => Ok(Some(Command::Look(look))),
-            }
-        }
+        [word, arguments @ ..] => read_named(alloc, nodes, word, arguments),
     }
 }
 
-/// The command of a line, in a ring of so many nodes, if it is one.
+/// The command that acts, if there is one, and else the one that looks.
+#[tactic(auto, using(crate::proofs::Lengths::act_there, crate::proofs::Lengths::look_there))]
+fn read_named(
+    alloc: Global,
+    nodes: u8,
+    word: &[u8],
+    arguments: &[&[u8]],
+) -> Result<Option<Command>, Refusal>
+    ensures command { IfOk result (λ found. found ≡ act_or_look (event_of nodes word.now (texts arguments.now)) (look_of nodes word.now (texts arguments.now))) }
+    ensures within { IfOk result (λ found. IfSome found (λ command. IsWithin nodes command)) }
+    ensures memory { IsOkUnlessMemoryFor result (act_or_look (event_of nodes word.now (texts arguments.now)) (look_of nodes word.now (texts arguments.now))) }
+{
+    if let Some(event) = read_event(alloc, nodes, word, arguments)? {
+        return Ok(Some(Command::Act(event)));
+    }
+    match read_look(alloc, nodes, word, arguments)? {
+        None => Ok(None),
+        Some(look) => Ok(Some(Command::Look(look))),
+    }
+}
+
+/// The command of a line, in a ring of so many nodes, if it is one. That it is none is told whatever memory there
+/// is.
 #[tactic(auto, using(crate::proofs::Lengths::command_of_first))]
 pub fn command_in_line(alloc: Global, nodes: u8, line: &[u8]) -> Result<Option<Command>, Refusal>
     ensures command { IfOk result (λ found. found ≡ command_of nodes (words_of line.now)) }
     ensures within { IfOk result (λ found. IfSome found (λ command. IsWithin nodes command)) }
-    ensures memory { IsOkUnless result Refusal.Memory }
+    ensures memory { IsOkUnlessMemoryFor result (command_of nodes (words_of line.now)) }
 {
-    let words = first_words(alloc, WORDS, line)?;
+    let words = take_words::<WORDS>(line);
     read_command(alloc, nodes, words.as_slice())
 }

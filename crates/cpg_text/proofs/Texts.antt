@@ -7,13 +7,18 @@ use Rattle.std.proofs.lemmas.List.Sums.{fails_before_first}
 use Rattle.std.specs.Prelude.{All}
 use Rattle.std.specs.List.{position, position_or_len}
 use Rattle.cpg_text.specs.Percent.{before}
-use Rattle.cpg_text.specs.Steps.{after}
+use Rattle.cpg_text.specs.Steps.{after, counted_after}
 use Rattle.cpg_text.specs.Lines.{is_line_feed, lines_of}
 
 -- one byte more in front of what the rest stands for
 pub after_push : (front : List ℕ) (b : ℕ) (o : Option (List ℕ)) → after (front ++ b ∷ []) o ≡ after front (before b o)
 after_push front b None = refl
 after_push front b (Some bs) = ap Some (append_assoc front (b ∷ []) bs)
+
+-- one byte more before the count of what the rest stands for
+pub counted_push : (count b : ℕ) (o : Option (List ℕ)) → counted_after (count + 1) o ≡ counted_after count (before b o)
+counted_push count b None = refl
+counted_push count b (Some bs) = ap Some (omega arith)
 
 -- the first place, taken apart
 pub some_position : (p : ℕ → Bool) (text : List ℕ) (end : ℕ) → position p text ≡ Some end → (position_or_len p text < length text) × (position_or_len p text ≡ end)

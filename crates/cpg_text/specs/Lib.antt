@@ -1,4 +1,5 @@
 pub mod Lines
+pub mod Memory
 pub mod Numbers
 pub mod Percent
 pub mod Reads

@@ -1,5 +1,5 @@
 -- steps of the reading functions, which no contract of a public function cites
-use Rattle.std.specs.Prelude.{◌≡◌, ⊤, false, ℕ, ◌+◌, ◌*◌, ◌-◌, ◌%◌, List, [], ◌∷◌, ◌++◌, ◌&&◌, nat_le, if◌then◌else◌, Option, Some, None, option_map}
+use Rattle.std.specs.Prelude.{◌≡◌, ⊤, false, ℕ, ◌+◌, ◌*◌, ◌-◌, ◌%◌, List, [], ◌∷◌, ◌++◌, length, ◌&&◌, nat_le, if◌then◌else◌, Option, Some, None, option_map}
 use Rattle.std.specs.Char.{is_ascii_digit}
 use Rattle.cpg_text.specs.Lines.{is_blank}
 
@@ -35,3 +35,7 @@ after front more = option_map (λ bytes. front ++ bytes) more
 abbrev pub StartsWord : List ℕ → Type 0
 StartsWord [] = ⊤
 StartsWord (byte ∷ rest) = is_blank byte ≡ false
+
+-- so many bytes, and then those that the rest stands for
+abbrev pub counted_after : ℕ → Option (List ℕ) → Option ℕ
+counted_after count more = option_map (λ bytes. count + length bytes) more

@@ -14,6 +14,6 @@ mod words;
 pub use laws::reads_what_is_spelled;
 pub use lines::{Lines, is_ignored, trim};
 pub use numbers::{is_number, push_number, read_number};
-pub use percent::{plain_message, push_message, read_message};
+pub use percent::{message_length, plain_message, push_message, read_message};
 pub use streams::{MOST_BYTES, MOST_READS, limits, read_whole, write_whole};
-pub use words::{Words, first_words, take_words};
+pub use words::{Words, take_words};

@@ -2,19 +2,20 @@
 //!
 //! Proved: both directions are the definitions `message_of` and `text_of`.
 
-ghost use Rattle.std.specs.Prelude.{◌≡◌, ◌≢◌, ◌<◌, ◌==◌, ◌++◌, not, length, OnOk, IfOk, IfSome, MatchOption, IsOkUnless, None, Some, true, option_map};
+ghost use Rattle.std.specs.Prelude.{◌≡◌, ◌≢◌, ◌<◌, ◌≤◌, [], vec_capacity, ◌==◌, ◌++◌, not, length, OnOk, IfOk, IfSome, MatchOption, IsOkUnless, None, Some, true, option_map};
 ghost use Rattle.std.specs.Fmt.{digit_glyph};
 ghost use Rattle.std.specs.List.{list_all};
+ghost use Rattle.cpg_text.specs.Memory.{IsOkUnlessMemoryFor};
 ghost use Rattle.cpg_text.specs.Percent.{decoded, before, message_of, is_plain, encoded_byte, encoded, text_of};
 
 use cpg_cred::Refusal;
 use std::alloc::Global;
 
 /// The message that the word spells; none for the empty word, and where a `%` lacks two hexadecimal digits
-/// (of either case) after it.
+/// (of either case) after it. That a word spells none is told whatever memory there is.
 pub fn read_message(alloc: Global, word: &[u8]) -> Result<Option<Vec<u8>>, Refusal>
     ensures ok { IfOk result (λ found. option_map (λ message. message.items) found ≡ message_of word.now) }
-    ensures memory { IsOkUnless result Refusal.Memory }
+    ensures memory { IsOkUnlessMemoryFor result (message_of word.now) }
 {
     match word {
         [] => Ok(None),
@@ -51,22 +52,62 @@ fn has_no_percent(text: &[u8]) -> bool
     text.iter().all(|byte| *byte != b'%')
 }
 
-/// The bytes that the text stands for, one after the other.
-#[tactic(auto, using(crate::proofs::Texts::after_push))]
-fn decode(alloc: Global, text: &[u8]) -> Result<Option<Vec<u8>>, Refusal>
-    ensures ok { IfOk result (λ found. option_map (λ bytes. bytes.items) found ≡ decoded text.now) }
-    ensures memory { IsOkUnless result Refusal.Memory }
+/// How many bytes the message has that the word spells. Takes no memory.
+pub fn message_length(word: &[u8]) -> Option<usize>
+    ensures { result ≡ option_map (λ message. length message) (message_of word.now) }
 {
-    let mut bytes = Vec::with_capacity(alloc, text.len())?;
+    match word {
+        [] => None,
+        [b'-'] => Some(0),
+        _ => decoded_length(word),
+    }
+}
+
+/// How many bytes the text stands for.
+#[tactic(auto, using(crate::proofs::Texts::counted_push))]
+fn decoded_length(text: &[u8]) -> Option<usize>
+    ensures { result ≡ option_map (λ bytes. length bytes) (decoded text.now) }
+{
+    let mut count = 0;
     let mut rest = text;
     while !rest.is_empty() {
-        let Some((byte, more)) = first_byte(rest) else {
-            return Ok(None);
-        };
+        let (_, more) = first_byte(rest)?;
+        count += 1;
+        rest = more;
+    }
+    Some(count)
+}
+
+/// The bytes that the text stands for. Where there is no room for them, it is gone through once more, for
+/// whether it stands for any.
+fn decode(alloc: Global, text: &[u8]) -> Result<Option<Vec<u8>>, Refusal>
+    ensures ok { IfOk result (λ found. option_map (λ bytes. bytes.items) found ≡ decoded text.now) }
+    ensures memory { IsOkUnlessMemoryFor result (decoded text.now) }
+{
+    match Vec::with_capacity(alloc, text.len()) {
+        Ok(room) => Ok(decode_into(room, text)),
+        Err(_) => match decoded_length(text) {
+            None => Ok(None),
+            Some(_) => Err(Refusal::Memory),
+        },
+    }
+}
+
+/// The bytes that the text stands for, one after the other, in the room for as many as it has.
+#[tactic(auto, using(crate::proofs::Texts::after_push))]
+fn decode_into(room: Vec<u8>, text: &[u8]) -> Option<Vec<u8>>
+    requires empty { room.items ≡ [] }
+    requires reserved { length text.now ≤ vec_capacity room }
+    ensures { option_map (λ bytes. bytes.items) result ≡ decoded text.now }
+{
+    let mut bytes = room;
+    let mut rest = text;
+    while !rest.is_empty() {
+        let (byte, more) = first_byte(rest)?;
         bytes.push_reserved(byte);
         rest = more;
     }
-    Ok(Some(bytes))
+    Some(bytes)
 }
 
 /// The byte that the front of a text stands for, and what follows.

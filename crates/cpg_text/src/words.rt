@@ -3,7 +3,7 @@
 //! Words stand between spaces and tabs. Proved: the words that are taken, one after the other, are those of
 //! the definition `words_of`.
 
-ghost use Rattle.std.specs.Prelude.{◌≡◌, ◌<◌, ◌∷◌, [], ℕ, List, length, map, take, IfOk, IsOkUnless, MatchOption};
+ghost use Rattle.std.specs.Prelude.{◌≡◌, ◌<◌, ◌∷◌, [], ℕ, List, length, map, take, MatchOption};
 ghost use Rattle.std.specs.List.{position};
 ghost use Rattle.std.specs.Iterator.{YieldsFirstRef, item_count};
 ghost use Rattle.cpg_text.specs.Lines.{is_blank, words_of};
@@ -11,8 +11,6 @@ ghost use Rattle.cpg_text.specs.Steps.{StartsWord};
 
 use crate::lines::is_blank;
 use arrayvec::ArrayVec;
-use cpg_cred::Refusal;
-use std::alloc::Global;
 
 /// The words of a line, first to last.
 #[derive(Drop)]
@@ -79,7 +77,8 @@ fn word_end(line: &[u8]) -> Option<usize>
     line.iter().position(|byte| is_blank(*byte))
 }
 
-/// The first words of a line, at most `N`, in room of their own.
+/// The first words of a line, at most `N`, in room of their own. One word more than a shape has room for tells
+/// that a line is too long.
 pub fn take_words<const N: usize>(line: &[u8]) -> ArrayVec<&[u8], N>
     ensures { map (λ word. word.now) result.items ≡ take N (words_of line.now) }
 {
@@ -93,22 +92,4 @@ pub fn take_words<const N: usize>(line: &[u8]) -> ArrayVec<&[u8], N>
         rest = after;
     }
     words
-}
-
-/// The first words of a line, at most `most`. One word more than a shape has room for tells that a line is
-/// too long, and bounds what a line can take of memory.
-pub fn first_words(alloc: Global, most: usize, line: &[u8]) -> Result<Vec<&[u8]>, Refusal>
-    ensures ok { IfOk result (λ words. map (λ word. word.now) words.items ≡ take most (words_of line.now)) }
-    ensures memory { IsOkUnless result Refusal.Memory }
-{
-    let mut words = Vec::with_capacity(alloc, most.min(line.len()))?;
-    let mut rest = line;
-    for _ in 0..most {
-        let Some((word, after)) = first_word(rest) else {
-            break;
-        };
-        words.push(word)?;
-        rest = after;
-    }
-    Ok(words)
 }

@@ -2,7 +2,7 @@ use Rattle.std.proofs.Common.{◌≡◌, ◌+◌, ◌≤◌, length}
 use Rattle.std.specs.Vec.{vec_len, vec_capacity}
 use Rattle.cpg_text.specs.Percent.{decoded}
 use Rattle.cpg_text.specs.Steps.{after}
-use Rattle.cpg_text.proofs.percent.decode.Given as goal
+use Rattle.cpg_text.proofs.percent.decode_into.Given as goal
 
 abbrev pub invariant-loop-rest : goal.invariant-loop-rest
 invariant-loop-rest l = record {

@@ -1,0 +1,20 @@
+-- steps of the reading functions, which no contract of a public function cites
+use Rattle.std.specs.Prelude.{ℕ, List, ◌∷◌, length, codes, Bool, true, false, nat_le, Option, Some, None, option_map, if◌then◌else◌}
+use Rattle.std.specs.Str.{bytes_eq}
+use Rattle.cpg_entry.specs.Names.{is_name}
+use Rattle.cpg_entry.specs.declared.messages.TheConstants.{MOST_MESSAGE_BYTES}
+use Rattle.cpg_text.specs.Percent.{message_of}
+
+-- at most 8,192 bytes, if there are any
+abbrev pub is_short : Option ℕ → Bool
+is_short None = false
+is_short (Some count) = nat_le count MOST_MESSAGE_BYTES
+
+-- the word spells a message of at most 8,192 bytes
+abbrev pub sends_few : List ℕ → Bool
+sends_few text = is_short (option_map (λ message. length message) (message_of text))
+
+-- the words of an op say one within the limits of calls
+abbrev pub keeps_limits : List (List ℕ) → Bool
+keeps_limits (word ∷ argument ∷ more) = if bytes_eq word (codes "send") then sends_few argument else is_name argument
+keeps_limits _ = true
