@@ -1,0 +1,124 @@
+-- One history of all events, which exists in proofs alone, and what threads know of it.
+use Rattle.std.specs.Prelude.{◌≡◌, ℕ, suc, ◌<◌, ◌≤◌, ◌%◌, ◌^◌, List, [], ◌∷◌, ◌++◌, length}
+use mathlib.Core.Option.{some}
+use mathlib.Core.List.{IsPrefix}
+use lib.ListN.{get_elem?}
+use Rattle.atomic_table.specs.Table.{Me, Step}
+use Rattle.atomic_table.specs.Seated.{TableId}
+use Rattle.cpg_ring.specs.Worlds.{item}
+use Rattle.cpg_world_laws.specs.declared.events.WorldEvent.{WorldEvent}
+use Rattle.cpg_world_laws.specs.Worlds.{WorldValue, node_in, runs, new_world}
+use Rattle.cpg_history.specs.declared.histories.Beginning.{Beginning}
+use Rattle.cpg_history.specs.declared.histories.View.{View}
+
+-- the name of no table
+abbrev pub no_table : TableId
+no_table = record { words = 0; slots = 0; views_name = 0; atom = 0; block = 0; offset = 0; slot_names = [] }
+
+-- the world that no history begins with: it has no nodes
+abbrev pub no_world : WorldValue
+no_world = record { settings = record { ring = 0; nodes = 0; places = 0; hops = 0 }; list = record { users = []; groups = [] }; nodes = []; sent = [] }
+
+-- the world that a history begins with
+abbrev pub first_world : Beginning → WorldValue
+first_world b = new_world b.settings b.list
+
+-- a view of the nodes from one number up to another, that has seen these events
+abbrev pub view : ℕ → ℕ → List WorldEvent → List WorldEvent → ℕ → View
+view from to seen also number = record { from = from; to = to; seen = seen; also = also; number = number }
+
+-- only who has this view may add events of the node
+abbrev pub Owns : View → ℕ → Type 0
+Owns v n = (v.from ≤ n) × (n < v.to)
+
+-- the node is the same after both lists of events
+abbrev pub Rests : WorldValue → ℕ → List WorldEvent → List WorldEvent → Type 0
+Rests start n xs ys = item (runs start ys).nodes n ≡ item (runs start xs).nodes n
+
+-- A view fits a history where node n is owned by the view of number `seat n`: both lists that it has seen begin the history; and nothing
+-- has happened since at the nodes that it owns.
+pub record Fits (start : WorldValue) (log : List WorldEvent) (seat : ℕ → ℕ) (by : ℕ) (v : View) : Type 0 where
+  pub seen : IsPrefix v.seen log
+  pub also : IsPrefix v.also log
+  pub own : (n : ℕ) → Owns v n → (seat n ≡ by) × Rests start n v.seen log
+
+-- There is one history; the word that threads share is its length, and each view fits it.
+pub record Kept (start : WorldValue) (words : List ℕ) (views : List View) : Type 0 where
+  pub log : List WorldEvent
+  pub seat : ℕ → ℕ
+  pub count : words ≡ length log % 2 ^ 64 ∷ []
+  pub each : (by : ℕ) (v : View) → get_elem? views by ≡ some v → Fits start log seat by v
+
+-- The event came after `log`, which begins with all that the view had seen, and in which nothing had happened at the node since. Its stamp
+-- is how many came before it.
+pub record Came (start : WorldValue) (v : View) (e : WorldEvent) (stamp : ℕ) (seen : List WorldEvent) : Type 0 where
+  pub log : List WorldEvent
+  pub stamped : stamp ≡ length log % 2 ^ 64
+  pub before : IsPrefix v.seen log
+  pub also : IsPrefix v.also log
+  pub rests : Rests start (node_in e) v.seen log
+  pub after : seen ≡ log ++ e ∷ []
+
+-- the view, with a longer beginning seen
+abbrev pub later : View → List WorldEvent → View
+later v seen = view v.from v.to seen [] 0
+
+-- what a step that adds the event tells
+abbrev pub Adds : WorldValue → WorldEvent → Step ℕ → Me ℕ View → ℕ → Me ℕ View → Type 0
+Adds start e s v found w = Came start v.0 e found w.0.seen × (w.0 ≡ later v.0 w.0.seen) × (w.1 ≡ v.1)
+
+-- the view has seen all the history, in which nothing had happened at its nodes since
+pub record Sees (start : WorldValue) (v w : View) : Type 0 where
+  pub before : IsPrefix v.seen w.seen
+  pub also : IsPrefix v.also w.seen
+  pub rests : (n : ℕ) → Owns v n → Rests start n v.seen w.seen
+  pub same : w ≡ later v w.seen
+
+-- what a step that sees the history tells
+abbrev pub Looks : WorldValue → Step ℕ → Me ℕ View → ℕ → Me ℕ View → Type 0
+Looks start s v found w = Sees start v.0 w.0 × (w.1 ≡ v.1)
+
+-- the view of the first node alone, and of the others
+abbrev pub first_node : View → View
+first_node v = view v.from (suc v.from) v.seen [] 0
+
+abbrev pub other_nodes : View → View
+other_nodes v = view (suc v.from) v.to v.seen v.also v.number
+
+-- the view of no node that has seen as much, with a number
+abbrev pub front_of : ℕ → View → View
+front_of number v = view 0 0 v.seen [] number
+
+-- the view, with what another has seen
+abbrev pub told : View → View → View
+told v w = view v.from v.to v.seen w.seen w.number
+
+-- the view of no node that has seen nothing
+abbrev pub nobody : View
+nobody = view 0 0 [] [] 0
+
+-- the view of all nodes that has seen nothing
+abbrev pub all_nodes : View
+all_nodes = view 1 (2 ^ 64) [] [] 0
+
+abbrev pub first_seat : Me ℕ View
+first_seat = (all_nodes, [])
+
+-- A front: a beginning of the history, with a number.
+pub record FrontValue : Type 0 where
+  pub seen : List WorldEvent
+  pub number : ℕ
+
+-- its view
+abbrev pub front : FrontValue → View
+front f = view 0 0 f.seen [] f.number
+
+-- the front that a badge's one view is
+abbrev pub seen_by : List View → FrontValue
+seen_by [] = record { seen = []; number = 0 }
+seen_by (v ∷ vs) = record { seen = v.seen; number = v.number }
+
+-- A history with no name: which table it is, and what it begins with.
+pub record OpenedValue : Type 0 where
+  pub table : TableId
+  pub start : Beginning

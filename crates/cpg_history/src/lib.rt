@@ -1,0 +1,11 @@
+//! One history of a running cluster: what ties each node under its lock to one run of the world.
+#![tactic(auto)]
+
+mod histories;
+pub mod laws;
+mod members;
+mod parcels;
+
+pub use histories::{Beginning, Front, Happens, History, HistoryName, Numbers, Opened, Pen, View};
+pub use members::Member;
+pub use parcels::{Parcel, Parcels};
