@@ -1,0 +1,209 @@
+//! What the clients are to do, how far each of them is, and what they tell each other while they run.
+
+ghost use Rattle.std.specs.Prelude.{◌≤◌, ◌-◌};
+
+use cpg_cred::{NodeId, Refusal};
+use cpg_record::{Event, Verdict};
+use std::alloc::Global;
+use std::sync::Wait;
+use std::sync::atomic::{AtomicBool, AtomicU32, Ordering};
+use std::thread;
+
+/// How many places a ring has at most.
+pub const MOST_PLACES: u32 = 1_048_576;
+
+/// What each client is to do.
+#[derive(Debug, Clone, Copy)]
+pub struct Load {
+    /// How many nodes there are, each with one client: 1 to 8.
+    pub nodes: u8,
+    /// How many messages a client sends at most.
+    pub messages: u32,
+    /// How many bytes a message has: 0 to 8,192.
+    pub size: usize,
+    /// How many messages a client has in flight at most: admitted, and their verdicts not taken yet.
+    pub window: u32,
+    /// Whether all clients stop once one of them has sent all its messages.
+    pub together: bool,
+}
+
+impl Load {
+    /// How many messages all clients send.
+    pub fn total(self) -> u32 {
+        u32::from(self.nodes).saturating_mul(self.messages)
+    }
+
+    /// How many places the ring needs: one for each message, and one for each client's join.
+    pub fn places(self) -> u32 {
+        self.total().saturating_add(u32::from(self.nodes))
+    }
+
+    /// How many messages more a client may submit now.
+    pub fn room(self, tally: Tally) -> u32
+        ensures messages { result ≤ self.messages - tally.sent }
+        ensures window { result ≤ self.window - (tally.sent - tally.answered) }
+    {
+        let in_flight = tally.sent.saturating_sub(tally.answered);
+        let left = self.messages.saturating_sub(tally.sent);
+        left.min(self.window.saturating_sub(in_flight))
+    }
+
+    /// Whether a client is done: where the load is over, once it was told of all that it sent itself, else once it
+    /// was told of all that all sent.
+    pub fn is_done(self, tally: Tally, over: bool) -> bool {
+        if over {
+            tally.answered >= tally.sent
+        } else {
+            tally.answered >= self.messages && tally.told >= self.total()
+        }
+    }
+}
+
+/// How far a client is.
+#[derive(Debug, Clone, Copy, PartialEq, Eq)]
+pub struct Tally {
+    /// How many messages of its own were admitted.
+    pub sent: u32,
+    /// How many verdicts on them it took.
+    pub answered: u32,
+    /// How many messages, of all clients, it took.
+    pub told: u32,
+    /// A number that these messages and their order come to.
+    pub order: u64,
+}
+
+/// What messages come to, with one more.
+fn mixed(order: u64, place: u32, node: NodeId, message: &[u8]) -> u64 {
+    let length = message.len() as u64;
+    let step = u64::from(place) << 24 ^ u64::from(node.get()) << 16 ^ length;
+    (order ^ step).wrapping_mul(0x100_0000_01b3)
+}
+
+impl Tally {
+    /// Of a client that has done nothing.
+    pub const NONE: Tally = Tally {
+        sent: 0,
+        answered: 0,
+        told: 0,
+        order: 0,
+    };
+
+    /// The tally after the event; none where no such event comes under a load: a refused message, a change of
+    /// members or of rules.
+    pub fn after(self, event: &Event) -> Option<Tally> {
+        match event {
+            Event::Verdict { verdict, .. } => match verdict {
+                Verdict::Allowed(_) => Some(Tally {
+                    answered: self.answered.saturating_add(1),
+                    ..self
+                }),
+                _ => None,
+            },
+            Event::Message {
+                place,
+                node,
+                message,
+                ..
+            } => Some(Tally {
+                told: self.told.saturating_add(1),
+                order: mixed(self.order, *place, *node, message.as_slice()),
+                ..self
+            }),
+            _ => None,
+        }
+    }
+}
+
+/// What the clients, and whoever watches them, tell each other.
+#[derive(Drop)]
+pub struct Signals {
+    /// How many clients were told of the join of all.
+    entered: AtomicU32,
+    /// How many clients are done.
+    done: AtomicU32,
+    /// Whether nothing is sent any more.
+    over: AtomicBool,
+    /// Whether a client was refused, so that all give up.
+    failed: AtomicBool,
+    /// How many messages each client took.
+    told: Vec<AtomicU32>,
+}
+
+impl Signals {
+    /// For so many clients, which have done nothing.
+    pub fn new(alloc: Global, clients: u8) -> Result<Signals, Refusal> {
+        let mut told = Vec::new(alloc);
+        for _ in 0..clients {
+            told.push(AtomicU32::new(0))?;
+        }
+        Ok(Signals {
+            entered: AtomicU32::new(0),
+            done: AtomicU32::new(0),
+            over: AtomicBool::new(false),
+            failed: AtomicBool::new(false),
+            told,
+        })
+    }
+
+    /// A client has entered.
+    pub fn enter(&self) {
+        self.entered.fetch_add(1, Ordering::SeqCst);
+    }
+
+    /// A client is done.
+    pub fn leave(&self) {
+        self.done.fetch_add(1, Ordering::SeqCst);
+    }
+
+    /// Nothing is sent any more.
+    pub fn end(&self) {
+        self.over.store(true, Ordering::SeqCst);
+    }
+
+    /// All give up.
+    pub fn fail(&self) {
+        self.failed.store(true, Ordering::SeqCst);
+        self.end();
+    }
+
+    /// The client of that index has taken so many messages.
+    pub fn tell(&self, index: usize, told: u32) {
+        if let Some(count) = self.told.get(index) {
+            count.store(told, Ordering::SeqCst);
+        }
+    }
+
+    /// Whether nothing is sent any more.
+    pub fn is_over(&self) -> bool {
+        self.over.load(Ordering::SeqCst)
+    }
+
+    /// Whether a client was refused.
+    pub fn has_failed(&self) -> bool {
+        self.failed.load(Ordering::SeqCst)
+    }
+
+    /// Whether all clients are done, or give up.
+    pub fn are_done(&self, clients: u8) -> bool {
+        self.has_failed() || self.done.load(Ordering::SeqCst) >= u32::from(clients)
+    }
+
+    /// How many messages each client took, in the order of their nodes.
+    pub fn counts(&self) -> &[AtomicU32] {
+        self.told.as_slice()
+    }
+
+    /// Waits until so many clients have entered. Whether they have: else one was refused.
+    pub fn wait_for<R: Wait>(&self, rt: &R, clients: u8) -> bool {
+        for _ in rt.forever() {
+            if self.has_failed() {
+                return false;
+            }
+            if self.entered.load(Ordering::SeqCst) >= u32::from(clients) {
+                return true;
+            }
+            thread::yield_now();
+        }
+        unreachable!()
+    }
+}
