@@ -16,4 +16,3 @@ pub use boards::Board;
 pub use cpg_record::{MOST_PLACES, Record};
 pub use seats::Seat;
 pub use settling::Settled;
-

@@ -27,4 +27,3 @@ pub use records::Audited;
 pub use rules::RuleLine;
 pub use statuses::{BUSY, CLOSED, NONE, OK, SPACE, limits, number_of};
 pub use told::Told;
-

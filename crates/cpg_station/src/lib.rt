@@ -13,4 +13,3 @@ mod stations;
 
 pub use naming::BoardName;
 pub use stations::Station;
-
