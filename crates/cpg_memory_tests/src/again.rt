@@ -77,6 +77,17 @@ pub fn goes_on<T: Tried>(
     Ok(())
 }
 
+/// The same of a value of the row's own, which is let go in one place.
+pub fn ends<T: Tried + Drop>(
+    mut tried: T,
+    alloc: Global,
+    steps: &[(T::Step, Short)],
+) -> Result<(), Stop> {
+    let ended = goes_on(&mut tried, alloc, steps);
+    drop(tried);
+    ended
+}
+
 impl From<Refusal> for Stop {
     fn from(refusal: Refusal) -> Stop {
         match refusal {

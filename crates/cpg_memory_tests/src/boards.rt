@@ -3,7 +3,7 @@
 ghost use Rattle.std.specs.Prelude.{◌≡◌};
 ghost use Rattle.cpg_board.specs.Seats.{IsSeatOf};
 
-use crate::again::{Row, Stop, Tried, goes_on, plays};
+use crate::again::{Row, Stop, Tried, ends, plays};
 use crate::policies::{rejoined, twice};
 use crate::short::Short;
 use cpg_board::{Board, Record, Seat, Settled};
@@ -136,16 +136,31 @@ impl Tried for Desk {
     }
 }
 
+fn policies(alloc: Global) -> Result<(Policy, Policy), Refusal> {
+    let first = rejoined(alloc)?;
+    match twice(alloc) {
+        Ok(other) => Ok((first, other)),
+        Err(refusal) => Err(refusal),
+    }
+}
+
+fn new_desk(alloc: Global) -> Result<Desk, Refusal> {
+    let (first, other) = policies(alloc)?;
+    match Board::new(alloc, 2) {
+        Ok(board) => Ok(Desk {
+            board,
+            first,
+            other,
+        }),
+        Err(_) => Err(Refusal::Memory),
+    }
+}
+
 /// Records settle on a board of two, which is full then, and a seat catches up.
 struct BoardOfTwo;
 
 impl Row for BoardOfTwo {
     fn play(&self, alloc: Global) -> Result<(), Stop> {
-        let mut desk = Desk {
-            board: Board::new(alloc, 2)?,
-            first: rejoined(alloc)?,
-            other: twice(alloc)?,
-        };
         let steps = [
             (Step::Settle(0, 0), Short::Count(1)),
             (Step::Settle(0, 0), Short::Count(1)),
@@ -158,7 +173,7 @@ impl Row for BoardOfTwo {
             (Step::Read, Short::Count(2)),
             (Step::CatchUp, Short::Count(2)),
         ];
-        goes_on(&mut desk, alloc, steps.as_slice())
+        ends(new_desk(alloc)?, alloc, steps.as_slice())
     }
 }
 

@@ -1,6 +1,6 @@
 //! Conf texts, names, and the list of users and groups that they add to.
 
-use crate::again::{Row, Stop, Tried, goes_on, plays};
+use crate::again::{Row, Stop, Tried, ends, plays};
 use crate::short::Short;
 use cpg_conf::{Names, read_conf};
 use cpg_cred::{AcceptList, Cred, Refusal, Via};
@@ -86,10 +86,6 @@ struct ConfTexts;
 
 impl Row for ConfTexts {
     fn play(&self, alloc: Global) -> Result<(), Stop> {
-        let mut door = Door {
-            names: Names::new(alloc),
-            list: AcceptList::new(alloc),
-        };
         let steps = [
             (Step::Conf(NESTED), Short::Done),
             (Step::Asks(5, 5), Short::Refused(Refusal::Access)),
@@ -111,7 +107,11 @@ impl Row for ConfTexts {
             (Step::Group(30), Short::Done),
             (Step::Asks(9, 30), Short::Lets(Via::Group)),
         ];
-        goes_on(&mut door, alloc, steps.as_slice())
+        let door = Door {
+            names: Names::new(alloc),
+            list: AcceptList::new(alloc),
+        };
+        ends(door, alloc, steps.as_slice())
     }
 }
 

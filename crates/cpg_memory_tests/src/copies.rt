@@ -1,6 +1,6 @@
 //! Copies of what entries, frames, records and lists hold, and lists made of slices.
 
-use crate::again::{Row, Stop, Tried, goes_on, plays};
+use crate::again::{Row, Stop, Tried, ends, plays};
 use crate::entering::node;
 use crate::policies::left_and_denied;
 use crate::short::Short;
@@ -11,12 +11,10 @@ use cpg_group::{ConnId, Events, Members, Policy, Record};
 use std::alloc::Global;
 use std::test::Fail;
 
-/// What is copied.
+/// The records that are copied.
 #[derive(Drop)]
 struct Things {
     policy: Policy,
-    token: Token,
-    list: AcceptList,
 }
 
 /// A copy that is made and compared.
@@ -88,14 +86,25 @@ fn copy_events(alloc: Global, policy: &Policy, place: u32) -> Result<Short, Refu
     Ok(Short::Is(are_alike(alloc, &copy, &events)?))
 }
 
-fn copy_token(alloc: Global, token: &Token) -> Result<Short, Refusal> {
+fn is_token_copied(alloc: Global, token: &Token) -> Result<Short, Refusal> {
     let places = Places::from_slice(alloc, token.rtr.as_slice())? == token.rtr;
     Ok(Short::Is(token.copy(alloc)? == *token && places))
 }
 
-fn copy_list(alloc: Global, list: &AcceptList) -> Result<Short, Refusal> {
-    let copy = list.copy(alloc)?;
-    Ok(Short::Lets(copy.accepts(Cred { uid: 7, gid: 9 })?))
+fn copy_token(alloc: Global) -> Result<Short, Refusal> {
+    is_token_copied(alloc, &asking(alloc)?)
+}
+
+fn lets_in(list: &AcceptList) -> Result<Short, Refusal> {
+    Ok(Short::Lets(list.accepts(Cred { uid: 7, gid: 9 })?))
+}
+
+fn copy_list(alloc: Global) -> Result<Short, Refusal> {
+    let list = listed(alloc)?;
+    match list.copy(alloc) {
+        Ok(copy) => lets_in(&copy),
+        Err(_) => Err(Refusal::Memory),
+    }
 }
 
 fn copy_name(alloc: Global) -> Result<Short, Refusal> {
@@ -125,8 +134,8 @@ impl Tried for Things {
                 None => Err(Refusal::Range),
             },
             Step::Events(place) => copy_events(alloc, &self.policy, *place),
-            Step::Token => copy_token(alloc, &self.token),
-            Step::List => copy_list(alloc, &self.list),
+            Step::Token => copy_token(alloc),
+            Step::List => copy_list(alloc),
             Step::Name => copy_name(alloc),
             Step::Message => copy_message(alloc),
         }
@@ -134,9 +143,7 @@ impl Tried for Things {
 
     fn looks(&self, alloc: Global) -> Result<String, Refusal> {
         let records = self.policy.records();
-        let token = &self.token;
-        let list = &self.list;
-        Ok(format!(in alloc; "{records:?} {token:?} {list:?}")?)
+        Ok(format!(in alloc; "{records:?}")?)
     }
 }
 
@@ -164,11 +171,6 @@ struct EachCopied;
 
 impl Row for EachCopied {
     fn play(&self, alloc: Global) -> Result<(), Stop> {
-        let mut things = Things {
-            policy: left_and_denied(alloc)?,
-            token: asking(alloc)?,
-            list: listed(alloc)?,
-        };
         let same = Short::Is(true);
         let steps = [
             (Step::Record(0), same),
@@ -183,7 +185,10 @@ impl Row for EachCopied {
             (Step::Name, same),
             (Step::Message, same),
         ];
-        goes_on(&mut things, alloc, steps.as_slice())
+        let things = Things {
+            policy: left_and_denied(alloc)?,
+        };
+        ends(things, alloc, steps.as_slice())
     }
 }
 

@@ -1,6 +1,6 @@
 //! Rows of one node: its full queue, frames that nobody sent, and listings over what it heard.
 
-use crate::again::{Row, Stop, Tried, goes_on, plays};
+use crate::again::{Row, Stop, Tried, ends, plays};
 use crate::entering::{Ask, call, cred, node};
 use crate::frames::{FIRST, JOIN_APP, JOIN_DB};
 use crate::short::{Short, event_in_short};
@@ -175,20 +175,32 @@ fn fill(one: &mut Node, count: usize) -> Result<(), Refusal> {
     Ok(())
 }
 
+/// A process connects at the node, and all but one of the calls wait that may wait.
+fn fill_queue(one: &mut Node) -> Result<(), Refusal> {
+    one.connect(40, cred(7))?;
+    fill(one, 255)
+}
+
+/// A node whose queue has room for one call.
+fn nearly_full(alloc: Global) -> Result<Node, Refusal> {
+    let mut one = new_node(alloc, 1, 1)?;
+    match fill_queue(&mut one) {
+        Ok(()) => Ok(one),
+        Err(refusal) => Err(refusal),
+    }
+}
+
 /// A queue of 256 calls, and the end of a connection behind them.
 struct FullQueue;
 
 impl Row for FullQueue {
     fn play(&self, alloc: Global) -> Result<(), Stop> {
-        let mut one = new_node(alloc, 1, 1)?;
-        one.connect(40, cred(7))?;
-        fill(&mut one, 255)?;
         let steps = [
             (Step::Submit(Ask::Leave), Short::Done),
             (Step::LeaveInVain, Short::Refused(Refusal::QueueFull)),
             (Step::End, Short::Done),
         ];
-        goes_on(&mut one, alloc, steps.as_slice())
+        ends(nearly_full(alloc)?, alloc, steps.as_slice())
     }
 }
 
@@ -209,7 +221,6 @@ struct Listings;
 
 impl Row for Listings {
     fn play(&self, alloc: Global) -> Result<(), Stop> {
-        let mut one = new_node(alloc, 1, 2)?;
         let heard = [
             (Step::Frame(JOIN_DB.as_slice()), Short::Count(0)),
             (Step::Frame(JOIN_APP.as_slice()), Short::Count(0)),
@@ -228,7 +239,7 @@ impl Row for Listings {
             (Step::List(2, "db"), Short::Count(1)),
             (Step::List(2, "zz"), Short::Count(0)),
         ];
-        goes_on(&mut one, alloc, heard.as_slice())
+        ends(new_node(alloc, 1, 2)?, alloc, heard.as_slice())
     }
 }
 
@@ -248,7 +259,6 @@ struct Frames;
 
 impl Row for Frames {
     fn play(&self, alloc: Global) -> Result<(), Stop> {
-        let mut one = new_node(alloc, 1, 1)?;
         let steps = [
             (
                 Step::Strange(CUT.as_slice()),
@@ -278,7 +288,7 @@ impl Row for Frames {
             (Step::Take(1), Short::Change(1, 1, 0, 1)),
             (Step::Take(1), Short::NoEvent),
         ];
-        goes_on(&mut one, alloc, steps.as_slice())
+        ends(new_node(alloc, 1, 1)?, alloc, steps.as_slice())
     }
 }
 

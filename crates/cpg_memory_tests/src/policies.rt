@@ -1,6 +1,6 @@
 //! Rows of a policy.
 
-use crate::again::{Row, Stop, Tried, goes_on, plays};
+use crate::again::{Row, Stop, Tried, ends, plays};
 use crate::entering::{Ask, Source, entry, node, short_of_entry};
 use crate::short::Short;
 use crate::tables::{MEMBER, ROOT, deny, let_edit, member_by};
@@ -186,10 +186,7 @@ impl Tried for Policy {
 
 /// A new policy goes through the steps.
 fn play(alloc: Global, steps: &[(Step, Short)]) -> Result<(), Stop> {
-    let mut policy = Policy::new(alloc);
-    let ended = goes_on(&mut policy, alloc, steps);
-    drop(policy);
-    ended
+    ends(Policy::new(alloc), alloc, steps)
 }
 
 /// A join of `db`.
@@ -319,13 +316,28 @@ fn joiner(conn: u16) -> Source {
 /// A policy whose group has so many members, or a table of so many rules behind that of its first member.
 fn filled(alloc: Global, members: u16, rules: u16) -> Result<Policy, Refusal> {
     let mut policy = Policy::new(alloc);
+    match fill(alloc, &mut policy, members, rules) {
+        Ok(()) => Ok(policy),
+        Err(refusal) => Err(refusal),
+    }
+}
+
+fn fill(alloc: Global, policy: &mut Policy, members: u16, rules: u16) -> Result<(), Refusal> {
     for conn in 1..=members {
-        enter(alloc, &mut policy, entry(alloc, &joiner(conn), &JOIN)?)?;
+        enter_one(alloc, policy, &joiner(conn), &JOIN)?;
     }
     for _ in 0..rules {
-        enter(alloc, &mut policy, entry(alloc, &ROOT, &no_sends())?)?;
+        enter_one(alloc, policy, &ROOT, &no_sends())?;
     }
-    Ok(policy)
+    Ok(())
+}
+
+fn enter_one(alloc: Global, policy: &mut Policy, from: &Source, ask: &Ask) -> Result<(), Refusal> {
+    let asked = entry(alloc, from, ask)?;
+    match enter(alloc, policy, asked) {
+        Ok(_) => Ok(()),
+        Err(refusal) => Err(refusal),
+    }
 }
 
 /// The 129th member and the 65th rule.
@@ -333,7 +345,6 @@ struct GroupAndTable;
 
 impl Row for GroupAndTable {
     fn play(&self, alloc: Global) -> Result<(), Stop> {
-        let mut full = filled(alloc, 127, 63)?;
         let steps = [
             (Step::Apply(joiner(128), JOIN), ALLOWED),
             (Step::Apply(joiner(129), JOIN), denied(Reason::Full)),
@@ -343,7 +354,7 @@ impl Row for GroupAndTable {
             ),
             (Step::Enter(ROOT, no_sends()), denied(Reason::TableFull)),
         ];
-        goes_on(&mut full, alloc, steps.as_slice())
+        ends(filled(alloc, 127, 63)?, alloc, steps.as_slice())
     }
 }
 
