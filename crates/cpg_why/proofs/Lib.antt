@@ -1,0 +1,13 @@
+pub mod Before
+pub mod Chained
+pub mod Conditions
+pub mod Deciding
+pub mod Denied
+pub mod Few
+pub mod Moved
+pub mod Naming
+pub mod Numbered
+pub mod Pieces
+pub mod Tabled
+pub mod Under
+pub mod Walked

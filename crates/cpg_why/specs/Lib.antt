@@ -1,0 +1,6 @@
+pub mod Laws
+pub mod Moves
+pub mod Scripts
+pub mod Texts
+pub mod Unmet
+pub mod Without

@@ -1,0 +1,46 @@
+-- which condition of a rule an asker does not meet
+use Rattle.std.specs.Prelude.{ℕ, ◌==◌, List, ◌++◌, codes, decimal, Option, Some, None, if◌then◌else◌}
+use Rattle.cpg_rules.specs.declared.rules.Asker.{Asker}
+use Rattle.cpg_rules.specs.declared.rules.Who.{Who}
+use Rattle.cpg_why.specs.declared.unmet.Kind.{Kind}
+use Rattle.cpg_why.specs.declared.unmet.Kind.TheVariants.{Uid, Gid, Node}
+use Rattle.cpg_why.specs.declared.unmet.Unmet.{Unmet}
+
+-- the condition of a rule that is of that kind, if the rule has one
+abbrev pub wanted_by : Kind → Who → Option ℕ
+wanted_by Uid who = who.uid
+wanted_by Gid who = who.gid
+wanted_by Node who = who.node
+
+-- what an asker has of that kind
+abbrev pub had_by : Kind → Asker → ℕ
+had_by Uid asker = asker.cred.uid
+had_by Gid asker = asker.cred.gid
+had_by Node asker = asker.node
+
+-- a condition of that kind that is there and does not hold of the number
+abbrev pub lacking : Kind → ℕ → Option ℕ → Option Unmet
+lacking kind has None = None
+lacking kind has (Some wanted) = if has == wanted then None else Some (record { kind = kind; has = has; wanted = wanted })
+
+-- the first that is there
+abbrev pub first_of_two : Option Unmet → Option Unmet → Option Unmet
+first_of_two (Some found) other = Some found
+first_of_two None other = other
+
+-- the first condition, in the order uid, gid, node, that the asker does not meet
+unfoldable pub unmet : Who → Asker → Option Unmet
+unmet who asker =
+    first_of_two (lacking Uid asker.cred.uid who.uid)
+    (first_of_two (lacking Gid asker.cred.gid who.gid) (lacking Node asker.node who.node))
+
+-- the name of a kind
+abbrev pub kind_text : Kind → List ℕ
+kind_text Uid = codes "uid "
+kind_text Gid = codes "gid "
+kind_text Node = codes "node "
+
+-- `: KIND HAS is not WANTED`
+unfoldable pub unmet_text : Option Unmet → List ℕ
+unmet_text None = codes ""
+unmet_text (Some found) = codes ": " ++ kind_text found.kind ++ decimal found.has ++ codes " is not " ++ decimal found.wanted

@@ -1,0 +1,43 @@
+//! What is asked of a script, and why it is not told.
+
+ghost use Rattle.std.specs.Prelude.{◌≡◌, None};
+ghost use Rattle.cpg_why.specs.declared.asking.WhyFault.TheVariants.{Script};
+
+use cpg_cred::Refusal;
+use cpg_record::ConnId;
+use cpg_script::Fault;
+use thiserror::Error;
+
+/// What is asked of the entries of a script.
+#[derive(Debug, Clone, Copy, PartialEq, Eq)]
+pub enum Asked {
+    /// Why the entry at that place was answered as it was; places are counted from 1.
+    Place(u32),
+    /// The same of each denied entry, in order, with a blank line between them.
+    Denials,
+    /// The way of that connection: each of its entries with its verdict, and each change of its group's members that
+    /// it was told, in order. A connection that made no entry has none.
+    Connection(ConnId),
+}
+
+/// Why nothing is told, or not all.
+#[derive(Debug, Drop, Error)]
+pub enum WhyFault {
+    /// The script cannot be read, has a bad line, memory is refused, or the writer fails.
+    #[error("{0}")]
+    Script(Fault),
+    /// No entry stands at the place, as there are so many.
+    #[error("no entry {place}: the script has {entries}")]
+    NoEntry { place: u32, entries: u32 },
+}
+
+impl From<Refusal> for WhyFault {
+    ghost from_gives = { λ refusal fault. fault ≡ Script (record { part = None; refusal = refusal }) };
+
+    fn from(refusal: Refusal) -> WhyFault {
+        WhyFault::Script(Fault {
+            part: None,
+            refusal,
+        })
+    }
+}

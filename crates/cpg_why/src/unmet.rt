@@ -1,0 +1,132 @@
+//! Which condition of a rule an asker does not meet.
+
+ghost use Rattle.std.specs.Prelude.{◌≡◌, ◌++◌, ◌&&◌, codes, OnOk, IsOkUnless};
+ghost use Rattle.cpg_rules.specs.Decision.{agrees, matches, same_right};
+ghost use Rattle.cpg_why.specs.Unmet.{kind_text, lacking, unmet, unmet_text};
+
+use cpg_cred::{NodeId, Refusal};
+use cpg_print::node_number;
+use cpg_rules::{Asker, Right, Rule, Who};
+use cpg_script::put;
+use cpg_text::push_number;
+
+/// What a condition of a rule is on.
+#[derive(Debug, Clone, Copy, PartialEq, Eq)]
+pub enum Kind {
+    /// The user of the asker.
+    Uid,
+    /// The group of users of the asker.
+    Gid,
+    /// The node of the asker.
+    Node,
+}
+
+/// A condition that an asker does not meet: it has one number and another is wanted.
+#[derive(Debug, Clone, Copy, PartialEq, Eq)]
+pub struct Unmet {
+    pub kind: Kind,
+    /// What the asker has.
+    pub has: u32,
+    /// What the condition wants.
+    pub wanted: u32,
+}
+
+/// The condition of that kind, where it is there and does not hold of the number.
+fn find_lacking(kind: Kind, has: u32, condition: Option<u32>) -> Option<Unmet>
+    ensures { result ≡ lacking kind has condition }
+{
+    match condition {
+        None => None,
+        Some(wanted) => {
+            if has == wanted {
+                None
+            } else {
+                Some(Unmet { kind, has, wanted })
+            }
+        }
+    }
+}
+
+/// The first condition, in the order uid, gid, node, that the asker does not meet.
+#[tactic(auto, unfolding(crate::specs::Unmet::unmet))]
+fn find_unmet(who: &Who, asker: &Asker) -> Option<Unmet>
+    ensures { result ≡ unmet who.now asker.now }
+{
+    match find_lacking(Kind::Uid, asker.cred.uid, who.uid) {
+        Some(found) => Some(found),
+        None => match find_lacking(Kind::Gid, asker.cred.gid, who.gid) {
+            Some(found) => Some(found),
+            None => find_lacking(
+                Kind::Node,
+                u32::from(asker.node.get()),
+                node_number(who.node),
+            ),
+        },
+    }
+}
+
+/// Whether a condition on a number holds of it.
+fn holds(condition: Option<u32>, number: u32) -> bool
+    ensures { result ≡ agrees condition number }
+{
+    match condition {
+        None => true,
+        Some(wanted) => number == wanted,
+    }
+}
+
+/// Whether a condition on a node holds of it.
+fn holds_at(condition: Option<NodeId>, node: NodeId) -> bool
+    ensures { result ≡ agrees condition node }
+{
+    match condition {
+        None => true,
+        Some(wanted) => node == wanted,
+    }
+}
+
+/// Whether the rule speaks of that right and that asker.
+pub(crate) fn speaks_of(rule: &Rule, right: Right, asker: &Asker) -> bool
+    ensures { result ≡ same_right rule.now.right right && matches rule.now.who asker.now }
+{
+    rule.right == right
+        && holds(rule.who.uid, asker.cred.uid)
+        && holds(rule.who.gid, asker.cred.gid)
+        && holds_at(rule.who.node, asker.node)
+}
+
+fn kind_name(kind: Kind) -> &'static str
+    ensures { result.now ≡ kind_text kind }
+{
+    match kind {
+        Kind::Uid => "uid ",
+        Kind::Gid => "gid ",
+        Kind::Node => "node ",
+    }
+}
+
+/// Puts a condition that is not met, if one is there.
+#[tactic(auto, unfolding(crate::specs::Unmet::unmet_text))]
+fn put_found(line: &mut Vec<u8>, found: Option<Unmet>) -> Result<(), Refusal>
+    ensures ok { OnOk result (line.new.items ≡ line.old.items ++ unmet_text found) }
+    ensures memory { IsOkUnless result Refusal.Memory }
+{
+    match found {
+        None => put(line, ""),
+        Some(found) => {
+            put(line, ": ")?;
+            put(line, kind_name(found.kind))?;
+            push_number(line, u64::from(found.has))?;
+            put(line, " is not ")?;
+            push_number(line, u64::from(found.wanted))
+        }
+    }
+}
+
+/// Puts the first condition that the asker does not meet, if there is one.
+pub(crate) fn put_unmet(line: &mut Vec<u8>, who: &Who, asker: &Asker) -> Result<(), Refusal>
+    ensures ok { OnOk result (line.new.items ≡ line.old.items ++ unmet_text (unmet who.now asker.now)) }
+    ensures memory { IsOkUnless result Refusal.Memory }
+{
+    put_found(line, find_unmet(who, asker))
+}
