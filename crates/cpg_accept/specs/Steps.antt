@@ -1,4 +1,4 @@
--- steps of the reading functions, which no contract of a public function cites
+-- steps of the reading functions; of these `AnswersAre` alone stands in the contract of a public function, `answer_script`
 use Rattle.std.specs.Prelude.{◌≡◌, ◌⊎◌, ℕ, ◌+◌, List, length, [], ◌∷◌, ◌++◌, Option, Some, None, option_map, Result, Ok, Err}
 use Rattle.std.specs.Borrow.{Bor}
 use Rattle.std.specs.Io.KnownBytes.{Keeps}

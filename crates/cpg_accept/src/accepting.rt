@@ -62,8 +62,9 @@ fn answer_to<W: Write>(alloc: Global, script: &[u8], writer: &mut W) -> Result<(
     }
 }
 
-/// The answers to the asks of a script.
-fn answer_script(alloc: Global, script: &[u8]) -> Result<Vec<Option<Via>>, Fault>
+/// The answers to the asks of a script that was read, or its first fault; `Memory` has the number of the names or
+/// conf part to which it was refused.
+pub fn answer_script(alloc: Global, script: &[u8]) -> Result<Vec<Option<Via>>, Fault>
     ensures ok { IfOk result (λ answers. AnswersAre (admitted_by script.now) answers.items) }
     ensures err { IfErr result (λ fault. LacksMemory script.now fault ⊎ (admitted_by script.now ≡ Err fault)) }
 {

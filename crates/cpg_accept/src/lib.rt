@@ -9,4 +9,4 @@ mod admitting;
 mod asks;
 mod parts;
 
-pub use accepting::accept_script;
+pub use accepting::{accept_script, answer_script};

@@ -15,7 +15,7 @@ use std::io::Write;
 const MUCH: usize = 16_384;
 
 /// Writes what is gathered.
-pub(crate) fn write_all<W: Write>(writer: &mut W, lines: &mut Vec<u8>) -> Result<(), Refusal>
+pub fn write_all<W: Write>(writer: &mut W, lines: &mut Vec<u8>) -> Result<(), Refusal>
     ensures lines { Gathers result (W.contents writer.old) lines.old.items (W.contents writer.new) lines.new.items [] }
     ensures none { OnOk result (lines.new.items ≡ []) }
 {
@@ -29,7 +29,7 @@ pub(crate) fn write_all<W: Write>(writer: &mut W, lines: &mut Vec<u8>) -> Result
 }
 
 /// Writes what is gathered, where it is much.
-pub(crate) fn write_much<W: Write>(writer: &mut W, lines: &mut Vec<u8>) -> Result<(), Refusal>
+pub fn write_much<W: Write>(writer: &mut W, lines: &mut Vec<u8>) -> Result<(), Refusal>
     ensures { Gathers result (W.contents writer.old) lines.old.items (W.contents writer.new) lines.new.items [] }
 {
     if lines.len() < MUCH {

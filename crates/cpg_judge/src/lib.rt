@@ -11,4 +11,6 @@ mod output;
 mod scripts;
 mod texts;
 
+pub use gathering::{write_all, write_much};
 pub use judging::judge_script;
+pub use scripts::judge_lines;

@@ -1,0 +1,90 @@
+-- strings are read again
+use Rattle.std.proofs.Common.{◌≡◌, ℕ, zero, suc, ◌+◌, ◌*◌, ◌/◌, ◌%◌, ◌<◌, ◌≤◌, List, [], ◌∷◌, ◌++◌, length, length-append, codes, Bool, true, false, ◌&&◌, nat_lt, Some, option_map, refl, ap, ◌∙◌, append_assoc, arith}
+use Rattle.std.proofs.lemmas.Bool.Decides.{nat_tests}
+use Rattle.std.specs.Prelude.{◌==◌, if◌then◌else◌}
+use Rattle.std.specs.List.{flat_map, list_all, AllByRecursion}
+use Rattle.std.specs.Char.{digit_value}
+use Rattle.std.specs.Fmt.{digit_glyph}
+use Rattle.cpg_json.specs.Reading.{bytes_in, is_printable, string_of}
+use Rattle.cpg_json.specs.Strings.{hex_byte, is_plain, json_string, string_byte}
+
+-- a glyph is the digit that it was written for
+glyph_value : (d : ℕ) → d < 16 → digit_value (digit_glyph false d) ≡ d
+glyph_value d small = grind (arith, nat_tests)
+
+-- an escape stands for its byte
+escape_first : (most b : ℕ) (rest : List ℕ) → b < 256 → bytes_in (suc most) ((codes "\\u00" ++ hex_byte b) ++ rest) ≡ option_map (λ bytes. b ∷ bytes) (bytes_in most rest)
+escape_first most b rest small =
+    let high = glyph_value (b / 16) (omega arith) in
+    let low = glyph_value (b % 16) (omega arith) in
+    let one : nat_lt (b / 16) 16 ≡ true = grind (arith, nat_tests) in
+    let two : nat_lt (b % 16) 16 ≡ true = grind (arith, nat_tests) in
+    let whole : 16 * (b / 16) + b % 16 ≡ b = omega arith in
+    rw (high, low, one, two, whole) refl
+
+-- a plain byte stands for itself
+plain_first : (most b : ℕ) (rest : List ℕ) → is_plain b ≡ true → bytes_in (suc most) (b ∷ rest) ≡ option_map (λ bytes. b ∷ bytes) (bytes_in most rest)
+plain_first most b rest plain =
+    let quote : (b == 34) ≡ false = grind (arith, nat_tests) in
+    let slash : (b == 92) ≡ false = grind (arith, nat_tests) in
+    rw (quote, slash) refl
+
+byte_first : (most b : ℕ) (rest : List ℕ) → b < 256 → bytes_in (suc most) (string_byte b ++ rest) ≡ option_map (λ bytes. b ∷ bytes) (bytes_in most rest)
+byte_first most b rest small = by_test (is_plain b) refl
+  where
+    by_test : (p : Bool) → is_plain b ≡ p → bytes_in (suc most) ((if p then b ∷ [] else codes "\\u00" ++ hex_byte b) ++ rest) ≡ option_map (λ bytes. b ∷ bytes) (bytes_in most rest)
+    by_test false e = escape_first most b rest small
+    by_test true e = plain_first most b rest e
+
+-- what is escaped is read again
+escaped_back : (most : ℕ) (bytes : List ℕ) → AllByRecursion (λ b. b < 256) bytes → length bytes < most → bytes_in most (flat_map string_byte bytes ++ codes "\"") ≡ Some bytes
+escaped_back zero bytes small fewer = absurd (omega (arith, fewer))
+escaped_back (suc most) [] small fewer = refl
+escaped_back (suc most) (b ∷ bs) small fewer =
+    ap (bytes_in (suc most)) (append_assoc (string_byte b) (flat_map string_byte bs) (codes "\""))
+    ∙ byte_first most b (flat_map string_byte bs ++ codes "\"") small.0
+    ∙ ap (option_map (λ bytes. b ∷ bytes)) (escaped_back most bs small.1 (omega (arith, fewer)))
+
+-- a byte is written as one byte at least
+string_byte-length : (b : ℕ) → 1 ≤ length (string_byte b)
+string_byte-length b = by_test (is_plain b)
+  where
+    by_test : (p : Bool) → 1 ≤ length (if p then b ∷ [] else codes "\\u00" ++ hex_byte b)
+    by_test false = omega arith
+    by_test true = omega arith
+
+no_fewer : (bytes : List ℕ) → length bytes ≤ length (flat_map string_byte bytes)
+no_fewer [] = omega arith
+no_fewer (b ∷ bs) = omega (arith, no_fewer bs, string_byte-length b, length-append (string_byte b) (flat_map string_byte bs))
+
+pub string_back : (bytes : List ℕ) → AllByRecursion (λ b. b < 256) bytes → string_of (json_string bytes) ≡ Some bytes
+string_back bytes small =
+    escaped_back (length (flat_map string_byte bytes ++ codes "\"")) bytes small
+    (omega (arith, no_fewer bytes, length-append (flat_map string_byte bytes) (codes "\"")))
+
+-- ---- printable
+
+list_all-append : (p : ℕ → Bool) (a b : List ℕ) → list_all p a ≡ true → list_all p b ≡ true → list_all p (a ++ b) ≡ true
+list_all-append p [] b first second = second
+list_all-append p (x ∷ a) b first second = by_test (p x) first (λ all. list_all-append p a b all second)
+  where
+    by_test : (t : Bool) → (t && list_all p a) ≡ true → (list_all p a ≡ true → list_all p (a ++ b) ≡ true) → (t && list_all p (a ++ b)) ≡ true
+    by_test true all rest = rest all
+    by_test false all rest = absurd (cc)
+
+glyph_printable : (d : ℕ) → d < 16 → is_printable (digit_glyph false d) ≡ true
+glyph_printable d small = grind (arith, nat_tests)
+
+byte_printable : (b : ℕ) → b < 256 → list_all is_printable (string_byte b) ≡ true
+byte_printable b small = by_test (is_plain b) refl
+  where
+    by_test : (p : Bool) → is_plain b ≡ p → list_all is_printable (if p then b ∷ [] else codes "\\u00" ++ hex_byte b) ≡ true
+    by_test true e = let here : is_printable b ≡ true = grind (arith, nat_tests) in rw here refl
+    by_test false e = rw (glyph_printable (b / 16) (omega arith), glyph_printable (b % 16) (omega arith)) refl
+
+bytes_printable : (bytes : List ℕ) → AllByRecursion (λ b. b < 256) bytes → list_all is_printable (flat_map string_byte bytes) ≡ true
+bytes_printable [] small = refl
+bytes_printable (b ∷ bs) small = list_all-append is_printable (string_byte b) (flat_map string_byte bs) (byte_printable b small.0) (bytes_printable bs small.1)
+
+pub string_printable : (bytes : List ℕ) → AllByRecursion (λ b. b < 256) bytes → list_all is_printable (json_string bytes) ≡ true
+string_printable bytes small = list_all-append is_printable (flat_map string_byte bytes) (codes "\"") (bytes_printable bytes small) refl

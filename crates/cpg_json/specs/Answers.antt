@@ -1,0 +1,158 @@
+-- the lines of what calls and commands are answered
+use Rattle.std.specs.Prelude.{ℕ, List, [], ◌∷◌, ◌++◌, length, map, codes, decimal, Option, Some, None, Ok, Err}
+use Rattle.cpg_cred.specs.declared.admission.Via.{Via}
+use Rattle.cpg_cred.specs.declared.admission.Via.TheVariants.{RootUser, RootGroup, User, Group}
+use Rattle.cpg_cred.specs.declared.refusals.Refusal.{Refusal}
+use Rattle.cpg_cred.specs.declared.refusals.Refusal.TheVariants as refusal
+use Rattle.cpg_rules.specs.declared.rules.Rule.{Rule}
+use Rattle.cpg_entry.specs.declared.calls.Call.TheVariants.{Join, Insert, Remove}
+use Rattle.cpg_entry.specs.declared.calls.Op.{Op}
+use Rattle.cpg_entry.specs.declared.calls.Op.TheVariants.{Act}
+use Rattle.cpg_entry.specs.declared.frames.Frame.{Frame}
+use Rattle.cpg_entry.specs.declared.frames.Frame.TheVariants as frame
+use Rattle.cpg_entry.specs.declared.frames.Packet.{Packet}
+use Rattle.cpg_entry.specs.declared.frames.Token.{Token}
+use Rattle.cpg_record.specs.declared.events.Event.{Event}
+use Rattle.cpg_record.specs.RuleTables.{rules_of}
+use Rattle.cpg_ring.specs.States.{safe_mark}
+use Rattle.cpg_ring.specs.Worlds.{item}
+use Rattle.cpg_node.specs.Nodes.{NodeValue, records_of}
+use Rattle.cpg_world_laws.specs.declared.replies.Reply.{Reply}
+use Rattle.cpg_world_laws.specs.declared.replies.Reply.TheVariants.{Connected, Admitted, Closed, Sent, Delivered, Took, Members, Groups}
+use Rattle.cpg_world_laws.specs.Replies.{Answer}
+use Rattle.cpg_world_laws.specs.Worlds.{WorldValue}
+use Rattle.cpg_step.specs.Lines.{lines_at}
+use Rattle.cpg_step.specs.declared.commands.Look.{Look}
+use Rattle.cpg_step.specs.declared.commands.Look.TheVariants.{Show, Audit, Rules, Safe}
+use Rattle.cpg_json.specs.Calls.{by_fields, call_name, carried_fields, group_field, rule_fields}
+use Rattle.cpg_json.specs.Events.{event_fields}
+use Rattle.cpg_json.specs.Objects.{array, field, kind, line, maybe, number, word}
+use Rattle.cpg_json.specs.Records.{caller_fields, count_json, process_array, records_json}
+use Rattle.cpg_json.specs.Strings.{json_string}
+
+-- the number and the name of a refusal
+abbrev pub numbered : ℕ → List ℕ → List (List ℕ)
+numbered value name = number (codes "number") value ∷ field (codes "refusal") (word name) ∷ []
+
+-- a refusal, and what it carries
+abbrev pub refusal_fields : Refusal → List (List ℕ)
+refusal_fields refusal.Memory = numbered 1 (codes "Memory")
+refusal_fields refusal.Access = numbered 2 (codes "Access")
+refusal_fields refusal.NoConnection = numbered 3 (codes "NoConnection")
+refusal_fields refusal.BadName = numbered 4 (codes "BadName")
+refusal_fields refusal.TooLong = numbered 5 (codes "TooLong")
+refusal_fields refusal.QueueFull = numbered 6 (codes "QueueFull")
+refusal_fields refusal.ConnectionsFull = numbered 7 (codes "ConnectionsFull")
+refusal_fields refusal.Foreign = numbered 8 (codes "Foreign")
+refusal_fields refusal.NotMine = numbered 9 (codes "NotMine")
+refusal_fields refusal.Stale = numbered 10 (codes "Stale")
+refusal_fields refusal.Implausible = numbered 11 (codes "Implausible")
+refusal_fields refusal.Held = numbered 12 (codes "Held")
+refusal_fields refusal.FarAhead = numbered 13 (codes "FarAhead")
+refusal_fields refusal.Malformed = numbered 14 (codes "Malformed")
+refusal_fields refusal.RingEnd = numbered 15 (codes "RingEnd")
+refusal_fields refusal.NoFrame = numbered 16 (codes "NoFrame")
+refusal_fields refusal.Differs = numbered 17 (codes "Differs")
+refusal_fields refusal.BoardFull = numbered 18 (codes "BoardFull")
+refusal_fields (refusal.Behind reached) = numbered 19 (codes "Behind") ++ number (codes "place") reached ∷ []
+refusal_fields refusal.Stopped = numbered 20 (codes "Stopped")
+refusal_fields (refusal.Denied by) = numbered 21 (codes "Denied") ++ by_fields by
+refusal_fields (refusal.BadLine n) = numbered 31 (codes "BadLine") ++ number (codes "line") n ∷ []
+refusal_fields (refusal.Unopened n) = numbered 32 (codes "Unopened") ++ number (codes "line") n ∷ []
+refusal_fields refusal.Unclosed = numbered 33 (codes "Unclosed")
+refusal_fields (refusal.BadItem n) = numbered 34 (codes "BadItem") ++ number (codes "line") n ∷ []
+refusal_fields (refusal.BadValue n) = numbered 35 (codes "BadValue") ++ number (codes "line") n ∷ []
+refusal_fields (refusal.UnknownName n) = numbered 36 (codes "UnknownName") ++ number (codes "line") n ∷ []
+refusal_fields refusal.Range = numbered 37 (codes "Range")
+refusal_fields (refusal.BadCommand n) = numbered 41 (codes "BadCommand") ++ number (codes "line") n ∷ []
+refusal_fields refusal.Read = numbered 42 (codes "Read")
+refusal_fields refusal.Write = numbered 43 (codes "Write")
+
+-- a refusal alone
+abbrev pub refused_json : Refusal → List ℕ
+refused_json why = line (kind (codes "refused") ∷ refusal_fields why)
+
+-- what lets credentials in
+abbrev pub via_name : Via → List ℕ
+via_name RootUser = codes "root-user"
+via_name RootGroup = codes "root-group"
+via_name User = codes "user"
+via_name Group = codes "group"
+
+-- whether credentials are let in, and by what
+abbrev pub accept_json : Option Via → List ℕ
+accept_json None = refused_json refusal.Access
+accept_json (Some via) = line (kind (codes "accepted") ∷ field (codes "via") (word (via_name via)) ∷ [])
+
+-- the event that was taken, or none
+abbrev pub took_json : Option Event → List ℕ
+took_json None = line (kind (codes "none") ∷ [])
+took_json (Some event) = line (kind (codes "event") ∷ event_fields event)
+
+-- a reply
+abbrev pub reply_json : Reply → List ℕ
+reply_json (Connected conn) = line (kind (codes "connected") ∷ number (codes "connection") conn ∷ [])
+reply_json Admitted = line (kind (codes "admitted") ∷ [])
+reply_json Closed = line (kind (codes "closed") ∷ [])
+reply_json (Sent count) = line (kind (codes "sent") ∷ number (codes "frames") count ∷ [])
+reply_json (Delivered place) = line (kind (codes "delivered") ∷ maybe (codes "place") place ∷ [])
+reply_json (Took event) = took_json event
+reply_json (Members processes) = line (kind (codes "members") ∷ field (codes "members") (array (map process_array processes)) ∷ [])
+reply_json (Groups names) = line (kind (codes "groups") ∷ field (codes "groups") (array (map json_string names)) ∷ [])
+
+-- a reply or a refusal
+abbrev pub answer_json : Answer → List ℕ
+answer_json (Ok reply) = reply_json reply
+answer_json (Err why) = refused_json why
+
+-- the group that an op names
+abbrev pub named_group : Op → List (List ℕ)
+named_group (Act (Join g)) = group_field g ∷ []
+named_group (Act (Insert g index rule)) = group_field g ∷ []
+named_group (Act (Remove g id)) = group_field g ∷ []
+named_group _ = []
+
+-- an entry that was sent at its place
+abbrev pub packet_fields : Packet → List (List ℕ)
+packet_fields packet =
+    number (codes "place") packet.place ∷ caller_fields packet.entry
+    ++ field (codes "call") (word (call_name packet.entry.op)) ∷ named_group packet.entry.op ++ carried_fields packet.entry.op
+
+-- the token
+abbrev pub token_fields : Token → List (List ℕ)
+token_fields token =
+    number (codes "hop") token.hop ∷ number (codes "seq") token.seq ∷ number (codes "aru") token.aru
+    ∷ maybe (codes "aru_id") token.aru_id ∷ field (codes "rtr") (array (map decimal token.rtr)) ∷ []
+
+-- a frame
+abbrev pub frame_json : Frame → List ℕ
+frame_json (frame.Packet packet) = line (kind (codes "data") ∷ packet_fields packet)
+frame_json (frame.Token token) = line (kind (codes "token") ∷ token_fields token)
+
+-- a frame that was sent, if there is one of that number
+abbrev pub show_json : Option Frame → List ℕ
+show_json (Some sent) = frame_json sent
+show_json None = refused_json refusal.NoFrame
+
+-- a rule of a table, with its id
+abbrev pub rule_json : ℕ × Rule → List ℕ
+rule_json rule = line (kind (codes "rule") ∷ number (codes "id") rule.0 ∷ rule_fields rule.1)
+
+-- a table's rules, and how many there are
+abbrev pub table_json : List (ℕ × Rule) → List (List ℕ)
+table_json table = map rule_json table ++ line (kind (codes "rules") ∷ number (codes "rules") (length table) ∷ []) ∷ []
+
+-- a node's records, and how many there are
+abbrev pub audit_json : NodeValue → List (List ℕ)
+audit_json x = records_json (records_of x) ++ count_json (length (records_of x)) ∷ []
+
+-- a node's safe mark
+abbrev pub safe_json : ℕ → List ℕ
+safe_json place = line (kind (codes "safe") ∷ number (codes "place") place ∷ [])
+
+-- what a command that only looks writes
+abbrev pub look_json : WorldValue → Look → List (List ℕ)
+look_json w (Show k) = show_json (item w.sent k) ∷ []
+look_json w (Audit n) = lines_at audit_json (item w.nodes n)
+look_json w (Rules n g) = lines_at (λ x. table_json (rules_of (records_of x) g)) (item w.nodes n)
+look_json w (Safe n) = lines_at (λ x. safe_json (safe_mark x.ring.state.arus) ∷ []) (item w.nodes n)

@@ -1,0 +1,12 @@
+pub mod Calls
+pub mod Events
+pub mod Judging
+pub mod Objects
+pub mod Records
+pub mod Strings
+pub mod Steps
+pub mod Answers
+pub mod Stepping
+pub mod Accepting
+pub mod Reading
+pub mod Tails

@@ -1,0 +1,48 @@
+-- steps of the writing functions, which no contract of a public function cites
+use Rattle.std.specs.Prelude.{ℕ, ◌≡◌, ◌⊎◌, ◌+◌, ◌-◌, List, [], ◌∷◌, map, Option, Some, None}
+use Rattle.std.specs.List.{concat, flat_map, range_with_len}
+use Rattle.std.specs.Io.KnownBytes.{Keeps}
+use Rattle.cpg_cred.specs.declared.refusals.Refusal.{Refusal}
+use Rattle.cpg_cred.specs.declared.refusals.Refusal.TheVariants as refusal
+use Rattle.cpg_rules.specs.declared.rules.Rule.{Rule}
+use Rattle.cpg_record.specs.declared.connections.ConnId.{ConnId}
+use Rattle.cpg_record.specs.declared.records.Record.{Record}
+use Rattle.cpg_record.specs.Events.{events}
+use Rattle.cpg_text.specs.Streams.{AppendsFront}
+use Rattle.cpg_world_laws.specs.Replies.{Answer, AreReplies}
+use Rattle.cpg_world_laws.specs.Worlds.{WorldValue}
+use Rattle.cpg_step.specs.declared.commands.Command.{Command}
+use Rattle.cpg_step.specs.Running.{after, events_in}
+use Rattle.cpg_json.specs.Answers.{rule_json}
+use Rattle.cpg_json.specs.Events.{event_json}
+use Rattle.cpg_json.specs.Stepping.{step_json_lines}
+
+-- the lines of a place for a connection
+abbrev pub lines_at : List Record → ConnId → ℕ → List (List ℕ)
+lines_at records conn place = map (event_json conn) (events records place conn)
+
+-- the lines of the places above one, up to another
+abbrev pub lines_between : List Record → ConnId → ℕ → ℕ → List (List ℕ)
+lines_between records conn after last = flat_map (lines_at records conn) (range_with_len (after + 1) (last - after))
+
+-- The command is done, and this is the text of its lines.
+pub record IsDone (w : WorldValue) (command : Command) (text : List ℕ) (world : WorldValue) : Type 0 where
+  pub answers : List Answer
+  pub replies : AreReplies w (events_in (command ∷ [])) answers
+  pub world_after : world ≡ after w (command ∷ [])
+  pub said : text ≡ concat (step_json_lines w (command ∷ []) answers)
+
+-- the command is not done, or it is
+abbrev pub MayBeDone : WorldValue → Command → WorldValue → Type 0
+MayBeDone w command world = (world ≡ w) ⊎ (world ≡ after w (command ∷ []))
+
+-- the line of a rule, if there is one
+abbrev pub rule_json_of : Option (ℕ × Rule) → List ℕ
+rule_json_of None = []
+rule_json_of (Some rule) = rule_json rule
+
+-- what a refusal leaves of a text that is made whole before it is written
+abbrev pub LeavesText : List ℕ → Refusal → Option (List ℕ) → Option (List ℕ) → Type 0
+LeavesText text refusal.Write old new = AppendsFront old new text
+LeavesText text refusal.Memory old new = Keeps old new
+LeavesText text _ old new = ⊥

@@ -1,0 +1,323 @@
+//! What calls and commands are answered, as lines.
+
+ghost use Rattle.std.specs.Prelude.{◌≡◌, ◌++◌, ◌∷◌, [], codes, map, OnOk, IsOkUnless, Some};
+ghost use Rattle.std.specs.Option.{option_copied};
+ghost use Rattle.cpg_json.specs.Answers.{accept_json, answer_json, numbered, refusal_fields, refused_json, reply_json, rule_json, safe_json, took_json, via_name};
+ghost use Rattle.cpg_json.specs.Calls.{by_fields};
+ghost use Rattle.cpg_json.specs.Objects.{after_comma, array, field, joined, kind, line as object_line, more, number};
+ghost use Rattle.cpg_json.specs.Records.{process_array};
+ghost use Rattle.cpg_json.specs.Strings.{json_string};
+
+use crate::calls::{put_by, put_rule};
+use crate::events::put_event_fields;
+use crate::objects::{put_end, put_kind, put_maybe, put_name, put_number, put_word};
+use crate::records::put_process;
+use crate::strings::put_string;
+use cpg_cred::{By, NodeId, Refusal, Via};
+use cpg_entry::Name;
+use cpg_record::Event;
+use cpg_rules::Rule;
+use cpg_script::put;
+use cpg_world::Reply;
+
+fn put_numbered(line: &mut Vec<u8>, value: u64, name: &str) -> Result<(), Refusal>
+    ensures ok { OnOk result (line.new.items ≡ line.old.items ++ more (numbered value name.now)) }
+    ensures memory { IsOkUnless result Refusal.Memory }
+{
+    put_number(line, "number", value)?;
+    put_word(line, "refusal", name)
+}
+
+/// Puts the number and the name of a refusal, and a number that it carries, at the line's end.
+fn put_refusal_at(
+    line: &mut Vec<u8>,
+    value: u64,
+    name: &str,
+    carried: &str,
+    at: u32,
+) -> Result<(), Refusal>
+    ensures ok { OnOk result (line.new.items ≡ line.old.items ++ more (numbered value name.now ++ number carried.now at ∷ [])) }
+    ensures memory { IsOkUnless result Refusal.Memory }
+{
+    put_numbered(line, value, name)?;
+    put_number(line, carried, u64::from(at))
+}
+
+fn put_denied(line: &mut Vec<u8>, by: By) -> Result<(), Refusal>
+    ensures ok { OnOk result (line.new.items ≡ line.old.items ++ more (refusal_fields (Refusal.Denied by))) }
+    ensures memory { IsOkUnless result Refusal.Memory }
+{
+    put_numbered(line, 21, "Denied")?;
+    put_by(line, by)
+}
+
+fn put_refusal(line: &mut Vec<u8>, refusal: Refusal) -> Result<(), Refusal>
+    ensures ok { OnOk result (line.new.items ≡ line.old.items ++ more (refusal_fields refusal)) }
+    ensures memory { IsOkUnless result Refusal.Memory }
+{
+    match refusal {
+        Refusal::Memory => put_numbered(line, 1, "Memory"),
+        Refusal::Access => put_numbered(line, 2, "Access"),
+        Refusal::NoConnection => put_numbered(line, 3, "NoConnection"),
+        Refusal::BadName => put_numbered(line, 4, "BadName"),
+        Refusal::TooLong => put_numbered(line, 5, "TooLong"),
+        Refusal::QueueFull => put_numbered(line, 6, "QueueFull"),
+        Refusal::ConnectionsFull => put_numbered(line, 7, "ConnectionsFull"),
+        Refusal::Foreign => put_numbered(line, 8, "Foreign"),
+        Refusal::NotMine => put_numbered(line, 9, "NotMine"),
+        Refusal::Stale => put_numbered(line, 10, "Stale"),
+        Refusal::Implausible => put_numbered(line, 11, "Implausible"),
+        Refusal::Held => put_numbered(line, 12, "Held"),
+        Refusal::FarAhead => put_numbered(line, 13, "FarAhead"),
+        Refusal::Malformed => put_numbered(line, 14, "Malformed"),
+        Refusal::RingEnd => put_numbered(line, 15, "RingEnd"),
+        Refusal::NoFrame => put_numbered(line, 16, "NoFrame"),
+        Refusal::Differs => put_numbered(line, 17, "Differs"),
+        Refusal::BoardFull => put_numbered(line, 18, "BoardFull"),
+        Refusal::Behind(reached) => put_refusal_at(line, 19, "Behind", "place", reached),
+        Refusal::Stopped => put_numbered(line, 20, "Stopped"),
+        Refusal::Denied(by) => put_denied(line, by),
+        Refusal::BadLine(number) => put_refusal_at(line, 31, "BadLine", "line", number),
+        Refusal::Unopened(number) => put_refusal_at(line, 32, "Unopened", "line", number),
+        Refusal::Unclosed => put_numbered(line, 33, "Unclosed"),
+        Refusal::BadItem(number) => put_refusal_at(line, 34, "BadItem", "line", number),
+        Refusal::BadValue(number) => put_refusal_at(line, 35, "BadValue", "line", number),
+        Refusal::UnknownName(number) => put_refusal_at(line, 36, "UnknownName", "line", number),
+        Refusal::Range => put_numbered(line, 37, "Range"),
+        Refusal::BadCommand(number) => put_refusal_at(line, 41, "BadCommand", "line", number),
+        Refusal::Read => put_numbered(line, 42, "Read"),
+        Refusal::Write => put_numbered(line, 43, "Write"),
+    }
+}
+
+/// Puts the line of a refusal at the lines' end.
+pub(crate) fn put_refused(line: &mut Vec<u8>, refusal: Refusal) -> Result<(), Refusal>
+    ensures ok { OnOk result (line.new.items ≡ line.old.items ++ refused_json refusal) }
+    ensures memory { IsOkUnless result Refusal.Memory }
+{
+    put_kind(line, "refused")?;
+    put_refusal(line, refusal)?;
+    put_end(line)
+}
+
+fn via_name(via: Via) -> &'static str
+    ensures { result.now ≡ via_name via }
+{
+    match via {
+        Via::RootUser => "root-user",
+        Via::RootGroup => "root-group",
+        Via::User => "user",
+        Via::Group => "group",
+    }
+}
+
+fn put_accepted(line: &mut Vec<u8>, via: Via) -> Result<(), Refusal>
+    ensures ok { OnOk result (line.new.items ≡ line.old.items ++ accept_json (Some via)) }
+    ensures memory { IsOkUnless result Refusal.Memory }
+{
+    put_kind(line, "accepted")?;
+    put_word(line, "via", via_name(via))?;
+    put_end(line)
+}
+
+/// Puts the line of what lets credentials in, or of their refusal, at the lines' end.
+pub(crate) fn put_accept(line: &mut Vec<u8>, answer: Option<Via>) -> Result<(), Refusal>
+    ensures ok { OnOk result (line.new.items ≡ line.old.items ++ accept_json answer) }
+    ensures memory { IsOkUnless result Refusal.Memory }
+{
+    match answer {
+        None => put_refused(line, Refusal::Access),
+        Some(via) => put_accepted(line, via),
+    }
+}
+
+/// Puts an object of its kind alone at the lines' end.
+fn put_alone(line: &mut Vec<u8>, name: &str) -> Result<(), Refusal>
+    ensures ok { OnOk result (line.new.items ≡ line.old.items ++ object_line (kind name.now ∷ [])) }
+    ensures memory { IsOkUnless result Refusal.Memory }
+{
+    put_kind(line, name)?;
+    put_end(line)
+}
+
+/// Puts an object of its kind and a number at the lines' end.
+fn put_counted(line: &mut Vec<u8>, name: &str, counted: &str, value: u64) -> Result<(), Refusal>
+    ensures ok { OnOk result (line.new.items ≡ line.old.items ++ object_line (kind name.now ∷ number counted.now value ∷ [])) }
+    ensures memory { IsOkUnless result Refusal.Memory }
+{
+    put_kind(line, name)?;
+    put_number(line, counted, value)?;
+    put_end(line)
+}
+
+fn put_delivered(line: &mut Vec<u8>, place: Option<u32>) -> Result<(), Refusal>
+    ensures ok { OnOk result (line.new.items ≡ line.old.items ++ reply_json (Reply.Delivered place)) }
+    ensures memory { IsOkUnless result Refusal.Memory }
+{
+    put_kind(line, "delivered")?;
+    put_maybe(line, "place", place)?;
+    put_end(line)
+}
+
+fn put_taken(line: &mut Vec<u8>, event: &Event) -> Result<(), Refusal>
+    ensures ok { OnOk result (line.new.items ≡ line.old.items ++ took_json (Some event.now)) }
+    ensures memory { IsOkUnless result Refusal.Memory }
+{
+    put_kind(line, "event")?;
+    put_event_fields(line, event)?;
+    put_end(line)
+}
+
+fn put_took(line: &mut Vec<u8>, event: Option<&Event>) -> Result<(), Refusal>
+    ensures ok { OnOk result (line.new.items ≡ line.old.items ++ took_json (option_copied event.entry)) }
+    ensures memory { IsOkUnless result Refusal.Memory }
+{
+    match event {
+        None => put_alone(line, "none"),
+        Some(event) => put_taken(line, event),
+    }
+}
+
+#[tactic(auto, unfolding(crate::specs::Objects::after_comma, crate::specs::Objects::field))]
+fn put_members(line: &mut Vec<u8>, processes: &[(NodeId, u32)]) -> Result<(), Refusal>
+    ensures ok { OnOk result (line.new.items ≡ line.old.items ++ after_comma (field (codes "members") (array (map process_array processes.now)))) }
+    ensures memory { IsOkUnless result Refusal.Memory }
+{
+    put_name(line, "members")?;
+    put(line, "[")?;
+    put_processes(line, processes)?;
+    put(line, "]")
+}
+
+fn put_processes(line: &mut Vec<u8>, processes: &[(NodeId, u32)]) -> Result<(), Refusal>
+    ensures ok { OnOk result (line.new.items ≡ line.old.items ++ joined (map process_array processes.now)) }
+    ensures memory { IsOkUnless result Refusal.Memory }
+{
+    match processes {
+        [] => Ok(()),
+        [first, others @ ..] => {
+            put_process(line, *first)?;
+            put_more_processes(line, others)
+        }
+    }
+}
+
+#[tactic(auto, unfolding(crate::specs::Objects::after_comma))]
+fn put_more_processes(line: &mut Vec<u8>, processes: &[(NodeId, u32)]) -> Result<(), Refusal>
+    ensures ok { OnOk result (line.new.items ≡ line.old.items ++ more (map process_array processes.now)) }
+    ensures memory { IsOkUnless result Refusal.Memory }
+{
+    for process in processes {
+        put(line, ",")?;
+        put_process(line, *process)?;
+    }
+    Ok(())
+}
+
+fn put_listing(line: &mut Vec<u8>, processes: &[(NodeId, u32)]) -> Result<(), Refusal>
+    ensures ok { OnOk result (line.new.items ≡ line.old.items ++ reply_json (Reply.Members processes.now)) }
+    ensures memory { IsOkUnless result Refusal.Memory }
+{
+    put_kind(line, "members")?;
+    put_members(line, processes)?;
+    put_end(line)
+}
+
+#[tactic(auto, unfolding(crate::specs::Objects::after_comma, crate::specs::Objects::field))]
+fn put_groups(line: &mut Vec<u8>, names: &[Name]) -> Result<(), Refusal>
+    ensures ok { OnOk result (line.new.items ≡ line.old.items ++ after_comma (field (codes "groups") (array (map json_string names.now)))) }
+    ensures memory { IsOkUnless result Refusal.Memory }
+{
+    put_name(line, "groups")?;
+    put(line, "[")?;
+    put_names(line, names)?;
+    put(line, "]")
+}
+
+fn put_names(line: &mut Vec<u8>, names: &[Name]) -> Result<(), Refusal>
+    ensures ok { OnOk result (line.new.items ≡ line.old.items ++ joined (map json_string names.now)) }
+    ensures memory { IsOkUnless result Refusal.Memory }
+{
+    match names {
+        [] => Ok(()),
+        [first, others @ ..] => {
+            put_string(line, first.as_slice())?;
+            put_more_names(line, others)
+        }
+    }
+}
+
+#[tactic(auto, unfolding(crate::specs::Objects::after_comma))]
+fn put_more_names(line: &mut Vec<u8>, names: &[Name]) -> Result<(), Refusal>
+    ensures ok { OnOk result (line.new.items ≡ line.old.items ++ more (map json_string names.now)) }
+    ensures memory { IsOkUnless result Refusal.Memory }
+{
+    for name in names {
+        put(line, ",")?;
+        put_string(line, name.as_slice())?;
+    }
+    Ok(())
+}
+
+fn put_names_listing(line: &mut Vec<u8>, names: &[Name]) -> Result<(), Refusal>
+    ensures ok { OnOk result (line.new.items ≡ line.old.items ++ reply_json (Reply.Groups names.now)) }
+    ensures memory { IsOkUnless result Refusal.Memory }
+{
+    put_kind(line, "groups")?;
+    put_groups(line, names)?;
+    put_end(line)
+}
+
+fn put_reply(line: &mut Vec<u8>, reply: &Reply) -> Result<(), Refusal>
+    ensures ok { OnOk result (line.new.items ≡ line.old.items ++ reply_json reply.now) }
+    ensures memory { IsOkUnless result Refusal.Memory }
+{
+    match reply {
+        Reply::Connected(conn) => put_counted(line, "connected", "connection", u64::from(*conn)),
+        Reply::Admitted => put_alone(line, "admitted"),
+        Reply::Closed => put_alone(line, "closed"),
+        Reply::Sent(count) => put_counted(line, "sent", "frames", *count as u64),
+        Reply::Delivered(place) => put_delivered(line, *place),
+        Reply::Took(event) => put_took(line, event.as_ref()),
+        Reply::Members(processes) => put_listing(line, processes.as_slice()),
+        Reply::Groups(names) => put_names_listing(line, names.as_slice()),
+    }
+}
+
+/// Puts the line of a reply or of a refusal at the lines' end.
+pub(crate) fn put_answer(line: &mut Vec<u8>, answer: &Result<Reply, Refusal>) -> Result<(), Refusal>
+    ensures ok { OnOk result (line.new.items ≡ line.old.items ++ answer_json answer.now) }
+    ensures memory { IsOkUnless result Refusal.Memory }
+{
+    match answer {
+        Ok(reply) => put_reply(line, reply),
+        Err(refusal) => put_refused(line, *refusal),
+    }
+}
+
+/// Puts the line of a table's rule, with its id, at the lines' end.
+pub(crate) fn put_rule_line(line: &mut Vec<u8>, id: u32, rule: Rule) -> Result<(), Refusal>
+    ensures ok { OnOk result (line.new.items ≡ line.old.items ++ rule_json (id, rule)) }
+    ensures memory { IsOkUnless result Refusal.Memory }
+{
+    put_kind(line, "rule")?;
+    put_number(line, "id", u64::from(id))?;
+    put_rule(line, rule)?;
+    put_end(line)
+}
+
+/// Puts the line that counts a table's rules at the lines' end.
+pub(crate) fn put_rule_count(line: &mut Vec<u8>, count: usize) -> Result<(), Refusal>
+    ensures ok { OnOk result (line.new.items ≡ line.old.items ++ object_line (kind (codes "rules") ∷ number (codes "rules") count ∷ [])) }
+    ensures memory { IsOkUnless result Refusal.Memory }
+{
+    put_counted(line, "rules", "rules", count as u64)
+}
+
+/// Puts the line of a safe mark at the lines' end.
+pub(crate) fn put_safe(line: &mut Vec<u8>, place: u32) -> Result<(), Refusal>
+    ensures ok { OnOk result (line.new.items ≡ line.old.items ++ safe_json place) }
+    ensures memory { IsOkUnless result Refusal.Memory }
+{
+    put_counted(line, "safe", "place", u64::from(place))
+}

@@ -1,0 +1,151 @@
+//! Records as lines.
+
+ghost use Rattle.std.specs.Prelude.{◌≡◌, ◌++◌, codes, map, OnOk, IsOkUnless};
+ghost use Rattle.std.specs.Option.{option_copied};
+ghost use Rattle.cpg_record.specs.Connections.{conn_of};
+ghost use Rattle.cpg_json.specs.Objects.{after_comma, joined, more};
+ghost use Rattle.cpg_json.specs.Records.{asked_fields, caller_fields, conn_fields, count_json, group_fields, member_array, members_field, outcome_fields, process_array, record_json};
+
+use crate::calls::{put_call, put_group, put_verdict};
+use crate::objects::{put_end, put_kind, put_name, put_number};
+use cpg_cred::{NodeId, Refusal};
+use cpg_entry::{Entry, Name};
+use cpg_record::{ConnId, Member, Record};
+use cpg_script::put;
+use cpg_text::push_number;
+
+/// Puts a connection at the line's end.
+pub(crate) fn put_conn(line: &mut Vec<u8>, conn: &ConnId) -> Result<(), Refusal>
+    ensures ok { OnOk result (line.new.items ≡ line.old.items ++ more (conn_fields conn.now)) }
+    ensures memory { IsOkUnless result Refusal.Memory }
+{
+    put_number(line, "node", u64::from(conn.node.get()))?;
+    put_number(line, "connection", u64::from(conn.conn))
+}
+
+/// Puts who made an entry at the line's end.
+pub(crate) fn put_caller(line: &mut Vec<u8>, entry: &Entry) -> Result<(), Refusal>
+    ensures ok { OnOk result (line.new.items ≡ line.old.items ++ more (caller_fields entry.now)) }
+    ensures memory { IsOkUnless result Refusal.Memory }
+{
+    put_conn(line, &ConnId::of(entry))?;
+    put_number(line, "pid", u64::from(entry.pid))?;
+    put_number(line, "uid", u64::from(entry.cred.uid))?;
+    put_number(line, "gid", u64::from(entry.cred.gid))
+}
+
+/// Puts a process at the line's end.
+#[tactic(auto, unfolding(crate::specs::Objects::after_comma))]
+pub(crate) fn put_process(line: &mut Vec<u8>, process: (NodeId, u32)) -> Result<(), Refusal>
+    ensures ok { OnOk result (line.new.items ≡ line.old.items ++ process_array process) }
+    ensures memory { IsOkUnless result Refusal.Memory }
+{
+    put(line, "[")?;
+    push_number(line, u64::from(process.0.get()))?;
+    put(line, ",")?;
+    push_number(line, u64::from(process.1))?;
+    put(line, "]")
+}
+
+fn put_member(line: &mut Vec<u8>, member: Member) -> Result<(), Refusal>
+    ensures ok { OnOk result (line.new.items ≡ line.old.items ++ member_array member) }
+    ensures memory { IsOkUnless result Refusal.Memory }
+{
+    put_process(line, (member.node, member.pid))
+}
+
+/// Puts the members of a group at the line's end.
+#[tactic(auto, unfolding(crate::specs::Objects::after_comma, crate::specs::Objects::field))]
+pub(crate) fn put_members(line: &mut Vec<u8>, members: &[Member]) -> Result<(), Refusal>
+    ensures ok { OnOk result (line.new.items ≡ line.old.items ++ after_comma (members_field members.now)) }
+    ensures memory { IsOkUnless result Refusal.Memory }
+{
+    put_name(line, "members")?;
+    put(line, "[")?;
+    put_joined_members(line, members)?;
+    put(line, "]")
+}
+
+fn put_joined_members(line: &mut Vec<u8>, members: &[Member]) -> Result<(), Refusal>
+    ensures ok { OnOk result (line.new.items ≡ line.old.items ++ joined (map member_array members.now)) }
+    ensures memory { IsOkUnless result Refusal.Memory }
+{
+    match members {
+        [] => Ok(()),
+        [first, others @ ..] => {
+            put_member(line, *first)?;
+            put_more_members(line, others)
+        }
+    }
+}
+
+#[tactic(auto, unfolding(crate::specs::Objects::after_comma))]
+fn put_more_members(line: &mut Vec<u8>, members: &[Member]) -> Result<(), Refusal>
+    ensures ok { OnOk result (line.new.items ≡ line.old.items ++ more (map member_array members.now)) }
+    ensures memory { IsOkUnless result Refusal.Memory }
+{
+    for member in members {
+        put(line, ",")?;
+        put_member(line, *member)?;
+    }
+    Ok(())
+}
+
+fn put_group_members(
+    line: &mut Vec<u8>,
+    group: Option<&Name>,
+    members: &[Member],
+) -> Result<(), Refusal>
+    ensures ok { OnOk result (line.new.items ≡ line.old.items ++ more (group_fields (option_copied group.entry) members.now)) }
+    ensures memory { IsOkUnless result Refusal.Memory }
+{
+    match group {
+        None => Ok(()),
+        Some(group) => {
+            put_group(line, group.as_slice())?;
+            put_members(line, members)
+        }
+    }
+}
+
+/// Puts an entry at its place at the line's end.
+#[tactic(auto, using(crate::proofs::Fields::more_append))]
+fn put_asked(line: &mut Vec<u8>, place: u32, entry: &Entry) -> Result<(), Refusal>
+    ensures ok { OnOk result (line.new.items ≡ line.old.items ++ more (asked_fields place entry.now)) }
+    ensures memory { IsOkUnless result Refusal.Memory }
+{
+    put_number(line, "place", u64::from(place))?;
+    put_caller(line, entry)?;
+    put_call(line, &entry.op)
+}
+
+#[tactic(auto, using(crate::proofs::Fields::more_append))]
+fn put_outcome(line: &mut Vec<u8>, past: &Record) -> Result<(), Refusal>
+    ensures ok { OnOk result (line.new.items ≡ line.old.items ++ more (outcome_fields past.now)) }
+    ensures memory { IsOkUnless result Refusal.Memory }
+{
+    put_verdict(line, past.verdict)?;
+    put_group_members(line, past.group.as_ref(), past.members.as_slice())
+}
+
+/// Puts the line of a record, which stands at that place, at the lines' end.
+#[tactic(auto, using(crate::proofs::Fields::more_append))]
+pub(crate) fn put_record(line: &mut Vec<u8>, place: u32, past: &Record) -> Result<(), Refusal>
+    ensures ok { OnOk result (line.new.items ≡ line.old.items ++ record_json place past.now) }
+    ensures memory { IsOkUnless result Refusal.Memory }
+{
+    put_kind(line, "record")?;
+    put_asked(line, place, &past.entry)?;
+    put_outcome(line, past)?;
+    put_end(line)
+}
+
+/// Puts the line of the count of records at the lines' end.
+pub(crate) fn put_count(line: &mut Vec<u8>, count: u32) -> Result<(), Refusal>
+    ensures ok { OnOk result (line.new.items ≡ line.old.items ++ count_json count) }
+    ensures memory { IsOkUnless result Refusal.Memory }
+{
+    put_kind(line, "count")?;
+    put_number(line, "records", u64::from(count))?;
+    put_end(line)
+}
