@@ -8,7 +8,7 @@ use Rattle.cpg_ring.specs.Worlds.{item}
 use Rattle.cpg_node.specs.Nodes.{NodeValue}
 use Rattle.cpg_world_laws.specs.Replies.{Answer, IsReply}
 use Rattle.cpg_step.specs.Lines.{answer_line}
-use Rattle.cpg_draw.proofs.Joined.{joined, rows_joined}
+use Rattle.cpg_draw.proofs.Joined.{joined, columned, rows_joined}
 use Rattle.cpg_draw.specs.Arrows.{arrows_of, seq_brought, with_brought}
 use Rattle.cpg_draw.specs.Columns.{columns}
 use Rattle.cpg_draw.specs.Words.{brought_text, sent_text, lost_texts}
@@ -19,19 +19,19 @@ use Rattle.cpg_step.specs.declared.commands.Look.{Look as LookValue}
 use Rattle.cpg_step.specs.declared.commands.Command.{Command}
 use Rattle.cpg_step.specs.declared.commands.Command.TheVariants.{Act, Look}
 use Rattle.cpg_draw.specs.declared.arrows.Arrow.{Arrow}
-use Rattle.cpg_draw.specs.Rows.{brings, sent_by, first_arrows, row_text, event_text, state_text, look_row, act_row, arrows_after, rows_of, head_of, IsPicture}
+use Rattle.cpg_draw.specs.Rows.{brings, sent_by, first_arrows, row_text, event_text, state_text, act_text, look_row, act_row, arrows_after, rows_of, head_of, IsPicture}
 use Rattle.cpg_draw.specs.Steps.{IsActed, AreRows, GoesOn}
+use Rattle.cpg_draw.specs.Telling.{IsTold}
 
--- the parts of an event's row, put one after the other
-pub row_acted : (row : ℕ) (arrows : List Arrow) (w v : WorldValue) (e : WorldEvent) (x : NodeValue) (answer : Answer) (old first second new : List ℕ) (known sent later : List Arrow)
+-- the parts of what an event's row says, put one after the other
+pub row_told : (row : ℕ) (arrows : List Arrow) (w v : WorldValue) (e : WorldEvent) (x : NodeValue) (answer : Answer) (old second new : List ℕ) (known sent later : List Arrow)
     → IsReply w e answer → v ≡ happens w e
-    → first ≡ old ++ columns (node_in e) (item arrows (brings e)) (length w.nodes)
     → known ≡ with_brought arrows (brings e)
     → sent ≡ arrows_of (length w.sent + 1) row (node_in e) (seq_brought (item w.sent (brings e))) (drop (length w.sent) v.sent)
     → item v.nodes (node_in e) ≡ Some x
-    → second ≡ first ++ (row_text row ++ event_text e ++ brought_text (item arrows (brings e)) ++ flat_map sent_text sent ++ state_text (Some x) ++ codes ": ")
-    → new ≡ second ++ answer_line answer → later ≡ known ++ sent → IsActed row arrows w e old later v new
-row_acted row arrows w v e x answer old first second new known sent later replied happened columned noted sends there said answered joint =
+    → second ≡ old ++ (row_text row ++ event_text e ++ brought_text (item arrows (brings e)) ++ flat_map sent_text sent ++ state_text (Some x) ++ codes ": ")
+    → new ≡ second ++ answer_line answer → later ≡ known ++ sent → IsTold row arrows w e old later v new
+row_told row arrows w v e x answer old second new known sent later replied happened noted sends there said answered joint =
     let begun : sent ≡ sent_by row w e = sends ∙ ap (λ (u : WorldValue). arrows_of (length w.sent + 1) row (node_in e) (seq_brought (item w.sent (brings e))) (drop (length w.sent) u.sent)) happened in
     let state : state_text (Some x) ≡ state_text (item (happens w e).nodes (node_in e)) = ap state_text (sym there ∙ ap (λ (u : WorldValue). item u.nodes (node_in e)) happened) in
     record {
@@ -39,10 +39,21 @@ row_acted row arrows w v e x answer old first second new known sent later replie
       replied = replied;
       happened = happened;
       noted = joint ∙ (ap (λ x. x ++ sent) noted ∙ ap (λ x. with_brought arrows (brings e) ++ x) begun);
-      put = joined old (columns (node_in e) (item arrows (brings e)) (length w.nodes)) (row_text row) (event_text e) (brought_text (item arrows (brings e)))
+      put = joined old (row_text row) (event_text e) (brought_text (item arrows (brings e)))
           (flat_map sent_text sent) (flat_map sent_text (sent_by row w e)) (state_text (Some x)) (state_text (item (happens w e).nodes (node_in e)))
-          (codes ": ") (answer_line answer) first second new columned (ap (flat_map sent_text) begun) state said answered;
+          (codes ": ") (answer_line answer) second new (ap (flat_map sent_text) begun) state said answered;
     }
+
+-- an event's row is its columns, and what it says
+pub told_acted : (row : ℕ) (arrows later : List Arrow) (w v : WorldValue) (e : WorldEvent) (old first new : List ℕ)
+    → first ≡ old ++ columns (node_in e) (item arrows (brings e)) (length w.nodes) → IsTold row arrows w e first later v new → IsActed row arrows w e old later v new
+told_acted row arrows later w v e old first new put told = record {
+  answer = told.answer;
+  replied = told.replied;
+  happened = told.happened;
+  noted = told.noted;
+  put = columned old (columns (node_in e) (item arrows (brings e)) (length w.nodes)) (row_text row) (act_text row arrows w e told.answer) first new put told.put;
+}
 
 -- an event's row stands before those that follow it
 pub act_goes_on : (row : ℕ) (arrows : List Arrow) (w : WorldValue) (e : WorldEvent) (old : List ℕ) (then : List Arrow) (v : WorldValue) (new : List ℕ)

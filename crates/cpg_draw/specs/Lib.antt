@@ -3,4 +3,5 @@ pub mod Columns
 pub mod Drawing
 pub mod Rows
 pub mod Steps
+pub mod Telling
 pub mod Words

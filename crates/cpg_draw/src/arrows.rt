@@ -78,7 +78,7 @@ pub(crate) fn seq_in(frame: &Frame) -> u32
 }
 
 /// The arrow of that number, from 1, if there is one.
-pub(crate) fn find_arrow(arrows: &[Arrow], number: usize) -> Option<Arrow>
+pub fn find_arrow(arrows: &[Arrow], number: usize) -> Option<Arrow>
     ensures { result ≡ item arrows.now number }
 {
     if number == 0 {

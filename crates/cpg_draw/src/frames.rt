@@ -23,8 +23,8 @@ fn read_spelled(alloc: Global, bytes: &[u8]) -> Result<Frame, Refusal>
     decode(alloc, bytes)
 }
 
-/// The frame of that number, from 1, if so many were sent.
-fn frame_at(alloc: Global, world: &World, number: usize) -> Result<Option<Frame>, Refusal>
+/// The frame of that number, from 1, if so many were sent. `Memory` is the only error.
+pub fn frame_at(alloc: Global, world: &World, number: usize) -> Result<Option<Frame>, Refusal>
     ensures ok { IfOk result (λ found. found ≡ item world.now.sent number) }
     ensures memory { IsOkUnless result Refusal.Memory }
 {
@@ -93,9 +93,9 @@ fn push_arrow(
 }
 
 /// Puts the arrows of the frames after so many after the others, sent by a row and a node where a token of a
-/// seq was brought.
+/// seq was brought. `Memory` is the only error.
 #[tactic(auto, using(crate::proofs::Sent::sent_all))]
-pub(crate) fn push_arrows(
+pub fn push_arrows(
     alloc: Global,
     arrows: &mut Vec<Arrow>,
     world: &World,

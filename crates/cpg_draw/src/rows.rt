@@ -12,6 +12,7 @@ ghost use Rattle.cpg_draw.specs.Arrows.{arrows_of};
 ghost use Rattle.cpg_draw.specs.Columns.{columns};
 ghost use Rattle.cpg_draw.specs.Rows.{brings, numbered, event_text, state_text, row_text, look_at, look_text, look_row};
 ghost use Rattle.cpg_draw.specs.Steps.{IsActed, GoesOn};
+ghost use Rattle.cpg_draw.specs.Telling.{IsTold};
 ghost use Rattle.cpg_draw.specs.Words.{brought_text, sent_text};
 
 use crate::arrows::{Arrow, find_arrow, note_brought};
@@ -27,7 +28,7 @@ use cpg_world::{Reply, World, WorldEvent};
 use std::alloc::Global;
 
 /// The number of the frame that the event brings, 0 where it brings none.
-fn brought_by(event: &WorldEvent) -> usize
+pub fn brought_by(event: &WorldEvent) -> usize
     ensures { result ≡ brings event.now }
 {
     match event {
@@ -103,7 +104,39 @@ fn put_event_row(
     put(text, ": ")
 }
 
+/// Does an event, and puts what its row says; the arrow that it brings ends there, and those that it sends begin.
+///
+/// The event's node is one of the world's. `Memory` is the only error.
+#[tactic(auto, using(crate::proofs::Drawn::row_told))]
+pub fn tell_event(
+    alloc: Global,
+    text: &mut Vec<u8>,
+    arrows: &mut Vec<Arrow>,
+    row: u64,
+    world: &mut World,
+    event: &WorldEvent,
+) -> Result<(), Refusal>
+    requires { node_in event.now ≤ length world.old.nodes }
+    ensures ok { OnOk result (IsTold row arrows.old.items world.old event.now text.old.items arrows.new.items world.new text.new.items) }
+    ensures memory { IsOkUnless result Refusal.Memory }
+{
+    let number = brought_by(event);
+    let node = event.node();
+    let arrow = find_arrow(arrows.as_slice(), number);
+    let seq = seq_at(alloc, world, number)?;
+    let before = world.sent();
+    let answer = answer_to(alloc, world, event)?;
+    note_brought(arrows, number);
+    let mut sent = Vec::new(alloc);
+    push_arrows(alloc, &mut sent, world, (row, node.get(), seq), before)?;
+    put_event_row(text, row, event, arrow, sent.as_slice(), world.node(node))?;
+    put_answer(alloc, text, &answer)?;
+    arrows.append(&mut sent)?;
+    Ok(())
+}
+
 /// Does an event, and puts its row.
+#[tactic(auto, using(crate::proofs::Drawn::told_acted))]
 fn draw_event(
     alloc: Global,
     text: &mut Vec<u8>,
@@ -116,20 +149,9 @@ fn draw_event(
     ensures ok { OnOk result (IsActed row arrows.old.items world.old event.now text.old.items arrows.new.items world.new text.new.items) }
     ensures memory { IsOkUnless result Refusal.Memory }
 {
-    let number = brought_by(event);
-    let node = event.node();
-    let arrow = find_arrow(arrows.as_slice(), number);
-    let seq = seq_at(alloc, world, number)?;
-    let before = world.sent();
-    put_columns(text, world.nodes(), node.get(), arrow)?;
-    let answer = answer_to(alloc, world, event)?;
-    note_brought(arrows, number);
-    let mut sent = Vec::new(alloc);
-    push_arrows(alloc, &mut sent, world, (row, node.get(), seq), before)?;
-    put_event_row(text, row, event, arrow, sent.as_slice(), world.node(node))?;
-    put_answer(alloc, text, &answer)?;
-    arrows.append(&mut sent)?;
-    Ok(())
+    let arrow = find_arrow(arrows.as_slice(), brought_by(event));
+    put_columns(text, world.nodes(), event.node().get(), arrow)?;
+    tell_event(alloc, text, arrows, row, world, event)
 }
 
 /// Puts what a row says of a command that only looks.
@@ -158,8 +180,8 @@ fn put_look(text: &mut Vec<u8>, arrows: &[Arrow], world: &World, look: &Look) ->
     }
 }
 
-/// The node that is looked at, 0 where it is none.
-fn looked_at(look: &Look) -> u8
+/// The node that is looked at, from 1; 0 where it is none.
+pub fn looked_at(look: &Look) -> u8
     ensures { result ≡ look_at look.now }
 {
     match look {
@@ -168,6 +190,24 @@ fn looked_at(look: &Look) -> u8
         Look::Rules(node, _) => node.get(),
         Look::Safe(node) => node.get(),
     }
+}
+
+/// Puts what the row of a command that only looks says.
+///
+/// The node that is looked at is one of the world's. `Memory` is the only error.
+pub fn tell_look(
+    text: &mut Vec<u8>,
+    arrows: &[Arrow],
+    row: u64,
+    world: &World,
+    look: &Look,
+) -> Result<(), Refusal>
+    requires { LooksWithin (length world.now.nodes) look.now }
+    ensures ok { OnOk result (text.new.items ≡ text.old.items ++ (row_text row ++ look_text arrows.now world.now look.now)) }
+    ensures memory { IsOkUnless result Refusal.Memory }
+{
+    put_row_number(text, row)?;
+    put_look(text, arrows, world, look)
 }
 
 /// Puts the row of a command that only looks.
@@ -183,8 +223,7 @@ fn draw_look(
     ensures memory { IsOkUnless result Refusal.Memory }
 {
     put_columns(text, world.nodes(), looked_at(look), None)?;
-    put_row_number(text, row)?;
-    put_look(text, arrows, world, look)?;
+    tell_look(text, arrows, row, world, look)?;
     put(text, "\n")
 }
 

@@ -4,23 +4,31 @@
 
 ghost use Rattle.std.specs.Prelude.{◌≡◌, ◌++◌, codes, decimal, OnOk, IsOkUnless};
 ghost use Rattle.std.specs.List.{flat_map};
-ghost use Rattle.cpg_draw.specs.Words.{arrow_text, brought_text, sent_text, lost_text, lost_texts};
+ghost use Rattle.cpg_draw.specs.Words.{kind_text, arrow_text, brought_text, sent_text, lost_text, lost_texts};
 
 use crate::arrows::{Arrow, Kind};
 use cpg_cred::Refusal;
 use cpg_script::put;
 use cpg_text::push_number;
 
-/// Puts what the arrow stands for, with its place or its hop.
-fn put_arrow(line: &mut Vec<u8>, arrow: &Arrow) -> Result<(), Refusal>
+/// Puts what an arrow stands for. `Memory` is the only error.
+pub fn put_kind(line: &mut Vec<u8>, kind: Kind) -> Result<(), Refusal>
+    ensures ok { OnOk result (line.new.items ≡ line.old.items ++ kind_text kind) }
+    ensures memory { IsOkUnless result Refusal.Memory }
+{
+    match kind {
+        Kind::Data => put(line, "data "),
+        Kind::Again => put(line, "again "),
+        Kind::Token => put(line, "token "),
+    }
+}
+
+/// Puts what the arrow stands for, with its place or its hop. `Memory` is the only error.
+pub fn put_arrow(line: &mut Vec<u8>, arrow: &Arrow) -> Result<(), Refusal>
     ensures ok { OnOk result (line.new.items ≡ line.old.items ++ arrow_text arrow.now) }
     ensures memory { IsOkUnless result Refusal.Memory }
 {
-    match arrow.kind {
-        Kind::Data => put(line, "data ")?,
-        Kind::Again => put(line, "again ")?,
-        Kind::Token => put(line, "token ")?,
-    }
+    put_kind(line, arrow.kind)?;
     push_number(line, arrow.mark)
 }
 
@@ -40,8 +48,8 @@ pub(crate) fn put_brought(line: &mut Vec<u8>, arrow: Option<Arrow>) -> Result<()
     }
 }
 
-/// Puts the numbers of the frames that a row sent, with what they are.
-pub(crate) fn put_sent(line: &mut Vec<u8>, arrows: &[Arrow]) -> Result<(), Refusal>
+/// Puts the numbers of the frames that a row sent, with what they are. `Memory` is the only error.
+pub fn put_sent(line: &mut Vec<u8>, arrows: &[Arrow]) -> Result<(), Refusal>
     ensures ok { OnOk result (line.new.items ≡ line.old.items ++ flat_map sent_text arrows.now) }
     ensures memory { IsOkUnless result Refusal.Memory }
 {
@@ -54,7 +62,8 @@ pub(crate) fn put_sent(line: &mut Vec<u8>, arrows: &[Arrow]) -> Result<(), Refus
     Ok(())
 }
 
-fn put_lost_one(line: &mut Vec<u8>, arrow: &Arrow) -> Result<(), Refusal>
+/// Puts the line of the frame, where no row brought it. `Memory` is the only error.
+pub fn put_lost_one(line: &mut Vec<u8>, arrow: &Arrow) -> Result<(), Refusal>
     ensures ok { OnOk result (line.new.items ≡ line.old.items ++ lost_text arrow.now) }
     ensures memory { IsOkUnless result Refusal.Memory }
 {

@@ -16,6 +16,7 @@ mod scripts;
 pub use acting::answer_to;
 pub use commands::{Command, Look};
 pub use cpg_script::Fault;
+pub use looking::put_look;
 pub use printing::{put_answer, put_frame};
 pub use reading::{read_node, read_node_alone};
 pub use running::run_script;
