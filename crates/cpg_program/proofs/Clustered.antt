@@ -14,7 +14,7 @@ use Rattle.cpg_cluster.specs.declared.commands.Command.{Command}
 use Rattle.cpg_cluster.specs.Running as cluster
 use Rattle.cpg_cluster.specs.Scripts.{commands_of_script}
 use Rattle.cpg_program.specs.declared.failures.Failure.{Failure}
-use Rattle.cpg_program.specs.declared.failures.Failure.TheVariants.{BadWord, Fault}
+use Rattle.cpg_program.specs.declared.failures.Failure.TheVariants.{BadWord, Fault, NoEntry}
 use Rattle.cpg_program.specs.Runs.{Clusters, ClustersUpTo, FailsLate}
 use Rattle.cpg_program.specs.Starting.{ClusterLeaves}
 
@@ -48,6 +48,7 @@ up_to s list lines refused a b h = h
 
 left : (s : Settings) (list : Listed) (lines : List ℕ) (failure : Failure) (a b : Option (List ℕ)) → ClusterLeaves s.nodes list lines failure a b → Clusters s (Some list) lines (Some failure) a b
 left s list lines BadWord a b h = h
+left s list lines (NoEntry place entries) a b h = h
 left s list lines (Fault fault) a b h = (h.0, up_to s list lines fault.refusal a b h.1)
 
 -- a fault of the script ended it

@@ -1,3 +1,4 @@
+pub mod Pipes
 pub mod Runs
 pub mod Starting
 pub mod Telling

@@ -5,6 +5,7 @@ use Rattle.cpg_cred.specs.Listed.{Listed}
 use Rattle.cpg_cred.specs.declared.refusals.Refusal.{Refusal}
 use Rattle.cpg_cred.specs.declared.refusals.Refusal.TheVariants.{Range, Write}
 use Rattle.cpg_text.specs.declared.streams.TheConstants.{MOST_BYTES}
+use Rattle.cpg_script.specs.declared.faults.Fault as script_faults
 use Rattle.cpg_script.specs.Written.{WritesLate}
 use Rattle.cpg_ring.specs.States.{IsSettings}
 use Rattle.cpg_ring.specs.declared.settings.Settings.{Settings}
@@ -14,48 +15,117 @@ use Rattle.cpg_judge.specs.Judging as judge
 use Rattle.cpg_judge.specs.Scripts.{entries_of_script}
 use Rattle.cpg_step.specs.Running as step
 use Rattle.cpg_step.specs.Scripts.{commands_of_script}
+use Rattle.cpg_step.specs.declared.commands.Command.{Command}
 use Rattle.cpg_draw.specs.Drawing as draw
+use Rattle.cpg_svg.specs.Drawing as svg
+use Rattle.cpg_numbers.specs.Stepping as numbers
+use Rattle.cpg_json.specs.Judging as json
+use Rattle.cpg_json.specs.Accepting as json_accept
+use Rattle.cpg_json.specs.Stepping as json_step
+use Rattle.cpg_why.specs.Scripts as why
+use Rattle.cpg_why.specs.declared.asking.Asked.{Asked}
+use Rattle.cpg_why.specs.declared.asking.WhyFault as why_faults
+use Rattle.cpg_why.specs.declared.asking.WhyFault.TheVariants as why_fault
 use Rattle.cpg_cluster.specs.Running as cluster
 use Rattle.cpg_cluster.specs.Scripts as clustered
 use Rattle.cpg_program.specs.Words.{list_of_words}
 use Rattle.cpg_program.specs.declared.failures.Failure.{Failure}
-use Rattle.cpg_program.specs.declared.failures.Failure.TheVariants.{BadWord, Fault}
+use Rattle.cpg_program.specs.declared.failures.Failure.TheVariants.{BadWord, Fault, NoEntry}
+use Rattle.cpg_program.specs.declared.runs.Form.{Form}
+use Rattle.cpg_program.specs.declared.runs.Form.TheVariants.{Text, Json}
+use Rattle.cpg_program.specs.declared.runs.Picture.{Picture}
+use Rattle.cpg_program.specs.declared.runs.Picture.TheVariants as picture
 use Rattle.cpg_program.specs.declared.runs.Run.{Run}
-use Rattle.cpg_program.specs.declared.runs.Run.TheVariants.{Judge, Accept, Step, Draw, Cluster}
+use Rattle.cpg_program.specs.declared.runs.Run.TheVariants.{Judge, Why, Accept, Step, Draw, Number, Cluster}
 
--- the exit status: 0, after a fault 1, after a wrong word of the command line 2
+-- the exit status: 0, after a fault 1, after a fault of the command line 2: a wrong word, or a place that has no entry
 abbrev pub status_after : Option Failure → ℕ
 status_after None = 0
 status_after (Some (Fault fault)) = 1
 status_after (Some BadWord) = 2
+status_after (Some (NoEntry place entries)) = 2
 
--- The script was run over a new world, and all its text is written.
-abbrev pub StepsAll : Settings → Listed → List ℕ → Option (List ℕ) → Option (List ℕ) → Type 0
-StepsAll s list script old new = (length script ≤ MOST_BYTES) × (world : WorldValue) × step.IsRun (commands_of_script s.nodes script) (new_world s list) old new world
+-- a script was run over a world, and all its lines are written
+abbrev pub IsRun : Form → Result (List Command) ℕ → WorldValue → Option (List ℕ) → Option (List ℕ) → WorldValue → Type 0
+IsRun Text commands w old new world = step.IsRun commands w old new world
+IsRun Json commands w old new world = json_step.IsRun commands w old new world
+
+-- what a refusal leaves of it
+abbrev pub LeavesRun : Form → Result (List Command) ℕ → Refusal → WorldValue → Option (List ℕ) → Option (List ℕ) → WorldValue → Type 0
+LeavesRun Text commands refused w old new world = step.Leaves commands refused w old new world
+LeavesRun Json commands refused w old new world = json_step.Leaves commands refused w old new world
+
+-- The script was run over a new world, and all its lines are written.
+abbrev pub StepsAll : Form → Settings → Listed → List ℕ → Option (List ℕ) → Option (List ℕ) → Type 0
+StepsAll form s list script old new = (length script ≤ MOST_BYTES) × (world : WorldValue) × IsRun form (commands_of_script s.nodes script) (new_world s list) old new world
 
 -- What a refusal leaves written of a script that is run over a new world; Range tells that there is none of those settings.
-abbrev pub StepsUpTo : Settings → Listed → List ℕ → Refusal → Option (List ℕ) → Option (List ℕ) → Type 0
-StepsUpTo s list script Range old new = (¬ IsSettings s) × Keeps old new
-StepsUpTo s list script refused old new = (world : WorldValue) × step.Leaves (commands_of_script s.nodes script) refused (new_world s list) old new world
+abbrev pub StepsUpTo : Form → Settings → Listed → List ℕ → Refusal → Option (List ℕ) → Option (List ℕ) → Type 0
+StepsUpTo form s list script Range old new = (¬ IsSettings s) × Keeps old new
+StepsUpTo form s list script refused old new = (world : WorldValue) × LeavesRun form (commands_of_script s.nodes script) refused (new_world s list) old new world
 
 -- what `step` writes of a script, by the list that its words give
-abbrev pub Steps : Settings → Option Listed → List ℕ → Option Failure → Option (List ℕ) → Option (List ℕ) → Type 0
-Steps s None script failure old new = (failure ≡ Some BadWord) × Keeps old new
-Steps s (Some list) script None old new = StepsAll s list script old new
-Steps s (Some list) script (Some (Fault fault)) old new = (fault.part ≡ None) × StepsUpTo s list script fault.refusal old new
-Steps s (Some list) script (Some BadWord) old new = ⊥
+abbrev pub Steps : Form → Settings → Option Listed → List ℕ → Option Failure → Option (List ℕ) → Option (List ℕ) → Type 0
+Steps form s None script failure old new = (failure ≡ Some BadWord) × Keeps old new
+Steps form s (Some list) script None old new = StepsAll form s list script old new
+Steps form s (Some list) script (Some (Fault fault)) old new = (fault.part ≡ None) × StepsUpTo form s list script fault.refusal old new
+Steps form s (Some list) script _ old new = ⊥
+
+-- the picture of a script's run, as one SVG or as lines for a terminal, is written, or its lines with the numbers of frames
+abbrev pub IsDrawn : Picture → Result (List Command) ℕ → WorldValue → Option (List ℕ) → Option (List ℕ) → Type 0
+IsDrawn picture.Svg commands w old new = svg.IsDrawn commands w old new
+IsDrawn picture.Lines commands w old new = draw.IsDrawn commands w old new
+IsDrawn picture.Numbered commands w old new = numbers.IsStepped commands w old new
+
+-- what a refusal leaves of it
+abbrev pub LeavesDrawn : Picture → Result (List Command) ℕ → Refusal → WorldValue → Option (List ℕ) → Option (List ℕ) → Type 0
+LeavesDrawn picture.Svg commands refused w old new = svg.Leaves commands refused w old new
+LeavesDrawn picture.Lines commands refused w old new = draw.Leaves commands refused w old new
+LeavesDrawn picture.Numbered commands refused w old new = numbers.Leaves commands refused w old new
 
 -- What a refusal leaves written of the picture of a script's run; Range tells that there is no world of those settings.
-abbrev pub DrawsUpTo : Settings → Listed → List ℕ → Refusal → Option (List ℕ) → Option (List ℕ) → Type 0
-DrawsUpTo s list script Range old new = (¬ IsSettings s) × Keeps old new
-DrawsUpTo s list script refused old new = draw.Leaves (commands_of_script s.nodes script) refused (new_world s list) old new
+abbrev pub DrawsUpTo : Picture → Settings → Listed → List ℕ → Refusal → Option (List ℕ) → Option (List ℕ) → Type 0
+DrawsUpTo kind s list script Range old new = (¬ IsSettings s) × Keeps old new
+DrawsUpTo kind s list script refused old new = LeavesDrawn kind (commands_of_script s.nodes script) refused (new_world s list) old new
 
 -- what `draw` writes of a script, by the list that its words give: the picture of its run over a new world
-abbrev pub Draws : Settings → Option Listed → List ℕ → Option Failure → Option (List ℕ) → Option (List ℕ) → Type 0
-Draws s None script failure old new = (failure ≡ Some BadWord) × Keeps old new
-Draws s (Some list) script None old new = (length script ≤ MOST_BYTES) × draw.IsDrawn (commands_of_script s.nodes script) (new_world s list) old new
-Draws s (Some list) script (Some (Fault fault)) old new = (fault.part ≡ None) × DrawsUpTo s list script fault.refusal old new
-Draws s (Some list) script (Some BadWord) old new = ⊥
+abbrev pub Draws : Picture → Settings → Option Listed → List ℕ → Option Failure → Option (List ℕ) → Option (List ℕ) → Type 0
+Draws kind s None script failure old new = (failure ≡ Some BadWord) × Keeps old new
+Draws kind s (Some list) script None old new = (length script ≤ MOST_BYTES) × IsDrawn kind (commands_of_script s.nodes script) (new_world s list) old new
+Draws kind s (Some list) script (Some (Fault fault)) old new = (fault.part ≡ None) × DrawsUpTo kind s list script fault.refusal old new
+Draws kind s (Some list) script _ old new = ⊥
+
+-- the judgement of a script, as text or as JSON, is written
+abbrev pub IsJudged : Form → List ℕ → Option (List ℕ) → Option (List ℕ) → Type 0
+IsJudged Text script old new = judge.IsWritten (entries_of_script script) old new
+IsJudged Json script old new = json.IsWritten (entries_of_script script) old new
+
+-- what a refusal leaves of it
+abbrev pub LeavesJudged : Form → List ℕ → Refusal → Option (List ℕ) → Option (List ℕ) → Type 0
+LeavesJudged Text script refused old new = judge.Leaves (entries_of_script script) refused old new
+LeavesJudged Json script refused old new = json.Leaves (entries_of_script script) refused old new
+
+-- the answers to a script's asks, as text or as JSON, are written
+abbrev pub AreAnswered : Form → List ℕ → Option (List ℕ) → Option (List ℕ) → Type 0
+AreAnswered Text script old new = accept.IsWritten (accept.admitted_by script) old new
+AreAnswered Json script old new = json_accept.AreWritten (accept.admitted_by script) old new
+
+-- what a fault leaves of them
+abbrev pub LeavesAnswered : Form → List ℕ → script_faults.Fault → Option (List ℕ) → Option (List ℕ) → Type 0
+LeavesAnswered Text script fault old new = accept.Ends script fault old new
+LeavesAnswered Json script fault old new = json_accept.Ends script fault old new
+
+-- why nothing is explained, as a failure
+abbrev pub failure_of_why : why_faults.WhyFault → Failure
+failure_of_why (why_fault.Script fault) = Fault fault
+failure_of_why (why_fault.NoEntry place entries) = NoEntry place entries
+
+-- what `why` writes of a script: what it tells of what is asked, or after a fault what that fault leaves
+abbrev pub Explains : Asked → List ℕ → Option Failure → Option (List ℕ) → Option (List ℕ) → Type 0
+Explains asked script None old new = (length script ≤ MOST_BYTES) × why.IsWritten (entries_of_script script) (why.numbers_of script) asked old new
+Explains asked script (Some (Fault fault)) old new = why.Leaves (entries_of_script script) (why.numbers_of script) asked (why_fault.Script fault) old new
+Explains asked script (Some (NoEntry place entries)) old new = why.Leaves (entries_of_script script) (why.numbers_of script) asked (why_fault.NoEntry place entries) old new
+Explains asked script (Some BadWord) old new = ⊥
 
 -- The script was run over a cluster of so many nodes that accept by that list, and all its text is written.
 abbrev pub ClustersAll : ℕ → Listed → List ℕ → Option (List ℕ) → Option (List ℕ) → Type 0
@@ -71,45 +141,59 @@ abbrev pub Clusters : Settings → Option Listed → List ℕ → Option Failure
 Clusters s None script failure old new = (failure ≡ Some BadWord) × Keeps old new
 Clusters s (Some list) script None old new = ClustersAll s.nodes list script old new
 Clusters s (Some list) script (Some (Fault fault)) old new = (fault.part ≡ None) × ClustersUpTo s list script fault.refusal old new
-Clusters s (Some list) script (Some BadWord) old new = ⊥
+Clusters s (Some list) script _ old new = ⊥
 
 -- a word of the run's command line lets nobody in
 abbrev pub HasWrongWord : Run → Type 0
-HasWrongWord Judge = ⊥
-HasWrongWord Accept = ⊥
-HasWrongWord (Step settings words) = list_of_words (map (λ word. word.now) words.now) ≡ None
-HasWrongWord (Draw settings words) = list_of_words (map (λ word. word.now) words.now) ≡ None
+HasWrongWord (Judge form) = ⊥
+HasWrongWord (Why asked) = ⊥
+HasWrongWord (Accept form) = ⊥
+HasWrongWord (Step form settings words) = list_of_words (map (λ word. word.now) words.now) ≡ None
+HasWrongWord (Draw picture settings words) = list_of_words (map (λ word. word.now) words.now) ≡ None
+HasWrongWord (Number settings words) = list_of_words (map (λ word. word.now) words.now) ≡ None
 HasWrongWord (Cluster settings words) = list_of_words (map (λ word. word.now) words.now) ≡ None
 
 -- what a run writes of a script to standard output: all of its text, or after a fault what that fault leaves
 abbrev pub Prints : Run → List ℕ → Option Failure → Option (List ℕ) → Option (List ℕ) → Type 0
-Prints Judge script None old new = (length script ≤ MOST_BYTES) × judge.IsWritten (entries_of_script script) old new
-Prints Judge script (Some (Fault fault)) old new = (fault.part ≡ None) × judge.Leaves (entries_of_script script) fault.refusal old new
-Prints Accept script None old new = (length script ≤ MOST_BYTES) × accept.IsWritten (accept.admitted_by script) old new
-Prints Accept script (Some (Fault fault)) old new = accept.Ends script fault old new
-Prints (Step settings words) script failure old new = Steps settings (list_of_words (map (λ word. word.now) words.now)) script failure old new
-Prints (Draw settings words) script failure old new = Draws settings (list_of_words (map (λ word. word.now) words.now)) script failure old new
+Prints (Judge form) script None old new = (length script ≤ MOST_BYTES) × IsJudged form script old new
+Prints (Judge form) script (Some (Fault fault)) old new = (fault.part ≡ None) × LeavesJudged form script fault.refusal old new
+Prints (Why asked) script failure old new = Explains asked script failure old new
+Prints (Accept form) script None old new = (length script ≤ MOST_BYTES) × AreAnswered form script old new
+Prints (Accept form) script (Some (Fault fault)) old new = LeavesAnswered form script fault old new
+Prints (Step form settings words) script failure old new = Steps form settings (list_of_words (map (λ word. word.now) words.now)) script failure old new
+Prints (Draw kind settings words) script failure old new = Draws kind settings (list_of_words (map (λ word. word.now) words.now)) script failure old new
+Prints (Number settings words) script failure old new = Draws picture.Numbered settings (list_of_words (map (λ word. word.now) words.now)) script failure old new
 Prints (Cluster settings words) script failure old new = Clusters settings (list_of_words (map (λ word. word.now) words.now)) script failure old new
-Prints _ script (Some BadWord) old new = ⊥
+Prints _ script _ old new = ⊥
 
 -- nothing is written before the words were found right, and the script read and checked
 abbrev pub FailsLate : Failure → Option (List ℕ) → Option (List ℕ) → Type 0
 FailsLate BadWord old new = Keeps old new
+FailsLate (NoEntry place entries) old new = Keeps old new
 FailsLate (Fault fault) old new = WritesLate fault.refusal old new
+
+-- the failure is a fault of the command line
+abbrev pub IsOfWords : Failure → Type 0
+IsOfWords (Fault fault) = ⊥
+IsOfWords _ = Unit {0}
 
 -- why a script was not run to its end, where it was not
 abbrev pub failure_of : Result (Unit {0}) Failure → Option Failure
 failure_of (Err failure) = Some failure
 failure_of (Ok done) = None
 
--- the failure of a run: its script's, but one of writing where the flush after it failed
+-- the failure of a run: its script's, but one of writing where the flush after it failed; a fault of the command line, after which nothing is
+-- written, stays
 abbrev pub failure_told : Bool → Option Failure → Option Failure
 failure_told flushed (Some BadWord) = Some BadWord
+failure_told flushed (Some (NoEntry place entries)) = Some (NoEntry place entries)
 failure_told true first = first
 failure_told false first = Some (Fault (accept.whole_fault Write))
 
--- a run prints what its script's own end leaves, and tells that end or the flush that failed after it
+-- A run prints what its script's own end leaves, and the flush after it changes nothing of that; it tells that end, or the flush that failed.
 pub record Runs (run : Run) (script : List ℕ) (flushed : Bool) (failure : Option Failure) (old new : Option (List ℕ)) : Type 0 where
   pub first : Option Failure
-  pub prints : Prints run script first old new
+  pub gathered : Option (List ℕ)
+  pub prints : Prints run script first old gathered
+  pub kept : Keeps gathered new
   pub tells : failure ≡ failure_told flushed first

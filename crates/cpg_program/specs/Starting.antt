@@ -23,5 +23,5 @@ IsNotStarted s (Some list) failure = (failure ≡ Fault (whole_fault Memory)) �
 
 -- what a failure leaves of a script over a cluster of so many nodes that accept by that list
 abbrev pub ClusterLeaves : ℕ → Listed → List ℕ → Failure → Option (List ℕ) → Option (List ℕ) → Type 0
-ClusterLeaves nodes list script BadWord old new = ⊥
 ClusterLeaves nodes list script (Fault fault) old new = (fault.part ≡ None) × cluster.Leaves list (commands_of_script nodes script) fault.refusal old new
+ClusterLeaves nodes list script _ old new = ⊥

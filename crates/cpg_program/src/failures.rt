@@ -1,10 +1,13 @@
 //! Why a run does not do all that it is asked for.
 
-ghost use Rattle.std.specs.Prelude.{◌≡◌, None};
+ghost use Rattle.std.specs.Prelude.{◌≡◌, None, Some};
+ghost use Rattle.cpg_program.specs.Telling.{failed_to_write};
+ghost use Rattle.cpg_program.specs.Runs.{failure_of_why};
 ghost use Rattle.cpg_program.specs.declared.failures.Failure.TheVariants as failure;
 
 use cpg_cred::Refusal;
 use cpg_script::Fault;
+use cpg_why::WhyFault;
 
 /// Why a run ended before it did all that it was asked for.
 #[derive(Debug, Drop)]
@@ -13,6 +16,23 @@ pub enum Failure {
     BadWord,
     /// A fault of the script, or a refusal when the list or the world is made.
     Fault(Fault),
+    /// The command line asks of the entry at a place where none stands: the script has so many.
+    NoEntry { place: u32, entries: u32 },
+}
+
+impl Failure {
+    /// Whether a stream could not be written.
+    pub(crate) fn is_write(&self) -> bool
+        ensures { result ≡ failed_to_write (Some self.now) }
+    {
+        match self {
+            Failure::BadWord | Failure::NoEntry { .. } => false,
+            Failure::Fault(fault) => match fault.refusal {
+                Refusal::Write => true,
+                _ => false,
+            },
+        }
+    }
 }
 
 impl From<Fault> for Failure {
@@ -20,6 +40,17 @@ impl From<Fault> for Failure {
 
     fn from(fault: Fault) -> Failure {
         Failure::Fault(fault)
+    }
+}
+
+impl From<WhyFault> for Failure {
+    ghost from_gives = { λ fault result. result ≡ failure_of_why fault };
+
+    fn from(fault: WhyFault) -> Failure {
+        match fault {
+            WhyFault::Script(fault) => Failure::Fault(fault),
+            WhyFault::NoEntry { place, entries } => Failure::NoEntry { place, entries },
+        }
     }
 }
 

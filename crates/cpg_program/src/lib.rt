@@ -7,12 +7,16 @@
 mod clustering;
 mod drawing;
 mod failures;
+mod judging;
+mod pipes;
 mod runs;
 mod stepping;
 mod telling;
 mod words;
 
+pub use cpg_why::Asked;
 pub use failures::Failure;
-pub use runs::{Ended, Run, perform};
+pub use pipes::Piped;
+pub use runs::{Ended, Form, Picture, Run, perform};
 pub use telling::{tell_failure, tell_fault};
 pub use words::read_list;

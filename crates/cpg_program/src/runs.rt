@@ -3,41 +3,68 @@
 //! Standard output is buffered, and what was gathered is handed on also after a fault. Proved: what is
 //! written to standard output and to standard error, and the status, whatever the streams do.
 
-ghost use Rattle.std.specs.Prelude.{◌≡◌, ◌⊎◌, ◌↔◌, [], false, Err, None, Some, map, OnOk, IfErr, IfSome, IsTrue};
+ghost use Rattle.std.specs.Prelude.{◌≡◌, ◌⊎◌, ◌↔◌, [], false, Err, None, Some, map, OnOk, IfErr, IfSome, IsSomeAnd, IsTrue};
 ghost use Rattle.std.specs.Io.Buffered.{writer_buffer, writer_contents};
 ghost use Rattle.std.specs.Io.KnownBytes.{Appends, Keeps};
 ghost use Rattle.cpg_text.specs.Streams.{AppendsFront};
 ghost use Rattle.cpg_accept.specs.Accepting.{whole_fault};
-ghost use Rattle.cpg_program.specs.Runs.{failure_of, failure_told, status_after, FailsLate, HasWrongWord, Prints, Runs};
-ghost use Rattle.cpg_program.specs.Telling.{error_text};
+ghost use Rattle.cpg_program.specs.Runs.{failure_of, failure_told, status_after, FailsLate, HasWrongWord, IsOfWords, Prints, Runs};
+ghost use Rattle.cpg_program.specs.Pipes.{has_left, written};
+ghost use Rattle.cpg_program.specs.Telling.{told_text};
 
 use crate::clustering::run_cluster;
 use crate::drawing::draw_over_world;
 use crate::failures::Failure;
-use crate::stepping::step_script;
+use crate::judging::{accept, judge};
+use crate::pipes::Piped;
+use crate::stepping::step_over_world;
 use crate::telling::tell_failure;
-use cpg_console::{accept_script, judge_script};
 use cpg_cred::Refusal;
 use cpg_ring::Settings;
 use cpg_script::Fault;
+use cpg_why::{Asked, why_script};
 use std::alloc::Global;
 use std::io::{BufWriter, Read, Write};
 use std::sync::Wait;
 use std::thread::Threads;
 use std::time::Clock;
 
+/// How lines are written.
+#[derive(Debug, Clone, Copy)]
+pub enum Form {
+    /// As text.
+    Text,
+    /// As objects of JSON, one a line.
+    Json,
+}
+
+/// How a picture is written.
+#[derive(Debug, Clone, Copy)]
+pub enum Picture {
+    /// As one SVG.
+    Svg,
+    /// As lines for a terminal.
+    Lines,
+    /// As the lines of `step`, with the numbers of the frames that each command sent.
+    Numbered,
+}
+
 /// What the program is asked for.
 #[derive(Debug, Clone, Copy)]
 pub enum Run<'a> {
     /// `cpgring judge`: a script of agreed entries is judged.
-    Judge,
+    Judge(Form),
+    /// `cpgring why`: it is told why entries of such a script were answered as they were.
+    Why(Asked),
     /// `cpgring accept`: the asks of a script are answered by its names and conf texts.
-    Accept,
+    Accept(Form),
     /// `cpgring step`: a script of commands is run over a new world of those settings, whose nodes let in
     /// whom the words let in.
-    Step(Settings, &'a [&'a str]),
+    Step(Form, Settings, &'a [&'a str]),
     /// `cpgring draw`: the run of such a script over a new world is drawn.
-    Draw(Settings, &'a [&'a str]),
+    Draw(Picture, Settings, &'a [&'a str]),
+    /// `cpgring step --numbers`: the same as `Step`, with the numbers of the frames that each command sent.
+    Number(Settings, &'a [&'a str]),
     /// `cpgring run`: a script of sessions is run over a new cluster of those settings, whose nodes let in
     /// whom the words let in.
     Cluster(Settings, &'a [&'a str]),
@@ -55,14 +82,14 @@ pub struct Ended {
 }
 
 impl Ended {
-    /// The exit status: 0; after a fault 1; and 2 where a word of the command line is wrong.
+    /// The exit status: 0; after a fault 1; and 2 where a word of the command line is wrong, or asks of no entry.
     pub fn status(&self) -> u8
         ensures { result ≡ status_after (self.now).failure }
     {
         match &self.failure {
             None => 0,
             Some(Failure::Fault(_)) => 1,
-            Some(Failure::BadWord) => 2,
+            Some(Failure::BadWord | Failure::NoEntry { .. }) => 2,
         }
     }
 }
@@ -70,14 +97,14 @@ impl Ended {
 /// Runs the subcommand over the streams.
 ///
 /// What was gathered is handed on also after a fault; where that fails, the fault is `Write`. Why a run ended
-/// early is told on standard error, as far as memory and the stream allow; where there is nothing to tell,
-/// nothing is.
+/// early is told on standard error, as far as the stream allows; where there is nothing to tell, or the reader of
+/// standard output has left, nothing is.
 pub fn perform<H, R, W, E>(
     rt: H,
     alloc: Global,
-    run: Run<'_>,
+    run: &Run<'_>,
     reader: &mut R,
-    writer: &mut BufWriter<W>,
+    writer: &mut BufWriter<Piped<W>>,
     errors: &mut E,
 ) -> Ended
 where
@@ -86,25 +113,26 @@ where
     W: Write + Drop,
     E: Write,
     ensures output { IfSome (R.remaining reader.old) (λ script.
-        Runs run.entry script result.flushed result.failure (writer_contents W.contents writer.old) (writer_contents W.contents writer.new)) }
+        Runs run.now script result.flushed result.failure (written W.contents writer.old) (written W.contents writer.new)) }
 
     // Nothing is written before the words were found right and the script was read and checked, even where the
     // reader tells no bytes.
-    ensures late { IfSome result.failure (λ failure. FailsLate failure (writer_contents W.contents writer.old) (writer_contents W.contents writer.new)) }
+    ensures late { IfSome result.failure (λ failure. FailsLate failure (written W.contents writer.old) (written W.contents writer.new)) }
 
     // A wrong word is told exactly where there is one, whatever the streams do.
-    ensures word { (result.failure ≡ Some Failure.BadWord) ↔ HasWrongWord run.entry }
+    ensures word { (result.failure ≡ Some Failure.BadWord) ↔ HasWrongWord run.now }
 
     // What was gathered is handed on; where it is not, that is a fault.
     ensures flushed { IsTrue result.flushed → writer_buffer writer.new ≡ [] }
-    ensures unflushed { result.flushed ≡ false → (result.failure ≡ Some (Failure.Fault (whole_fault Refusal.Write))) ⊎ (result.failure ≡ Some Failure.BadWord) }
+    ensures unflushed { result.flushed ≡ false → (result.failure ≡ Some (Failure.Fault (whole_fault Refusal.Write))) ⊎ IsSomeAnd result.failure IsOfWords }
 
-    // The failure's line, or a front of it where it could not be written whole; nothing where there is none.
-    ensures told { IsTrue result.told → Appends (E.contents errors.old) (E.contents errors.new) (error_text result.failure) }
-    ensures untold { AppendsFront (E.contents errors.old) (E.contents errors.new) (error_text result.failure) }
+    // The failure's line, or a front of it where it could not be written whole; nothing where there is none, or
+    // where it is one of writing to a pipe whose reader has left.
+    ensures told { IsTrue result.told → Appends (E.contents errors.old) (E.contents errors.new) (told_text (has_left writer.new) result.failure) }
+    ensures untold { AppendsFront (E.contents errors.old) (E.contents errors.new) (told_text (has_left writer.new) result.failure) }
 {
     let (failure, flushed) = run_flushed(rt, alloc, run, reader, writer);
-    let told = tell(alloc, errors, &failure);
+    let told = tell(errors, writer.get_ref().has_left(), &failure);
     Ended {
         failure,
         flushed,
@@ -112,15 +140,15 @@ where
     }
 }
 
-/// Tells the failure, if there is one, and says whether that was done.
+/// Tells the failure, if there is one that is to be told, and says whether that was done.
 #[tactic(auto, using(crate::proofs::Fronts::none_of, crate::proofs::Fronts::all_of))]
-fn tell<E: Write>(alloc: Global, errors: &mut E, failure: &Option<Failure>) -> bool
-    ensures told { IsTrue result → Appends (E.contents errors.old) (E.contents errors.new) (error_text failure.now) }
-    ensures untold { AppendsFront (E.contents errors.old) (E.contents errors.new) (error_text failure.now) }
+fn tell<E: Write>(errors: &mut E, left: bool, failure: &Option<Failure>) -> bool
+    ensures told { IsTrue result → Appends (E.contents errors.old) (E.contents errors.new) (told_text left failure.now) }
+    ensures untold { AppendsFront (E.contents errors.old) (E.contents errors.new) (told_text left failure.now) }
 {
     match failure {
         None => true,
-        Some(failure) => tell_failure(alloc, errors, failure).is_ok(),
+        Some(failure) => (left && failure.is_write()) || tell_failure(errors, failure).is_ok(),
     }
 }
 
@@ -140,7 +168,7 @@ fn hand_on<W: Write + Drop>(writer: &mut BufWriter<W>) -> bool
 fn run_flushed<H, R, W>(
     rt: H,
     alloc: Global,
-    run: Run<'_>,
+    run: &Run<'_>,
     reader: &mut R,
     writer: &mut BufWriter<W>,
 ) -> (Option<Failure>, bool)
@@ -149,11 +177,11 @@ where
     R: Read,
     W: Write + Drop,
     ensures output { IfSome (R.remaining reader.old) (λ script.
-        Runs run.entry script result.1 result.0 (writer_contents W.contents writer.old) (writer_contents W.contents writer.new)) }
+        Runs run.now script result.1 result.0 (writer_contents W.contents writer.old) (writer_contents W.contents writer.new)) }
     ensures late { IfSome result.0 (λ failure. FailsLate failure (writer_contents W.contents writer.old) (writer_contents W.contents writer.new)) }
-    ensures word { (result.0 ≡ Some Failure.BadWord) ↔ HasWrongWord run.entry }
+    ensures word { (result.0 ≡ Some Failure.BadWord) ↔ HasWrongWord run.now }
     ensures flushed { IsTrue result.1 → writer_buffer writer.new ≡ [] }
-    ensures unflushed { result.1 ≡ false → (result.0 ≡ Some (Failure.Fault (whole_fault Refusal.Write))) ⊎ (result.0 ≡ Some Failure.BadWord) }
+    ensures unflushed { result.1 ≡ false → (result.0 ≡ Some (Failure.Fault (whole_fault Refusal.Write))) ⊎ IsSomeAnd result.0 IsOfWords }
 {
     let done = run_script(rt, alloc, run, reader, writer);
     let flushed = hand_on(writer);
@@ -166,6 +194,7 @@ fn failure_after(done: Result<(), Failure>, flushed: bool) -> Option<Failure>
 {
     match done {
         Err(Failure::BadWord) => Some(Failure::BadWord),
+        Err(Failure::NoEntry { place, entries }) => Some(Failure::NoEntry { place, entries }),
         _ if !flushed => Some(Failure::from(Refusal::Write)),
         Err(failure) => Some(failure),
         Ok(()) => None,
@@ -176,7 +205,7 @@ fn failure_after(done: Result<(), Failure>, flushed: bool) -> Option<Failure>
 fn run_script<H, R, W>(
     rt: H,
     alloc: Global,
-    run: Run<'_>,
+    run: &Run<'_>,
     reader: &mut R,
     writer: &mut W,
 ) -> Result<(), Failure>
@@ -185,19 +214,28 @@ where
     R: Read,
     W: Write,
     ensures ok { OnOk result (IfSome (R.remaining reader.old) (λ script.
-        Prints run.entry script None (W.contents writer.old) (W.contents writer.new))) }
+        Prints run.now script None (W.contents writer.old) (W.contents writer.new))) }
     ensures err { IfErr result (λ failure. IfSome (R.remaining reader.old) (λ script.
-        Prints run.entry script (Some failure) (W.contents writer.old) (W.contents writer.new))) }
+        Prints run.now script (Some failure) (W.contents writer.old) (W.contents writer.new))) }
     ensures late { IfErr result (λ failure. FailsLate failure (W.contents writer.old) (W.contents writer.new)) }
-    ensures word { (result ≡ Err Failure.BadWord) ↔ HasWrongWord run.entry }
+    ensures word { (result ≡ Err Failure.BadWord) ↔ HasWrongWord run.now }
 {
     match run {
-        Run::Judge => judge_script(alloc, reader, writer)?,
-        Run::Accept => accept_script(alloc, reader, writer)?,
-        Run::Step(settings, words) => step_script(alloc, settings, words, reader, writer)?,
-        Run::Draw(settings, words) => draw_over_world(alloc, settings, words, reader, writer)?,
+        Run::Judge(form) => judge(alloc, *form, reader, writer)?,
+        Run::Why(asked) => why_script(alloc, reader, writer, *asked)?,
+        Run::Accept(form) => accept(alloc, *form, reader, writer)?,
+        Run::Step(form, settings, words) => {
+            step_over_world(alloc, *form, *settings, words, reader, writer)?;
+        }
+        Run::Draw(picture, settings, words) => {
+            draw_over_world(alloc, *picture, *settings, words, reader, writer)?;
+        }
+        Run::Number(settings, words) => {
+            let picture = Picture::Numbered;
+            draw_over_world(alloc, picture, *settings, words, reader, writer)?;
+        }
         Run::Cluster(settings, words) => {
-            run_cluster(rt, alloc, settings, words, reader, writer)?;
+            run_cluster(rt, alloc, *settings, words, reader, writer)?;
         }
     }
     Ok(())

@@ -2,45 +2,74 @@
 //!
 //! Proved: the words of the command line come first, then the settings, then the script; and what is written.
 
-ghost use Rattle.std.specs.Prelude.{◌≡◌, ◌↔◌, Err, Some, None, map, OnOk, IfOk, IfErr, IfSome};
+ghost use Rattle.std.specs.Prelude.{◌≡◌, ◌≤◌, ◌↔◌, Err, Some, None, length, map, OnOk, IfOk, IfErr, IfSome};
 ghost use Rattle.cpg_world_laws.specs.Worlds.{new_world};
-ghost use Rattle.cpg_program.specs.Runs.{FailsLate, Steps};
+ghost use Rattle.cpg_step.specs.Running.{EndsRunning};
+ghost use Rattle.cpg_step.specs.Scripts.{commands_of_script};
+ghost use Rattle.cpg_program.specs.Runs.{FailsLate, IsRun, LeavesRun, Steps};
 ghost use Rattle.cpg_program.specs.Starting.{IsStarted, IsNotStarted};
 ghost use Rattle.cpg_program.specs.Words.{list_of_words};
 
 use crate::failures::Failure;
+use crate::runs::Form;
 use crate::words::read_list;
 use cpg_console::run_script;
 use cpg_cred::AcceptList;
+use cpg_json::step_json;
 use cpg_ring::Settings;
+use cpg_script::Fault;
+use cpg_text::MOST_BYTES;
 use cpg_world::World;
 use std::alloc::Global;
 use std::io::{Read, Write};
 
-/// Runs the script over a new world of those settings, whose nodes let in whom the words let in.
+/// Runs the script over a new world of those settings, whose nodes let in whom the words let in, and writes what it
+/// prints in that form.
 ///
 /// A wrong word comes first, then settings out of their ranges, then the faults of the script.
 #[tactic(auto, using(crate::proofs::Started::none_stepped, crate::proofs::Started::none_late, crate::proofs::Started::all_stepped, crate::proofs::Started::part_stepped, crate::proofs::Started::part_late))]
-pub fn step_script<R: Read, W: Write>(
+pub fn step_over_world<R: Read, W: Write>(
     alloc: Global,
+    form: Form,
     settings: Settings,
     words: &[&str],
     reader: &mut R,
     writer: &mut W,
 ) -> Result<(), Failure>
     ensures ok { OnOk result (IfSome (R.remaining reader.old) (λ script.
-        Steps settings (list_of_words (map (λ word. word.now) words.now)) script None (W.contents writer.old) (W.contents writer.new))) }
+        Steps form settings (list_of_words (map (λ word. word.now) words.now)) script None (W.contents writer.old) (W.contents writer.new))) }
     ensures err { IfErr result (λ failure. IfSome (R.remaining reader.old) (λ script.
-        Steps settings (list_of_words (map (λ word. word.now) words.now)) script (Some failure) (W.contents writer.old) (W.contents writer.new))) }
+        Steps form settings (list_of_words (map (λ word. word.now) words.now)) script (Some failure) (W.contents writer.old) (W.contents writer.new))) }
     ensures late { IfErr result (λ failure. FailsLate failure (W.contents writer.old) (W.contents writer.new)) }
     ensures word { (result ≡ Err Failure.BadWord) ↔ (list_of_words (map (λ word. word.now) words.now) ≡ None) }
 {
     match world_by(alloc, settings, words) {
         Err(failure) => Err(failure),
-        Ok(mut world) => match run_script(alloc, reader, writer, &mut world) {
+        Ok(mut world) => match step(alloc, form, reader, writer, &mut world) {
             Err(fault) => Err(Failure::from(fault)),
             Ok(()) => Ok(()),
         },
+    }
+}
+
+/// Runs the script over the world, and writes what it prints in that form.
+fn step<R: Read, W: Write>(
+    alloc: Global,
+    form: Form,
+    reader: &mut R,
+    writer: &mut W,
+    world: &mut World,
+) -> Result<(), Fault>
+    ensures ok { OnOk result (IfSome (R.remaining reader.old) (λ script.
+        (length script ≤ MOST_BYTES) × IsRun form (commands_of_script world.old.settings.nodes script) world.old (W.contents writer.old) (W.contents writer.new) world.new)) }
+    ensures err { IfErr result (λ fault. IfSome (R.remaining reader.old) (λ script.
+        LeavesRun form (commands_of_script world.old.settings.nodes script) fault.refusal world.old (W.contents writer.old) (W.contents writer.new) world.new)) }
+    ensures ends { IfErr result (λ fault. EndsRunning fault.refusal world.old (W.contents writer.old) (W.contents writer.new) world.new) }
+    ensures whole { IfErr result (λ fault. fault.part ≡ None) }
+{
+    match form {
+        Form::Text => run_script(alloc, reader, writer, world),
+        Form::Json => step_json(alloc, reader, writer, world),
     }
 }
 

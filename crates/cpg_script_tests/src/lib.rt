@@ -7,6 +7,8 @@ mod accepts;
 #[cfg(test)]
 mod confs;
 #[cfg(test)]
+mod json;
+#[cfg(test)]
 mod judges;
 #[cfg(test)]
 mod lines;
@@ -18,6 +20,8 @@ mod sessions;
 mod steps;
 #[cfg(test)]
 mod texts;
+#[cfg(test)]
+mod whys;
 
 /// The crate has tests alone; a library has to have an item.
 pub const TESTS_ALONE: bool = true;

@@ -2,18 +2,28 @@
 //!
 //! Proved: which subcommand is which run, its settings and words, and the exit status of what is said.
 
-ghost use Rattle.std.specs.Prelude.{◌≡◌, Some, None, codes, map, IfSome, IsSome};
+ghost use Rattle.std.specs.Prelude.{◌≡◌, ◌<◌, ◌↔◌, true, false, Some, None, codes, length, map, slice_get, IfSome, IsSome};
 ghost use Rattle.clap.specs.Words.{found_of, subcommand_name_of};
 ghost use Rattle.clap.specs.Values.{kind_of};
-ghost use Rattle.cpgring.specs.Asking.{name_of, words_given, AreSettingsGiven, IsClusterGiven, IsDrawGiven, IsStepGiven, IsStatusOf, Says};
+ghost use Rattle.cpg_program.specs.Pipes.{stream_of};
+ghost use Rattle.cpg_program.specs.declared.runs.Run.TheVariants.{Why};
+ghost use Rattle.cpg_print.specs.Entries.{conn_of_word};
+ghost use Rattle.cpgring.specs.Sources.{but_input, path_of};
+ghost use Rattle.cpgring.specs.Asking.{name_of, words_found, AreSettingsGiven, IsAskedFor, IsFormGiven, IsPictureGiven, IsPlaceAsked, IsStatusOf, IsUnused, IsUsed, Says, is_numbered};
 
-use crate::commands::{ACCEPT, HOPS, NODES, PLACES, RING, build_command};
+use crate::commands::{
+    ACCEPT, ALL, CONNECTION, FILE, HOPS, JSON, NODES, NUMBERS, PLACE, PLACES, RING, TEXT,
+    build_command,
+};
+use crate::sources::{Source, source_of, split_words};
 use clap::error::ErrorKind;
 use clap::{ArgMatches, Error};
-use cpg_cred::Refusal;
-use cpg_program::{Run, tell_fault};
+use cpg_cred::{MOST_NODES, NodeId, Refusal};
+use cpg_entry::MOST_CONNECTIONS;
+use cpg_program::{Asked as Question, Form, Picture, Piped, Run, tell_fault};
+use cpg_record::ConnId;
 use cpg_ring::Settings;
-use cpg_script::Fault;
+use cpg_script::{Fault, cut, read_u32};
 use cpg_text::write_whole;
 use std::alloc::{AllocError, Global};
 use std::convert::AsStr;
@@ -38,28 +48,51 @@ pub fn match_words<'a, S: AsStr>(alloc: Global, words: &'a [S]) -> Result<ArgMat
     command.try_get_matches_from_mut(words)
 }
 
-/// The run that was asked for.
-pub fn read_run<'a>(alloc: Global, matches: &'a ArgMatches<'_>) -> Result<Run<'a>, Error> {
-    match run_of(matches) {
-        Some(run) => Ok(run),
-        None => Err(build_command(alloc)?.error(
-            ErrorKind::MissingSubcommand,
-            "a subcommand is required but one was not provided",
-        )?),
+/// What the command line asks for: a run, and where its script is read from.
+#[derive(Clone, Copy)]
+pub struct Asked<'a> {
+    pub run: Run<'a>,
+    pub source: Source<'a>,
+}
+
+/// What was asked for.
+pub fn read_asked<'a>(alloc: Global, matches: &'a ArgMatches<'_>) -> Result<Asked<'a>, Error> {
+    match asked_of(matches) {
+        Some(asked) => Ok(asked),
+        None => {
+            let (kind, why) = why_none(matches);
+            Err(build_command(alloc)?.error(kind, why)?)
+        }
     }
 }
 
-/// The run that the subcommand asks for, where it is one.
-fn run_of<'a>(matches: &'a ArgMatches<'_>) -> Option<Run<'a>>
-    ensures named { IfSome result (λ run. subcommand_name_of matches.now ≡ Some (name_of run)) }
+/// Why the command line asks for nothing that can be run: it has no subcommand, or `why` is asked in another way.
+fn why_none(matches: &ArgMatches<'_>) -> (ErrorKind, &'static str) {
+    match matches.subcommand_name() {
+        Some("why") => (
+            ErrorKind::InvalidValue,
+            "'why' takes one of PLACE (a number from 1), --all and --connection=NODE.CONN, and then FILE, if any",
+        ),
+        _ => (
+            ErrorKind::MissingSubcommand,
+            "a subcommand is required but one was not provided",
+        ),
+    }
+}
+
+/// What the subcommand asks for, where it is one.
+fn asked_of<'a>(matches: &'a ArgMatches<'_>) -> Option<Asked<'a>>
+    ensures named { IfSome result (λ asked. subcommand_name_of matches.now ≡ Some (name_of asked.run)) }
     ensures judge { subcommand_name_of matches.now ≡ Some (codes "judge") → IsSome result }
     ensures accept { subcommand_name_of matches.now ≡ Some (codes "accept") → IsSome result }
 {
     let (name, given) = matches.subcommand()?;
     if name == "judge" {
-        Some(Run::Judge)
+        Some(judge_of(given))
     } else if name == "accept" {
-        Some(Run::Accept)
+        Some(accept_of(given))
+    } else if name == "why" {
+        why_of(given)
     } else if name == "step" {
         step_of(given)
     } else if name == "draw" {
@@ -71,25 +104,143 @@ fn run_of<'a>(matches: &'a ArgMatches<'_>) -> Option<Run<'a>>
     }
 }
 
-/// The run of a script of commands with the settings and the words that are given.
-fn step_of<'a>(given: &'a ArgMatches<'_>) -> Option<Run<'a>>
-    ensures { IfSome result (IsStepGiven (found_of given.now)) }
+/// The form that the option asks for.
+fn form_of(given: &ArgMatches<'_>) -> Form
+    ensures { IsFormGiven (found_of given.now) result }
 {
-    Some(Run::Step(settings_of(given)?, words_of(given)))
+    if given.get_flag(JSON) {
+        Form::Json
+    } else {
+        Form::Text
+    }
+}
+
+/// The picture that the option asks for.
+fn picture_of(given: &ArgMatches<'_>) -> Picture
+    ensures { IsPictureGiven (found_of given.now) result }
+{
+    if given.get_flag(TEXT) {
+        Picture::Lines
+    } else {
+        Picture::Svg
+    }
+}
+
+/// The judgement of a script, in the form that is asked for.
+fn judge_of<'a>(given: &'a ArgMatches<'_>) -> Asked<'a>
+    ensures { IsAskedFor (found_of given.now) (codes "judge") result }
+{
+    Asked {
+        run: Run::Judge(form_of(given)),
+        source: source_of(given.get_str(FILE)),
+    }
+}
+
+/// The answers to a script's asks, in the form that is asked for.
+fn accept_of<'a>(given: &'a ArgMatches<'_>) -> Asked<'a>
+    ensures { IsAskedFor (found_of given.now) (codes "accept") result }
+{
+    Asked {
+        run: Run::Accept(form_of(given)),
+        source: source_of(given.get_str(FILE)),
+    }
+}
+
+/// Why entries of a script were answered as they were, where that is asked for as it should be.
+fn why_of<'a>(given: &'a ArgMatches<'_>) -> Option<Asked<'a>>
+    ensures { IfSome result (IsAskedFor (found_of given.now) (codes "why")) }
+{
+    let words = given.get_strs(PLACE).unwrap_or(&[]);
+    let all = given.get_flag(ALL);
+    match given.get_str(CONNECTION) {
+        Some(_) if all => None,
+        Some(conn) => why_other(Question::Connection(read_conn(conn.as_bytes())?), words),
+        None if all => why_other(Question::Denials, words),
+        None => why_place(words),
+    }
+}
+
+/// The connection of NODE.CONN.
+fn read_conn(word: &[u8]) -> Option<ConnId>
+    ensures { result ≡ conn_of_word word.now }
+{
+    let (node, conn) = cut(b'.', word)?;
+    let node = read_u32(1, u32::from(MOST_NODES), node)?;
+    let conn = read_u32(1, u32::from(MOST_CONNECTIONS), conn)?;
+    Some(ConnId {
+        node: NodeId::new(node as u8)?,
+        conn: conn as u16,
+    })
+}
+
+/// What is asked of no place: the one word that there may be is the path.
+fn why_other<'a>(question: Question, words: &'a [&'a str]) -> Option<Asked<'a>>
+    ensures run { IfSome result (λ asked. asked.run ≡ Why question) }
+    ensures source { IfSome result (λ asked. path_of asked.source ≡ but_input (slice_get (map (λ word. word.now) words.now) 0)) }
+    ensures none { (result ≡ None) ↔ (1 < length words.now) }
+{
+    if words.len() > 1 {
+        return None;
+    }
+    Some(Asked {
+        run: Run::Why(question),
+        source: source_of(words.first().copied()),
+    })
+}
+
+/// Why the entry of a place was answered as it was: the first word is the place, and the other, if there is one, the
+/// path.
+fn why_place<'a>(words: &'a [&'a str]) -> Option<Asked<'a>>
+    ensures run { IfSome result (λ asked. IsPlaceAsked (map (λ word. word.now) words.now) asked.run) }
+    ensures source { IfSome result (λ asked. path_of asked.source ≡ but_input (slice_get (map (λ word. word.now) words.now) 1)) }
+{
+    if words.len() > 2 {
+        return None;
+    }
+    let place = read_u32(1, u32::MAX, words.first()?.as_bytes())?;
+    Some(Asked {
+        run: Run::Why(Question::Place(place)),
+        source: source_of(words.get(1).copied()),
+    })
+}
+
+/// The run of a script of commands with the settings and the words that are given.
+fn step_of<'a>(given: &'a ArgMatches<'_>) -> Option<Asked<'a>>
+    ensures asked { IfSome result (IsAskedFor (found_of given.now) (codes "step")) }
+    ensures numbers { IfSome result (λ asked. IsUnused (found_of given.now) (codes "json") → IsUsed (found_of given.now) (codes "numbers") → is_numbered asked.run ≡ true) }
+    ensures none { IfSome result (λ asked. IsUnused (found_of given.now) (codes "numbers") → is_numbered asked.run ≡ false) }
+{
+    let settings = settings_of(given)?;
+    let (source, words) = split_words(words_of(given));
+    let run = match form_of(given) {
+        Form::Text if given.get_flag(NUMBERS) => Run::Number(settings, words),
+        form => Run::Step(form, settings, words),
+    };
+    Some(Asked { run, source })
 }
 
 /// The picture of the run of a script of commands with the settings and the words that are given.
-fn draw_of<'a>(given: &'a ArgMatches<'_>) -> Option<Run<'a>>
-    ensures { IfSome result (IsDrawGiven (found_of given.now)) }
+fn draw_of<'a>(given: &'a ArgMatches<'_>) -> Option<Asked<'a>>
+    ensures { IfSome result (IsAskedFor (found_of given.now) (codes "draw")) }
 {
-    Some(Run::Draw(settings_of(given)?, words_of(given)))
+    let settings = settings_of(given)?;
+    let (source, words) = split_words(words_of(given));
+    Some(Asked {
+        run: Run::Draw(picture_of(given), settings, words),
+        source,
+    })
 }
 
 /// The run of a script of sessions over a cluster with the settings and the words that are given.
-fn cluster_of<'a>(given: &'a ArgMatches<'_>) -> Option<Run<'a>>
-    ensures { IfSome result (IsClusterGiven (found_of given.now)) }
+fn cluster_of<'a>(given: &'a ArgMatches<'_>) -> Option<Asked<'a>>
+    ensures { IfSome result (IsAskedFor (found_of given.now) (codes "run")) }
 {
-    Some(Run::Cluster(settings_of(given)?, words_of(given)))
+    let settings = settings_of(given)?;
+    let (source, words) = split_words(words_of(given));
+    Some(Asked {
+        run: Run::Cluster(settings, words),
+        source,
+    })
 }
 
 /// The settings that the options give, where each is a number.
@@ -104,33 +255,35 @@ fn settings_of(given: &ArgMatches<'_>) -> Option<Settings>
     })
 }
 
-/// The words that let users and groups in, in their order.
+/// The words behind the options, in their order.
 fn words_of<'a>(given: &'a ArgMatches<'_>) -> &'a [&'a str]
-    ensures { map (λ word. word.now) result.now ≡ words_given (found_of given.now) }
+    ensures { map (λ word. word.now) result.now ≡ words_found (found_of given.now) }
 {
     given.get_strs(ACCEPT).unwrap_or(&[])
 }
 
 /// Says why nothing is run, and returns the exit status: help and the version, which were asked for, on
-/// standard output, and a fault on standard error.
+/// standard output, and a fault on standard error. That they could not be written is told, unless their reader has left.
 pub fn explain<W: Write, E: Write>(
     alloc: Global,
     error: &Error,
-    writer: &mut W,
+    writer: &mut Piped<W>,
     errors: &mut E,
 ) -> u8
     ensures status { IsStatusOf (kind_of error.now) result }
-    ensures streams { Says (kind_of error.now) result (W.contents writer.old) (W.contents writer.new) (E.contents errors.old) (E.contents errors.new) }
+    ensures streams { Says (kind_of error.now) result (W.contents (stream_of writer.old)) (W.contents (stream_of writer.new)) (E.contents errors.old) (E.contents errors.new) }
 {
     match error.kind() {
         ErrorKind::OutOfMemory => {
-            tell(alloc, errors, Refusal::Memory);
+            tell(errors, Refusal::Memory);
             1
         }
         ErrorKind::DisplayHelp | ErrorKind::DisplayVersion => match show(alloc, error, writer) {
             Ok(()) => 0,
             Err(refusal) => {
-                tell(alloc, errors, refusal);
+                if !writer.has_left() {
+                    tell(errors, refusal);
+                }
                 1
             }
         },
@@ -148,6 +301,6 @@ fn show<W: Write>(alloc: Global, error: &Error, writer: &mut W) -> Result<(), Re
 }
 
 /// Tells the refusal on standard error, as far as that is possible.
-fn tell<E: Write>(alloc: Global, errors: &mut E, refusal: Refusal) {
-    let _ = tell_fault(alloc, errors, &Fault::from(refusal));
+fn tell<E: Write>(errors: &mut E, refusal: Refusal) {
+    let _ = tell_fault(errors, &Fault::from(refusal));
 }

@@ -13,14 +13,17 @@ Example: a process joins a group; how that is judged, and what it is told of it.
 
 `cpgring COMMAND --help` explains the script of each command.
 
-Exit status: 0 done; 1 a fault, told on standard error as `cpgring: 41 BadCommand 2`; 2 a fault of the
-command line.";
+A script is read from FILE, or from standard input where no FILE is given, or -:
+  $ cpgring judge day.judge
 
-pub const JUDGE_ABOUT: &str = "Judges agreed entries from standard input";
+Exit status: 0 done; 1 a fault, told on standard error as `cpgring: 41 BadCommand 2`; 2 a fault of the
+command line, a FILE that can't be read among them. Where the reader of a pipe has left, nothing is told.";
+
+pub const JUDGE_ABOUT: &str = "Judges the agreed entries of a script";
 
 pub const JUDGE_HELP: &str = "\
-Judges agreed entries from standard input, and prints the verdict on each and what each connection is
-told. Each line is one entry, in the agreed order:
+Judges the agreed entries of a script, and prints the verdict on each and what each connection is told. Each
+line is one entry, in the agreed order:
 
   NODE.CONN PID UID GID CALL
 
@@ -59,6 +62,8 @@ connection, in the order of their first entries:
 MEMBERS are NODE/PID, in the order of their joins; MOVES are NODE/PID:CAUSE, with the cause join, leave or
 down, the end of the connection. Both are joined by commas, and - where there are none.
 
+With --json each line is an object with the same content; docs/JSON.md has its fields.
+
 VERDICT is `allowed` with what allows it, or `denied` with the first reason. The first rule of the group's
 table that gives or denies the right and matches the connection decides: join for join, send for send,
 edit for insert and remove.
@@ -91,12 +96,48 @@ Exit status: 0 done; 1 a fault, told on standard error; 2 a fault of the command
 also where the input is too long, `cpgring: 43 Write` and `cpgring: 1 Memory`. Nothing is printed before
 all lines were read.";
 
-pub const ACCEPT_ABOUT: &str =
-    "Answers which credentials the conf texts from standard input let in";
+pub const WHY_ABOUT: &str = "Explains why entries of a script were answered as they were";
+
+pub const WHY_HELP: &str = "\
+Judges the agreed entries of a script as `cpgring judge` does, and explains the answer to the entry at PLACE, or
+with --all each denial: the rule that decides, or the state that does, and which entry made it. With --connection
+it tells the way of one connection instead: its entries with their verdicts, and the changes of its group's
+members that it was told. The help of `cpgring judge` has the script and the words of a verdict.";
+
+pub const WHY_MORE: &str = "\
+Printed are lines that each begin with what they tell; between the entries of --all stands an empty line:
+
+  entry PLACE line LINE: NODE.CONN PID UID GID CALL
+                                             the entry, with the number of its line in the script
+  verdict: VERDICT                           how it is answered
+  decided: rule ID at POS of COUNT in GROUP: EFFECT RIGHT WHO
+                                             the rule that decides, at POS in the group's table of COUNT rules
+  put in: entry PLACE line LINE: ...         the entry that put that rule in
+  passed: rule ID at POS: EFFECT RIGHT WHO: NAME HAS is not WANTED
+                                             a rule of that right before it, with a condition that is not met
+  without it: VERDICT                        the answer if the table lacked the rule that decides
+  decided: default of RIGHT in GROUP         no rule of the table decides; each of that right is passed
+  decided: root, free, closed, joined, twice, full, position, tablefull, absent
+                                             the state that decides, as a rule for that, with the entry that
+                                             made it so: the last join, leave or end of the connection
+
+Example:
+  $ printf '1.1 40 0 0 insert db 0 deny join uid:7\\n1.2 41 7 100 join db\\n' | cpgring why 2
+  entry 2 line 2: 1.2 41 7 100 join db
+  verdict: denied rule 1
+  decided: rule 1 at 0 of 1 in db: deny join uid:7
+  put in: entry 1 line 1: 1.1 40 0 0 insert db 0 deny join uid:7
+  without it: allowed default
+
+Exit status: 0 done; 1 a fault, told on standard error; 2 a fault of the command line, a PLACE that has no entry
+among them: `cpgring: there is no entry 3: the script has 2`. The faults are those of `cpgring judge`; nothing is
+printed before all is known.";
+
+pub const ACCEPT_ABOUT: &str = "Answers which credentials the conf texts of a script let in";
 
 pub const ACCEPT_HELP: &str = "\
-Reads names, conf texts and asks from standard input, and prints whether the credentials of each ask are
-let in. A line %names, %conf or %ask begins a part of the script, and the parts are taken in order; before
+Reads names, conf texts and asks of a script, and prints whether the credentials of each ask are let in.
+A line %names, %conf or %ask begins a part of the script, and the parts are taken in order; before
 the first only empty lines and lines that begin with # may stand.
 
 A %names part replaces the names. Each line is one of:
@@ -136,6 +177,8 @@ Example:
   accepted user
   refused 2 Access
 
+With --json each answer is an object (docs/JSON.md).
+
 Exit status: 0 done; 1 a fault, told on standard error; 2 a fault of the command line. A fault of a names
 or conf part is told with the part's number and the line in the part, both from 1, as in `cpgring: part 2:
 35 BadValue 2`: 31 BadLine LINE, 32 Unopened LINE, 33 Unclosed, 34 BadItem LINE, 35 BadValue LINE or
@@ -144,11 +187,11 @@ is no ask, and one that may not stand before the first part, is `cpgring: 41 Bad
 script's line. The others are `cpgring: 42 Read`, also where the input is too long, `cpgring: 43 Write` and
 `cpgring: 1 Memory`.";
 
-pub const STEP_ABOUT: &str = "Runs commands from standard input over a ring of nodes";
+pub const STEP_ABOUT: &str = "Runs the commands of a script over a ring of nodes";
 
 pub const STEP_HELP: &str = "\
-Sets up a ring of nodes that has sent its first token and nothing else, and runs commands from standard
-input over it, one after the other. Nothing happens but by a command, so any loss, repeat and order of
+Sets up a ring of nodes that has sent its first token and nothing else, and runs the commands of a script
+over it, one after the other. Nothing happens but by a command, so any loss, repeat and order of
 frames can be played: a frame that no command brings is lost, and one may be brought any number of times.
 Each line is one command. These act:
 
@@ -181,7 +224,9 @@ Printed is for each command, after it is done: connected CONN, admitted, closed,
 frame that was brought or a timer), delivered PLACE or delivered none, the event as `cpgring judge` prints
 it or none, members MEMBERS, groups and their names; for show a frame, as in the example, or data PLACE
 NODE.CONN PID UID GID CALL; for audit the lines of `cpgring judge` and records COUNT; for rules ID EFFECT
-RIGHT WHO of each and rules COUNT; and safe PLACE. A command that is refused prints the refusal, as in
+RIGHT WHO of each and rules COUNT; and safe PLACE. With --numbers, frames K K ... stand behind `sent COUNT`,
+the numbers by which later commands bring them, and all is printed once the script is done; with --json each line
+is an object (docs/JSON.md). A command that is refused prints the refusal, as in
 `refused 10 Stale`, and the script goes on:
 
   2 Access           nobody lets the credentials in
@@ -224,15 +269,20 @@ word` among them. The faults are `cpgring: 41 BadCommand LINE`, the first line t
 which nothing is done or printed; `cpgring: 42 Read`, also where the input is too long; `cpgring: 43 Write`;
 and `cpgring: 1 Memory`, which ends the script at the command that met it.";
 
-pub const DRAW_ABOUT: &str = "Draws the run of a `step` script from standard input";
+pub const DRAW_ABOUT: &str = "Draws the run of a `step` script";
 
 pub const DRAW_HELP: &str = "\
 Runs the commands of a script over a new ring as `cpgring step` does, and draws what the frames did: the nodes
-are columns, and time goes down, a row for each command. The script and the options are those of `cpgring
-step`; its help has the commands.";
+are columns, and time goes down, a row for each command. Printed is one SVG, which a browser opens, or with
+--text lines for a terminal. The script and the options are those of `cpgring step`; its help has the commands.";
 
 pub const DRAW_MORE: &str = "\
-In a row `*` is the node that the command is at, and an arrow comes in from the node that sent the frame that
+In the SVG an arrow goes from the row that sent a frame to the row that brings it, with the frame's place or hop:
+solid is data, dashed data that is served again, dotted the token. A frame that no command brings ends in a
+cross beside its sender. The title of an arrow is the frame as `show` of `cpgring step` prints it. Right of the
+columns stands what a row of --text has.
+
+With --text, in a row `*` is the node that the command is at, and an arrow comes in from the node that sent the frame that
 the row brings, marked `o`: --> is data, ==> data that is sent again, ..> the token. The first token, which
 was sent before the script, comes from outside. After the columns stand the row's number and
 
@@ -247,6 +297,7 @@ Last comes a line for each frame that no command brought, `lost K WHAT of row RO
 the picture is whole.
 
 Example: frame 2, the data of place 1, never reaches node 2.
+  $ cpgring draw lost.step uid:7 > lost.svg
   $ printf '%s\\n' 'connect 1 40 7 100' 'call 1 1 join db' 'call 1 1 send hi' 'frame 1 1' 'frame 2 3' \\
       'frame 2 4' 'frame 1 5' 'frame 2 6' 'deliver 2' |
     cpgring draw --text uid:7
@@ -268,11 +319,11 @@ Exit status: 0 done; 1 a fault, told on standard error; 2 a fault of the command
 word` among them. The faults are `cpgring: 41 BadCommand LINE`, the first line that is no command; `cpgring: 42
 Read`, also where the input is too long; `cpgring: 43 Write`; and `cpgring: 1 Memory`.";
 
-pub const RUN_ABOUT: &str = "Runs commands from standard input over a running cluster";
+pub const RUN_ABOUT: &str = "Runs the commands of a script over a running cluster";
 
 pub const RUN_HELP: &str = "\
 Starts a cluster in this process, a thread for each node and links between them that lose nothing but what
-finds them full, and runs commands from standard input over it, one after the other. The nodes pass the token
+finds them full, and runs the commands of a script over it, one after the other. The nodes pass the token
 round and deliver by themselves, so a script says only what processes do at their nodes. Each line is one
 command:
 

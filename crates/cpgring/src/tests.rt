@@ -1,8 +1,9 @@
 //! What command lines ask for, and what is said of the others.
 
-use crate::asking::{explain, match_words, read_run};
+use crate::asking::{Asked, explain, match_words, read_asked};
+use crate::sources::Source;
 use clap::Error;
-use cpg_program::Run;
+use cpg_program::{Form, Picture, Piped, Run};
 use cpg_ring::Settings;
 use std::alloc::Global;
 use std::process::Abort;
@@ -10,7 +11,7 @@ use std::process::Abort;
 /// Why the words ask for no run, where they ask for none.
 fn why_none(alloc: Global, words: &[&str]) -> Option<Error> {
     match match_words(alloc, words) {
-        Ok(matches) => read_run(alloc, &matches).err(),
+        Ok(matches) => read_asked(alloc, &matches).err(),
         Err(error) => Some(error),
     }
 }
@@ -22,7 +23,7 @@ fn expect(rt: &impl Abort, alloc: Global, words: &[&str], shown: &str, told: &st
     match why_none(alloc, words) {
         None => assert!(rt; false, "a run"),
         Some(error) => {
-            let said = explain(alloc, &error, &mut writer, &mut errors);
+            let said = explain(alloc, &error, &mut Piped::new(&mut writer), &mut errors);
             assert_eq!(rt; said, status);
         }
     }
@@ -75,9 +76,9 @@ fn command_lines_are_answered(rt: HostRuntime) {
     expect(
         &rt,
         alloc,
-        &["cpgring", "judge", "x"],
+        &["cpgring", "judge", "x", "y"],
         "",
-        "error: unexpected argument 'x'",
+        "error: unexpected argument 'y'",
         2,
     );
 }
@@ -88,7 +89,12 @@ fn help_that_cannot_be_written_is_a_fault(rt: HostRuntime) {
     let mut room = [0u8; 4];
     let mut errors = Vec::new(alloc);
     if let Some(error) = why_none(alloc, &["cpgring", "--help"]) {
-        let status = explain(alloc, &error, &mut room.as_mut_slice(), &mut errors);
+        let status = explain(
+            alloc,
+            &error,
+            &mut Piped::new(&mut room.as_mut_slice()),
+            &mut errors,
+        );
         assert_eq!(rt; status, 1);
     }
     assert!(rt; errors.as_slice() == b"cpgring: 43 Write\n".as_slice());
@@ -97,8 +103,13 @@ fn help_that_cannot_be_written_is_a_fault(rt: HostRuntime) {
 /// Whether the words ask for a script of commands over a ring of those settings, and for those words.
 fn asks_to_step(alloc: Global, words: &[&str], settings: Settings, list: &[&str]) -> bool {
     match match_words(alloc, words) {
-        Ok(matches) => match read_run(alloc, &matches) {
-            Ok(Run::Step(asked, given)) => asked == settings && given == list,
+        Ok(matches) => match read_asked(alloc, &matches) {
+            Ok(
+                Asked {
+                    run: Run::Step(Form::Text, asked, given),
+                    source: Source::Input,
+                },
+            ) => asked == settings && given == list,
             _ => false,
         },
         Err(_) => false,
@@ -108,8 +119,13 @@ fn asks_to_step(alloc: Global, words: &[&str], settings: Settings, list: &[&str]
 /// Whether the words ask for the picture of a script over a ring of those settings, and for those words.
 fn asks_to_draw(alloc: Global, words: &[&str], settings: Settings, list: &[&str]) -> bool {
     match match_words(alloc, words) {
-        Ok(matches) => match read_run(alloc, &matches) {
-            Ok(Run::Draw(asked, given)) => asked == settings && given == list,
+        Ok(matches) => match read_asked(alloc, &matches) {
+            Ok(
+                Asked {
+                    run: Run::Draw(Picture::Lines, asked, given),
+                    source: Source::Input,
+                },
+            ) => asked == settings && given == list,
             _ => false,
         },
         Err(_) => false,
@@ -119,8 +135,13 @@ fn asks_to_draw(alloc: Global, words: &[&str], settings: Settings, list: &[&str]
 /// Whether the words ask for a script of sessions over a cluster of those settings, and for those words.
 fn asks_to_run(alloc: Global, words: &[&str], settings: Settings, list: &[&str]) -> bool {
     match match_words(alloc, words) {
-        Ok(matches) => match read_run(alloc, &matches) {
-            Ok(Run::Cluster(asked, given)) => asked == settings && given == list,
+        Ok(matches) => match read_asked(alloc, &matches) {
+            Ok(
+                Asked {
+                    run: Run::Cluster(asked, given),
+                    source: Source::Input,
+                },
+            ) => asked == settings && given == list,
             _ => false,
         },
         Err(_) => false,

@@ -1,0 +1,63 @@
+-- where a script is read from
+use Rattle.std.specs.Prelude.{ℕ, Bool, true, false, not, ◌&&◌, ◌||◌, ◌==◌, is_none, List, [], ◌∷◌, ◌++◌, codes, Option, Some, None, option_map, if◌then◌else◌}
+use Rattle.std.specs.List.{list_any}
+use Rattle.std.specs.Str.{bytes_eq}
+use Rattle.std.specs.Io.KnownBytes.{Keeps}
+use Rattle.cpg_script.specs.Words.{after_name}
+use Rattle.cpg_text.specs.Streams.{AppendsFront}
+use Rattle.cpgring.specs.declared.sources.Source.{Source}
+use Rattle.cpgring.specs.declared.sources.Source.TheVariants.{Input, File}
+use Rattle.cpgring.specs.declared.sources.Unread.{Unread}
+use Rattle.cpgring.specs.declared.sources.Unread.TheVariants as unread
+
+-- the path of a source, where it is a file
+abbrev pub path_of : Source → Option (List ℕ)
+path_of Input = None
+path_of (File path) = Some path.now
+
+-- the path, but none of `-`, which is standard input
+abbrev pub but_input : Option (List ℕ) → Option (List ℕ)
+but_input None = None
+but_input (Some path) = if bytes_eq path (codes "-") then None else Some path
+
+-- the word begins neither as one that lets users in nor as one that lets groups in
+abbrev pub lets_nobody_in : List ℕ → Bool
+lets_nobody_in word = is_none (after_name (codes "uid:") word) && is_none (after_name (codes "gid:") word)
+
+-- the byte stands in names of files alone: `/` or `.`
+abbrev pub is_of_path : ℕ → Bool
+is_of_path byte = (byte == 47) || (byte == 46)
+
+-- a word names a file: `-`, or one with a `/` or a `.` that is not to let anybody in
+abbrev pub names_file : List ℕ → Bool
+names_file word = bytes_eq word (codes "-") || (lets_nobody_in word && list_any is_of_path word)
+
+-- the path of the file that the first word names
+abbrev pub first_file : List (List ℕ) → Option (List ℕ)
+first_file [] = None
+first_file (word ∷ rest) = if names_file word then but_input (Some word) else None
+
+-- the words that let users and groups in: all, but the first where it names a file
+abbrev pub words_after : List (List ℕ) → List (List ℕ)
+words_after [] = []
+words_after (word ∷ rest) = if names_file word then rest else word ∷ rest
+
+-- what is said of why a file can't be read
+abbrev pub cause_text : Unread → List ℕ
+cause_text unread.Missing = codes "no such file"
+cause_text unread.Forbidden = codes "permission denied"
+cause_text unread.Directory = codes "is a directory"
+cause_text unread.Other = codes "cannot be read"
+
+-- the line that is told of a file that can't be read
+abbrev pub unread_line : List ℕ → Unread → List ℕ
+unread_line path why = codes "cpgring: " ++ path ++ codes ": " ++ cause_text why ++ codes "\n"
+
+-- what is said before a script is read from a terminal
+abbrev pub greeting : List ℕ
+greeting = codes "cpgring: the script is read from the terminal; Ctrl-D at the start of a line ends it\n"
+
+-- it is said at a terminal alone, as far as it can be
+abbrev pub GreetsAt : Bool → Option (List ℕ) → Option (List ℕ) → Type 0
+GreetsAt true old new = AppendsFront old new greeting
+GreetsAt false old new = Keeps old new
