@@ -39,7 +39,7 @@ impl Write for Short {
 fn expect<H: Abort + Threads + Wait + Clock + Copy + Send + 'static>(
     rt: H,
     alloc: Global,
-    run: Run<'_>,
+    run: &Run<'_>,
     script: &str,
     room: usize,
     printed: &str,
@@ -56,7 +56,7 @@ fn expect<H: Abort + Threads + Wait + Clock + Copy + Send + 'static>(
         room: 31,
     };
     let mut reader = script.as_bytes();
-    let ended = perform(rt, alloc, &run, &mut reader, &mut writer, &mut errors);
+    let ended = perform(rt, alloc, run, &mut reader, &mut writer, &mut errors);
     assert!(&rt; writer.get_ref().stream().got.as_slice() == printed.as_bytes());
     assert!(&rt; errors.got.as_slice() == told.as_bytes());
     assert_eq!(&rt; ended.status(), status);
@@ -79,91 +79,89 @@ const LARGE: Settings = Settings {
     hops: 9,
 };
 
-#[test]
-fn runs_write_to_their_streams(rt: HostRuntime) -> Result<(), Fail> {
-    let rows = [
-        (Run::Judge(Form::Text), "# none\n", 99, "records 0\n", "", 0),
-        (
-            Run::Judge(Form::Text),
-            "\n1.1 1 1 1 jump",
-            99,
-            "",
-            "cpgring: 41 BadCommand 2\n",
-            1,
-        ),
-        (
-            Run::Judge(Form::Text),
-            "# none\n",
-            4,
-            "reco",
-            "cpgring: 43 Write\n",
-            1,
-        ),
-        (
-            Run::Accept(Form::Text),
-            "%ask\n0 7\n",
-            99,
-            "accepted root-user\n",
-            "",
-            0,
-        ),
-        (
-            Run::Accept(Form::Text),
-            "%conf\n}",
-            99,
-            "",
-            "cpgring: part 1: 32 Unopened 1\n",
-            1,
-        ),
-        (
-            Run::Accept(Form::Text),
-            "%names\n\n\n%conf\n\n\n\n\n\n\n\n\n\n}",
-            99,
-            "",
-            "cpgring: part 2: 32 Unopened 10",
-            1,
-        ),
-    ];
-    for (run, script, room, printed, told, status) in rows {
-        expect(rt, rt.alloc(), run, script, room, printed, told, status)?;
+/// Checks the run of each script.
+fn expect_each<H: Abort + Threads + Wait + Clock + Copy + Send + 'static>(
+    rt: H,
+    alloc: Global,
+    run: &Run<'_>,
+    rows: &[(&str, usize, &str, &str, u8)],
+) -> Result<(), Fail> {
+    for (script, room, printed, told, status) in rows {
+        expect(rt, alloc, run, script, *room, printed, told, *status)?;
     }
     Ok(())
 }
 
 #[test]
-fn explanations_and_objects_write_to_their_streams(rt: HostRuntime) -> Result<(), Fail> {
+fn judgements_write_to_their_streams(rt: HostRuntime) -> Result<(), Fail> {
+    let bad = "cpgring: 41 BadCommand 2\n";
+    let rows = [
+        ("# none\n", 99, "records 0\n", "", 0),
+        ("\n1.1 1 1 1 jump", 99, "", bad, 1),
+        ("# none\n", 4, "reco", "cpgring: 43 Write\n", 1),
+    ];
+    expect_each(rt, rt.alloc(), &Run::Judge(Form::Text), rows.as_slice())
+}
+
+#[test]
+fn answers_write_to_their_streams(rt: HostRuntime) -> Result<(), Fail> {
+    let told = "cpgring: part 1: 32 Unopened 1\n";
+    let later = "%names\n\n\n%conf\n\n\n\n\n\n\n\n\n\n}";
+    let rows = [
+        ("%ask\n0 7\n", 99, "accepted root-user\n", "", 0),
+        ("%conf\n}", 99, "", told, 1),
+        (later, 99, "", "cpgring: part 2: 32 Unopened 10", 1),
+    ];
+    expect_each(rt, rt.alloc(), &Run::Accept(Form::Text), rows.as_slice())
+}
+
+#[test]
+fn objects_write_to_their_streams(rt: HostRuntime) -> Result<(), Fail> {
+    let count = "{\"kind\":\"count\",\"records\":0}\n";
+    let rows = [
+        ("# none\n", 99, count, "", 0),
+        ("jump\n", 99, "", "cpgring: 41 BadCommand 1\n", 1),
+    ];
+    expect_each(rt, rt.alloc(), &Run::Judge(Form::Json), rows.as_slice())
+}
+
+#[test]
+fn explanations_write_to_their_streams(rt: HostRuntime) -> Result<(), Fail> {
     let script = "1.1 1 1 1 leave\n";
     let why =
         "entry 1 line 1: 1.1 1 1 1 leave\nverdict: denied closed\ndecided: closed: 1.1 is in no group: it never joined\n";
-    let rows = [
-        (Run::Why(Asked::Place(1)), script, why, "", 0),
-        (Run::Why(Asked::Denials), script, why, "", 0),
-        (
-            Run::Why(Asked::Place(2)),
-            script,
-            "",
-            "cpgring: there is no entry 2: t",
-            2,
-        ),
-        (
-            Run::Judge(Form::Json),
-            "# none\n",
-            "{\"kind\":\"count\",\"records\":0}\n",
-            "",
-            0,
-        ),
-        (
-            Run::Judge(Form::Json),
-            "jump\n",
-            "",
-            "cpgring: 41 BadCommand 1\n",
-            1,
-        ),
-    ];
-    for (run, script, printed, told, status) in rows {
-        expect(rt, rt.alloc(), run, script, 999, printed, told, status)?;
-    }
-    Ok(())
+    let none = "cpgring: there is no entry 2: t";
+    let alloc = rt.alloc();
+    expect(
+        rt,
+        alloc,
+        &Run::Why(Asked::Place(1)),
+        script,
+        999,
+        why,
+        "",
+        0,
+    )?;
+    expect(
+        rt,
+        alloc,
+        &Run::Why(Asked::Denials),
+        script,
+        999,
+        why,
+        "",
+        0,
+    )?;
+    expect(
+        rt,
+        alloc,
+        &Run::Why(Asked::Place(2)),
+        script,
+        999,
+        "",
+        none,
+        2,
+    )
 }
 
 /// A pipe whose reader has left.
@@ -203,38 +201,17 @@ fn nothing_is_told_where_the_reader_left(rt: HostRuntime) -> Result<(), Fail> {
 fn steps_write_to_their_streams(rt: HostRuntime) -> Result<(), Fail> {
     let script = "connect 1 40 7 9\nconnect 2 50 9 8\nframe 1 2\n";
     let printed = "connected 1\nrefused 2 Access\nrefused 16 NoFrame\n";
-    let one = ["uid:7"];
-    let other = ["gid:9", "uid:007"];
-    let wrong = ["uid:7", "uid:-7"];
-    let rows: [(Run<'_>, &str, &str, &str, u8); 5] = [
-        (Run::Step(Form::Text, SMALL, &one), script, printed, "", 0),
-        (Run::Step(Form::Text, SMALL, &other), script, printed, "", 0),
-        (
-            Run::Step(Form::Text, SMALL, &one),
-            "timer 1\njump",
-            "",
-            "cpgring: 41 BadCommand 2\n",
-            1,
-        ),
-        (
-            Run::Step(Form::Text, LARGE, &wrong),
-            "jump",
-            "",
-            "cpgring: bad accept word\n",
-            2,
-        ),
-        (
-            Run::Step(Form::Text, LARGE, &one),
-            "jump",
-            "",
-            "cpgring: 37 Range\n",
-            1,
-        ),
+    let bad = "cpgring: 41 BadCommand 2\n";
+    let rows = [
+        (script, 99, printed, "", 0),
+        ("timer 1\njump", 99, "", bad, 1),
     ];
-    for (run, script, printed, told, status) in rows {
-        expect(rt, rt.alloc(), run, script, 99, printed, told, status)?;
-    }
-    Ok(())
+    let one = ["uid:7"];
+    let run = Run::Step(Form::Text, SMALL, &one);
+    expect_each(rt, rt.alloc(), &run, rows.as_slice())?;
+    let other = ["gid:9", "uid:007"];
+    let run = Run::Step(Form::Text, SMALL, &other);
+    expect(rt, rt.alloc(), &run, script, 99, printed, "", 0)
 }
 
 #[test]
@@ -242,77 +219,53 @@ fn pictures_write_to_their_streams(rt: HostRuntime) -> Result<(), Fail> {
     let script = "connect 1 40 7 9\nconnect 2 50 9 8\nframe 1 2\n";
     let printed =
         "   1   2  row\n   |   |  0 start, sends 1 token 0\n   *   |  1 connect, waiting 0, safe 0: connected 1\n   |   *  2 connect, waiting 0, safe 0: refused 2 Access\n   *   |  3 frame 2, waiting 0, safe 0: refused 16 NoFrame\nlost 1 token 0 of row 0\n";
-    let list = ["uid:7"];
-    let wrong = ["uid:7", "uid:-7"];
     let bad = "cpgring: 41 BadCommand 2\n";
-    let rows: [(Run<'_>, &str, &str, &str, u8); 4] = [
-        (
-            Run::Draw(Picture::Lines, SMALL, &list),
-            script,
-            printed,
-            "",
-            0,
-        ),
-        (
-            Run::Draw(Picture::Lines, SMALL, &list),
-            "timer 1\njump",
-            "",
-            bad,
-            1,
-        ),
-        (
-            Run::Draw(Picture::Lines, LARGE, &wrong),
-            "jump",
-            "",
-            "cpgring: bad accept word\n",
-            2,
-        ),
-        (
-            Run::Draw(Picture::Lines, LARGE, &list),
-            "jump",
-            "",
-            "cpgring: 37 Range\n",
-            1,
-        ),
+    let rows = [
+        (script, 999, printed, "", 0),
+        ("timer 1\njump", 999, "", bad, 1),
     ];
-    for (run, script, printed, told, status) in rows {
-        expect(rt, rt.alloc(), run, script, 999, printed, told, status)?;
-    }
-    Ok(())
+    let list = ["uid:7"];
+    let run = Run::Draw(Picture::Lines, SMALL, &list);
+    expect_each(rt, rt.alloc(), &run, rows.as_slice())
 }
 
 #[test]
 fn sessions_write_to_their_streams(rt: HostRuntime) -> Result<(), Fail> {
     let script = "connect 1 40 7 9\nconnect 2 50 9 8\nclose 2\n";
     let printed = "session 1\nrefused 2 Access\nrefused 3 NoConnection\n";
+    let bad = "cpgring: 41 BadCommand 2\n";
+    let rows = [
+        (script, 99, printed, "", 0),
+        ("safe 1\njump", 99, "", bad, 1),
+    ];
+    let list = ["uid:7"];
+    let run = Run::Cluster(SMALL, &list);
+    expect_each(rt, rt.alloc(), &run, rows.as_slice())
+}
+
+/// Wrong words are told before settings out of their ranges, and these before a bad line.
+fn expect_faults_in_order<H: Abort + Threads + Wait + Clock + Copy + Send + 'static>(
+    rt: H,
+    alloc: Global,
+    wrong: &Run<'_>,
+    large: &Run<'_>,
+) -> Result<(), Fail> {
+    let word = "cpgring: bad accept word\n";
+    expect(rt, alloc, wrong, "jump", 99, "", word, 2)?;
+    expect(rt, alloc, large, "jump", 99, "", "cpgring: 37 Range\n", 1)
+}
+
+#[test]
+fn words_come_before_settings(rt: HostRuntime) -> Result<(), Fail> {
     let list = ["uid:7"];
     let wrong = ["uid:7", "uid:-7"];
-    let rows: [(Run<'_>, &str, &str, &str, u8); 4] = [
-        (Run::Cluster(SMALL, &list), script, printed, "", 0),
-        (
-            Run::Cluster(SMALL, &list),
-            "safe 1\njump",
-            "",
-            "cpgring: 41 BadCommand 2\n",
-            1,
-        ),
-        (
-            Run::Cluster(LARGE, &wrong),
-            "jump",
-            "",
-            "cpgring: bad accept word\n",
-            2,
-        ),
-        (
-            Run::Cluster(LARGE, &list),
-            "jump",
-            "",
-            "cpgring: 37 Range\n",
-            1,
-        ),
-    ];
-    for (run, script, printed, told, status) in rows {
-        expect(rt, rt.alloc(), run, script, 99, printed, told, status)?;
-    }
-    Ok(())
+    let bad = Run::Step(Form::Text, LARGE, &wrong);
+    let large = Run::Step(Form::Text, LARGE, &list);
+    expect_faults_in_order(rt, rt.alloc(), &bad, &large)?;
+    let bad = Run::Draw(Picture::Lines, LARGE, &wrong);
+    let large = Run::Draw(Picture::Lines, LARGE, &list);
+    expect_faults_in_order(rt, rt.alloc(), &bad, &large)?;
+    let bad = Run::Cluster(LARGE, &wrong);
+    let large = Run::Cluster(LARGE, &list);
+    expect_faults_in_order(rt, rt.alloc(), &bad, &large)
 }
