@@ -39,6 +39,8 @@ fn command_lines_are_answered(rt: HostRuntime) {
     let about = "Closed process groups";
     assert!(rt; why_none(alloc, &["cpgring", "judge"]).is_none());
     assert!(rt; why_none(alloc, &["cpgring", "accept"]).is_none());
+    assert!(rt; why_none(alloc, &["cpgring", "why", "3", "day.judge"]).is_none());
+    assert!(rt; why_none(alloc, &["cpgring", "why", "--all"]).is_none());
     expect(
         &rt,
         alloc,
@@ -52,7 +54,7 @@ fn command_lines_are_answered(rt: HostRuntime) {
         &rt,
         alloc,
         &["cpgring", "judge", "--help"],
-        "Judges agreed",
+        "Judges the agreed",
         "",
         0,
     );
