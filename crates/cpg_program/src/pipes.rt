@@ -4,6 +4,8 @@
 //! Proved: what is written is what the stream takes; its reader has left exactly where a call failed with `BrokenPipe`.
 
 ghost use Rattle.std.specs.Prelude.{◌≡◌, ◌⊎◌, ◌↔◌, false, true, IsErrAnd};
+ghost use Rattle.std.specs.Io.{WritesAtMost};
+ghost use Rattle.std.specs.Io.KnownBytes.{Keeps, WriteAppends};
 ghost use Rattle.std.specs.IoError.{error_kind};
 ghost use Rattle.cpg_program.specs.Pipes.{is_left, stream_of};
 
@@ -71,13 +73,20 @@ impl<W: Write> Write for Piped<W> {
 
     ghost contents = { λ piped. W.contents (stream_of piped) };
 
-    fn write(&mut self, buf: &[u8]) -> io::Result<usize> {
+    fn write(&mut self, buf: &[u8]) -> io::Result<usize>
+        ensures bound { WritesAtMost result buf.now }
+        ensures bytes { WriteAppends (W.contents (stream_of self.old)) (W.contents (stream_of self.new)) result buf.now }
+        ensures left { (is_left self.new ≡ true) ↔ ((is_left self.old ≡ true) ⊎ IsErrAnd result (λ error. error_kind error ≡ ErrorKind.BrokenPipe)) }
+    {
         let done = self.stream.write(buf);
         self.note(&done);
         done
     }
 
-    fn flush(&mut self) -> io::Result<()> {
+    fn flush(&mut self) -> io::Result<()>
+        ensures bytes { Keeps (W.contents (stream_of self.old)) (W.contents (stream_of self.new)) }
+        ensures left { (is_left self.new ≡ true) ↔ ((is_left self.old ≡ true) ⊎ IsErrAnd result (λ error. error_kind error ≡ ErrorKind.BrokenPipe)) }
+    {
         let done = self.stream.flush();
         self.note(&done);
         done
