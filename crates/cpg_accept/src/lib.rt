@@ -10,3 +10,4 @@ mod asks;
 mod parts;
 
 pub use accepting::{accept_script, answer_script};
+pub use asks::answer_text;

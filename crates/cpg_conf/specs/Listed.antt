@@ -7,6 +7,7 @@ use Rattle.cpg_cred.specs.declared.refusals.Refusal.{Refusal}
 use Rattle.cpg_cred.specs.declared.refusals.Refusal.TheVariants.{Memory, BadLine, Unopened, Unclosed, BadItem, BadValue, UnknownName}
 use Rattle.cpg_text.specs.Lines.{lines_of, trimmed}
 use Rattle.cpg_text.specs.Numbers.{is_number}
+use Rattle.cpg_conf.specs.declared.conf.Numbers.{Numbers}
 use Rattle.cpg_conf.specs.Lines.{Line, Close, Key, Bad, line_of}
 use Rattle.cpg_conf.specs.Names.{Known, number_of, made, value_on}
 use Rattle.cpg_conf.specs.Sections.{opens, closes, depth, is_read, number_after}
@@ -19,6 +20,10 @@ one_user uid = record { users = uid ∷ []; groups = [] }
 
 abbrev pub one_group : ℕ → Listed
 one_group gid = record { users = []; groups = gid ∷ [] }
+
+-- what the numbers that were collected list
+abbrev pub numbers_listed : Numbers → Listed
+numbers_listed numbers = record { users = (numbers.users).items; groups = (numbers.groups).items }
 
 -- what was listed, and then more, users and groups apart
 abbrev pub joined : Listed → Listed → Listed

@@ -9,7 +9,6 @@ use Rattle.cpg_text.specs.Lines.{trimmed}
 use Rattle.cpg_conf.specs.Lines.{Line, Ignored, Close, Open, Key, Bad, line_of}
 use Rattle.cpg_conf.specs.Listed.{nothing, one_user, one_group, key_said, and_then}
 use Rattle.cpg_conf.specs.Names.{Known, Naming, Nothing, User, Group, next_number}
-use Rattle.cpg_conf.specs.declared.conf.Numbers.{Numbers}
 use Rattle.cpg_conf.specs.declared.items.Item.{Item}
 use Rattle.cpg_conf.specs.declared.items.Item.TheVariants as item
 use Rattle.cpg_conf.specs.declared.lines.LineView.{LineView}
@@ -45,10 +44,6 @@ abbrev pub item_seen : Item → Listed
 item_seen item.Nothing = nothing
 item_seen (item.User uid) = one_user uid
 item_seen (item.Group gid) = one_group gid
-
--- what the numbers that were collected list
-abbrev pub numbers_listed : Numbers → Listed
-numbers_listed numbers = record { users = (numbers.users).items; groups = (numbers.groups).items }
 
 -- how much deeper the line after stands, where it does
 abbrev pub rise : Line → ℕ

@@ -8,8 +8,8 @@ ghost use Rattle.std.specs.Prelude.{◌≡◌, ◌⊎◌, ◌+◌, ◌<◌, ◌^
 ghost use Rattle.std.specs.Result.{result_err};
 ghost use Rattle.cpg_text.specs.Lines.{trimmed};
 ghost use Rattle.cpg_conf.specs.Lines.{line_of};
-ghost use Rattle.cpg_conf.specs.Listed.{joined, listed, Grows, Refuses};
-ghost use Rattle.cpg_conf.specs.Steps.{item_seen, nesting_after, numbers_listed, said_at};
+ghost use Rattle.cpg_conf.specs.Listed.{joined, listed, numbers_listed, Grows, Refuses};
+ghost use Rattle.cpg_conf.specs.Steps.{item_seen, nesting_after, said_at};
 
 use crate::items::Item;
 use crate::lines::LineView;
@@ -59,9 +59,19 @@ fn add_listed(
     ensures err { IfErr result (Refuses (listed names.now text.now)) }
     ensures back { OnErr result (list.new ≡ list.old) }
 {
-    check(text, names)?;
-    let numbers = collect(alloc, text, names)?;
+    let numbers = list_conf(alloc, text, names)?;
     list.add_all(numbers.users.as_slice(), numbers.groups.as_slice())
+}
+
+/// The users and groups that the conf text lists, each in the order of its lines, twice where they are listed twice.
+///
+/// The refusals are those of `read_conf`.
+pub fn list_conf(alloc: Global, text: &[u8], names: &Names) -> Result<Numbers, Refusal>
+    ensures ok { IfOk result (λ numbers. listed names.now text.now ≡ Ok (numbers_listed numbers)) }
+    ensures err { IfErr result (Refuses (listed names.now text.now)) }
+{
+    check(text, names)?;
+    collect(alloc, text, names)
 }
 
 /// The fault of the text, where there is one.
@@ -79,9 +89,9 @@ fn check(text: &[u8], names: &Names) -> Result<(), Refusal>
 
 /// Users and groups, in the order in which they are listed.
 #[derive(Debug, Drop)]
-struct Numbers {
-    users: Vec<u32>,
-    groups: Vec<u32>,
+pub struct Numbers {
+    pub users: Vec<u32>,
+    pub groups: Vec<u32>,
 }
 
 /// What the text lists.

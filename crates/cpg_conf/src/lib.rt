@@ -13,5 +13,5 @@ mod namings;
 mod nesting;
 mod tables;
 
-pub use conf::read_conf;
+pub use conf::{Numbers, list_conf, read_conf};
 pub use names::{ConfFault, Names};

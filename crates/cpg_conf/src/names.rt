@@ -6,7 +6,7 @@
 ghost use Rattle.std.specs.Prelude.{◌≡◌, ◌⊎◌, Ok, Err, IfOk, IfErr, OnOk, IsOkUnless, option_map};
 ghost use Rattle.std.specs.Result.{result_err};
 ghost use Rattle.cpg_text.specs.Lines.{lines_of};
-ghost use Rattle.cpg_conf.specs.Names.{no_names, number_of, with_naming, with_namings, namings_from, known_of};
+ghost use Rattle.cpg_conf.specs.Names.{User, Group, no_names, number_of, with_naming, with_namings, namings_from, known_of};
 ghost use Rattle.cpg_conf.specs.Listed.{Refuses};
 ghost use Rattle.cpg_conf.specs.Steps.{naming_seen};
 
@@ -75,6 +75,22 @@ impl Names {
         self.groups.get(name)
     }
 
+    /// Adds the number of a user's name, unless that name is known.
+    pub fn add_user(&mut self, name: &[u8], number: u32) -> Result<(), Refusal>
+        ensures ok { OnOk result (self.new ≡ with_naming self.old (User name.now number)) }
+        ensures memory { IsOkUnless result Refusal.Memory }
+    {
+        self.users.add(name, number)
+    }
+
+    /// Adds the number of a group's name, unless that name is known.
+    pub fn add_group(&mut self, name: &[u8], number: u32) -> Result<(), Refusal>
+        ensures ok { OnOk result (self.new ≡ with_naming self.old (Group name.now number)) }
+        ensures memory { IsOkUnless result Refusal.Memory }
+    {
+        self.groups.add(name, number)
+    }
+
     /// Adds what the lines of the text say.
     fn add_all(&mut self, text: &[u8]) -> Result<(), Refusal>
         ensures ok { OnOk result (with_namings self.old (namings_from 1 (lines_of text.now)) ≡ Ok self.new) }
@@ -96,8 +112,8 @@ impl Names {
     {
         match naming {
             NamingView::Nothing => Ok(()),
-            NamingView::User(name, number) => self.users.add(name, *number),
-            NamingView::Group(name, number) => self.groups.add(name, *number),
+            NamingView::User(name, number) => self.add_user(name, *number),
+            NamingView::Group(name, number) => self.add_group(name, *number),
         }
     }
 }

@@ -1,9 +1,9 @@
 use Rattle.std.proofs.Common.{ap, sym, ◌∙◌, ◌∷◌, ◌+◌, ◌≤◌, length, option_map, subst, Ok, []}
 use Rattle.std.specs.List.{concat}
 use Rattle.cpg_text.specs.Lines.{lines_left}
-use Rattle.cpg_conf.specs.Listed.{and_then, joined}
+use Rattle.cpg_conf.specs.Listed.{and_then, joined, numbers_listed}
 use Rattle.cpg_conf.specs.Names.{next_number}
-use Rattle.cpg_conf.specs.Steps.{item_seen, numbers_listed, said_from, shapes}
+use Rattle.cpg_conf.specs.Steps.{item_seen, said_from, shapes}
 use Rattle.cpg_conf.proofs.Passing.{begins}
 use Rattle.cpg_conf.proofs.Rising.{listed_past, nothing_first, shallow_first, shallow_past}
 use Rattle.cpg_conf.proofs.conf.collect.Goals as goal

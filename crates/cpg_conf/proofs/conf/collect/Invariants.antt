@@ -1,9 +1,9 @@
 use Rattle.std.proofs.Common.{◌≡◌, ◌+◌, ◌≤◌, length, option_map, Ok}
 use Rattle.std.specs.List.{concat}
 use Rattle.cpg_text.specs.Lines.{lines_left}
-use Rattle.cpg_conf.specs.Listed.{and_then, listed}
+use Rattle.cpg_conf.specs.Listed.{and_then, listed, numbers_listed}
 use Rattle.cpg_conf.specs.Names.{next_number}
-use Rattle.cpg_conf.specs.Steps.{numbers_listed, said_from, shapes}
+use Rattle.cpg_conf.specs.Steps.{said_from, shapes}
 use Rattle.cpg_conf.proofs.conf.collect.Given as goal
 
 abbrev pub invariant-loop-line : goal.invariant-loop-line

@@ -1,0 +1,4 @@
+pub mod Accounts
+pub mod Admitting
+pub mod Steps
+pub mod Telling

@@ -1,0 +1,17 @@
+//! `cpgring admit`: whom a conf file lets in, as the file stands on a machine.
+//!
+//! The shape of the conf file is that of Corosync's; accounts are read from texts of passwd(5) and group(5) form, or
+//! from a names text. Proved: what is answered and told are the definitions in `specs/`, byte for byte.
+#![tactic(auto)]
+
+mod accounts;
+mod admitting;
+mod printing;
+mod telling;
+mod texts;
+
+pub use accounts::{Book, add_accounts};
+pub use admitting::{answer, read_list};
+pub use printing::print;
+pub use telling::fault_line;
+pub use texts::{AdmitFault, File, NamesFrom};
