@@ -1,0 +1,9 @@
+pub mod CallReasons
+pub mod Counts
+pub mod EntryReasons
+pub mod Fitting
+pub mod LineReasons
+pub mod Marked
+pub mod Placed
+pub mod Texts
+pub mod Turns

@@ -1,0 +1,9 @@
+pub mod Hints
+pub mod Marks
+pub mod Parts
+pub mod Phrases
+pub mod Places
+pub mod Reasons
+pub mod Steps
+pub mod Told
+pub mod Wants

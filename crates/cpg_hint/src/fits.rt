@@ -1,0 +1,148 @@
+//! Whether a word is of a kind.
+//!
+//! Proved: each is told as the definition `fits` says, by the same readers that a script's meaning has.
+
+ghost use Rattle.std.specs.Prelude.{◌≡◌, is_some, option_map};
+ghost use Rattle.cpg_print.specs.Entries.{conn_of_word};
+ghost use Rattle.cpg_print.specs.Rules.{effect_of, right_of, who_of, conditions_of, take_condition, first_condition, named_number};
+ghost use Rattle.cpg_print.specs.Steps.{sends_few};
+ghost use Rattle.cpg_script.specs.Words.{cut_at};
+ghost use Rattle.cpg_text.specs.Numbers.{number_in};
+ghost use Rattle.cpg_hint.specs.Wants.{fits, is_table, node_in};
+
+use crate::wants::{Want, call_wants, op_wants, run_wants, step_wants};
+use cpg_cred::MOST_NODES;
+use cpg_entry::{MOST_CONNECTIONS, MOST_MESSAGE_BYTES, accepts_name};
+use cpg_script::{cut, is, read_u32, strip_name};
+use cpg_text::{message_length, read_number};
+
+/// Whether the word is of that kind, where there are so many nodes.
+pub fn fits(nodes: u8, want: Want, word: &[u8]) -> bool
+    ensures { result ≡ fits nodes want word.now }
+{
+    match want {
+        Want::Op => op_wants(word).is_some(),
+        Want::Call => call_wants(word).is_some(),
+        Want::StepCommand => step_wants(word).is_some(),
+        Want::RunCommand => run_wants(word).is_some(),
+        Want::Caller => is_caller(word),
+        Want::Node => is_node(nodes, word),
+        Want::Conn => is_within(1, u32::from(MOST_CONNECTIONS), word),
+        Want::Pid | Want::Uid | Want::Gid | Want::Id | Want::Session | Want::Number => {
+            is_within(0, u32::MAX, word)
+        }
+        Want::Frame => read_number(0, u64::MAX, word).is_some(),
+        Want::Position => is_within(0, 255, word),
+        Want::Effect => is(word, b"allow".as_slice()) || is(word, b"deny".as_slice()),
+        Want::Right => is_right(word),
+        Want::Who => is_who(word),
+        Want::Name => accepts_name(word),
+        Want::Message => sends_few(word),
+        Want::Text => message_length(word).is_some(),
+        Want::Group | Want::Named => true,
+        Want::Table => is(word, b"user".as_slice()) || is(word, b"group".as_slice()),
+        Want::Room | Want::Head | Want::Nothing => false,
+    }
+}
+
+/// Whether the word writes a number from `low` to `high`.
+fn is_within(low: u32, high: u32, word: &[u8]) -> bool
+    ensures { result ≡ is_some (number_in low high word.now) }
+{
+    read_u32(low, high, word).is_some()
+}
+
+/// Whether the word is NODE.CONN.
+fn is_caller(word: &[u8]) -> bool
+    ensures { result ≡ is_some (conn_of_word word.now) }
+{
+    match cut(b'.', word) {
+        None => false,
+        Some((node, conn)) => {
+            is_within(1, u32::from(MOST_NODES), node)
+                && is_within(1, u32::from(MOST_CONNECTIONS), conn)
+        }
+    }
+}
+
+/// Whether the word is a NODE of so many.
+fn is_node(nodes: u8, word: &[u8]) -> bool
+    ensures { result ≡ is_some (node_in nodes word.now) }
+{
+    match read_u32(1, u32::from(MOST_NODES), word) {
+        None => false,
+        Some(node) => node <= u32::from(nodes),
+    }
+}
+
+fn is_right(word: &[u8]) -> bool
+    ensures { result ≡ is_some (right_of word.now) }
+{
+    is(word, b"join".as_slice())
+        || is(word, b"send".as_slice())
+        || is(word, b"list".as_slice())
+        || is(word, b"edit".as_slice())
+}
+
+/// Whether the word spells a message that is not too long.
+fn sends_few(word: &[u8]) -> bool
+    ensures { result ≡ sends_few word.now }
+{
+    match message_length(word) {
+        None => false,
+        Some(length) => length <= MOST_MESSAGE_BYTES,
+    }
+}
+
+fn is_who(word: &[u8]) -> bool
+    ensures { result ≡ is_some (who_of word.now) }
+{
+    is(word, b"any".as_slice()) || has_conditions(word)
+}
+
+/// Whether the word is conditions of which each is read.
+#[tactic(auto, unfolding(cpg_print::specs::Rules::conditions_of))]
+fn has_conditions(word: &[u8]) -> bool
+    ensures { result ≡ is_some (conditions_of word.now) }
+{
+    let left = skip_condition(b"uid:".as_slice(), 0, u32::MAX, Some(word));
+    let left = skip_condition(b"gid:".as_slice(), 0, u32::MAX, left);
+    skip_condition(b"node:".as_slice(), 1, u32::from(MOST_NODES), left).is_none()
+}
+
+/// The conditions that are left after the first, where it has that name and is in that range.
+fn skip_condition<'a>(
+    name: &[u8],
+    low: u32,
+    high: u32,
+    conditions: Option<&'a [u8]>,
+) -> Option<&'a [u8]>
+    ensures { option_map (λ rest. rest.now) result ≡ (take_condition name.now low high (option_map (λ rest. rest.now) conditions.entry)).1 }
+{
+    match conditions {
+        None => None,
+        Some(text) => {
+            let (first, others) = cut_condition(text);
+            match named_number(name, low, high, first) {
+                None => Some(text),
+                Some(_) => others,
+            }
+        }
+    }
+}
+
+fn cut_condition(text: &[u8]) -> (&[u8], Option<&[u8]>)
+    ensures first { result.0.now ≡ (first_condition text.now (cut_at 43 text.now)).0 }
+    ensures others { option_map (λ rest. rest.now) result.1 ≡ (first_condition text.now (cut_at 43 text.now)).1 }
+{
+    match cut(b'+', text) {
+        None => (text, None),
+        Some((first, others)) => (first, Some(others)),
+    }
+}
+
+fn named_number(name: &[u8], low: u32, high: u32, word: &[u8]) -> Option<u32>
+    ensures { result ≡ named_number name.now low high word.now }
+{
+    read_u32(low, high, strip_name(name, word)?)
+}

@@ -1,0 +1,108 @@
+//! What is told beside a script's fault.
+//!
+//! The form is this project's own. Proved: what is told is the definition `hint_text`, byte for byte.
+
+ghost use Rattle.std.specs.Prelude.{◌≡◌, ◌++◌, OnOk, IfOk, IsOkUnless};
+ghost use Rattle.cpg_text.specs.Lines.{lines_of};
+ghost use Rattle.cpg_hint.specs.Hints.{command_hint, has_head, hint_text, or_room, unfit_in, whole_hint};
+ghost use Rattle.cpg_hint.specs.Told.{line_at};
+
+use crate::kinds::Kind;
+use crate::parts::{is_head, put_part};
+use crate::told::{line_at, put_unfit};
+use crate::wants::Want;
+use crate::words::{Unfit, first_unfit};
+use cpg_cred::Refusal;
+use cpg_script::Fault;
+use cpg_text::{Lines, trim};
+use std::alloc::Global;
+
+/// What a person needs to mend a script of that kind, beside the line of its fault: the line of the script, a mark
+/// under the first word that does not fit, and what was wanted there. Nothing is told of faults that no line has.
+pub fn hint_of(alloc: Global, kind: Kind, script: &[u8], fault: &Fault) -> Result<Vec<u8>, Refusal>
+    ensures ok { IfOk result (λ text. text.items ≡ hint_text kind script.now fault.now) }
+    ensures memory { IsOkUnless result Refusal.Memory }
+{
+    let mut text = Vec::new(alloc);
+    match fault.part {
+        None => put_whole(alloc, &mut text, kind, script, fault.refusal)?,
+        Some(part) => put_part(alloc, &mut text, part, script, fault.refusal)?,
+    }
+    Ok(text)
+}
+
+/// Puts what is told of a fault of the script as a whole at the text's end.
+fn put_whole(
+    alloc: Global,
+    text: &mut Vec<u8>,
+    kind: Kind,
+    script: &[u8],
+    refusal: Refusal,
+) -> Result<(), Refusal>
+    ensures ok { OnOk result (text.new.items ≡ text.old.items ++ whole_hint kind refusal (lines_of script.now)) }
+    ensures memory { IsOkUnless result Refusal.Memory }
+{
+    match refusal {
+        Refusal::BadCommand(number) => put_command(alloc, text, kind, script, number),
+        _ => Ok(()),
+    }
+}
+
+/// Puts what is told of a bad line of that number at the text's end.
+fn put_command(
+    alloc: Global,
+    text: &mut Vec<u8>,
+    kind: Kind,
+    script: &[u8],
+    number: u32,
+) -> Result<(), Refusal>
+    ensures ok { OnOk result (text.new.items ≡ text.old.items ++ command_hint kind number (lines_of script.now) (line_at number (lines_of script.now))) }
+    ensures memory { IsOkUnless result Refusal.Memory }
+{
+    match line_at(number, Lines::of(script)) {
+        None => Ok(()),
+        Some(line) => {
+            let unfit = unfit_in(kind, has_head(number, script), line);
+            put_unfit(alloc, text, kind.nodes(), u64::from(number), line, unfit)
+        }
+    }
+}
+
+/// What is wrong with a bad line, in a part of the script or before the first.
+fn unfit_in(kind: Kind, in_part: bool, line: &[u8]) -> Unfit
+    ensures { result ≡ unfit_in kind in_part line.now }
+{
+    match (kind, in_part) {
+        (Kind::Accept, false) => Unfit {
+            index: 0,
+            want: Want::Head,
+        },
+        _ => or_room(first_unfit(kind.nodes(), kind.wants(), trim(line))),
+    }
+}
+
+fn or_room(unfit: Option<Unfit>) -> Unfit
+    ensures { result ≡ or_room unfit }
+{
+    unfit.unwrap_or(Unfit {
+        index: 0,
+        want: Want::Room,
+    })
+}
+
+/// Whether one of the first so many lines begins a part.
+fn has_head(number: u32, script: &[u8]) -> bool
+    ensures { result ≡ has_head number (lines_of script.now) }
+{
+    let mut left = number;
+    for line in Lines::of(script) {
+        if left == 0 {
+            return false;
+        }
+        if is_head(line) {
+            return true;
+        }
+        left -= 1;
+    }
+    false
+}

@@ -1,0 +1,25 @@
+//! What a person needs to mend a script: the line of its fault, a mark under the first word that does not fit, and
+//! what was wanted there.
+//!
+//! The forms are this project's own.
+#![tactic(auto)]
+
+mod fits;
+mod hints;
+mod kinds;
+mod laws;
+mod marks;
+mod parts;
+mod phrases;
+mod places;
+mod told;
+mod wants;
+mod words;
+
+pub use hints::hint_of;
+pub use kinds::Kind;
+pub use laws::{
+    marks_the_word, no_ask_has_a_reason, no_entry_has_a_reason, no_naming_has_a_reason,
+};
+pub use wants::Want;
+pub use words::Unfit;

@@ -1,0 +1,4 @@
+pub mod BadLines
+pub mod RunReasons
+pub mod StepReasons
+pub mod ToldLines
