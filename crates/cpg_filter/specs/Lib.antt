@@ -1,0 +1,3 @@
+pub mod Filtering
+pub mod Filters
+pub mod Steps
