@@ -1,45 +1,59 @@
 -- commands done, one after the other
-use Rattle.std.proofs.Common.{◌≡◌, ◌≢◌, ℕ, ◌+◌, ◌<◌, List, [], ◌∷◌, ◌++◌, length, take, drop, get_or, Option, Err, refl, sym, ap, subst, ◌∙◌, append-nil}
-use Rattle.std.specs.Io.KnownBytes.{Appends}
+use Rattle.std.proofs.Common.{◌≡◌, ◌≢◌, ℕ, ◌+◌, ◌<◌, List, [], ◌∷◌, ◌++◌, length, map, take, drop, get_or, Option, None, Some, Err, inl, refl, sym, ap, subst, ◌∙◌, append_assoc, append-nil}
+use Rattle.std.specs.Io.KnownBytes.{Appends, Keeps}
 use Rattle.std.proofs.KnownBytes.{Appends-trans, Appends-nil}
-use Rattle.std.proofs.lemmas.List.{take_more}
-use Rattle.std.proofs.lemmas.List.Concat.{flat_map-append}
+use Rattle.std.proofs.lemmas.List.{take_more, map-append}
 use Rattle.cpg_cred.specs.Listed.{Listed}
 use Rattle.cpg_cred.specs.declared.refusals.Refusal.{Refusal}
-use Rattle.cpg_cred.specs.declared.refusals.Refusal.TheVariants.{Memory}
+use Rattle.cpg_cred.specs.declared.refusals.Refusal.TheVariants.{Memory, Write}
 use Rattle.cpg_text.specs.Streams.{AppendsFront}
 use Rattle.cpg_script.proofs.Lined.{split_around}
 use Rattle.cpg_cluster.specs.declared.commands.Command.{Command}
+use Rattle.cpg_cluster.specs.declared.commands.Numbered.{Numbered}
 use Rattle.cpg_cluster.specs.Answers.{Answer, Sessions, MayAnswer, AreAnswered}
-use Rattle.cpg_cluster.specs.Lines.{answer_text, text_of}
-use Rattle.cpg_cluster.specs.Running.{AreDone, IsWrittenInPart, LeavesOf, IsStopped}
-use Rattle.cpg_cluster.specs.Steps.{IsDone}
+use Rattle.cpg_cluster.specs.Lines.{Printed, text_of}
+use Rattle.cpg_cluster.specs.Running.{IsWait, IsDone, AreDone, IsWrittenInPart, LeavesOf, IsStopped}
 
 -- a command that was answered
-pub answer_done : (list : Listed) (sessions : Sessions) (c : Command) (answer : Answer) (text : List ℕ) (left : Sessions)
-    → MayAnswer list sessions c answer left → answer ≢ Err Memory → text ≡ answer_text answer → IsDone list sessions c text left
-answer_done list sessions c answer text left may told said = record {
-  answers = answer ∷ [];
-  answered = (left, may, told, refl);
-  said = said ∙ sym (append-nil (answer_text answer));
-}
+pub answer_done : (printed : Printed) (list : Listed) (sessions : Sessions) (line : Numbered) (answer : Answer) (text : List ℕ) (left : Sessions)
+    → MayAnswer list sessions line.command answer left → answer ≢ Err Memory → text ≡ printed line answer → IsDone printed list sessions line text left
+answer_done printed list sessions line answer text left may told said = record { answer = answer; may = may; told = told; said = said }
 
--- the text of a command that is done is written
-pub written_whole : (list : Listed) (sessions left : Sessions) (c : Command) (text : List ℕ) (a b : Option (List ℕ)) → IsDone list sessions c text left → Appends a b text → AreDone list sessions (c ∷ []) a b left
-written_whole list sessions left c text a b d h = record {
-  answers = d.answers;
-  answered = d.answered;
-  written = subst (Appends a b) d.said h;
+-- known bytes that stay and then grow
+kept_appends : (a m b : Option (List ℕ)) (bs : List ℕ) → Keeps a m → Appends m b bs → Appends a b bs
+kept_appends None m b bs k h = tt
+kept_appends (Some xs) None b bs k h = absurd k
+kept_appends (Some xs) (Some ys) None bs k h = absurd h
+kept_appends (Some xs) (Some ys) (Some zs) bs k h = h ∙ ap (λ l. l ++ bs) k
+
+-- the text of a command that is done is written, after what was written before it was handed on
+pub written_whole : (printed : Printed) (list : Listed) (sessions left : Sessions) (line : Numbered) (text : List ℕ) (a m b : Option (List ℕ))
+    → IsDone printed list sessions line text left → Keeps a m → Appends m b text → AreDone printed list sessions (line ∷ []) a b left
+written_whole printed list sessions left line text a m b d k h = record {
+  answers = d.answer ∷ [];
+  answered = (left, d.may, d.told, refl);
+  written = subst (Appends a b) (d.said ∙ sym (append-nil (printed line d.answer))) (kept_appends a m b text k h);
 }
 
 -- a front of it is
-pub written_in_part : (list : Listed) (sessions left : Sessions) (c : Command) (text : List ℕ) (a b : Option (List ℕ)) → IsDone list sessions c text left → AppendsFront a b text → IsWrittenInPart list sessions c a b
-written_in_part list sessions left c text a b d h = record {
-  answers = d.answers;
+pub written_in_part : (printed : Printed) (list : Listed) (sessions left : Sessions) (line : Numbered) (text : List ℕ) (a m b : Option (List ℕ))
+    → IsDone printed list sessions line text left → Keeps a m → AppendsFront m b text → IsWrittenInPart printed list sessions line a b
+written_in_part printed list sessions left line text a m b d k h = record {
+  text = text;
   left = left;
-  answered = d.answered;
-  written = subst (AppendsFront a b) d.said h;
+  done = d;
+  written = record { front = h.front; rest = h.rest; whole = h.whole; written = kept_appends a m b h.front k h.written };
 }
+
+-- nothing of it is where memory was refused
+pub not_written : (printed : Printed) (list : Listed) (sessions : Sessions) (line : Numbered) (a b : Option (List ℕ)) (refused : Refusal)
+    → refused ≡ Memory → Keeps a b → LeavesOf refused printed list sessions line a b
+not_written printed list sessions line a b refused is k = subst (λ r. LeavesOf r printed list sessions line a b) (sym is) k
+
+-- nor where it was to wait, and what was written before it could not be handed on
+pub not_begun : (printed : Printed) (list : Listed) (sessions : Sessions) (line : Numbered) (a b : Option (List ℕ)) (refused : Refusal)
+    → refused ≡ Write → IsWait line → Keeps a b → LeavesOf refused printed list sessions line a b
+not_begun printed list sessions line a b refused is waits k = subst (λ r. LeavesOf r printed list sessions line a b) (sym is) (inl (waits, k))
 
 -- the answers to commands after commands
 answered_more : (list : Listed) (old between new : Sessions) (before more : List Command) (answers others : List Answer) → AreAnswered list old before answers between → AreAnswered list between more others new → AreAnswered list old (before ++ more) (answers ++ others) new
@@ -49,32 +63,45 @@ answered_more list old between new (c ∷ before) more [] others all later = abs
 answered_more list old between new (c ∷ before) more (a ∷ answers) others all later =
     (all.0, all.1, all.2, answered_more list all.0 between new before more answers others all.3 later)
 
+-- and what is printed of them
+text_more : (printed : Printed) (list : Listed) (old between : Sessions) (before more : List Numbered) (answers others : List Answer)
+    → AreAnswered list old (map (λ line. line.command) before) answers between → text_of printed (before ++ more) (answers ++ others) ≡ text_of printed before answers ++ text_of printed more others
+text_more printed list old between [] more [] others all = refl
+text_more printed list old between [] more (a ∷ answers) others all = absurd all
+text_more printed list old between (c ∷ before) more [] others all = absurd all
+text_more printed list old between (c ∷ before) more (a ∷ answers) others all =
+    ap (λ l. printed c a ++ l) (text_more printed list all.0 between before more answers others all.3)
+    ∙ sym (append_assoc (printed c a) (text_of printed before answers) (text_of printed more others))
+
 -- no command
-pub none_done : (list : Listed) (sessions : Sessions) (a : Option (List ℕ)) → AreDone list sessions [] a a sessions
-none_done list sessions a = record { answers = []; answered = refl; written = Appends-nil a }
+pub none_done : (printed : Printed) (list : Listed) (sessions : Sessions) (a : Option (List ℕ)) → AreDone printed list sessions [] a a sessions
+none_done printed list sessions a = record { answers = []; answered = refl; written = Appends-nil a }
 
 -- commands after commands
-pub done_more : (list : Listed) (old between new : Sessions) (before more : List Command) (a b d : Option (List ℕ)) → AreDone list old before a b between → AreDone list between more b d new → AreDone list old (before ++ more) a d new
-done_more list old between new before more a b d first second = record {
+pub done_more : (printed : Printed) (list : Listed) (old between new : Sessions) (before more : List Numbered) (a b d : Option (List ℕ))
+    → AreDone printed list old before a b between → AreDone printed list between more b d new → AreDone printed list old (before ++ more) a d new
+done_more printed list old between new before more a b d first second = record {
   answers = first.answers ++ second.answers;
-  answered = answered_more list old between new before more first.answers second.answers first.answered second.answered;
-  written = subst (Appends a d) (sym (flat_map-append answer_text first.answers second.answers)) (Appends-trans a b d (text_of first.answers) (text_of second.answers) first.written second.written);
+  answered = subst (λ l. AreAnswered list old l (first.answers ++ second.answers) new) (sym (map-append (λ (line : Numbered). line.command) before more))
+      (answered_more list old between new (map (λ line. line.command) before) (map (λ line. line.command) more) first.answers second.answers first.answered second.answered);
+  written = subst (Appends a d) (sym (text_more printed list old between before more first.answers second.answers first.answered))
+      (Appends-trans a b d (text_of printed before first.answers) (text_of printed more second.answers) first.written second.written);
 }
 
 -- one command more of a list
-pub done_next : (list : Listed) (old between new : Sessions) (commands : List Command) (i : ℕ) (c : Command) (a b d : Option (List ℕ)) → i < length commands → get_or commands i c ≡ c
-    → AreDone list old (take i commands) a b between → AreDone list between (c ∷ []) b d new → AreDone list old (take (i + 1) commands) a d new
-done_next list old between new commands i c a b d within e first second =
-    subst (λ l. AreDone list old l a d new) (sym (take_more commands i c within ∙ ap (λ x. take i commands ++ x ∷ []) e)) (done_more list old between new (take i commands) (c ∷ []) a b d first second)
+pub done_next : (printed : Printed) (list : Listed) (old between new : Sessions) (lines : List Numbered) (i : ℕ) (line : Numbered) (a b d : Option (List ℕ)) → i < length lines → get_or lines i line ≡ line
+    → AreDone printed list old (take i lines) a b between → AreDone printed list between (line ∷ []) b d new → AreDone printed list old (take (i + 1) lines) a d new
+done_next printed list old between new lines i line a b d within e first second =
+    subst (λ l. AreDone printed list old l a d new) (sym (take_more lines i line within ∙ ap (λ x. take i lines ++ x ∷ []) e)) (done_more printed list old between new (take i lines) (line ∷ []) a b d first second)
 
 -- the command of a list that met a refusal
-pub stopped_at : (refused : Refusal) (list : Listed) (old between : Sessions) (commands : List Command) (i : ℕ) (c : Command) (a b d : Option (List ℕ)) → i < length commands → get_or commands i c ≡ c
-    → AreDone list old (take i commands) a b between → LeavesOf refused list between c b d → IsStopped refused list old commands a d
-stopped_at refused list old between commands i c a b d within e first left = record {
-  before = take i commands;
-  met = c;
-  later = drop (i + 1) commands;
-  whole = split_around commands i c within e;
+pub stopped_at : (refused : Refusal) (printed : Printed) (list : Listed) (old between : Sessions) (lines : List Numbered) (i : ℕ) (line : Numbered) (a b d : Option (List ℕ)) → i < length lines → get_or lines i line ≡ line
+    → AreDone printed list old (take i lines) a b between → LeavesOf refused printed list between line b d → IsStopped refused printed list old lines a d
+stopped_at refused printed list old between lines i line a b d within e first left = record {
+  before = take i lines;
+  met = line;
+  later = drop (i + 1) lines;
+  whole = split_around lines i line within e;
   between = between;
   told = b;
   done = first;

@@ -1,5 +1,7 @@
+pub mod AtNumbers
 pub mod Doing
+pub mod Echoed
 pub mod Lengths
-pub mod Numbered
 pub mod Put
+pub mod Scripted
 pub mod Seen

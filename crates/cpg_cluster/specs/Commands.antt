@@ -1,5 +1,5 @@
 -- commands as words
-use Rattle.std.specs.Prelude.{ℕ, ◌≤◌, List, [], ◌∷◌, codes, Option, Some, None, option_map, if◌then◌else◌}
+use Rattle.std.specs.Prelude.{ℕ, ◌≤◌, Bool, true, false, List, [], ◌∷◌, codes, Option, Some, None, option_map, if◌then◌else◌}
 use Rattle.std.specs.Str.{bytes_eq}
 use Rattle.cpg_script.specs.Words.{◌>>=◌, u32_of}
 use Rattle.cpg_print.specs.Calls.{call_of}
@@ -63,3 +63,8 @@ abbrev pub IsWithin : ℕ → Command → Type 0
 IsWithin nodes (command.Connect n pid cred) = n ≤ nodes
 IsWithin nodes (command.Safe n) = n ≤ nodes
 IsWithin nodes _ = Unit {0}
+
+-- the command waits for an event
+abbrev pub waits : Command → Bool
+waits (command.Ask number ask.Wait) = true
+waits _ = false

@@ -1,10 +1,16 @@
 -- what answers print
 use Rattle.std.specs.Prelude.{ℕ, List, [], ◌∷◌, ◌++◌, length, codes, decimal, Ok, Err}
 use Rattle.std.specs.List.{concat, flat_map}
+use Rattle.cpg_text.specs.Lines.{lines_of}
 use Rattle.cpg_record.specs.declared.records.Record.{Record}
 use Rattle.cpg_board.specs.Seats.{records_of}
 use Rattle.cpg_print.specs.Answers.{members_line, groups_line, took_line, safe_line, refused_line}
 use Rattle.cpg_print.specs.Records.{audit_lines, count_line}
+use Rattle.cpg_cluster.specs.declared.commands.Command.{Command}
+use Rattle.cpg_cluster.specs.declared.commands.Command.TheVariants as command
+use Rattle.cpg_cluster.specs.declared.commands.Numbered.{Numbered}
+use Rattle.cpg_cluster.specs.declared.forms.Shown.{Shown}
+use Rattle.cpg_cluster.specs.declared.forms.Shown.TheVariants.{Plain, Echoed}
 use Rattle.cpg_cluster.specs.declared.replies.Reply.{Reply}
 use Rattle.cpg_cluster.specs.declared.replies.Reply.TheVariants.{Opened, Admitted, Took, Members, Groups, Audit, Closed, Safe}
 use Rattle.cpg_cluster.specs.Answers.{Answer}
@@ -33,6 +39,41 @@ abbrev pub answer_text : Answer → List ℕ
 answer_text (Ok reply) = reply_text reply
 answer_text (Err why) = refused_line why
 
--- answers, one after the other
-abbrev pub text_of : List Answer → List ℕ
-text_of answers = flat_map answer_text answers
+-- what is printed of the answer to a command, by some form
+abbrev pub Printed : Type 0
+Printed = Numbered → Answer → List ℕ
+
+-- the session that was opened, if one was
+abbrev pub opened_word : Answer → List ℕ
+opened_word (Ok (Opened number)) = codes "s" ++ decimal number
+opened_word _ = codes "-"
+
+-- the session of a command: that which it opened, or that which it names
+abbrev pub session_word : Command → Answer → List ℕ
+session_word (command.Connect node pid cred) answer = opened_word answer
+session_word (command.Ask number asked) answer = codes "s" ++ decimal number
+session_word (command.Close number) answer = codes "s" ++ decimal number
+session_word (command.Safe node) answer = codes "-"
+
+-- the number of its line and its session, as they stand before each line that it prints
+abbrev pub echo_of : Numbered → Answer → List ℕ
+echo_of line answer = decimal line.number ++ codes " " ++ session_word line.command answer ++ codes " "
+
+-- a line after those words, and nothing where it is empty
+abbrev pub echoed_line : List ℕ → List ℕ → List ℕ
+echoed_line words [] = []
+echoed_line words line = words ++ line ++ codes "\n"
+
+-- each line of a text after those words
+abbrev pub echoed : List ℕ → List ℕ → List ℕ
+echoed words text = flat_map (echoed_line words) (lines_of text)
+
+-- an answer alone, or each of its lines after its echo
+abbrev pub shown_as : Shown → Printed
+shown_as Plain line answer = answer_text answer
+shown_as Echoed line answer = echoed (echo_of line answer) (answer_text answer)
+
+-- the answers to commands, one after the other, by that form
+abbrev pub text_of : Printed → List Numbered → List Answer → List ℕ
+text_of printed (line ∷ lines) (answer ∷ answers) = printed line answer ++ text_of printed lines answers
+text_of printed _ _ = []

@@ -1,21 +1,20 @@
--- steps of the functions that run, which no contract of a public function cites
-use Rattle.std.specs.Prelude.{ℕ, ◌≡◌, ◌≤◌, ⊤, List, [], ◌∷◌, All, Option, Some, None, Result, Ok, Err, IfSome}
-use Rattle.cpg_cred.specs.Listed.{Listed}
+-- steps of the functions that run, and what the calls that other crates build on ask for
+use Rattle.std.specs.Prelude.{ℕ, ◌≤◌, ⊤, List, All, Option, Some, None, Result, Ok, Err, IfSome, option_map, slice_index}
 use Rattle.cpg_cred.specs.declared.refusals.Refusal.{Refusal}
+use Rattle.cpg_text.specs.Lines.{words_of}
 use Rattle.cpg_record.specs.declared.events.Event.{Event}
 use Rattle.cpg_board.specs.Seats.{IsSeatOf}
 use Rattle.cpg_daemon.specs.Sessions.{SessionValue}
 use Rattle.cpg_cluster.specs.declared.commands.Ask.TheVariants as ask
-use Rattle.cpg_cluster.specs.declared.commands.Command.{Command}
-use Rattle.cpg_cluster.specs.Answers.{Answer, Sessions, Stays, IsNothing, Serves, AreAnswered}
+use Rattle.cpg_cluster.specs.declared.commands.Numbered.{Numbered}
+use Rattle.cpg_cluster.specs.Answers.{Answer, Sessions, Stays, IsNothing, Serves}
+use Rattle.cpg_cluster.specs.Commands.{command_of}
+use Rattle.cpg_cluster.specs.Scripts.{numbered}
 use Rattle.cpg_cluster.specs.declared.replies.Reply.TheVariants.{Took, Audit}
-use Rattle.cpg_cluster.specs.Lines.{text_of}
 
--- The command is done, and this is the text of its lines.
-pub record IsDone (list : Listed) (sessions : Sessions) (command : Command) (text : List ℕ) (left : Sessions) : Type 0 where
-  pub answers : List Answer
-  pub answered : AreAnswered list sessions (command ∷ []) answers left
-  pub said : text ≡ text_of answers
+-- the command of a line that follows so many, where the lines that hold one have those numbers
+abbrev pub numbered_by : ℕ → List ℕ → ℕ → List ℕ → Option Numbered
+numbered_by nodes numbers before line = option_map (numbered (slice_index numbers before)) (command_of nodes (words_of line))
 
 -- What one poll gives, and what the session is then: nothing, or an event of its inbox, or why waiting ends.
 abbrev pub IsPolled : SessionValue → Option (Result Event Refusal) → SessionValue → Type 0

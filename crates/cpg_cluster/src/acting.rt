@@ -1,16 +1,17 @@
 //! One command over running nodes.
 //!
-//! Proved: the answer is one that `specs/Answers.antt` allows, and what is put is its text.
+//! Proved: the answer is one that `specs/Answers.antt` allows, and what is put is what the form says of it.
 
 ghost use Rattle.std.specs.Prelude.{◌≡◌, ◌≢◌, ◌↔◌, [], Err, IsTrue, ◌≤◌, length, IfOk, IfSome, OnOk, IsOkUnless};
 ghost use Rattle.cpg_cluster.specs.declared.commands.Command.TheVariants as commands;
 ghost use Rattle.cpg_cluster.specs.Commands.{IsWithin};
 ghost use Rattle.cpg_cluster.specs.Answers.{IsConnected, IsServed, IsEnded, AtNumber, MayAnswer};
-ghost use Rattle.cpg_cluster.specs.Steps.{AreWithin, SeatsOn, IsDone};
+ghost use Rattle.cpg_cluster.specs.Running.{IsDone};
+ghost use Rattle.cpg_cluster.specs.Steps.{AreWithin, SeatsOn};
 
 use crate::asking::serve;
-use crate::commands::{Ask, Command};
-use crate::printing::put_answer;
+use crate::commands::{Ask, Command, Numbered};
+use crate::forms::{Manner, Patience, PutsAnswer};
 use crate::replies::Reply;
 use cpg_cred::{Cred, NodeId, Refusal, is_memory};
 use cpg_daemon::{BoardName, Running, Session};
@@ -43,6 +44,7 @@ fn serve_open<B: BoardName, G, H: Wait + Clock>(
     rt: &H,
     alloc: Global,
     running: &Running<B, G>,
+    patience: Patience,
     slot: &mut Option<Session<B>>,
     asked: &Ask,
 ) -> Result<Reply, Refusal>
@@ -53,7 +55,7 @@ fn serve_open<B: BoardName, G, H: Wait + Clock>(
 {
     match slot {
         None => Err(Refusal::NoConnection),
-        Some(session) => serve(rt, alloc, running, session, asked),
+        Some(session) => serve(rt, alloc, running, patience, session, asked),
     }
 }
 
@@ -92,6 +94,7 @@ fn ask<B: BoardName, G, H: Wait + Clock>(
     rt: &H,
     alloc: Global,
     running: &Running<B, G>,
+    patience: Patience,
     sessions: &mut Vec<Option<Session<B>>>,
     number: u32,
     asked: &Ask,
@@ -108,6 +111,7 @@ fn ask<B: BoardName, G, H: Wait + Clock>(
         rt,
         alloc,
         running,
+        patience,
         &mut sessions[number as usize - 1],
         asked,
     )
@@ -136,6 +140,7 @@ fn answer<B: BoardName, G, H: Wait + Clock>(
     rt: &H,
     alloc: Global,
     running: &Running<B, G>,
+    patience: Patience,
     sessions: &mut Vec<Option<Session<B>>>,
     command: &Command,
 ) -> Result<Reply, Refusal>
@@ -146,17 +151,18 @@ fn answer<B: BoardName, G, H: Wait + Clock>(
 {
     match command {
         Command::Connect(node, pid, cred) => connect(rt, running, sessions, *node, *pid, *cred),
-        Command::Ask(number, asked) => ask(rt, alloc, running, sessions, *number, asked),
+        Command::Ask(number, asked) => ask(rt, alloc, running, patience, sessions, *number, asked),
         Command::Close(number) => close(rt, running, sessions, *number),
         Command::Safe(node) => Ok(Reply::Safe(running.safe(rt, *node))),
     }
 }
 
 /// What the command is answered where memory was not refused.
-fn answer_with_memory<B: BoardName, G, H: Wait + Clock>(
+pub fn answer_with_memory<B: BoardName, G, H: Wait + Clock>(
     rt: &H,
     alloc: Global,
     running: &Running<B, G>,
+    patience: Patience,
     sessions: &mut Vec<Option<Session<B>>>,
     command: &Command,
 ) -> Result<Result<Reply, Refusal>, Refusal>
@@ -165,30 +171,32 @@ fn answer_with_memory<B: BoardName, G, H: Wait + Clock>(
     ensures within { AreWithin running.now.nodes sessions.new.items }
     ensures memory { IsOkUnless result Refusal.Memory }
 {
-    let answer = answer(rt, alloc, running, sessions, command);
+    let answer = answer(rt, alloc, running, patience, sessions, command);
     if is_memory(&answer) {
         return Err(Refusal::Memory);
     }
     Ok(answer)
 }
 
-/// Does the command, and puts the text of its answer where there is none.
+/// Does the command, and puts what is printed of its answer where there is none.
 #[tactic(auto, using(crate::proofs::Doing::answer_done))]
-pub fn do_command<B: BoardName, G, H: Wait + Clock>(
+pub fn do_command<B: BoardName, G, H: Wait + Clock, P: PutsAnswer>(
     rt: &H,
     alloc: Global,
     text: &mut Vec<u8>,
     running: &Running<B, G>,
     sessions: &mut Vec<Option<Session<B>>>,
-    command: &Command,
+    manner: &Manner<P>,
+    line: &Numbered,
 ) -> Result<(), Refusal>
-    requires command { IsWithin running.now.nodes command.now }
+    requires command { IsWithin running.now.nodes line.now.command }
     requires within { AreWithin running.now.nodes sessions.old.items }
     requires none { text.old.items ≡ [] }
-    ensures ok { OnOk result (IsDone running.now.list sessions.old.items command.now text.new.items sessions.new.items) }
+    ensures ok { OnOk result (IsDone (P.printed manner.now.form) running.now.list sessions.old.items line.now text.new.items sessions.new.items) }
     ensures within { AreWithin running.now.nodes sessions.new.items }
     ensures memory { IsOkUnless result Refusal.Memory }
 {
-    let answer = answer_with_memory(rt, alloc, running, sessions, command)?;
-    put_answer(alloc, text, running.board(), &answer)
+    let patience = manner.patience;
+    let answer = answer_with_memory(rt, alloc, running, patience, sessions, &line.command)?;
+    manner.form.put(alloc, text, running.board(), line, &answer)
 }

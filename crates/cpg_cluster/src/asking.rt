@@ -1,7 +1,7 @@
 //! What an open session is asked for, and what it is answered.
 //!
-//! Proved: the answer is one that `specs/Answers.antt` allows, whatever the threads do; and a wait that gives up has
-//! asked `MOST_POLLS` times, a number that `limits` says.
+//! Proved: the answer is one that `specs/Answers.antt` allows, whatever the threads do; and a wait by looks that gives
+//! up has asked `MOST_POLLS` times, a number that `limits` says. Of a wait by the clock no time is proved.
 
 ghost use Rattle.std.specs.Prelude.{◌≡◌, ◌≤◌, ◌<◌, ◌+◌, Ok, None, IfOk, OnOk, IsOkUnless};
 ghost use Rattle.cpg_board.specs.Seats.{IsSeatOf, Begins};
@@ -12,6 +12,7 @@ ghost use Rattle.cpg_cluster.specs.Answers.{Serves};
 ghost use Rattle.cpg_cluster.specs.Steps.{SeatsOn, IsPolled};
 
 use crate::commands::Ask;
+use crate::forms::Patience;
 use crate::replies::Reply;
 use cpg_board::{Board, Seat};
 use cpg_cred::Refusal;
@@ -21,7 +22,7 @@ use cpg_node::Event;
 use std::alloc::Global;
 use std::sync::Wait;
 use std::thread;
-use std::time::{Clock, Duration};
+use std::time::{Clock, Duration, Instant};
 
 /// How often a session that waits is asked for its next event, at most.
 pub const MOST_POLLS: u32 = 1_000_000;
@@ -56,9 +57,26 @@ fn submit<B: BoardName, G, H: Wait>(
     }
 }
 
-/// What the session is told when it asks for its next event once, which is counted: nothing where there is none
-/// yet, or where its node is behind.
+/// What the session is told when it asks for its next event once: nothing where there is none yet, or where its node
+/// is behind.
 #[tactic(auto, using(crate::proofs::Seen::polled_none, crate::proofs::Seen::polled_behind))]
+fn look<B: BoardName, G, H: Wait>(
+    rt: &H,
+    running: &Running<B, G>,
+    session: &mut Session<B>,
+) -> Option<Result<Event, Refusal>>
+    requires { session.old.who.id.node ≤ running.now.nodes }
+    ensures { IsPolled session.old result session.new }
+{
+    match running.take(rt, session) {
+        Ok(None) => None,
+        Ok(Some(event)) => Some(Ok(event)),
+        Err(Refusal::Behind(_)) => None,
+        Err(refusal) => Some(Err(refusal)),
+    }
+}
+
+/// The same, counted.
 fn poll<B: BoardName, G, H: Wait>(
     rt: &H,
     running: &Running<B, G>,
@@ -71,12 +89,7 @@ fn poll<B: BoardName, G, H: Wait>(
     ensures counted { polls.new ≡ polls.old + 1 }
 {
     *polls += 1;
-    match running.take(rt, session) {
-        Ok(None) => None,
-        Ok(Some(event)) => Some(Ok(event)),
-        Err(Refusal::Behind(_)) => None,
-        Err(refusal) => Some(Err(refusal)),
-    }
+    look(rt, running, session)
 }
 
 /// Rests after that poll, from 0: by a yield, or now and then by a sleep.
@@ -90,7 +103,7 @@ fn rest<H: Clock>(rt: &H, poll: u32) {
 
 /// The session's next event, once it comes; nothing where it does not come for `MOST_POLLS` polls, which are counted.
 #[tactic(auto, using(crate::proofs::Seen::stays_on, crate::proofs::Seen::stays_self, crate::proofs::Seen::awaited_on, crate::proofs::Seen::nothing_on, crate::proofs::Seen::nothing_came, crate::proofs::Seen::ended_on))]
-fn wait<B: BoardName, G, H: Wait + Clock>(
+fn wait_looks<B: BoardName, G, H: Wait + Clock>(
     rt: &H,
     running: &Running<B, G>,
     session: &mut Session<B>,
@@ -110,6 +123,72 @@ fn wait<B: BoardName, G, H: Wait + Clock>(
         }
     }
     Ok(Reply::Took(None))
+}
+
+/// Whether so much time went by since the start, as far as the clock tells.
+fn is_over<H: Clock>(rt: &H, start: &Instant, time: Duration) -> bool {
+    match start.elapsed(rt) {
+        Ok(elapsed) => elapsed >= time,
+        Err(_) => true,
+    }
+}
+
+/// Rests after that poll, from 0, unless the time is over, and says whether it is.
+fn rest_within<H: Clock>(rt: &H, poll: u64, start: &Instant, time: Duration) -> bool {
+    let over = is_over(rt, start, time);
+    if !over {
+        rest(rt, (poll % u64::from(POLLS_A_SLEEP)) as u32);
+    }
+    over
+}
+
+/// The session's next event, once it comes; nothing where it does not come within the time since the start. It is
+/// asked for at least once.
+#[tactic(auto, using(crate::proofs::Seen::stays_on, crate::proofs::Seen::stays_self, crate::proofs::Seen::awaited_on, crate::proofs::Seen::nothing_on, crate::proofs::Seen::nothing_came, crate::proofs::Seen::ended_on))]
+fn wait_within<B: BoardName, G, H: Wait + Clock>(
+    rt: &H,
+    running: &Running<B, G>,
+    session: &mut Session<B>,
+    start: &Instant,
+    time: Duration,
+) -> Result<Reply, Refusal>
+    requires { session.old.who.id.node ≤ running.now.nodes }
+    ensures answer { Serves session.old asks.Wait result session.new }
+    ensures seats { SeatsOn B.cells result }
+{
+    for number in 0..u64::MAX {
+        match look(rt, running, session) {
+            None => {
+                if rest_within(rt, number, start, time) {
+                    return Ok(Reply::Took(None));
+                }
+            }
+            Some(Ok(event)) => return Ok(Reply::Took(Some(event))),
+            Some(Err(refusal)) => return Err(refusal),
+        }
+    }
+    Ok(Reply::Took(None))
+}
+
+/// The session's next event, once it comes; nothing where patience ends before. Where the clock can't be read, a
+/// time is as long as `MOST_POLLS` polls.
+fn wait<B: BoardName, G, H: Wait + Clock>(
+    rt: &H,
+    running: &Running<B, G>,
+    patience: Patience,
+    session: &mut Session<B>,
+) -> Result<Reply, Refusal>
+    requires { session.old.who.id.node ≤ running.now.nodes }
+    ensures answer { Serves session.old asks.Wait result session.new }
+    ensures seats { SeatsOn B.cells result }
+{
+    if let Patience::Millis(millis) = patience {
+        if let Ok(start) = Instant::now(rt) {
+            return wait_within(rt, running, session, &start, Duration::from_millis(millis));
+        }
+    }
+    let mut polls = 0;
+    wait_looks(rt, running, session, &mut polls)
 }
 
 fn list<B: BoardName, G, H: Wait>(
@@ -189,6 +268,7 @@ pub fn serve<B: BoardName, G, H: Wait + Clock>(
     rt: &H,
     alloc: Global,
     running: &Running<B, G>,
+    patience: Patience,
     session: &mut Session<B>,
     asked: &Ask,
 ) -> Result<Reply, Refusal>
@@ -199,10 +279,7 @@ pub fn serve<B: BoardName, G, H: Wait + Clock>(
 {
     match asked {
         Ask::Call(call) => submit(rt, alloc, running, session, call),
-        Ask::Wait => {
-            let mut polls = 0;
-            wait(rt, running, session, &mut polls)
-        }
+        Ask::Wait => wait(rt, running, patience, session),
         Ask::List(group) => list(rt, running, session, group.as_slice()),
         Ask::Groups => groups(rt, running, session),
         Ask::Audit => audit(running, &*session),

@@ -30,3 +30,11 @@ pub enum Command {
     /// The place up to which every node holds all places, as the node knows.
     Safe(NodeId),
 }
+
+/// A command of a script, with the number of its line.
+#[derive(Debug, Drop)]
+pub struct Numbered {
+    /// From 1; ignored lines count.
+    pub number: u32,
+    pub command: Command,
+}

@@ -3,20 +3,25 @@
 //! The forms are this project's own. Proved: the whole script is read and checked before it begins, sessions are
 //! numbered by accepted connections, each is answered what `cpg_daemon` promises of it, and what is printed of the
 //! answers is the definition in `specs/`, byte for byte, where the reader and the writer tell their bytes. That an
-//! event comes while it is waited for is tested.
+//! event comes while it is waited for, and that what was printed is handed on before a wait begins, is tested.
 #![tactic(auto)]
 
 mod acting;
 mod asking;
 mod commands;
+mod echoing;
+mod forms;
 mod printing;
 mod reading;
 mod replies;
 mod running;
 mod scripts;
 
+pub use acting::do_command;
 pub use asking::{MOST_POLLS, limits};
-pub use commands::{Ask, Command};
+pub use commands::{Ask, Command, Numbered};
 pub use cpg_script::Fault;
+pub use forms::{Manner, PLAIN, Patience, PutsAnswer, Shown};
+pub use reading::command_in_line;
 pub use replies::Reply;
-pub use running::cluster_script;
+pub use running::{cluster_script, hand_on};

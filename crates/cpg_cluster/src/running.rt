@@ -1,16 +1,18 @@
 //! `cpgring run`: the commands of a script, one after the other.
 //!
-//! The script is read and checked whole before its first command; each command's lines are written after it.
-//! Proved: the bytes, after success and after each fault.
+//! The script is read and checked whole before its first command; each command's lines are written after it, and are
+//! handed on before a wait begins. Proved: the bytes, after success and after each fault.
 
-ghost use Rattle.std.specs.Prelude.{◌≡◌, ◌≤◌, ◌∷◌, [], None, All, length, OnOk, IfOk, IfErr, IfSome, IsOkUnless};
-ghost use Rattle.cpg_cluster.specs.Commands.{IsWithin};
+ghost use Rattle.std.specs.Prelude.{◌≡◌, ◌≤◌, ◌∷◌, [], None, All, length, OnOk, IfOk, OnErr, IfErr, IfSome, IsOkUnless};
+ghost use Rattle.std.specs.Io.KnownBytes.{Keeps};
+ghost use Rattle.cpg_cluster.specs.Commands.{IsWithin, waits};
 ghost use Rattle.cpg_cluster.specs.Scripts.{commands_of_script};
-ghost use Rattle.cpg_cluster.specs.Running.{AreDone, IsStopped, LeavesOf, IsRun, Leaves, EndsRunning};
+ghost use Rattle.cpg_cluster.specs.Running.{AreDone, IsStopped, IsWait, LeavesOf, IsRun, Leaves, EndsRunning};
 ghost use Rattle.cpg_cluster.specs.Steps.{AreWithin};
 
 use crate::acting::do_command;
-use crate::commands::Command;
+use crate::commands::{Ask, Command, Numbered};
+use crate::forms::{Manner, PutsAnswer};
 use crate::scripts::read_commands;
 use cpg_cred::Refusal;
 use cpg_daemon::{BoardName, Running, Session};
@@ -27,80 +29,78 @@ use std::time::Clock;
 /// and nothing done; then, at a command, `Memory`, which leaves the lines of the commands before it, or
 /// `Write`, which leaves a front of the text of the commands begun. `Memory` before all is read and checked
 /// leaves nothing written and nothing done. Other refusals are printed, and the script goes on.
-pub fn cluster_script<B, G, H, R, W>(
+///
+/// The writer is flushed before each wait; where that fails, it is `Write`, and the wait is not begun.
+pub fn cluster_script<B, G, H, R, W, P>(
     rt: &H,
     alloc: Global,
     reader: &mut R,
     writer: &mut W,
     running: &Running<B, G>,
+    manner: &Manner<P>,
 ) -> Result<(), Fault>
 where
     B: BoardName,
     H: Wait + Clock,
     R: Read,
     W: Write,
+    P: PutsAnswer,
     ensures ok { OnOk result (IfSome (R.remaining reader.old) (λ script.
-        (length script ≤ MOST_BYTES) × IsRun running.now.list (commands_of_script running.now.nodes script) (W.contents writer.old) (W.contents writer.new))) }
+        (length script ≤ MOST_BYTES) × IsRun (P.printed manner.now.form) running.now.list (commands_of_script running.now.nodes script) (W.contents writer.old) (W.contents writer.new))) }
     ensures err { IfErr result (λ fault. IfSome (R.remaining reader.old) (λ script.
-        Leaves running.now.list (commands_of_script running.now.nodes script) fault.refusal (W.contents writer.old) (W.contents writer.new))) }
+        Leaves (P.printed manner.now.form) running.now.list (commands_of_script running.now.nodes script) fault.refusal (W.contents writer.old) (W.contents writer.new))) }
 
     // Nothing is written before the script was read and checked, even where the reader tells no bytes.
     ensures ends { IfErr result (λ fault. EndsRunning fault.refusal (W.contents writer.old) (W.contents writer.new)) }
     ensures whole { IfErr result (λ fault. fault.part ≡ None) }
 {
-    match run_whole(rt, alloc, reader, writer, running) {
+    match run_whole(rt, alloc, reader, writer, running, manner) {
         Ok(()) => Ok(()),
         Err(refusal) => Err(Fault::from(refusal)),
     }
 }
 
-fn run_whole<B, G, H, R, W>(
+fn run_whole<B, G, H, R, W, P>(
     rt: &H,
     alloc: Global,
     reader: &mut R,
     writer: &mut W,
     running: &Running<B, G>,
+    manner: &Manner<P>,
 ) -> Result<(), Refusal>
 where
     B: BoardName,
     H: Wait + Clock,
     R: Read,
     W: Write,
+    P: PutsAnswer,
     ensures ok { OnOk result (IfSome (R.remaining reader.old) (λ script.
-        (length script ≤ MOST_BYTES) × IsRun running.now.list (commands_of_script running.now.nodes script) (W.contents writer.old) (W.contents writer.new))) }
+        (length script ≤ MOST_BYTES) × IsRun (P.printed manner.now.form) running.now.list (commands_of_script running.now.nodes script) (W.contents writer.old) (W.contents writer.new))) }
     ensures err { IfErr result (λ refusal. IfSome (R.remaining reader.old) (λ script.
-        Leaves running.now.list (commands_of_script running.now.nodes script) refusal (W.contents writer.old) (W.contents writer.new))) }
+        Leaves (P.printed manner.now.form) running.now.list (commands_of_script running.now.nodes script) refusal (W.contents writer.old) (W.contents writer.new))) }
     ensures ends { IfErr result (λ refusal. EndsRunning refusal (W.contents writer.old) (W.contents writer.new)) }
 {
     let script = read_whole(alloc, reader)?;
     let commands = read_commands(alloc, running.nodes(), script.as_slice())?;
-    run_commands(rt, alloc, writer, running, commands.as_slice())
+    run_commands(rt, alloc, writer, running, manner, commands.as_slice())
 }
 
 /// Runs the commands from no session on, one after the other, and writes the lines of each.
-fn run_commands<B: BoardName, G, H: Wait + Clock, W: Write>(
+fn run_commands<B: BoardName, G, H: Wait + Clock, W: Write, P: PutsAnswer>(
     rt: &H,
     alloc: Global,
     writer: &mut W,
     running: &Running<B, G>,
-    commands: &[Command],
+    manner: &Manner<P>,
+    lines: &[Numbered],
 ) -> Result<(), Refusal>
-    requires { All (λ command. IsWithin running.now.nodes command) commands.now }
-    ensures ok { OnOk result (IsRun running.now.list (Ok commands.now) (W.contents writer.old) (W.contents writer.new)) }
-    ensures err { IfErr result (λ refusal. IsStopped refusal running.now.list [] commands.now (W.contents writer.old) (W.contents writer.new)) }
+    requires { All (λ line. IsWithin running.now.nodes line.command) lines.now }
+    ensures ok { OnOk result (IsRun (P.printed manner.now.form) running.now.list (Ok lines.now) (W.contents writer.old) (W.contents writer.new)) }
+    ensures err { IfErr result (λ refusal. IsStopped refusal (P.printed manner.now.form) running.now.list [] lines.now (W.contents writer.old) (W.contents writer.new)) }
 {
     let mut sessions = Vec::new(alloc);
-    let mut text = Vec::new(alloc);
-    for command in commands {
-        match run_command(
-            rt,
-            alloc,
-            writer,
-            &mut text,
-            running,
-            &mut sessions,
-            command,
-        ) {
+    for line in lines {
+        match run_command(rt, alloc, writer, running, &mut sessions, manner, line) {
             Ok(()) => {}
             Err(refusal) => return Err(refusal),
         }
@@ -108,24 +108,56 @@ fn run_commands<B: BoardName, G, H: Wait + Clock, W: Write>(
     Ok(())
 }
 
-/// Does one command, and then writes its lines.
-#[tactic(auto, using(crate::proofs::Doing::written_whole, crate::proofs::Doing::written_in_part))]
-fn run_command<B: BoardName, G, H: Wait + Clock, W: Write>(
+/// Whether the command waits for an event.
+fn waits(command: &Command) -> bool
+    ensures { result ≡ waits command.now }
+{
+    matches!(command, Command::Ask(_, Ask::Wait))
+}
+
+/// Hands on what was written.
+pub fn hand_on<W: Write>(writer: &mut W) -> Result<(), Refusal>
+    ensures kept { Keeps (W.contents writer.old) (W.contents writer.new) }
+    ensures errors { IsOkUnless result Refusal.Write }
+{
+    match writer.flush() {
+        Ok(()) => Ok(()),
+        Err(_) => Err(Refusal::Write),
+    }
+}
+
+/// Hands on what was written where a command is to wait.
+fn hand_on_before<W: Write>(writer: &mut W, line: &Numbered) -> Result<(), Refusal>
+    ensures kept { Keeps (W.contents writer.old) (W.contents writer.new) }
+    ensures waits { OnErr result (IsWait line.now) }
+    ensures errors { IsOkUnless result Refusal.Write }
+{
+    if waits(&line.command) {
+        hand_on(writer)
+    } else {
+        Ok(())
+    }
+}
+
+/// Hands on what was written where the command is to wait, does it, and then writes its lines.
+#[tactic(auto, using(crate::proofs::Doing::written_whole, crate::proofs::Doing::written_in_part, crate::proofs::Doing::not_written, crate::proofs::Doing::not_begun))]
+fn run_command<B: BoardName, G, H: Wait + Clock, W: Write, P: PutsAnswer>(
     rt: &H,
     alloc: Global,
     writer: &mut W,
-    text: &mut Vec<u8>,
     running: &Running<B, G>,
     sessions: &mut Vec<Option<Session<B>>>,
-    command: &Command,
+    manner: &Manner<P>,
+    line: &Numbered,
 ) -> Result<(), Refusal>
-    requires command { IsWithin running.now.nodes command.now }
+    requires command { IsWithin running.now.nodes line.now.command }
     requires within { AreWithin running.now.nodes sessions.old.items }
-    ensures ok { OnOk result (AreDone running.now.list sessions.old.items (command.now ∷ []) (W.contents writer.old) (W.contents writer.new) sessions.new.items) }
+    ensures ok { OnOk result (AreDone (P.printed manner.now.form) running.now.list sessions.old.items (line.now ∷ []) (W.contents writer.old) (W.contents writer.new) sessions.new.items) }
     ensures within { AreWithin running.now.nodes sessions.new.items }
-    ensures err { IfErr result (λ refusal. LeavesOf refusal running.now.list sessions.old.items command.now (W.contents writer.old) (W.contents writer.new)) }
+    ensures err { IfErr result (λ refusal. LeavesOf refusal (P.printed manner.now.form) running.now.list sessions.old.items line.now (W.contents writer.old) (W.contents writer.new)) }
 {
-    text.clear();
-    do_command(rt, alloc, text, running, sessions, command)?;
+    hand_on_before(writer, line)?;
+    let mut text = Vec::new(alloc);
+    do_command(rt, alloc, &mut text, running, sessions, manner, line)?;
     write_whole(writer, text.as_slice())
 }

@@ -1,44 +1,116 @@
-//! Scripts of commands, read and checked whole.
+//! Scripts of commands, read and checked whole, each command with the number of its line.
 
-ghost use Rattle.std.specs.Prelude.{◌≡◌, ◌≤◌, Ok, All, length, IfOk, IfErr};
+ghost use Rattle.std.specs.Prelude.{◌≡◌, ◌≤◌, Ok, All, length, slice_index, IfOk, IfErr, IsOkUnless};
 ghost use Rattle.cpg_script.specs.Reading.{FailsAs};
 ghost use Rattle.cpg_cluster.specs.Commands.{IsWithin};
-ghost use Rattle.cpg_cluster.specs.Scripts.{commands_of_script};
+ghost use Rattle.cpg_cluster.specs.Scripts.{commands_of_script, numbers_of};
 
-use crate::commands::Command;
+use crate::commands::Numbered;
 use crate::reading::command_in_line;
 use cpg_cred::Refusal;
 use cpg_script::{ReadsLine, read_script};
-use cpg_text::MOST_BYTES;
+use cpg_text::{Lines, MOST_BYTES, is_ignored, trim};
 use std::alloc::Global;
 
-/// Reads commands where there are so many nodes.
-#[derive(Debug, Clone, Copy)]
-struct CommandReader {
-    nodes: u8,
+/// The numbers of the script's lines that are not ignored; lines are counted from 1.
+#[tactic(auto, using(cpg_script::proofs::Lengths::lines_few, crate::proofs::Scripted::number_ignored, crate::proofs::Scripted::number_held))]
+fn read_numbers(alloc: Global, script: &[u8]) -> Result<Vec<u32>, Refusal>
+    requires { length script.now ≤ MOST_BYTES }
+    ensures ok { IfOk result (λ numbers. numbers.items ≡ numbers_of script.now) }
+    ensures memory { IsOkUnless result Refusal.Memory }
+{
+    let mut numbers = Vec::new(alloc);
+    let mut number = 0u32;
+    for line in Lines::of(script) {
+        number += 1;
+        if !is_ignored(trim(line)) {
+            numbers.push(number)?;
+        }
+    }
+    Ok(numbers)
 }
 
-impl ReadsLine for CommandReader {
-    type Item = Command;
-
-    ghost use Rattle.cpg_text.specs.Lines.{words_of};
-    ghost use Rattle.cpg_cluster.specs.Commands.{command_of, IsWithin};
-
-    ghost meaning = { λ reader before line. command_of reader.nodes (words_of line) };
-
-    ghost holds = { λ reader command. IsWithin reader.nodes command };
-
-    fn read(&self, alloc: Global, _before: usize, line: &[u8]) -> Result<Option<Command>, Refusal> {
-        command_in_line(alloc, self.nodes, line)
+/// The number that stands at the index, and 0 past the last.
+fn number_at(numbers: &[u32], index: usize) -> u32
+    ensures { result ≡ slice_index numbers.now index }
+{
+    match numbers.get(index) {
+        None => 0,
+        Some(number) => *number,
     }
 }
 
-/// The commands of a script, where there are so many nodes, or `BadCommand` with its first bad line.
-pub fn read_commands(alloc: Global, nodes: u8, script: &[u8]) -> Result<Vec<Command>, Refusal>
-    requires { length script.now ≤ MOST_BYTES }
-    ensures ok { IfOk result (λ commands. commands_of_script nodes script.now ≡ Ok commands.items) }
-    ensures within { IfOk result (λ commands. All (λ command. IsWithin nodes command) commands.items) }
+/// Reads commands where there are so many nodes and the lines that hold one have those numbers.
+#[derive(Debug, Clone, Copy)]
+struct CommandReader<'a> {
+    nodes: u8,
+    numbers: &'a [u32],
+}
+
+impl ReadsLine for CommandReader<'_> {
+    type Item = Numbered;
+
+    ghost use Rattle.cpg_cluster.specs.Commands.{IsWithin};
+    ghost use Rattle.cpg_cluster.specs.Steps.{numbered_by};
+
+    ghost meaning = { λ reader before line. numbered_by reader.nodes reader.numbers.now before line };
+
+    ghost holds = { λ reader line. IsWithin reader.nodes line.command };
+
+    #[tactic(auto, using(cpg_print::proofs::Somes::mapped))]
+    fn read(&self, alloc: Global, before: usize, line: &[u8]) -> Result<Option<Numbered>, Refusal> {
+        match command_in_line(alloc, self.nodes, line)? {
+            None => Ok(None),
+            Some(command) => {
+                let number = number_at(self.numbers, before);
+                Ok(Some(Numbered { number, command }))
+            }
+        }
+    }
+}
+
+/// The commands of a script by those numbers of its lines.
+fn read_numbered(
+    alloc: Global,
+    nodes: u8,
+    numbers: &[u32],
+    script: &[u8],
+) -> Result<Vec<Numbered>, Refusal>
+    requires short { length script.now ≤ MOST_BYTES }
+    requires numbers { numbers.now ≡ numbers_of script.now }
+    ensures ok { IfOk result (λ lines. commands_of_script nodes script.now ≡ Ok lines.items) }
+    ensures within { IfOk result (λ lines. All (λ line. IsWithin nodes line.command) lines.items) }
     ensures err { IfErr result (λ refusal. FailsAs (commands_of_script nodes script.now) refusal) }
 {
-    read_script(alloc, &CommandReader { nodes }, script)
+    read_script(alloc, &CommandReader { nodes, numbers }, script)
+}
+
+/// The same by whatever numbers: a bad line is told alike.
+fn read_by(
+    alloc: Global,
+    nodes: u8,
+    numbers: &[u32],
+    script: &[u8],
+) -> Result<Vec<Numbered>, Refusal>
+    requires { length script.now ≤ MOST_BYTES }
+    ensures { IfErr result (λ refusal. FailsAs (commands_of_script nodes script.now) refusal) }
+{
+    read_script(alloc, &CommandReader { nodes, numbers }, script)
+}
+
+/// The commands of a script, where there are so many nodes, or `BadCommand` with its first bad line. Where there is no
+/// memory for the numbers of its lines, a bad line is told all the same, as far as it is found without.
+pub fn read_commands(alloc: Global, nodes: u8, script: &[u8]) -> Result<Vec<Numbered>, Refusal>
+    requires { length script.now ≤ MOST_BYTES }
+    ensures ok { IfOk result (λ lines. commands_of_script nodes script.now ≡ Ok lines.items) }
+    ensures within { IfOk result (λ lines. All (λ line. IsWithin nodes line.command) lines.items) }
+    ensures err { IfErr result (λ refusal. FailsAs (commands_of_script nodes script.now) refusal) }
+{
+    match read_numbers(alloc, script) {
+        Ok(numbers) => read_numbered(alloc, nodes, numbers.as_slice(), script),
+        Err(_) => {
+            read_by(alloc, nodes, &[], script)?;
+            Err(Refusal::Memory)
+        }
+    }
 }

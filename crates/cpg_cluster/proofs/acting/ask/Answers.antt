@@ -2,7 +2,7 @@ use Rattle.std.proofs.Common.{◌≤◌, ◌-◌, length, IfSome, refl, sym, sub
 use Rattle.std.proofs.lemmas.List.Elements.{All-set}
 use Rattle.cpg_daemon.specs.Sessions.{SessionValue}
 use Rattle.cpg_cluster.specs.Answers.{IsServed}
-use Rattle.cpg_cluster.proofs.Numbered.{at_none, at_number}
+use Rattle.cpg_cluster.proofs.AtNumbers.{at_none, at_number}
 use Rattle.cpg_cluster.proofs.acting.ask.Goals as goal
 
 pub returns-then-not-is_given-clause-answer : goal.returns-then-not-is_given-clause-answer

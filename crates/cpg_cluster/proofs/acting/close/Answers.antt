@@ -1,6 +1,6 @@
 use Rattle.std.proofs.Common.{◌≤◌, length, refl, sym, subst}
 use Rattle.cpg_cluster.specs.Answers.{IsEnded}
-use Rattle.cpg_cluster.proofs.Numbered.{at_none, at_number}
+use Rattle.cpg_cluster.proofs.AtNumbers.{at_none, at_number}
 use Rattle.cpg_cluster.proofs.acting.close.Goals as goal
 
 pub returns-then-not-is_given-clause-answer : goal.returns-then-not-is_given-clause-answer

@@ -1,0 +1,3 @@
+pub mod Shelled
+pub mod Steps
+pub mod Typed
