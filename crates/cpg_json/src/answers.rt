@@ -51,7 +51,8 @@ fn put_denied(line: &mut Vec<u8>, by: By) -> Result<(), Refusal>
     put_by(line, by)
 }
 
-fn put_refusal(line: &mut Vec<u8>, refusal: Refusal) -> Result<(), Refusal>
+/// Puts a refusal, and what it carries, at the line's end.
+pub fn put_refusal(line: &mut Vec<u8>, refusal: Refusal) -> Result<(), Refusal>
     ensures ok { OnOk result (line.new.items ≡ line.old.items ++ more (refusal_fields refusal)) }
     ensures memory { IsOkUnless result Refusal.Memory }
 {
@@ -178,8 +179,9 @@ fn put_took(line: &mut Vec<u8>, event: Option<&Event>) -> Result<(), Refusal>
     }
 }
 
+/// Puts processes in brackets, as the field `members`, at the line's end.
 #[tactic(auto, unfolding(crate::specs::Objects::after_comma, crate::specs::Objects::field))]
-fn put_members(line: &mut Vec<u8>, processes: &[(NodeId, u32)]) -> Result<(), Refusal>
+pub fn put_process_list(line: &mut Vec<u8>, processes: &[(NodeId, u32)]) -> Result<(), Refusal>
     ensures ok { OnOk result (line.new.items ≡ line.old.items ++ after_comma (field (codes "members") (array (map process_array processes.now)))) }
     ensures memory { IsOkUnless result Refusal.Memory }
 {
@@ -219,12 +221,13 @@ fn put_listing(line: &mut Vec<u8>, processes: &[(NodeId, u32)]) -> Result<(), Re
     ensures memory { IsOkUnless result Refusal.Memory }
 {
     put_kind(line, "members")?;
-    put_members(line, processes)?;
+    put_process_list(line, processes)?;
     put_end(line)
 }
 
+/// Puts names in brackets, as the field `groups`, at the line's end.
 #[tactic(auto, unfolding(crate::specs::Objects::after_comma, crate::specs::Objects::field))]
-fn put_groups(line: &mut Vec<u8>, names: &[Name]) -> Result<(), Refusal>
+pub fn put_groups(line: &mut Vec<u8>, names: &[Name]) -> Result<(), Refusal>
     ensures ok { OnOk result (line.new.items ≡ line.old.items ++ after_comma (field (codes "groups") (array (map json_string names.now)))) }
     ensures memory { IsOkUnless result Refusal.Memory }
 {
@@ -315,7 +318,7 @@ pub(crate) fn put_rule_count(line: &mut Vec<u8>, count: usize) -> Result<(), Ref
 }
 
 /// Puts the line of a safe mark at the lines' end.
-pub(crate) fn put_safe(line: &mut Vec<u8>, place: u32) -> Result<(), Refusal>
+pub fn put_safe(line: &mut Vec<u8>, place: u32) -> Result<(), Refusal>
     ensures ok { OnOk result (line.new.items ≡ line.old.items ++ safe_json place) }
     ensures memory { IsOkUnless result Refusal.Memory }
 {

@@ -16,7 +16,7 @@ use cpg_rules::{Effect, Right, Rule, Who};
 use cpg_script::put;
 
 /// Puts the name of a group at the line's end.
-pub(crate) fn put_group(line: &mut Vec<u8>, group: &[u8]) -> Result<(), Refusal>
+pub fn put_group(line: &mut Vec<u8>, group: &[u8]) -> Result<(), Refusal>
     ensures ok { OnOk result (line.new.items ≡ line.old.items ++ after_comma (group_field group.now)) }
     ensures memory { IsOkUnless result Refusal.Memory }
 {
@@ -51,7 +51,7 @@ fn has_ascii_alone(bytes: &[u8]) -> bool
 }
 
 /// Puts a rule at the line's end.
-pub(crate) fn put_rule(line: &mut Vec<u8>, rule: Rule) -> Result<(), Refusal>
+pub fn put_rule(line: &mut Vec<u8>, rule: Rule) -> Result<(), Refusal>
     ensures ok { OnOk result (line.new.items ≡ line.old.items ++ more (rule_fields rule)) }
     ensures memory { IsOkUnless result Refusal.Memory }
 {
@@ -69,7 +69,8 @@ fn effect_name(effect: Effect) -> &'static str
     }
 }
 
-fn right_name(right: Right) -> &'static str
+/// The name of a right.
+pub fn right_name(right: Right) -> &'static str
     ensures { result.now ≡ right_text right }
 {
     match right {
@@ -143,7 +144,7 @@ pub(crate) fn put_carried(line: &mut Vec<u8>, op: &Op) -> Result<(), Refusal>
 }
 
 /// Puts a verdict at the line's end.
-pub(crate) fn put_verdict(line: &mut Vec<u8>, verdict: Verdict) -> Result<(), Refusal>
+pub fn put_verdict(line: &mut Vec<u8>, verdict: Verdict) -> Result<(), Refusal>
     ensures ok { OnOk result (line.new.items ≡ line.old.items ++ more (verdict_fields verdict)) }
     ensures memory { IsOkUnless result Refusal.Memory }
 {

@@ -27,7 +27,7 @@ pub(crate) fn put_inbox(line: &mut Vec<u8>, conn: &ConnId) -> Result<(), Refusal
 }
 
 /// Puts the front of an event's line, with its connection, at the lines' end.
-pub(crate) fn put_front(line: &mut Vec<u8>, conn: &ConnId) -> Result<(), Refusal>
+pub fn put_front(line: &mut Vec<u8>, conn: &ConnId) -> Result<(), Refusal>
     ensures ok { OnOk result (line.new.items ≡ line.old.items ++ front_of conn.now) }
     ensures memory { IsOkUnless result Refusal.Memory }
 {
@@ -49,7 +49,7 @@ pub(crate) fn put_verdict_tail(
 }
 
 /// Puts what an event says at the line's end, whomever it is told.
-pub(crate) fn put_event_fields(line: &mut Vec<u8>, event: &Event) -> Result<(), Refusal>
+pub fn put_event_fields(line: &mut Vec<u8>, event: &Event) -> Result<(), Refusal>
     ensures ok { OnOk result (line.new.items ≡ line.old.items ++ more (event_fields event.now)) }
     ensures memory { IsOkUnless result Refusal.Memory }
 {

@@ -29,7 +29,7 @@ fn put_named_group(line: &mut Vec<u8>, op: &Op) -> Result<(), Refusal>
 
 /// Puts an op, with the group that it names, at the line's end.
 #[tactic(auto, using(crate::proofs::Fields::more_append))]
-fn put_whole_call(line: &mut Vec<u8>, op: &Op) -> Result<(), Refusal>
+pub fn put_whole_call(line: &mut Vec<u8>, op: &Op) -> Result<(), Refusal>
     ensures ok { OnOk result (line.new.items ≡ line.old.items ++ more (field (codes "call") (word (call_name op.now)) ∷ named_group op.now ++ carried_fields op.now)) }
     ensures memory { IsOkUnless result Refusal.Memory }
 {

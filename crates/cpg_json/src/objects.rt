@@ -11,7 +11,7 @@ use cpg_text::push_number;
 
 /// Puts a comma and the name of a field at the line's end.
 #[inline(always)]
-pub(crate) fn put_name(line: &mut Vec<u8>, name: &str) -> Result<(), Refusal>
+pub fn put_name(line: &mut Vec<u8>, name: &str) -> Result<(), Refusal>
     ensures ok { OnOk result (line.new.items ≡ line.old.items ++ codes ",\"" ++ name.now ++ codes "\":") }
     ensures memory { IsOkUnless result Refusal.Memory }
 {
@@ -23,7 +23,7 @@ pub(crate) fn put_name(line: &mut Vec<u8>, name: &str) -> Result<(), Refusal>
 /// Puts the field of a number at the line's end.
 #[inline(always)]
 #[tactic(auto, unfolding(crate::specs::Objects::after_comma, crate::specs::Objects::field))]
-pub(crate) fn put_number(line: &mut Vec<u8>, name: &str, value: u64) -> Result<(), Refusal>
+pub fn put_number(line: &mut Vec<u8>, name: &str, value: u64) -> Result<(), Refusal>
     ensures ok { OnOk result (line.new.items ≡ line.old.items ++ after_comma (number name.now value)) }
     ensures memory { IsOkUnless result Refusal.Memory }
 {
@@ -34,7 +34,7 @@ pub(crate) fn put_number(line: &mut Vec<u8>, name: &str, value: u64) -> Result<(
 /// Puts the field of a word at the line's end.
 #[inline(always)]
 #[tactic(auto, unfolding(crate::specs::Objects::after_comma, crate::specs::Objects::field, crate::specs::Objects::word))]
-pub(crate) fn put_word(line: &mut Vec<u8>, name: &str, text: &str) -> Result<(), Refusal>
+pub fn put_word(line: &mut Vec<u8>, name: &str, text: &str) -> Result<(), Refusal>
     ensures ok { OnOk result (line.new.items ≡ line.old.items ++ after_comma (field name.now (word text.now))) }
     ensures memory { IsOkUnless result Refusal.Memory }
 {
@@ -78,7 +78,7 @@ pub(crate) fn put_number_or_null(line: &mut Vec<u8>, value: Option<u32>) -> Resu
 /// Puts the brace and the kind of an object at the lines' end.
 #[inline(always)]
 #[tactic(auto, unfolding(crate::specs::Objects::field, crate::specs::Objects::word))]
-pub(crate) fn put_kind(line: &mut Vec<u8>, name: &str) -> Result<(), Refusal>
+pub fn put_kind(line: &mut Vec<u8>, name: &str) -> Result<(), Refusal>
     ensures ok { OnOk result (line.new.items ≡ line.old.items ++ codes "{" ++ kind name.now) }
     ensures memory { IsOkUnless result Refusal.Memory }
 {
@@ -89,7 +89,7 @@ pub(crate) fn put_kind(line: &mut Vec<u8>, name: &str) -> Result<(), Refusal>
 
 /// Puts the end of an object that stands alone on its line at the lines' end.
 #[inline(always)]
-pub(crate) fn put_end(line: &mut Vec<u8>) -> Result<(), Refusal>
+pub fn put_end(line: &mut Vec<u8>) -> Result<(), Refusal>
     ensures ok { OnOk result (line.new.items ≡ line.old.items ++ codes "}\n") }
     ensures memory { IsOkUnless result Refusal.Memory }
 {

@@ -15,7 +15,7 @@ use cpg_script::put;
 use cpg_text::push_number;
 
 /// Puts a connection at the line's end.
-pub(crate) fn put_conn(line: &mut Vec<u8>, conn: &ConnId) -> Result<(), Refusal>
+pub fn put_conn(line: &mut Vec<u8>, conn: &ConnId) -> Result<(), Refusal>
     ensures ok { OnOk result (line.new.items ≡ line.old.items ++ more (conn_fields conn.now)) }
     ensures memory { IsOkUnless result Refusal.Memory }
 {
@@ -24,7 +24,7 @@ pub(crate) fn put_conn(line: &mut Vec<u8>, conn: &ConnId) -> Result<(), Refusal>
 }
 
 /// Puts who made an entry at the line's end.
-pub(crate) fn put_caller(line: &mut Vec<u8>, entry: &Entry) -> Result<(), Refusal>
+pub fn put_caller(line: &mut Vec<u8>, entry: &Entry) -> Result<(), Refusal>
     ensures ok { OnOk result (line.new.items ≡ line.old.items ++ more (caller_fields entry.now)) }
     ensures memory { IsOkUnless result Refusal.Memory }
 {
@@ -130,7 +130,7 @@ fn put_outcome(line: &mut Vec<u8>, past: &Record) -> Result<(), Refusal>
 
 /// Puts the line of a record, which stands at that place, at the lines' end.
 #[tactic(auto, using(crate::proofs::Fields::more_append))]
-pub(crate) fn put_record(line: &mut Vec<u8>, place: u32, past: &Record) -> Result<(), Refusal>
+pub fn put_record(line: &mut Vec<u8>, place: u32, past: &Record) -> Result<(), Refusal>
     ensures ok { OnOk result (line.new.items ≡ line.old.items ++ record_json place past.now) }
     ensures memory { IsOkUnless result Refusal.Memory }
 {
@@ -141,7 +141,7 @@ pub(crate) fn put_record(line: &mut Vec<u8>, place: u32, past: &Record) -> Resul
 }
 
 /// Puts the line of the count of records at the lines' end.
-pub(crate) fn put_count(line: &mut Vec<u8>, count: u32) -> Result<(), Refusal>
+pub fn put_count(line: &mut Vec<u8>, count: u32) -> Result<(), Refusal>
     ensures ok { OnOk result (line.new.items ≡ line.old.items ++ count_json count) }
     ensures memory { IsOkUnless result Refusal.Memory }
 {

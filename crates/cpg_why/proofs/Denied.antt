@@ -1,5 +1,5 @@
 -- why denied entries were denied, one after the other
-use Rattle.std.proofs.Common.{◌≡◌, ℕ, ◌+◌, ◌<◌, Bool, true, false, cond, ◌||◌, List, [], ◌∷◌, ◌++◌, length, take, slice_get, Some, codes, refl, sym, ap, ◌∙◌, append_assoc, append-nil, arith}
+use Rattle.std.proofs.Common.{◌≡◌, ℕ, ◌+◌, ◌<◌, Bool, true, false, cond, ◌||◌, List, [], ◌∷◌, ◌++◌, length, take, slice_get, Some, refl, sym, ap, ◌∙◌, append_assoc, append-nil, arith}
 use Rattle.std.specs.List.{flat_map, join_by}
 use Rattle.std.proofs.lemmas.Grind.{flat_map-append}
 use Rattle.std.proofs.lemmas.List.{length-take, take_more}
@@ -10,7 +10,8 @@ use Rattle.cpg_record.specs.Judging.{judged, record_of}
 use Rattle.cpg_record.specs.Places.{places_of}
 use Rattle.cpg_record.proofs.Denials.{each_entry_is_judged}
 use Rattle.cpg_record.proofs.Positions.{places_from-push}
-use Rattle.cpg_why.specs.Texts.{block_text, denial_piece, is_denied, why_text}
+use Rattle.cpg_why.specs.Forms.{Form, block_by, denial_piece, gap_of, why_told}
+use Rattle.cpg_why.specs.Texts.{is_denied}
 use Rattle.cpg_why.proofs.Walked.{judged_push, why_next}
 
 -- something stands in the list
@@ -34,10 +35,10 @@ abbrev pub denied_places : List Entry → ℕ → List ℕ
 denied_places entries count = places_of is_denied (judged (take count entries))
 
 -- their text
-abbrev pub told_upto : List ℕ → List Entry → ℕ → List ℕ
-told_upto numbers entries count = join_by (why_text numbers (judged entries)) (codes "\n") (denied_places entries count)
+abbrev pub told_upto : Form → List ℕ → List Entry → ℕ → List ℕ
+told_upto form numbers entries count = join_by (why_told form numbers (judged entries)) (gap_of form) (denied_places entries count)
 
-module _ (numbers : List ℕ) (entries : List Entry) (index : ℕ) (entry : Entry) (stands : slice_get entries index ≡ Some entry) where
+module _ (form : Form) (numbers : List ℕ) (entries : List Entry) (index : ℕ) (entry : Entry) (stands : slice_get entries index ≡ Some entry) where
   next : Record
   next = record_of (judged (take index entries)) entry
 
@@ -53,20 +54,20 @@ module _ (numbers : List ℕ) (entries : List Entry) (index : ℕ) (entry : Entr
       ∙ ap (λ n. denied_places entries index ++ cond (is_denied (record_of (judged (take index entries)) entry)) (n ∷ []) []) count
 
   told_more : (denied : Bool) → is_denied (record_of (judged (take index entries)) entry) ≡ denied → (begun : Bool) → begun ≡ some_there (denied_places entries index) →
-      told_upto numbers entries (index + 1)
-      ≡ told_upto numbers entries index ++ denial_piece begun denied (block_text numbers (judged (take index entries)) (index + 1) (record_of (judged (take index entries)) entry))
+      told_upto form numbers entries (index + 1)
+      ≡ told_upto form numbers entries index ++ denial_piece form begun denied (block_by form numbers (judged (take index entries)) (index + 1) (Some (record_of (judged (take index entries)) entry)))
   told_more true is begun there =
-      let f = why_text numbers (judged entries) in
+      let f = why_told form numbers (judged entries) in
       let places = denied_places entries index in
-      ap (join_by f (codes "\n")) (places_more ∙ ap (λ (b : Bool). places ++ cond b ((index + 1) ∷ []) []) is)
-      ∙ join_push f (codes "\n") places (index + 1)
-      ∙ ap (λ (b : Bool). told_upto numbers entries index ++ (cond b (codes "\n") [] ++ f (index + 1))) (sym there)
-      ∙ ap (λ (text : List ℕ). told_upto numbers entries index ++ (cond begun (codes "\n") [] ++ text)) (why_next numbers entries index entry stands)
+      ap (join_by f (gap_of form)) (places_more ∙ ap (λ (b : Bool). places ++ cond b ((index + 1) ∷ []) []) is)
+      ∙ join_push f (gap_of form) places (index + 1)
+      ∙ ap (λ (b : Bool). told_upto form numbers entries index ++ (cond b (gap_of form) [] ++ f (index + 1))) (sym there)
+      ∙ ap (λ (text : List ℕ). told_upto form numbers entries index ++ (cond begun (gap_of form) [] ++ text)) (why_next form numbers entries index entry stands)
   told_more false is begun there =
-      let f = why_text numbers (judged entries) in
+      let f = why_told form numbers (judged entries) in
       let places = denied_places entries index in
-      ap (join_by f (codes "\n")) (places_more ∙ ap (λ (b : Bool). places ++ cond b ((index + 1) ∷ []) []) is ∙ append-nil places)
-      ∙ sym (append-nil (told_upto numbers entries index))
+      ap (join_by f (gap_of form)) (places_more ∙ ap (λ (b : Bool). places ++ cond b ((index + 1) ∷ []) []) is ∙ append-nil places)
+      ∙ sym (append-nil (told_upto form numbers entries index))
 
   begun_more : (denied : Bool) → is_denied (record_of (judged (take index entries)) entry) ≡ denied → (begun : Bool) → begun ≡ some_there (denied_places entries index) →
       (begun || denied) ≡ some_there (denied_places entries (index + 1))
@@ -82,27 +83,27 @@ module _ (numbers : List ℕ) (entries : List Entry) (index : ℕ) (entry : Entr
       or_false false = refl
 
 -- the text and whether something stands in it, after one entry more that was passed
-pub record Told (numbers : List ℕ) (entries : List Entry) (count : ℕ) (front text : List ℕ) (begun : Bool) : Type 0 where
-  pub told : text ≡ front ++ told_upto numbers entries count
+pub record Told (form : Form) (numbers : List ℕ) (entries : List Entry) (count : ℕ) (front text : List ℕ) (begun : Bool) : Type 0 where
+  pub told : text ≡ front ++ told_upto form numbers entries count
   pub there : begun ≡ some_there (denied_places entries count)
 
-pub told_next : (numbers : List ℕ) (entries passed : List Entry) (index : ℕ) (entry : Entry) (front text more : List ℕ) (begun now : Bool) → slice_get entries index ≡ Some entry
-    → passed ≡ take index entries → Told numbers entries index front text begun
-    → more ≡ text ++ denial_piece begun (is_denied (record_of (judged passed) entry)) (block_text numbers (judged passed) (length passed + 1) (record_of (judged passed) entry))
-    → now ≡ (begun || is_denied (record_of (judged passed) entry)) → Told numbers entries (index + 1) front more now
-told_next numbers entries passed index entry front text more begun now stands is before put said =
+pub told_next : (form : Form) (numbers : List ℕ) (entries passed : List Entry) (index : ℕ) (entry : Entry) (front text more : List ℕ) (begun now : Bool) → slice_get entries index ≡ Some entry
+    → passed ≡ take index entries → Told form numbers entries index front text begun
+    → more ≡ text ++ denial_piece form begun (is_denied (record_of (judged passed) entry)) (block_by form numbers (judged passed) (length passed + 1) (Some (record_of (judged passed) entry)))
+    → now ≡ (begun || is_denied (record_of (judged passed) entry)) → Told form numbers entries (index + 1) front more now
+told_next form numbers entries passed index entry front text more begun now stands is before put said =
     let within : index < length entries = slice_get_within entries index entry stands in
     let count : length passed ≡ index = omega (arith, ap length is, length-take index entries) in
     let r = record_of (judged (take index entries)) entry in
     let put' = put
-    ∙ ap (λ (es : List Entry). text ++ denial_piece begun (is_denied (record_of (judged es) entry)) (block_text numbers (judged es) (length passed + 1) (record_of (judged es) entry))) is
-    ∙ ap (λ n. text ++ denial_piece begun (is_denied r) (block_text numbers (judged (take index entries)) (n + 1) r)) count in
-    let piece = denial_piece begun (is_denied r) (block_text numbers (judged (take index entries)) (index + 1) r) in
+    ∙ ap (λ (es : List Entry). text ++ denial_piece form begun (is_denied (record_of (judged es) entry)) (block_by form numbers (judged es) (length passed + 1) (Some (record_of (judged es) entry)))) is
+    ∙ ap (λ n. text ++ denial_piece form begun (is_denied r) (block_by form numbers (judged (take index entries)) (n + 1) (Some r))) count in
+    let piece = denial_piece form begun (is_denied r) (block_by form numbers (judged (take index entries)) (index + 1) (Some r)) in
     record {
       told =
-          put' ∙ ap (λ (xs : List ℕ). xs ++ piece) before.told ∙ append_assoc front (told_upto numbers entries index) piece
-          ∙ ap (λ (xs : List ℕ). front ++ xs) (sym (told_more numbers entries index entry stands (is_denied r) refl begun before.there));
+          put' ∙ ap (λ (xs : List ℕ). xs ++ piece) before.told ∙ append_assoc front (told_upto form numbers entries index) piece
+          ∙ ap (λ (xs : List ℕ). front ++ xs) (sym (told_more form numbers entries index entry stands (is_denied r) refl begun before.there));
       there =
           said ∙ ap (λ (es : List Entry). begun || is_denied (record_of (judged es) entry)) is
-          ∙ begun_more numbers entries index entry stands (is_denied r) refl begun before.there;
+          ∙ begun_more form numbers entries index entry stands (is_denied r) refl begun before.there;
     }

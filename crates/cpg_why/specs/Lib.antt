@@ -4,3 +4,4 @@ pub mod Scripts
 pub mod Texts
 pub mod Unmet
 pub mod Without
+pub mod Forms

@@ -1,6 +1,6 @@
 -- why an entry was answered as it was, as it is printed
-use Rattle.std.specs.Prelude.{ℕ, ◌-◌, ◌&&◌, ◌==◌, Bool, not, List, [], ◌++◌, length, take, codes, decimal, slice_get, slice_index, Option, Some, None, if◌then◌else◌}
-use Rattle.std.specs.List.{enumerate_from, find, flat_map, join_by, position_or_len, range_with_len}
+use Rattle.std.specs.Prelude.{ℕ, ◌-◌, ◌&&◌, ◌==◌, Bool, not, List, [], ◌++◌, length, take, codes, decimal, slice_get, Option, Some, None, if◌then◌else◌}
+use Rattle.std.specs.List.{enumerate_from, find, flat_map, position_or_len}
 use Rattle.cpg_cred.specs.declared.bases.By.TheVariants as by
 use Rattle.cpg_rules.specs.declared.rules.Asker.{Asker}
 use Rattle.cpg_rules.specs.declared.rules.Right.{Right}
@@ -24,7 +24,7 @@ use Rattle.cpg_record.specs.declared.verdicts.Verdict.TheVariants.{Allowed, Deni
 use Rattle.cpg_record.specs.Connections.{conn_in, conn_of, is_conn}
 use Rattle.cpg_record.specs.Events.{events}
 use Rattle.cpg_record.specs.Membership.{is_allowed}
-use Rattle.cpg_record.specs.Places.{places_of, record_at, records_before}
+use Rattle.cpg_record.specs.Places.{record_at}
 use Rattle.cpg_record.specs.RuleTables.{rules_of}
 use Rattle.cpg_print.specs.Entries.{conn_text, entry_text}
 use Rattle.cpg_print.specs.Events.{event_line}
@@ -37,13 +37,18 @@ use Rattle.cpg_why.specs.Without.{verdict_without}
 
 -- ---- entries and their lines
 
--- the number of the line of the entry at a place, of the numbers of the entries' lines
-abbrev pub line_at : List ℕ → ℕ → ℕ
-line_at numbers place = slice_index numbers (place - 1)
+-- the number of the line of the entry at a place, of the numbers of the entries' lines; entries that stand in no script have no lines
+abbrev pub line_at : List ℕ → ℕ → Option ℕ
+line_at numbers place = slice_get numbers (place - 1)
 
--- `entry PLACE line LINE: ENTRY`
+-- ` line LINE`, where there is a line
+abbrev pub line_text : Option ℕ → List ℕ
+line_text None = []
+line_text (Some number) = codes " line " ++ decimal number
+
+-- `entry PLACE line LINE: ENTRY`, or `entry PLACE: ENTRY` where it has no line
 unfoldable pub entry_cited : List ℕ → ℕ → Entry → List ℕ
-entry_cited numbers place entry = codes "entry " ++ decimal place ++ codes " line " ++ decimal (line_at numbers place) ++ codes ": " ++ entry_text entry
+entry_cited numbers place entry = codes "entry " ++ decimal place ++ line_text (line_at numbers place) ++ codes ": " ++ entry_text entry
 
 -- the same as a line
 abbrev pub cited : List ℕ → ℕ → Entry → List ℕ
@@ -230,26 +235,9 @@ abbrev pub block_text : List ℕ → List Record → ℕ → Record → List ℕ
 block_text numbers before place r =
     cited numbers place r.entry ++ verdict_line r.verdict ++ reason_lines numbers before r (last_move before (subject r r.verdict)) r.verdict
 
--- the same of a record that is there
-abbrev pub block_by : List ℕ → List Record → ℕ → Option Record → List ℕ
-block_by numbers before place None = []
-block_by numbers before place (Some r) = block_text numbers before place r
-
--- why the entry of a place was answered as it was
-abbrev pub why_text : List ℕ → List Record → ℕ → List ℕ
-why_text numbers records place = block_by numbers (records_before records place) place (record_at records place)
-
 -- the entry was denied
 abbrev pub is_denied : Record → Bool
 is_denied r = not (is_allowed r.verdict)
-
--- why each denied entry was answered as it was, in order, with a blank line between them
-abbrev pub denials_text : List ℕ → List Record → List ℕ
-denials_text numbers records = join_by (why_text numbers records) (codes "\n") (places_of is_denied records)
-
--- what one entry more puts, where something stands before it, or nothing: a denied one its text
-abbrev pub denial_piece : Bool → Bool → List ℕ → List ℕ
-denial_piece begun denied text = if denied then (if begun then codes "\n" else []) ++ text else []
 
 -- ---- the way of a connection
 
@@ -271,7 +259,3 @@ change_text _ = []
 -- what a place has of a connection: its own entry, and the change that it is told
 abbrev pub way_at : List ℕ → List Record → ConnId → ℕ → List ℕ
 way_at numbers records conn place = own_by numbers conn place (record_at records place) ++ flat_map change_text (events records place conn)
-
--- the way of a connection: its own entries and the changes of its group that it is told, by place
-abbrev pub way_text : List ℕ → List Record → ConnId → List ℕ
-way_text numbers records conn = flat_map (way_at numbers records conn) (range_with_len 1 (length records))

@@ -6,6 +6,8 @@
 #![tactic(auto)]
 
 mod asking;
+mod audits;
+mod forms;
 mod laws;
 mod moves;
 mod numbers;
@@ -19,9 +21,15 @@ mod way;
 mod without;
 
 pub use asking::{Asked, WhyFault};
+pub use audits::{why_of_entries, why_of_records};
 pub use cpg_script::Fault;
+pub use forms::{AsText, Tells};
 pub use laws::{
     named_decides, passed_do_not_match, removal_tells_what_decides, tells_verdicts_without,
 };
-pub use telling::why_script;
-pub use unmet::{Kind, Unmet};
+pub use numbers::{find_record, line_of};
+pub use reasons::{count_rules, find_holder, find_right};
+pub use tables::find_first;
+pub use telling::{why_in_form, why_script};
+pub use unmet::{Kind, Unmet, find_unmet};
+pub use without::judge_without;

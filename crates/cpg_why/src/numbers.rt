@@ -4,7 +4,7 @@ ghost use Rattle.std.specs.Prelude.{◌≡◌, ◌≤◌, ◌++◌, codes, lengt
 ghost use Rattle.std.specs.Option.{option_copied};
 ghost use Rattle.cpg_record.specs.Places.{record_at};
 ghost use Rattle.cpg_why.specs.Scripts.{numbers_of};
-ghost use Rattle.cpg_why.specs.Texts.{cited, cited_at, entry_cited, line_at};
+ghost use Rattle.cpg_why.specs.Texts.{cited, cited_at, entry_cited, line_at, line_text};
 
 use cpg_cred::Refusal;
 use cpg_entry::Entry;
@@ -33,18 +33,29 @@ pub(crate) fn read_numbers(alloc: Global, script: &[u8]) -> Result<Vec<u32>, Ref
     Ok(numbers)
 }
 
-/// The number of the line of the entry at a place.
-fn line_of(numbers: &[u32], place: u32) -> u32
+/// The number of the line of the entry at a place, where it has one.
+pub fn line_of(numbers: &[u32], place: u32) -> Option<u32>
     requires { 1 ≤ place }
     ensures { result ≡ line_at numbers.now place }
 {
-    match numbers.get(place as usize - 1) {
-        None => 0,
-        Some(number) => *number,
+    numbers.get(place as usize - 1).copied()
+}
+
+/// Puts the number of an entry's line, where it has one.
+fn put_line(line: &mut Vec<u8>, number: Option<u32>) -> Result<(), Refusal>
+    ensures ok { OnOk result (line.new.items ≡ line.old.items ++ line_text number) }
+    ensures memory { IsOkUnless result Refusal.Memory }
+{
+    match number {
+        None => Ok(()),
+        Some(number) => {
+            put(line, " line ")?;
+            push_number(line, u64::from(number))
+        }
     }
 }
 
-/// Puts the entry of a place, with its line's number.
+/// Puts the entry of a place, with the number of its line where it has one.
 #[tactic(auto, unfolding(crate::specs::Texts::entry_cited))]
 pub(crate) fn put_entry_cited(
     line: &mut Vec<u8>,
@@ -58,8 +69,7 @@ pub(crate) fn put_entry_cited(
 {
     put(line, "entry ")?;
     push_number(line, u64::from(place))?;
-    put(line, " line ")?;
-    push_number(line, u64::from(line_of(numbers, place)))?;
+    put_line(line, line_of(numbers, place))?;
     put(line, ": ")?;
     put_entry(line, entry)
 }
@@ -80,7 +90,7 @@ pub(crate) fn put_cited(
 }
 
 /// The record at a place, if one stands there.
-pub(crate) fn find_record(records: &[Record], place: u32) -> Option<&Record>
+pub fn find_record(records: &[Record], place: u32) -> Option<&Record>
     ensures { option_copied result ≡ record_at records.now place }
 {
     if place == 0 {

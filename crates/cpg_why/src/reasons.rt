@@ -22,7 +22,7 @@ use cpg_script::{put, put_byte, put_bytes};
 use cpg_text::push_number;
 
 /// The right that an op needs, if it needs one.
-fn find_right(op: &Op) -> Option<Right>
+pub fn find_right(op: &Op) -> Option<Right>
     ensures { result ≡ right_needed op.now }
 {
     match op {
@@ -182,7 +182,7 @@ fn find_member(past: &Record) -> Option<Member>
 }
 
 /// The connection of the member that has the process of the record's entry, else the entry's own.
-fn find_holder(past: &Record) -> ConnId
+pub fn find_holder(past: &Record) -> ConnId
     ensures { result ≡ holder past.now }
 {
     match find_member(past) {
@@ -265,7 +265,7 @@ fn put_full(line: &mut Vec<u8>, past: &Record) -> Result<(), Refusal>
 }
 
 /// How many rules the table of the group has.
-fn count_rules(policy: &Policy, group: &[u8]) -> usize
+pub fn count_rules(policy: &Policy, group: &[u8]) -> usize
     ensures { result ≡ length (rules_of (judged policy.now) group.now) }
 {
     match policy.table(group) {

@@ -25,7 +25,7 @@ use cpg_script::{put, put_byte, put_bytes};
 use cpg_text::push_number;
 
 /// The index of the first rule that speaks of the right and the asker, and how many rules there are where none does.
-fn find_first(table: &Table, right: Right, asker: &Asker) -> usize
+pub fn find_first(table: &Table, right: Right, asker: &Asker) -> usize
     ensures first { result ≡ position_or_len (speaks right asker.now) table.now }
     ensures within { result ≤ length table.now }
 {

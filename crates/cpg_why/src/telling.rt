@@ -5,9 +5,11 @@
 ghost use Rattle.std.specs.Prelude.{◌≡◌, ◌≤◌, Ok, length, OnOk, IfOk, IfErr, IfSome};
 ghost use Rattle.cpg_record.specs.Judging.{most_places};
 ghost use Rattle.cpg_judge.specs.Scripts.{entries_of_script};
-ghost use Rattle.cpg_why.specs.Scripts.{asked_text, numbers_of, CanTell, EndsWhy, IsTold, IsWritten, Leaves, TellsNot};
+ghost use Rattle.cpg_why.specs.Forms.{as_text};
+ghost use Rattle.cpg_why.specs.Scripts.{asked_told, numbers_of, CanTell, EndsWhy, IsTold, IsWritten, Leaves, TellsNot};
 
 use crate::asking::{Asked, WhyFault};
+use crate::forms::{AsText, Tells};
 use crate::numbers::read_numbers;
 use crate::scripts::read_entries;
 use crate::walk::{put_denials, put_why_of};
@@ -18,7 +20,7 @@ use cpg_text::{MOST_BYTES, read_whole, write_whole};
 use std::alloc::Global;
 use std::io::{Read, Write};
 
-/// Judges the entries of a script, and writes what is asked of them, as lines.
+/// Judges the entries of a script, and writes what is asked of them, as lines of text.
 ///
 /// The faults come in this order: `Read`, then `BadCommand` with the first bad line, then that no entry stands at the
 /// place that is asked of, with how many there are; `Memory` may come at any time; all with nothing written. Last is
@@ -30,57 +32,73 @@ pub fn why_script<R: Read, W: Write>(
     asked: Asked,
 ) -> Result<(), WhyFault>
     ensures ok { OnOk result (IfSome (R.remaining reader.old) (λ script.
-        (length script ≤ MOST_BYTES) × IsWritten (entries_of_script script) (numbers_of script) asked (W.contents writer.old) (W.contents writer.new))) }
+        (length script ≤ MOST_BYTES) × IsWritten as_text (entries_of_script script) (numbers_of script) asked (W.contents writer.old) (W.contents writer.new))) }
     ensures err { IfErr result (λ fault. IfSome (R.remaining reader.old) (λ script.
-        Leaves (entries_of_script script) (numbers_of script) asked fault (W.contents writer.old) (W.contents writer.new))) }
+        Leaves as_text (entries_of_script script) (numbers_of script) asked fault (W.contents writer.old) (W.contents writer.new))) }
 
     // Nothing is written before the text is whole, even where the reader tells no bytes.
     ensures ends { IfErr result (λ fault. EndsWhy asked fault (W.contents writer.old) (W.contents writer.new)) }
 {
+    why_in_form::<AsText, R, W>(alloc, reader, writer, asked)
+}
+
+/// The same in a form.
+pub fn why_in_form<F: Tells, R: Read, W: Write>(
+    alloc: Global,
+    reader: &mut R,
+    writer: &mut W,
+    asked: Asked,
+) -> Result<(), WhyFault>
+    ensures ok { OnOk result (IfSome (R.remaining reader.old) (λ script.
+        (length script ≤ MOST_BYTES) × IsWritten F.form (entries_of_script script) (numbers_of script) asked (W.contents writer.old) (W.contents writer.new))) }
+    ensures err { IfErr result (λ fault. IfSome (R.remaining reader.old) (λ script.
+        Leaves F.form (entries_of_script script) (numbers_of script) asked fault (W.contents writer.old) (W.contents writer.new))) }
+    ensures ends { IfErr result (λ fault. EndsWhy asked fault (W.contents writer.old) (W.contents writer.new)) }
+{
     let script = read_whole(alloc, reader)?;
-    let text = tell(alloc, script.as_slice(), asked)?;
+    let text = tell::<F>(alloc, script.as_slice(), asked)?;
     write_whole(writer, text.as_slice())?;
     Ok(())
 }
 
 /// What is told of a script.
-fn tell(alloc: Global, script: &[u8], asked: Asked) -> Result<Vec<u8>, WhyFault>
+fn tell<F: Tells>(alloc: Global, script: &[u8], asked: Asked) -> Result<Vec<u8>, WhyFault>
     requires { length script.now ≤ MOST_BYTES }
-    ensures ok { IfOk result (λ text. IsTold (entries_of_script script.now) (numbers_of script.now) asked text.items) }
+    ensures ok { IfOk result (λ text. IsTold F.form (entries_of_script script.now) (numbers_of script.now) asked text.items) }
     ensures err { IfErr result (TellsNot (entries_of_script script.now) asked) }
 {
     let entries = read_entries(alloc, script)?;
     let numbers = read_numbers(alloc, script)?;
-    tell_entries(alloc, numbers.as_slice(), entries.as_slice(), asked)
+    tell_entries::<F>(alloc, numbers.as_slice(), entries.as_slice(), asked)
 }
 
 /// What is told of entries whose lines have those numbers.
-fn tell_entries(
+pub(crate) fn tell_entries<F: Tells>(
     alloc: Global,
     numbers: &[u32],
     entries: &[Entry],
     asked: Asked,
 ) -> Result<Vec<u8>, WhyFault>
     requires { length entries.now ≤ most_places }
-    ensures ok { IfOk result (λ text. CanTell asked (length entries.now) × (text.items ≡ asked_text numbers.now entries.now asked)) }
+    ensures ok { IfOk result (λ text. CanTell asked (length entries.now) × (text.items ≡ asked_told F.form numbers.now entries.now asked)) }
     ensures err { IfErr result (TellsNot (Ok entries.now) asked) }
 {
     match asked {
-        Asked::Place(place) => tell_place(alloc, numbers, entries, place),
-        Asked::Denials => tell_denials(alloc, numbers, entries),
-        Asked::Connection(conn) => tell_way(alloc, numbers, entries, &conn),
+        Asked::Place(place) => tell_place::<F>(alloc, numbers, entries, place),
+        Asked::Denials => tell_denials::<F>(alloc, numbers, entries),
+        Asked::Connection(conn) => tell_way::<F>(alloc, numbers, entries, &conn),
     }
 }
 
 /// Why the entry of a place was answered as it was.
-fn tell_place(
+fn tell_place<F: Tells>(
     alloc: Global,
     numbers: &[u32],
     entries: &[Entry],
     place: u32,
 ) -> Result<Vec<u8>, WhyFault>
     requires { length entries.now ≤ most_places }
-    ensures ok { IfOk result (λ text. CanTell (Asked.Place place) (length entries.now) × (text.items ≡ asked_text numbers.now entries.now (Asked.Place place))) }
+    ensures ok { IfOk result (λ text. CanTell (Asked.Place place) (length entries.now) × (text.items ≡ asked_told F.form numbers.now entries.now (Asked.Place place))) }
     ensures err { IfErr result (TellsNot (Ok entries.now) (Asked.Place place)) }
 {
     let count = entries.len() as u32;
@@ -91,38 +109,42 @@ fn tell_place(
         });
     }
     let mut text = Vec::new(alloc);
-    match put_why_of(&mut text, numbers, entries, place as usize - 1) {
+    match put_why_of::<F>(&mut text, numbers, entries, place as usize - 1) {
         Ok(()) => Ok(text),
         Err(refusal) => Err(WhyFault::from(refusal)),
     }
 }
 
 /// Why each denied entry was answered as it was.
-fn tell_denials(alloc: Global, numbers: &[u32], entries: &[Entry]) -> Result<Vec<u8>, WhyFault>
+fn tell_denials<F: Tells>(
+    alloc: Global,
+    numbers: &[u32],
+    entries: &[Entry],
+) -> Result<Vec<u8>, WhyFault>
     requires { length entries.now ≤ most_places }
-    ensures ok { IfOk result (λ text. text.items ≡ asked_text numbers.now entries.now Asked.Denials) }
+    ensures ok { IfOk result (λ text. text.items ≡ asked_told F.form numbers.now entries.now Asked.Denials) }
     ensures err { IfErr result (TellsNot (Ok entries.now) Asked.Denials) }
 {
     let mut text = Vec::new(alloc);
-    match put_denials(&mut text, numbers, entries) {
+    match put_denials::<F>(&mut text, numbers, entries) {
         Ok(()) => Ok(text),
         Err(refusal) => Err(WhyFault::from(refusal)),
     }
 }
 
 /// The way of a connection.
-fn tell_way(
+fn tell_way<F: Tells>(
     alloc: Global,
     numbers: &[u32],
     entries: &[Entry],
     conn: &ConnId,
 ) -> Result<Vec<u8>, WhyFault>
     requires { length entries.now ≤ most_places }
-    ensures ok { IfOk result (λ text. text.items ≡ asked_text numbers.now entries.now (Asked.Connection conn.now)) }
+    ensures ok { IfOk result (λ text. text.items ≡ asked_told F.form numbers.now entries.now (Asked.Connection conn.now)) }
     ensures err { IfErr result (TellsNot (Ok entries.now) (Asked.Connection conn.now)) }
 {
     let mut text = Vec::new(alloc);
-    match put_way_of(&mut text, numbers, entries, conn) {
+    match put_way_of::<F>(&mut text, numbers, entries, conn) {
         Ok(()) => Ok(text),
         Err(refusal) => Err(WhyFault::from(refusal)),
     }

@@ -49,7 +49,7 @@ fn find_lacking(kind: Kind, has: u32, condition: Option<u32>) -> Option<Unmet>
 
 /// The first condition, in the order uid, gid, node, that the asker does not meet.
 #[tactic(auto, unfolding(crate::specs::Unmet::unmet))]
-fn find_unmet(who: &Who, asker: &Asker) -> Option<Unmet>
+pub fn find_unmet(who: &Who, asker: &Asker) -> Option<Unmet>
     ensures { result ≡ unmet who.now asker.now }
 {
     match find_lacking(Kind::Uid, asker.cred.uid, who.uid) {

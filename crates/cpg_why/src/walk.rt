@@ -1,17 +1,18 @@
 //! The entries of a script are judged one after the other, and explained on the way.
 
-ghost use Rattle.std.specs.Prelude.{◌≡◌, ◌<◌, ◌≤◌, ◌+◌, ◌++◌, ◌∷◌, [], length, take, ◌||◌, OnOk, IfOk, IsOkUnless};
+ghost use Rattle.std.specs.Prelude.{◌≡◌, ◌<◌, ◌≤◌, ◌+◌, ◌++◌, ◌∷◌, [], Some, length, take, ◌||◌, OnOk, IfOk, IsOkUnless};
 ghost use Rattle.cpg_record.specs.Judging.{judged, most_places, record_of};
 ghost use Rattle.cpg_why.specs.Moves.{AreMoves};
-ghost use Rattle.cpg_why.specs.Texts.{block_text, denial_piece, denials_text, is_denied, why_text};
+ghost use Rattle.cpg_why.specs.Forms.{block_by, denial_piece, denials_told, why_told};
+ghost use Rattle.cpg_why.specs.Texts.{is_denied};
 
+use crate::forms::Tells;
 use crate::moves::Moves;
-use crate::reasons::{find_subject, put_block};
+use crate::reasons::find_subject;
 use cpg_cred::Refusal;
 use cpg_entry::Entry;
 use cpg_group::Policy;
 use cpg_record::Record;
-use cpg_script::put_byte;
 use std::alloc::Global;
 
 /// The entries judged so far, and at which place each connection last moved.
@@ -64,27 +65,37 @@ fn pass(walk: &mut Walk, entry: &Entry) -> Result<(), Refusal>
 }
 
 /// Puts why the entry of a record, which is the next one, is answered as it is.
-fn put_next(line: &mut Vec<u8>, numbers: &[u32], walk: &Walk, next: &Record) -> Result<(), Refusal>
+fn put_next<F: Tells>(
+    line: &mut Vec<u8>,
+    numbers: &[u32],
+    walk: &Walk,
+    next: &Record,
+) -> Result<(), Refusal>
     requires room { length walk.now.policy < most_places }
     requires judged { next.now ≡ record_of (judged walk.now.policy) next.now.entry }
     requires moves { AreMoves walk.now.moves.kept.entries (judged walk.now.policy) }
-    ensures ok { OnOk result (line.new.items ≡ line.old.items ++ block_text numbers.now (judged walk.now.policy) (length walk.now.policy + 1) next.now) }
+    ensures ok { OnOk result (line.new.items ≡ line.old.items ++ block_by F.form numbers.now (judged walk.now.policy) (length walk.now.policy + 1) (Some next.now)) }
     ensures memory { IsOkUnless result Refusal.Memory }
 {
     let place = walk.policy.len() as u32 + 1;
     let last = walk.moves.last(&find_subject(next));
-    put_block(line, numbers, &walk.policy, place, next, last)
+    F::put_block(line, numbers, &walk.policy, place, next, last)
 }
 
 /// Puts why the entry, which is the next one, is answered as it is.
-fn put_why(line: &mut Vec<u8>, numbers: &[u32], walk: &Walk, entry: &Entry) -> Result<(), Refusal>
+fn put_why<F: Tells>(
+    line: &mut Vec<u8>,
+    numbers: &[u32],
+    walk: &Walk,
+    entry: &Entry,
+) -> Result<(), Refusal>
     requires room { length walk.now.policy < most_places }
     requires moves { AreMoves walk.now.moves.kept.entries (judged walk.now.policy) }
-    ensures ok { OnOk result (line.new.items ≡ line.old.items ++ block_text numbers.now (judged walk.now.policy) (length walk.now.policy + 1) (record_of (judged walk.now.policy) entry.now)) }
+    ensures ok { OnOk result (line.new.items ≡ line.old.items ++ block_by F.form numbers.now (judged walk.now.policy) (length walk.now.policy + 1) (Some (record_of (judged walk.now.policy) entry.now))) }
     ensures memory { IsOkUnless result Refusal.Memory }
 {
     let next = walk.policy.judge(entry)?;
-    put_next(line, numbers, walk, &next)
+    put_next::<F>(line, numbers, walk, &next)
 }
 
 /// Judges the entries of a list.
@@ -102,7 +113,7 @@ pub(crate) fn pass_all(alloc: Global, entries: &[Entry]) -> Result<Walk, Refusal
 }
 
 /// Puts why the entry of that index, of which those before were judged, is answered as it is.
-fn put_why_at(
+fn put_why_at<F: Tells>(
     line: &mut Vec<u8>,
     numbers: &[u32],
     walk: &Walk,
@@ -113,14 +124,14 @@ fn put_why_at(
     requires within { index < length entries.now }
     requires passed { walk.now.policy ≡ take index entries.now }
     requires moves { AreMoves walk.now.moves.kept.entries (judged (take index entries.now)) }
-    ensures ok { OnOk result (line.new.items ≡ line.old.items ++ why_text numbers.now (judged entries.now) (index + 1)) }
+    ensures ok { OnOk result (line.new.items ≡ line.old.items ++ why_told F.form numbers.now (judged entries.now) (index + 1)) }
     ensures memory { IsOkUnless result Refusal.Memory }
 {
-    put_why(line, numbers, walk, &entries[index])
+    put_why::<F>(line, numbers, walk, &entries[index])
 }
 
 /// Puts why the entry of that index was answered as it was.
-pub(crate) fn put_why_of(
+pub(crate) fn put_why_of<F: Tells>(
     line: &mut Vec<u8>,
     numbers: &[u32],
     entries: &[Entry],
@@ -128,16 +139,16 @@ pub(crate) fn put_why_of(
 ) -> Result<(), Refusal>
     requires few { length entries.now ≤ most_places }
     requires within { index < length entries.now }
-    ensures ok { OnOk result (line.new.items ≡ line.old.items ++ why_text numbers.now (judged entries.now) (index + 1)) }
+    ensures ok { OnOk result (line.new.items ≡ line.old.items ++ why_told F.form numbers.now (judged entries.now) (index + 1)) }
     ensures memory { IsOkUnless result Refusal.Memory }
 {
     let walk = pass_all(*line.allocator(), &entries[..index])?;
-    put_why_at(line, numbers, &walk, entries, index)
+    put_why_at::<F>(line, numbers, &walk, entries, index)
 }
 
 /// Puts why the entry of a record, which is the next one, is denied, where it is, after a blank line where something
 /// stands before it. Says whether something stands there now.
-fn put_denied(
+fn put_denied<F: Tells>(
     line: &mut Vec<u8>,
     begun: bool,
     numbers: &[u32],
@@ -147,7 +158,7 @@ fn put_denied(
     requires room { length walk.now.policy < most_places }
     requires judged { next.now ≡ record_of (judged walk.now.policy) next.now.entry }
     requires moves { AreMoves walk.now.moves.kept.entries (judged walk.now.policy) }
-    ensures ok { OnOk result (line.new.items ≡ line.old.items ++ denial_piece begun (is_denied next.now) (block_text numbers.now (judged walk.now.policy) (length walk.now.policy + 1) next.now)) }
+    ensures ok { OnOk result (line.new.items ≡ line.old.items ++ denial_piece F.form begun (is_denied next.now) (block_by F.form numbers.now (judged walk.now.policy) (length walk.now.policy + 1) (Some next.now))) }
     ensures begun { IfOk result (λ now. now ≡ (begun || is_denied next.now)) }
     ensures memory { IsOkUnless result Refusal.Memory }
 {
@@ -155,14 +166,14 @@ fn put_denied(
         return Ok(begun);
     }
     if begun {
-        put_byte(line, b'\n')?;
+        F::put_gap(line)?;
     }
-    put_next(line, numbers, walk, next)?;
+    put_next::<F>(line, numbers, walk, next)?;
     Ok(true)
 }
 
 /// Judges one entry more, and puts why it is denied, where it is.
-fn pass_told(
+fn pass_told<F: Tells>(
     line: &mut Vec<u8>,
     begun: bool,
     numbers: &[u32],
@@ -174,18 +185,18 @@ fn pass_told(
     ensures ok { OnOk result (walk.new.policy ≡ walk.old.policy ++ entry.now ∷ []) }
     ensures moves { OnOk result (AreMoves walk.new.moves.kept.entries (judged walk.new.policy)) }
     ensures text { let next = record_of (judged walk.old.policy) entry.now in
-        OnOk result (line.new.items ≡ line.old.items ++ denial_piece begun (is_denied next) (block_text numbers.now (judged walk.old.policy) (length walk.old.policy + 1) next)) }
+        OnOk result (line.new.items ≡ line.old.items ++ denial_piece F.form begun (is_denied next) (block_by F.form numbers.now (judged walk.old.policy) (length walk.old.policy + 1) (Some next))) }
     ensures begun { IfOk result (λ now. now ≡ (begun || is_denied (record_of (judged walk.old.policy) entry.now))) }
     ensures memory { IsOkUnless result Refusal.Memory }
 {
     let next = walk.policy.judge(entry)?;
-    let now = put_denied(line, begun, numbers, walk, &next)?;
+    let now = put_denied::<F>(line, begun, numbers, walk, &next)?;
     take_in(walk, next)?;
     Ok(now)
 }
 
 /// Judges the entries, and puts why each denied one is denied.
-fn pass_denials(
+fn pass_denials<F: Tells>(
     line: &mut Vec<u8>,
     numbers: &[u32],
     walk: &mut Walk,
@@ -194,26 +205,26 @@ fn pass_denials(
     requires few { length entries.now ≤ most_places }
     requires none { walk.old.policy ≡ [] }
     requires moves { AreMoves walk.old.moves.kept.entries [] }
-    ensures ok { OnOk result (line.new.items ≡ line.old.items ++ denials_text numbers.now (judged entries.now)) }
+    ensures ok { OnOk result (line.new.items ≡ line.old.items ++ denials_told F.form numbers.now (judged entries.now)) }
     ensures memory { IsOkUnless result Refusal.Memory }
 {
     let mut begun = false;
     for entry in entries {
-        begun = pass_told(line, begun, numbers, walk, entry)?;
+        begun = pass_told::<F>(line, begun, numbers, walk, entry)?;
     }
     Ok(())
 }
 
 /// Puts why each denied entry was denied, with a blank line between them.
-pub(crate) fn put_denials(
+pub(crate) fn put_denials<F: Tells>(
     line: &mut Vec<u8>,
     numbers: &[u32],
     entries: &[Entry],
 ) -> Result<(), Refusal>
     requires { length entries.now ≤ most_places }
-    ensures ok { OnOk result (line.new.items ≡ line.old.items ++ denials_text numbers.now (judged entries.now)) }
+    ensures ok { OnOk result (line.new.items ≡ line.old.items ++ denials_told F.form numbers.now (judged entries.now)) }
     ensures memory { IsOkUnless result Refusal.Memory }
 {
     let mut walk = Walk::new(*line.allocator());
-    pass_denials(line, numbers, &mut walk, entries)
+    pass_denials::<F>(line, numbers, &mut walk, entries)
 }

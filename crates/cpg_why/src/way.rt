@@ -7,8 +7,10 @@ ghost use Rattle.std.specs.List.{flat_map};
 ghost use Rattle.cpg_record.specs.Events.{events};
 ghost use Rattle.cpg_record.specs.Judging.{judged, most_places};
 ghost use Rattle.cpg_record.specs.Places.{record_at};
-ghost use Rattle.cpg_why.specs.Texts.{change_text, own_by, own_line, way_at, way_text};
+ghost use Rattle.cpg_why.specs.Forms.{way_told};
+ghost use Rattle.cpg_why.specs.Texts.{change_text, own_by, own_line, way_at};
 
+use crate::forms::Tells;
 use crate::numbers::{find_record, put_entry_cited};
 use crate::walk::pass_all;
 use cpg_cred::Refusal;
@@ -95,7 +97,7 @@ fn put_changes_at(
 }
 
 /// Puts what a place has of the connection.
-fn put_way_at(
+pub(crate) fn put_way_at(
     line: &mut Vec<u8>,
     numbers: &[u32],
     policy: &Policy,
@@ -111,32 +113,32 @@ fn put_way_at(
 }
 
 /// Puts the way of a connection through the judged entries.
-fn put_way(
+fn put_way<F: Tells>(
     line: &mut Vec<u8>,
     numbers: &[u32],
     policy: &Policy,
     conn: &ConnId,
 ) -> Result<(), Refusal>
-    ensures ok { OnOk result (line.new.items ≡ line.old.items ++ way_text numbers.now (judged policy.now) conn.now) }
+    ensures ok { OnOk result (line.new.items ≡ line.old.items ++ way_told F.form numbers.now (judged policy.now) conn.now) }
     ensures memory { IsOkUnless result Refusal.Memory }
 {
     for index in 0..policy.len() {
-        put_way_at(line, numbers, policy, conn, index as u32 + 1)?;
+        F::put_way_at(line, numbers, policy, conn, index as u32 + 1)?;
     }
     Ok(())
 }
 
 /// Puts the way of a connection through the entries.
-pub(crate) fn put_way_of(
+pub(crate) fn put_way_of<F: Tells>(
     line: &mut Vec<u8>,
     numbers: &[u32],
     entries: &[Entry],
     conn: &ConnId,
 ) -> Result<(), Refusal>
     requires { length entries.now ≤ most_places }
-    ensures ok { OnOk result (line.new.items ≡ line.old.items ++ way_text numbers.now (judged entries.now) conn.now) }
+    ensures ok { OnOk result (line.new.items ≡ line.old.items ++ way_told F.form numbers.now (judged entries.now) conn.now) }
     ensures memory { IsOkUnless result Refusal.Memory }
 {
     let walk = pass_all(*line.allocator(), entries)?;
-    put_way(line, numbers, &walk.policy, conn)
+    put_way::<F>(line, numbers, &walk.policy, conn)
 }

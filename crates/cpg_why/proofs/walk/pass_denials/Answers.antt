@@ -6,7 +6,7 @@ use Rattle.cpg_why.proofs.Denied.{told_next}
 use Rattle.cpg_why.proofs.walk.pass_denials.Goals as goal
 
 pub loop-entry-preserved : goal.loop-entry-preserved
-loop-entry-preserved c =
+loop-entry-preserved g c =
     let entries = c.args.entries.now in
     let index = c.loop-entry.entry-index in
     let entry = c.entry-item.result in
@@ -18,6 +18,6 @@ loop-entry-preserved c =
       passed = c.in_ok-begun.ensures.ok ∙ ap (λ (es : List Entry). es ++ entry ∷ []) c.loop-entry.invariant.passed ∙ sym more;
       moves = c.in_ok-begun.ensures.moves;
       text =
-          told_next c.args.numbers.now entries c.loop-entry.walk.policy index entry c.args.line.now.items c.loop-entry.line.items c.pass_told.new.line.items
+          told_next g.F.Tells.form c.args.numbers.now entries c.loop-entry.walk.policy index entry c.args.line.now.items c.loop-entry.line.items c.pass_told.new.line.items
           c.loop-entry.begun c.in_ok-begun.begun stands c.loop-entry.invariant.passed c.loop-entry.invariant.text c.in_ok-begun.ensures.text c.in_ok-begun.ensures.begun;
     }

@@ -1,0 +1,2 @@
+pub mod Afterwards
+pub mod Seated

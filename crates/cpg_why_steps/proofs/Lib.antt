@@ -1,0 +1,3 @@
+pub mod Chosen
+pub mod Done
+pub mod Left
