@@ -1,7 +1,7 @@
 -- words that let users and groups in
-use Rattle.std.proofs.Common.{◌≡◌, ℕ, zero, suc, List, [], ◌∷◌, Bool, true, false, Option, Some, None, Bor, refl, sym, map, codes, arith}
+use Rattle.std.proofs.Common.{◌≡◌, ℕ, zero, suc, List, [], ◌∷◌, Bool, true, false, Option, Some, None, Bor, refl, sym, subst, map, codes, arith}
 use Rattle.std.proofs.lemmas.Bool.{false≢true}
-use Rattle.std.specs.Prelude.{is_some, All, IsTrue, IsSome, ◌&&◌}
+use Rattle.std.specs.Prelude.{is_some, not, All, IsTrue, IsSome, ◌&&◌, ◌↔◌}
 use Rattle.std.specs.List.{fold, list_all}
 use Rattle.cpg_cred.specs.Listed.{Listed}
 use Rattle.cpg_program.specs.Words.{nobody, with_either, with_word, and_word, is_accept_word, list_of_words, number_named}
@@ -55,3 +55,11 @@ pub each_of_all : (words : List (Bor (List ℕ))) → list_all (λ w. is_accept_
 each_of_all [] e k d h = absurd (omega (arith, h))
 each_of_all (word ∷ later) e zero d h = (true_of (is_accept_word word.now) (list_all (λ w. is_accept_word w.now) later) e).0
 each_of_all (word ∷ later) e (suc k) d h = each_of_all later (true_of (is_accept_word word.now) (list_all (λ w. is_accept_word w.now) later) e).1 k d (omega (arith, h))
+
+wrong_by : (words : List (Bor (List ℕ))) (all : Bool) → list_all (λ w. is_accept_word w.now) words ≡ all → (not all ≡ true) ↔ (list_of_words (map (λ w. w.now) words) ≡ None)
+wrong_by words true e = ((λ h. absurd (false≢true h)), (λ none. absurd (false≢true (subst IsSome none (some_where_all words (each_of_all words e))))))
+wrong_by words false e = ((λ h. none_unless_all words e), (λ none. refl))
+
+-- one of the words lets nobody in exactly where they give no list
+pub wrong_exactly : (words : List (Bor (List ℕ))) → (not (list_all (λ w. is_accept_word w.now) words) ≡ true) ↔ (list_of_words (map (λ w. w.now) words) ≡ None)
+wrong_exactly words = wrong_by words (list_all (λ w. is_accept_word w.now) words) refl

@@ -5,3 +5,5 @@ pub mod Lines
 pub mod Clustered
 pub mod Pictured
 pub mod Started
+pub mod Shelled
+pub mod Explained

@@ -1,5 +1,10 @@
+pub mod Admitting
+pub mod Hinting
 pub mod Pipes
+pub mod Progress
 pub mod Runs
+pub mod Shelling
+pub mod Speaking
 pub mod Starting
 pub mod Telling
 pub mod Words

@@ -13,6 +13,7 @@ use Rattle.cpg_world_laws.specs.Worlds.{WorldValue, new_world}
 use Rattle.cpg_accept.specs.Accepting as accept
 use Rattle.cpg_judge.specs.Judging as judge
 use Rattle.cpg_judge.specs.Scripts.{entries_of_script}
+use Rattle.cpg_filter.specs.Filtering as filtered
 use Rattle.cpg_step.specs.Running as step
 use Rattle.cpg_step.specs.Scripts.{commands_of_script}
 use Rattle.cpg_step.specs.declared.commands.Command.{Command}
@@ -22,12 +23,17 @@ use Rattle.cpg_numbers.specs.Stepping as numbers
 use Rattle.cpg_json.specs.Judging as json
 use Rattle.cpg_json.specs.Accepting as json_accept
 use Rattle.cpg_json.specs.Stepping as json_step
+use Rattle.cpg_why.specs.Forms as told
 use Rattle.cpg_why.specs.Scripts as why
+use Rattle.cpg_json_why.specs.Whys.{as_json}
+use Rattle.cpg_why_steps.specs.Explaining as told_steps
 use Rattle.cpg_why.specs.declared.asking.Asked.{Asked}
 use Rattle.cpg_why.specs.declared.asking.WhyFault as why_faults
 use Rattle.cpg_why.specs.declared.asking.WhyFault.TheVariants as why_fault
+use Rattle.cpg_cluster.specs.Lines.{Printed}
 use Rattle.cpg_cluster.specs.Running as cluster
 use Rattle.cpg_cluster.specs.Scripts as clustered
+use Rattle.cpg_program.specs.Speaking.{spoken_as}
 use Rattle.cpg_program.specs.Words.{list_of_words}
 use Rattle.cpg_program.specs.declared.failures.Failure.{Failure}
 use Rattle.cpg_program.specs.declared.failures.Failure.TheVariants.{BadWord, Fault, NoEntry}
@@ -36,7 +42,7 @@ use Rattle.cpg_program.specs.declared.runs.Form.TheVariants.{Text, Json}
 use Rattle.cpg_program.specs.declared.runs.Picture.{Picture}
 use Rattle.cpg_program.specs.declared.runs.Picture.TheVariants as picture
 use Rattle.cpg_program.specs.declared.runs.Run.{Run}
-use Rattle.cpg_program.specs.declared.runs.Run.TheVariants.{Judge, Why, Accept, Step, Draw, Number, Cluster}
+use Rattle.cpg_program.specs.declared.runs.Run.TheVariants.{Judge, JudgeOnly, Why, Accept, Step, StepWhy, Draw, Number, Cluster}
 
 -- the exit status: 0, after a fault 1, after a fault of the command line 2: a wrong word, or a place that has no entry
 abbrev pub status_after : Option Failure → ℕ
@@ -44,6 +50,11 @@ status_after None = 0
 status_after (Some (Fault fault)) = 1
 status_after (Some BadWord) = 2
 status_after (Some (NoEntry place entries)) = 2
+
+-- how `why` tells what it tells
+abbrev pub why_as : Form → told.Form
+why_as Text = told.as_text
+why_as Json = as_json
 
 -- a script was run over a world, and all its lines are written
 abbrev pub IsRun : Form → Result (List Command) ℕ → WorldValue → Option (List ℕ) → Option (List ℕ) → WorldValue → Type 0
@@ -70,6 +81,22 @@ Steps form s None script failure old new = (failure ≡ Some BadWord) × Keeps o
 Steps form s (Some list) script None old new = StepsAll form s list script old new
 Steps form s (Some list) script (Some (Fault fault)) old new = (fault.part ≡ None) × StepsUpTo form s list script fault.refusal old new
 Steps form s (Some list) script _ old new = ⊥
+
+-- what a refusal leaves of what is told of what a world delivered; Range tells that there is no world of those settings
+abbrev pub ToldUpTo : Form → Asked → Settings → Listed → List ℕ → Refusal → Option (List ℕ) → Option (List ℕ) → Type 0
+ToldUpTo form asked s list script Range old new = (¬ IsSettings s) × Keeps old new
+ToldUpTo form asked s list script refused old new =
+    (world : WorldValue) × told_steps.LeavesBy (why_as form) (commands_of_script s.nodes script) asked refused (new_world s list) old new world
+
+-- what `step --why` writes of a script, by the list that its words give: what is told of what a new world delivered by its commands
+abbrev pub TellsSteps : Form → Asked → Settings → Option Listed → List ℕ → Option Failure → Option (List ℕ) → Option (List ℕ) → Type 0
+TellsSteps form asked s None script failure old new = (failure ≡ Some BadWord) × Keeps old new
+TellsSteps form asked s (Some list) script None old new =
+    (length script ≤ MOST_BYTES) × ((world : WorldValue) × told_steps.IsExplained (why_as form) (commands_of_script s.nodes script) asked (new_world s list) old new world)
+TellsSteps form asked s (Some list) script (Some (Fault fault)) old new = (fault.part ≡ None) × ToldUpTo form asked s list script fault.refusal old new
+TellsSteps form asked s (Some list) script (Some (NoEntry place entries)) old new =
+    (world : WorldValue) × told_steps.Leaves (why_as form) (commands_of_script s.nodes script) asked (why_fault.NoEntry place entries) (new_world s list) old new world
+TellsSteps form asked s (Some list) script (Some BadWord) old new = ⊥
 
 -- the picture of a script's run, as one SVG or as lines for a terminal, is written, or its lines with the numbers of frames
 abbrev pub IsDrawn : Picture → Result (List Command) ℕ → WorldValue → Option (List ℕ) → Option (List ℕ) → Type 0
@@ -121,49 +148,54 @@ failure_of_why (why_fault.Script fault) = Fault fault
 failure_of_why (why_fault.NoEntry place entries) = NoEntry place entries
 
 -- what `why` writes of a script: what it tells of what is asked, or after a fault what that fault leaves
-abbrev pub Explains : Asked → List ℕ → Option Failure → Option (List ℕ) → Option (List ℕ) → Type 0
-Explains asked script None old new = (length script ≤ MOST_BYTES) × why.IsWritten (entries_of_script script) (why.numbers_of script) asked old new
-Explains asked script (Some (Fault fault)) old new = why.Leaves (entries_of_script script) (why.numbers_of script) asked (why_fault.Script fault) old new
-Explains asked script (Some (NoEntry place entries)) old new = why.Leaves (entries_of_script script) (why.numbers_of script) asked (why_fault.NoEntry place entries) old new
-Explains asked script (Some BadWord) old new = ⊥
+abbrev pub Explains : Form → Asked → List ℕ → Option Failure → Option (List ℕ) → Option (List ℕ) → Type 0
+Explains form asked script None old new = (length script ≤ MOST_BYTES) × why.IsWritten (why_as form) (entries_of_script script) (why.numbers_of script) asked old new
+Explains form asked script (Some (Fault fault)) old new = why.Leaves (why_as form) (entries_of_script script) (why.numbers_of script) asked (why_fault.Script fault) old new
+Explains form asked script (Some (NoEntry place entries)) old new = why.Leaves (why_as form) (entries_of_script script) (why.numbers_of script) asked (why_fault.NoEntry place entries) old new
+Explains form asked script (Some BadWord) old new = ⊥
 
 -- The script was run over a cluster of so many nodes that accept by that list, and all its text is written.
-abbrev pub ClustersAll : ℕ → Listed → List ℕ → Option (List ℕ) → Option (List ℕ) → Type 0
-ClustersAll nodes list script old new = (length script ≤ MOST_BYTES) × cluster.IsRun list (clustered.commands_of_script nodes script) old new
+abbrev pub ClustersAll : Printed → ℕ → Listed → List ℕ → Option (List ℕ) → Option (List ℕ) → Type 0
+ClustersAll printed nodes list script old new = (length script ≤ MOST_BYTES) × cluster.IsRun printed list (clustered.commands_of_script nodes script) old new
 
 -- What a refusal leaves written of it; Range tells that there is no cluster of those settings.
-abbrev pub ClustersUpTo : Settings → Listed → List ℕ → Refusal → Option (List ℕ) → Option (List ℕ) → Type 0
-ClustersUpTo s list script Range old new = (¬ IsSettings s) × Keeps old new
-ClustersUpTo s list script refused old new = cluster.Leaves list (clustered.commands_of_script s.nodes script) refused old new
+abbrev pub ClustersUpTo : Printed → Settings → Listed → List ℕ → Refusal → Option (List ℕ) → Option (List ℕ) → Type 0
+ClustersUpTo printed s list script Range old new = (¬ IsSettings s) × Keeps old new
+ClustersUpTo printed s list script refused old new = cluster.Leaves printed list (clustered.commands_of_script s.nodes script) refused old new
 
--- what `run` writes of a script, by the list that its words give
-abbrev pub Clusters : Settings → Option Listed → List ℕ → Option Failure → Option (List ℕ) → Option (List ℕ) → Type 0
-Clusters s None script failure old new = (failure ≡ Some BadWord) × Keeps old new
-Clusters s (Some list) script None old new = ClustersAll s.nodes list script old new
-Clusters s (Some list) script (Some (Fault fault)) old new = (fault.part ≡ None) × ClustersUpTo s list script fault.refusal old new
-Clusters s (Some list) script _ old new = ⊥
+-- what `run` writes of a script in that form, by the list that its words give
+abbrev pub Clusters : Printed → Settings → Option Listed → List ℕ → Option Failure → Option (List ℕ) → Option (List ℕ) → Type 0
+Clusters printed s None script failure old new = (failure ≡ Some BadWord) × Keeps old new
+Clusters printed s (Some list) script None old new = ClustersAll printed s.nodes list script old new
+Clusters printed s (Some list) script (Some (Fault fault)) old new = (fault.part ≡ None) × ClustersUpTo printed s list script fault.refusal old new
+Clusters printed s (Some list) script _ old new = ⊥
 
 -- a word of the run's command line lets nobody in
 abbrev pub HasWrongWord : Run → Type 0
 HasWrongWord (Judge form) = ⊥
-HasWrongWord (Why asked) = ⊥
+HasWrongWord (JudgeOnly filter) = ⊥
+HasWrongWord (Why form asked) = ⊥
 HasWrongWord (Accept form) = ⊥
 HasWrongWord (Step form settings words) = list_of_words (map (λ word. word.now) words.now) ≡ None
+HasWrongWord (StepWhy form asked settings words) = list_of_words (map (λ word. word.now) words.now) ≡ None
 HasWrongWord (Draw picture settings words) = list_of_words (map (λ word. word.now) words.now) ≡ None
 HasWrongWord (Number settings words) = list_of_words (map (λ word. word.now) words.now) ≡ None
-HasWrongWord (Cluster settings words) = list_of_words (map (λ word. word.now) words.now) ≡ None
+HasWrongWord (Cluster manner settings words) = list_of_words (map (λ word. word.now) words.now) ≡ None
 
 -- what a run writes of a script to standard output: all of its text, or after a fault what that fault leaves
 abbrev pub Prints : Run → List ℕ → Option Failure → Option (List ℕ) → Option (List ℕ) → Type 0
 Prints (Judge form) script None old new = (length script ≤ MOST_BYTES) × IsJudged form script old new
 Prints (Judge form) script (Some (Fault fault)) old new = (fault.part ≡ None) × LeavesJudged form script fault.refusal old new
-Prints (Why asked) script failure old new = Explains asked script failure old new
+Prints (JudgeOnly filter) script None old new = (length script ≤ MOST_BYTES) × filtered.IsWritten filter (entries_of_script script) old new
+Prints (JudgeOnly filter) script (Some (Fault fault)) old new = (fault.part ≡ None) × filtered.Leaves filter (entries_of_script script) fault.refusal old new
+Prints (Why form asked) script failure old new = Explains form asked script failure old new
 Prints (Accept form) script None old new = (length script ≤ MOST_BYTES) × AreAnswered form script old new
 Prints (Accept form) script (Some (Fault fault)) old new = LeavesAnswered form script fault old new
 Prints (Step form settings words) script failure old new = Steps form settings (list_of_words (map (λ word. word.now) words.now)) script failure old new
+Prints (StepWhy form asked settings words) script failure old new = TellsSteps form asked settings (list_of_words (map (λ word. word.now) words.now)) script failure old new
 Prints (Draw kind settings words) script failure old new = Draws kind settings (list_of_words (map (λ word. word.now) words.now)) script failure old new
 Prints (Number settings words) script failure old new = Draws picture.Numbered settings (list_of_words (map (λ word. word.now) words.now)) script failure old new
-Prints (Cluster settings words) script failure old new = Clusters settings (list_of_words (map (λ word. word.now) words.now)) script failure old new
+Prints (Cluster manner settings words) script failure old new = Clusters (spoken_as manner.form) settings (list_of_words (map (λ word. word.now) words.now)) script failure old new
 Prints _ script _ old new = ⊥
 
 -- nothing is written before the words were found right, and the script read and checked

@@ -6,6 +6,7 @@ use Rattle.cpg_ring.specs.States.{IsSettings}
 use Rattle.cpg_ring.specs.declared.settings.Settings.{Settings}
 use Rattle.cpg_world_laws.specs.Worlds.{WorldValue, new_world}
 use Rattle.cpg_accept.specs.Accepting.{whole_fault}
+use Rattle.cpg_cluster.specs.Lines.{Printed}
 use Rattle.cpg_cluster.specs.Running as cluster
 use Rattle.cpg_cluster.specs.Scripts.{commands_of_script}
 use Rattle.cpg_program.specs.declared.failures.Failure.{Failure}
@@ -22,6 +23,6 @@ IsNotStarted s None failure = failure ≡ BadWord
 IsNotStarted s (Some list) failure = (failure ≡ Fault (whole_fault Memory)) ⊎ ((failure ≡ Fault (whole_fault Range)) × (¬ IsSettings s))
 
 -- what a failure leaves of a script over a cluster of so many nodes that accept by that list
-abbrev pub ClusterLeaves : ℕ → Listed → List ℕ → Failure → Option (List ℕ) → Option (List ℕ) → Type 0
-ClusterLeaves nodes list script (Fault fault) old new = (fault.part ≡ None) × cluster.Leaves list (commands_of_script nodes script) fault.refusal old new
-ClusterLeaves nodes list script _ old new = ⊥
+abbrev pub ClusterLeaves : Printed → ℕ → Listed → List ℕ → Failure → Option (List ℕ) → Option (List ℕ) → Type 0
+ClusterLeaves printed nodes list script (Fault fault) old new = (fault.part ≡ None) × cluster.Leaves printed list (commands_of_script nodes script) fault.refusal old new
+ClusterLeaves printed nodes list script _ old new = ⊥

@@ -4,12 +4,15 @@
 
 ghost use Rattle.std.specs.Prelude.{◌≡◌, ◌≢◌, ◌↔◌, Err, Some, None, map, OnOk, IfErr, IfSome};
 ghost use Rattle.cpg_program.specs.Runs.{Clusters, ClustersAll, FailsLate};
+ghost use Rattle.cpg_program.specs.Speaking.{spoken_as};
 ghost use Rattle.cpg_program.specs.Starting.{ClusterLeaves};
 ghost use Rattle.cpg_program.specs.Words.{list_of_words};
 
 use crate::failures::Failure;
+use crate::speaking::Spoken;
 use crate::words::read_list;
 use cpg_board::Board;
+use cpg_cluster::Manner;
 use cpg_console::cluster_script;
 use cpg_cred::{AcceptList, Refusal};
 use cpg_daemon::{BoardName, Cluster, PassAll};
@@ -29,6 +32,7 @@ use std::time::Clock;
 pub fn run_cluster<H, R, W>(
     rt: H,
     alloc: Global,
+    manner: &Manner<Spoken>,
     settings: Settings,
     words: &[&str],
     reader: &mut R,
@@ -39,16 +43,16 @@ where
     R: Read,
     W: Write,
     ensures ok { OnOk result (IfSome (R.remaining reader.old) (λ script.
-        Clusters settings (list_of_words (map (λ word. word.now) words.now)) script None (W.contents writer.old) (W.contents writer.new))) }
+        Clusters (spoken_as (manner.now).form) settings (list_of_words (map (λ word. word.now) words.now)) script None (W.contents writer.old) (W.contents writer.new))) }
     ensures err { IfErr result (λ failure. IfSome (R.remaining reader.old) (λ script.
-        Clusters settings (list_of_words (map (λ word. word.now) words.now)) script (Some failure) (W.contents writer.old) (W.contents writer.new))) }
+        Clusters (spoken_as (manner.now).form) settings (list_of_words (map (λ word. word.now) words.now)) script (Some failure) (W.contents writer.old) (W.contents writer.new))) }
     ensures late { IfErr result (λ failure. FailsLate failure (W.contents writer.old) (W.contents writer.new)) }
     ensures word { (result ≡ Err Failure.BadWord) ↔ (list_of_words (map (λ word. word.now) words.now) ≡ None) }
 {
     match read_list(alloc, words) {
         Err(refusal) => Err(Failure::from(refusal)),
         Ok(None) => Err(Failure::BadWord),
-        Ok(Some(list)) => run_listed(rt, alloc, settings, &list, reader, writer),
+        Ok(Some(list)) => run_listed(rt, alloc, manner, settings, &list, reader, writer),
     }
 }
 
@@ -57,6 +61,7 @@ where
 fn run_listed<H, R, W>(
     rt: H,
     alloc: Global,
+    manner: &Manner<Spoken>,
     settings: Settings,
     list: &AcceptList,
     reader: &mut R,
@@ -67,9 +72,9 @@ where
     R: Read,
     W: Write,
     ensures ok { OnOk result (IfSome (R.remaining reader.old) (λ script.
-        Clusters settings (Some list.now) script None (W.contents writer.old) (W.contents writer.new))) }
+        Clusters (spoken_as (manner.now).form) settings (Some list.now) script None (W.contents writer.old) (W.contents writer.new))) }
     ensures err { IfErr result (λ failure. IfSome (R.remaining reader.old) (λ script.
-        Clusters settings (Some list.now) script (Some failure) (W.contents writer.old) (W.contents writer.new))) }
+        Clusters (spoken_as (manner.now).form) settings (Some list.now) script (Some failure) (W.contents writer.old) (W.contents writer.new))) }
     ensures late { IfErr result (λ failure. FailsLate failure (W.contents writer.old) (W.contents writer.new)) }
     ensures word { result ≢ Err Failure.BadWord }
 {
@@ -78,7 +83,9 @@ where
     }
     match Board::new(alloc, settings.places) {
         Err(_) => Err(Failure::from(Refusal::Memory)),
-        Ok(board) => run_on::<Brand, H, R, W>(rt, alloc, settings, board, list, reader, writer),
+        Ok(board) => run_on::<Brand, H, R, W>(
+            rt, alloc, manner, settings, board, list, reader, writer,
+        ),
     }
 }
 
@@ -87,6 +94,7 @@ where
 fn run_on<B, H, R, W>(
     rt: H,
     alloc: Global,
+    manner: &Manner<Spoken>,
     settings: Settings,
     board: Board,
     list: &AcceptList,
@@ -100,15 +108,15 @@ where
     W: Write,
     requires { board ≡ B.cells }
     ensures ok { OnOk result (IfSome (R.remaining reader.old) (λ script.
-        Clusters settings (Some list.now) script None (W.contents writer.old) (W.contents writer.new))) }
+        Clusters (spoken_as (manner.now).form) settings (Some list.now) script None (W.contents writer.old) (W.contents writer.new))) }
     ensures err { IfErr result (λ failure. IfSome (R.remaining reader.old) (λ script.
-        Clusters settings (Some list.now) script (Some failure) (W.contents writer.old) (W.contents writer.new))) }
+        Clusters (spoken_as (manner.now).form) settings (Some list.now) script (Some failure) (W.contents writer.old) (W.contents writer.new))) }
     ensures late { IfErr result (λ failure. FailsLate failure (W.contents writer.old) (W.contents writer.new)) }
     ensures word { result ≢ Err Failure.BadWord }
 {
     match Cluster::<B, PassAll>::start(rt, alloc, settings, board, list, PassAll) {
         Err(_) => Err(Failure::from(Refusal::Memory)),
-        Ok(cluster) => run_over(rt, alloc, cluster, reader, writer),
+        Ok(cluster) => run_over(rt, alloc, manner, cluster, reader, writer),
     }
 }
 
@@ -117,6 +125,7 @@ where
 fn run_over<B, H, R, W>(
     rt: H,
     alloc: Global,
+    manner: &Manner<Spoken>,
     cluster: Cluster<B, PassAll>,
     reader: &mut R,
     writer: &mut W,
@@ -127,13 +136,13 @@ where
     R: Read,
     W: Write,
     ensures ok { OnOk result (IfSome (R.remaining reader.old) (λ script.
-        ClustersAll cluster.nodes cluster.list script (W.contents writer.old) (W.contents writer.new))) }
+        ClustersAll (spoken_as (manner.now).form) cluster.nodes cluster.list script (W.contents writer.old) (W.contents writer.new))) }
     ensures err { IfErr result (λ failure. IfSome (R.remaining reader.old) (λ script.
-        ClusterLeaves cluster.nodes cluster.list script failure (W.contents writer.old) (W.contents writer.new))) }
+        ClusterLeaves (spoken_as (manner.now).form) cluster.nodes cluster.list script failure (W.contents writer.old) (W.contents writer.new))) }
     ensures late { IfErr result (λ failure. FailsLate failure (W.contents writer.old) (W.contents writer.new)) }
     ensures word { result ≢ Err Failure.BadWord }
 {
-    let done = cluster_script(&rt, alloc, reader, writer, &cluster);
+    let done = cluster_script(&rt, alloc, reader, writer, &cluster, manner);
     drop(cluster.stop(&rt));
     match done {
         Ok(()) => Ok(()),

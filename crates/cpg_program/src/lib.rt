@@ -4,19 +4,31 @@
 //! output and to standard error, and the status (`specs/Runs.antt`).
 #![tactic(auto)]
 
+mod admitting;
 mod clustering;
 mod drawing;
 mod failures;
+mod hinting;
 mod judging;
 mod pipes;
+mod progress;
 mod runs;
+mod shelling;
+mod speaking;
 mod stepping;
 mod telling;
 mod words;
 
+pub use admitting::{Admission, NamedText, perform_admit, write_text};
+pub use cpg_cluster::{Manner, Patience, Shown};
+pub use cpg_filter::{Filter, Only};
 pub use cpg_why::Asked;
 pub use failures::Failure;
+pub use hinting::perform_with_hint;
 pub use pipes::Piped;
+pub use progress::Counted;
 pub use runs::{Ended, Form, Picture, Run, perform};
+pub use shelling::perform_shell;
+pub use speaking::Spoken;
 pub use telling::{tell_failure, tell_fault};
 pub use words::read_list;

@@ -15,14 +15,17 @@ ghost use Rattle.cpg_program.specs.Telling.{told_text};
 use crate::clustering::run_cluster;
 use crate::drawing::draw_over_world;
 use crate::failures::Failure;
-use crate::judging::{accept, judge};
+use crate::judging::{accept, explain, judge};
 use crate::pipes::Piped;
-use crate::stepping::step_over_world;
+use crate::speaking::Spoken;
+use crate::stepping::{explain_over_world, step_over_world};
 use crate::telling::tell_failure;
+use cpg_cluster::Manner;
 use cpg_cred::Refusal;
+use cpg_filter::{Filter, judge_filtered};
 use cpg_ring::Settings;
 use cpg_script::Fault;
-use cpg_why::{Asked, why_script};
+use cpg_why::Asked;
 use std::alloc::Global;
 use std::io::{BufWriter, Read, Write};
 use std::sync::Wait;
@@ -54,20 +57,24 @@ pub enum Picture {
 pub enum Run<'a> {
     /// `cpgring judge`: a script of agreed entries is judged.
     Judge(Form),
+    /// `cpgring judge` with a filter: the lines that it keeps are printed.
+    JudgeOnly(Filter<'a>),
     /// `cpgring why`: it is told why entries of such a script were answered as they were.
-    Why(Asked),
+    Why(Form, Asked),
     /// `cpgring accept`: the asks of a script are answered by its names and conf texts.
     Accept(Form),
     /// `cpgring step`: a script of commands is run over a new world of those settings, whose nodes let in
     /// whom the words let in.
     Step(Form, Settings, &'a [&'a str]),
+    /// `cpgring step --why`: it is told why entries that such a world delivered were answered as they were.
+    StepWhy(Form, Asked, Settings, &'a [&'a str]),
     /// `cpgring draw`: the run of such a script over a new world is drawn.
     Draw(Picture, Settings, &'a [&'a str]),
     /// `cpgring step --numbers`: the same as `Step`, with the numbers of the frames that each command sent.
     Number(Settings, &'a [&'a str]),
     /// `cpgring run`: a script of sessions is run over a new cluster of those settings, whose nodes let in
-    /// whom the words let in.
-    Cluster(Settings, &'a [&'a str]),
+    /// whom the words let in, and answers as the manner says.
+    Cluster(Manner<Spoken>, Settings, &'a [&'a str]),
 }
 
 /// How a run ended.
@@ -142,7 +149,7 @@ where
 
 /// Tells the failure, if there is one that is to be told, and says whether that was done.
 #[tactic(auto, using(crate::proofs::Fronts::none_of, crate::proofs::Fronts::all_of))]
-fn tell<E: Write>(errors: &mut E, left: bool, failure: &Option<Failure>) -> bool
+pub(crate) fn tell<E: Write>(errors: &mut E, left: bool, failure: &Option<Failure>) -> bool
     ensures told { IsTrue result → Appends (E.contents errors.old) (E.contents errors.new) (told_text left failure.now) }
     ensures untold { AppendsFront (E.contents errors.old) (E.contents errors.new) (told_text left failure.now) }
 {
@@ -153,7 +160,7 @@ fn tell<E: Write>(errors: &mut E, left: bool, failure: &Option<Failure>) -> bool
 }
 
 /// Hands on what was gathered, and says whether all of it is.
-fn hand_on<W: Write + Drop>(writer: &mut BufWriter<W>) -> bool
+pub(crate) fn hand_on<W: Write + Drop>(writer: &mut BufWriter<W>) -> bool
     ensures kept { Keeps (writer_contents W.contents writer.old) (writer_contents W.contents writer.new) }
     ensures flushed { IsTrue result → writer_buffer writer.new ≡ [] }
 {
@@ -189,7 +196,7 @@ where
 }
 
 /// The script's failure, but one of writing where the flush after it failed.
-fn failure_after(done: Result<(), Failure>, flushed: bool) -> Option<Failure>
+pub(crate) fn failure_after(done: Result<(), Failure>, flushed: bool) -> Option<Failure>
     ensures { result ≡ failure_told flushed (failure_of done) }
 {
     match done {
@@ -222,10 +229,14 @@ where
 {
     match run {
         Run::Judge(form) => judge(alloc, *form, reader, writer)?,
-        Run::Why(asked) => why_script(alloc, reader, writer, *asked)?,
+        Run::JudgeOnly(filter) => judge_filtered(alloc, filter, reader, writer)?,
+        Run::Why(form, asked) => explain(alloc, *form, *asked, reader, writer)?,
         Run::Accept(form) => accept(alloc, *form, reader, writer)?,
         Run::Step(form, settings, words) => {
             step_over_world(alloc, *form, *settings, words, reader, writer)?;
+        }
+        Run::StepWhy(form, asked, settings, words) => {
+            explain_over_world(alloc, *form, *asked, *settings, words, reader, writer)?;
         }
         Run::Draw(picture, settings, words) => {
             draw_over_world(alloc, *picture, *settings, words, reader, writer)?;
@@ -234,8 +245,8 @@ where
             let picture = Picture::Numbered;
             draw_over_world(alloc, picture, *settings, words, reader, writer)?;
         }
-        Run::Cluster(settings, words) => {
-            run_cluster(rt, alloc, *settings, words, reader, writer)?;
+        Run::Cluster(manner, settings, words) => {
+            run_cluster(rt, alloc, manner, *settings, words, reader, writer)?;
         }
     }
     Ok(())

@@ -6,7 +6,9 @@ ghost use Rattle.std.specs.Prelude.{◌≡◌, ◌≤◌, ◌↔◌, Err, Some, 
 ghost use Rattle.cpg_world_laws.specs.Worlds.{new_world};
 ghost use Rattle.cpg_step.specs.Running.{EndsRunning};
 ghost use Rattle.cpg_step.specs.Scripts.{commands_of_script};
-ghost use Rattle.cpg_program.specs.Runs.{FailsLate, IsRun, LeavesRun, Steps};
+ghost use Rattle.cpg_why.specs.Scripts.{EndsWhy};
+ghost use Rattle.cpg_why_steps.specs.Explaining.{IsExplained, Leaves};
+ghost use Rattle.cpg_program.specs.Runs.{why_as, FailsLate, IsRun, LeavesRun, Steps, TellsSteps};
 ghost use Rattle.cpg_program.specs.Starting.{IsStarted, IsNotStarted};
 ghost use Rattle.cpg_program.specs.Words.{list_of_words};
 
@@ -16,9 +18,12 @@ use crate::words::read_list;
 use cpg_console::run_script;
 use cpg_cred::AcceptList;
 use cpg_json::step_json;
+use cpg_json_why::AsJson;
 use cpg_ring::Settings;
 use cpg_script::Fault;
 use cpg_text::MOST_BYTES;
+use cpg_why::{AsText, Asked, WhyFault};
+use cpg_why_steps::why_of_steps;
 use cpg_world::World;
 use std::alloc::Global;
 use std::io::{Read, Write};
@@ -70,6 +75,57 @@ fn step<R: Read, W: Write>(
     match form {
         Form::Text => run_script(alloc, reader, writer, world),
         Form::Json => step_json(alloc, reader, writer, world),
+    }
+}
+
+/// Runs the script over a new world of those settings, whose nodes let in whom the words let in, and writes what is asked
+/// of what was delivered there in that form.
+///
+/// A wrong word comes first, then settings out of their ranges, then the faults of the script.
+#[tactic(auto, using(crate::proofs::Explained::none_told, crate::proofs::Started::none_late, crate::proofs::Explained::all_told, crate::proofs::Explained::part_told, crate::proofs::Explained::part_late))]
+pub fn explain_over_world<R: Read, W: Write>(
+    alloc: Global,
+    form: Form,
+    asked: Asked,
+    settings: Settings,
+    words: &[&str],
+    reader: &mut R,
+    writer: &mut W,
+) -> Result<(), Failure>
+    ensures ok { OnOk result (IfSome (R.remaining reader.old) (λ script.
+        TellsSteps form asked settings (list_of_words (map (λ word. word.now) words.now)) script None (W.contents writer.old) (W.contents writer.new))) }
+    ensures err { IfErr result (λ failure. IfSome (R.remaining reader.old) (λ script.
+        TellsSteps form asked settings (list_of_words (map (λ word. word.now) words.now)) script (Some failure) (W.contents writer.old) (W.contents writer.new))) }
+    ensures late { IfErr result (λ failure. FailsLate failure (W.contents writer.old) (W.contents writer.new)) }
+    ensures word { (result ≡ Err Failure.BadWord) ↔ (list_of_words (map (λ word. word.now) words.now) ≡ None) }
+{
+    match world_by(alloc, settings, words) {
+        Err(failure) => Err(failure),
+        Ok(mut world) => match explain(alloc, form, asked, reader, writer, &mut world) {
+            Err(fault) => Err(Failure::from(fault)),
+            Ok(()) => Ok(()),
+        },
+    }
+}
+
+/// Runs the script over the world, and writes what is asked of what was delivered there in that form.
+fn explain<R: Read, W: Write>(
+    alloc: Global,
+    form: Form,
+    asked: Asked,
+    reader: &mut R,
+    writer: &mut W,
+    world: &mut World,
+) -> Result<(), WhyFault>
+    ensures ok { OnOk result (IfSome (R.remaining reader.old) (λ script.
+        (length script ≤ MOST_BYTES) × IsExplained (why_as form) (commands_of_script world.old.settings.nodes script) asked world.old (W.contents writer.old) (W.contents writer.new) world.new)) }
+    ensures err { IfErr result (λ fault. IfSome (R.remaining reader.old) (λ script.
+        Leaves (why_as form) (commands_of_script world.old.settings.nodes script) asked fault world.old (W.contents writer.old) (W.contents writer.new) world.new)) }
+    ensures ends { IfErr result (λ fault. EndsWhy asked fault (W.contents writer.old) (W.contents writer.new)) }
+{
+    match form {
+        Form::Text => why_of_steps::<AsText, R, W>(alloc, reader, writer, world, asked),
+        Form::Json => why_of_steps::<AsJson, R, W>(alloc, reader, writer, world, asked),
     }
 }
 

@@ -2,11 +2,12 @@
 //!
 //! Proved: the line is written, or after a refusal a front of it is.
 
-ghost use Rattle.std.specs.Prelude.{◌≡◌, ◌⊎◌, ◌++◌, decimal, OnOk, OnErr, IfOk, IfErr};
+ghost use Rattle.std.specs.Prelude.{◌≡◌, ◌⊎◌, ◌++◌, decimal, OnOk, OnErr, IfOk, IfErr, IsTrue};
 ghost use Rattle.cpg_cred.specs.Shown.{refusal_text};
 ghost use Rattle.std.specs.Io.KnownBytes.{Appends};
 ghost use Rattle.cpg_text.specs.Streams.{AppendsFront};
 ghost use Rattle.cpg_script.specs.Faults.{part_text};
+ghost use Rattle.cpg_accept.specs.Accepting.{whole_fault};
 ghost use Rattle.cpg_program.specs.Telling.{error_line, failure_line};
 
 use crate::failures::Failure;
@@ -33,6 +34,28 @@ pub fn tell_fault<E: Write>(errors: &mut E, fault: &Fault) -> Result<(), Refusal
     match line_of(fault) {
         Ok(line) => write_whole(errors, line.as_bytes()),
         Err(_) => Err(Refusal::Memory),
+    }
+}
+
+/// Writes the text as far as the stream allows, and says whether all of it is written.
+#[tactic(auto, using(crate::proofs::Fronts::all_of))]
+pub(crate) fn write_front<E: Write>(errors: &mut E, text: &[u8]) -> bool
+    ensures told { IsTrue result → Appends (E.contents errors.old) (E.contents errors.new) text.now }
+    ensures front { AppendsFront (E.contents errors.old) (E.contents errors.new) text.now }
+{
+    match write_whole(errors, text) {
+        Ok(()) => true,
+        Err(_) => false,
+    }
+}
+
+/// Tells that memory was refused, as far as the stream allows.
+#[tactic(auto, using(crate::proofs::Fronts::all_of))]
+pub(crate) fn tell_memory<E: Write>(errors: &mut E)
+    ensures { AppendsFront (E.contents errors.old) (E.contents errors.new) (error_line (whole_fault Refusal.Memory)) }
+{
+    match tell_fault(errors, &Fault::from(Refusal::Memory)) {
+        Ok(()) | Err(_) => {}
     }
 }
 

@@ -2,7 +2,7 @@
 //!
 //! The form is this project's own. Proved: which words these are, and the list that they give.
 
-ghost use Rattle.std.specs.Prelude.{◌≡◌, false, None, Some, map, All, IsTrue, IsSome, OnOk, IfOk, IfErr, IsOkUnless};
+ghost use Rattle.std.specs.Prelude.{◌≡◌, ◌↔◌, false, true, None, Some, map, All, IsTrue, IsSome, OnOk, IfOk, IfErr, IsOkUnless};
 ghost use Rattle.std.specs.List.{fold, list_all};
 ghost use Rattle.cpg_program.specs.Words.{is_accept_word, number_named, and_word, with_word, list_of_words};
 
@@ -38,6 +38,14 @@ fn add_words(list: &mut AcceptList, words: &[&str]) -> Result<(), Refusal>
         add_word(list, word.as_bytes())?;
     }
     Ok(())
+}
+
+/// Whether one of the words lets nobody in.
+#[tactic(auto, using(crate::proofs::Accepting::wrong_exactly))]
+pub(crate) fn has_wrong(words: &[&str]) -> bool
+    ensures { (result ≡ true) ↔ (list_of_words (map (λ word. word.now) words.now) ≡ None) }
+{
+    !are_accept_words(words)
 }
 
 /// Whether each word lets a user or a group in.

@@ -1,6 +1,7 @@
 -- what the command line asks for, and what is said of one that asks for nothing that can be run
-use Rattle.std.specs.Prelude.{◌≡◌, ◌⊎◌, ℕ, Bool, true, false, List, [], ◌∷◌, codes, map, slice_get, Option, Some, None}
+use Rattle.std.specs.Prelude.{◌≡◌, ◌⊎◌, ℕ, Bool, true, false, List, [], ◌∷◌, codes, map, slice_get, if◌then◌else◌, Option, Some, None, option_map}
 use Rattle.std.specs.Io.KnownBytes.{Keeps}
+use Rattle.std.specs.Str.{bytes_eq}
 use Rattle.std.specs.Str.Parse.{digits_value, without_leading_plus}
 use Rattle.clap.specs.declared.parser.matches.Found.{Found}
 use Rattle.clap.specs.declared.parser.matches.MatchedArg.{MatchedArg}
@@ -9,13 +10,22 @@ use Rattle.clap.specs.declared.error.kind.ErrorKind.{ErrorKind}
 use Rattle.clap.specs.declared.error.kind.ErrorKind.TheVariants.{DisplayHelp, DisplayVersion, OutOfMemory}
 use Rattle.cpg_ring.specs.declared.settings.Settings.{Settings}
 use Rattle.cpg_program.specs.declared.runs.Run.{Run}
+use Rattle.cpg_cluster.specs.declared.forms.Manner.{Manner}
+use Rattle.cpg_cluster.specs.declared.forms.Patience.{Patience}
+use Rattle.cpg_cluster.specs.declared.forms.Patience.TheVariants.{Looks, Millis}
+use Rattle.cpg_cluster.specs.declared.forms.Shown.TheVariants.{Plain, Echoed}
+use Rattle.cpg_program.specs.declared.speaking.Spoken.{Spoken}
+use Rattle.cpg_program.specs.declared.speaking.Spoken.TheVariants as spoken
 use Rattle.cpgring.specs.declared.asking.Asked.{Asked}
+use Rattle.cpgring.specs.declared.asking.AskedShell.{AskedShell}
+use Rattle.cpgring.specs.Filtering.{is_filtered, IsFilterGiven}
 use Rattle.cpgring.specs.Sources.{but_input, first_file, path_of, words_after}
-use Rattle.cpg_program.specs.declared.runs.Run.TheVariants.{Judge, Accept, Why, Step, Draw, Number, Cluster}
+use Rattle.cpg_program.specs.declared.runs.Run.TheVariants.{Judge, JudgeOnly, Accept, Why, Step, StepWhy, Draw, Number, Cluster}
 use Rattle.cpg_program.specs.declared.runs.Form.{Form}
 use Rattle.cpg_program.specs.declared.runs.Form.TheVariants.{Text, Json}
 use Rattle.cpg_program.specs.declared.runs.Picture.{Picture}
 use Rattle.cpg_program.specs.declared.runs.Picture.TheVariants.{Svg, Lines}
+use Rattle.cpg_why.specs.declared.asking.Asked.{Asked as Question}
 use Rattle.cpg_why.specs.declared.asking.Asked.TheVariants.{Place, Denials, Connection}
 use Rattle.cpg_print.specs.Entries.{conn_of_word}
 use Rattle.cpg_text.specs.Numbers.{number_in}
@@ -23,12 +33,14 @@ use Rattle.cpg_text.specs.Numbers.{number_in}
 -- the name of the subcommand of a run
 abbrev pub name_of : Run → List ℕ
 name_of (Judge form) = codes "judge"
+name_of (JudgeOnly filter) = codes "judge"
 name_of (Accept form) = codes "accept"
-name_of (Why asked) = codes "why"
+name_of (Why form asked) = codes "why"
 name_of (Step form settings words) = codes "step"
+name_of (StepWhy form asked settings words) = codes "step"
 name_of (Draw picture settings words) = codes "draw"
 name_of (Number settings words) = codes "step"
-name_of (Cluster settings words) = codes "run"
+name_of (Cluster manner settings words) = codes "run"
 
 -- the number is what the option's text writes, in ten digits
 abbrev pub IsGiven : Found → List ℕ → ℕ → Type 0
@@ -62,9 +74,10 @@ why_words found = texts_of (matched_of found (codes "place"))
 -- script over a ring the first word, where it names a file; else an argument of its own.
 abbrev pub path_given : Run → Found → Option (List ℕ)
 path_given (Judge form) found = but_input (first_value found (codes "file"))
+path_given (JudgeOnly filter) found = but_input (first_value found (codes "file"))
 path_given (Accept form) found = but_input (first_value found (codes "file"))
-path_given (Why (Place place)) found = but_input (slice_get (why_words found) 1)
-path_given (Why asked) found = but_input (slice_get (why_words found) 0)
+path_given (Why form (Place place)) found = but_input (slice_get (why_words found) 1)
+path_given (Why form asked) found = but_input (slice_get (why_words found) 0)
 path_given _ found = first_file (words_found found)
 
 -- the option was used, or not
@@ -83,37 +96,69 @@ abbrev pub IsPictureGiven : Found → Picture → Type 0
 IsPictureGiven found picture = (IsUsed found (codes "text") → picture ≡ Lines) × (IsUnused found (codes "text") → picture ≡ Svg)
 
 -- the place that is asked of is the number of the first word
-abbrev pub IsPlaceAsked : List (List ℕ) → Run → Type 0
-IsPlaceAsked (word ∷ rest) (Why (Place place)) = number_in 1 4294967295 word ≡ Some place
-IsPlaceAsked _ _ = ⊥
+abbrev pub IsPlaceAsked : Form → List (List ℕ) → Run → Type 0
+IsPlaceAsked form (word ∷ rest) (Why given (Place place)) = (given ≡ form) × (number_in 1 4294967295 word ≡ Some place)
+IsPlaceAsked form _ _ = ⊥
 
 -- that connection is asked for
-abbrev pub IsWayAsked : List ℕ → Run → Type 0
-IsWayAsked word (Why (Connection conn)) = conn_of_word word ≡ Some conn
-IsWayAsked word _ = ⊥
+abbrev pub IsWayAsked : Form → List ℕ → Run → Type 0
+IsWayAsked form word (Why given (Connection conn)) = (given ≡ form) × (conn_of_word word ≡ Some conn)
+IsWayAsked form word _ = ⊥
 
 -- what is asked where a connection is named, and where none is: all denials where that option is used, else the place of the first word
-abbrev pub IsWhyAsked : Found → Option (List ℕ) → Run → Type 0
-IsWhyAsked found (Some word) run = IsWayAsked word run
-IsWhyAsked found None run = (IsUsed found (codes "all") → run ≡ Why Denials) × (IsUnused found (codes "all") → IsPlaceAsked (why_words found) run)
+abbrev pub IsWhyAsked : Form → Found → Option (List ℕ) → Run → Type 0
+IsWhyAsked form found (Some word) run = IsWayAsked form word run
+IsWhyAsked form found None run = (IsUsed found (codes "all") → run ≡ Why form Denials) × (IsUnused found (codes "all") → IsPlaceAsked form (why_words found) run)
 
--- the same of the connection that was given
-abbrev pub IsWhyGiven : Found → Run → Type 0
-IsWhyGiven found run = IsWhyAsked found (first_value found (codes "connection")) run
+-- the same of the connection that was given, in the form that the option asks for
+abbrev pub IsWhyGiven : Form → Found → Run → Type 0
+IsWhyGiven form found run = IsFormGiven found form × IsWhyAsked form found (first_value found (codes "connection")) run
 
 -- the settings and the words are those that were given
 abbrev pub AreGiven : Found → Settings → List (List ℕ) → Type 0
 AreGiven found settings words = AreSettingsGiven found settings × (words ≡ words_given found)
 
+-- the entry of a place, or the way of a connection
+abbrev pub or_way : List ℕ → Option ℕ → Option Question
+or_way word (Some place) = Some (Place place)
+or_way word None = option_map Connection (conn_of_word word)
+
+-- what a word asks why of: every denial, the entry of a place, or the way of a connection
+abbrev pub question_named : List ℕ → Option Question
+question_named word = if bytes_eq word (codes "all") then Some Denials else or_way word (number_in 1 4294967295 word)
+
+-- and where it is given
+abbrev pub question_asked : Option (List ℕ) → Option Question
+question_asked None = None
+question_asked (Some word) = question_named word
+
+-- how long a wait looks: so many milliseconds, where they are given
+abbrev pub patience_given : Option (List ℕ) → Option Patience
+patience_given None = Some Looks
+patience_given (Some word) = option_map Millis (number_in 0 4294967295 word)
+
+-- the answers of a cluster are objects of JSON, or written with the line and the session before each line, where an option asks for it
+pub record IsSpokenGiven (found : Found) (form : Spoken) : Type 0 where
+  pub json : IsUsed found (codes "json") → form ≡ spoken.Json
+  pub echo : IsUnused found (codes "json") → IsUsed found (codes "echo") → form ≡ spoken.Text Echoed
+  pub plain : IsUnused found (codes "json") → IsUnused found (codes "echo") → form ≡ spoken.Text Plain
+
+-- and a wait looks for as long as is given
+abbrev pub IsMannerGiven : Found → Manner Spoken → Type 0
+IsMannerGiven found manner = (patience_given (first_value found (codes "wait")) ≡ Some manner.patience) × IsSpokenGiven found manner.form
+
 -- a run has the form, the settings and the words that were given
 abbrev pub IsGivenBy : Found → Run → Type 0
-IsGivenBy found (Judge form) = IsFormGiven found form
+IsGivenBy found (Judge form) = IsFormGiven found form × (is_filtered found ≡ false)
+IsGivenBy found (JudgeOnly filter) = IsFilterGiven found filter
 IsGivenBy found (Accept form) = IsFormGiven found form
-IsGivenBy found (Why asked) = IsWhyGiven found (Why asked)
-IsGivenBy found (Step form settings words) = IsFormGiven found form × AreGiven found settings (map (λ word. word.now) words.now)
+IsGivenBy found (Why form asked) = IsWhyGiven form found (Why form asked)
+IsGivenBy found (Step form settings words) = (first_value found (codes "why") ≡ None) × IsFormGiven found form × AreGiven found settings (map (λ word. word.now) words.now)
 IsGivenBy found (Draw picture settings words) = IsPictureGiven found picture × AreGiven found settings (map (λ word. word.now) words.now)
-IsGivenBy found (Number settings words) = AreGiven found settings (map (λ word. word.now) words.now)
-IsGivenBy found (Cluster settings words) = AreGiven found settings (map (λ word. word.now) words.now)
+IsGivenBy found (StepWhy form asked settings words) =
+    (question_asked (first_value found (codes "why")) ≡ Some asked) × IsFormGiven found form × AreGiven found settings (map (λ word. word.now) words.now)
+IsGivenBy found (Number settings words) = (first_value found (codes "why") ≡ None) × AreGiven found settings (map (λ word. word.now) words.now)
+IsGivenBy found (Cluster manner settings words) = IsMannerGiven found manner × AreGiven found settings (map (λ word. word.now) words.now)
 
 -- the numbers of frames are written, too
 abbrev pub is_numbered : Run → Bool
@@ -125,6 +170,12 @@ pub record IsAskedFor (found : Found) (called : List ℕ) (asked : Asked) : Type
   pub name : name_of asked.run ≡ called
   pub run : IsGivenBy found asked.run
   pub source : path_of asked.source ≡ path_given asked.run found
+
+-- what `shell` is asked for is what was given; all its words let users and groups in
+pub record IsShellGiven (found : Found) (asked : AskedShell) : Type 0 where
+  pub manner : IsMannerGiven found asked.manner
+  pub settings : AreSettingsGiven found asked.settings
+  pub words : map (λ word. word.now) asked.words.now ≡ words_found found
 
 -- the exit status of what is said: 0 for help and the version, 1 where memory was refused or where what was
 -- asked for could not be written, and else 2, a fault of the command line

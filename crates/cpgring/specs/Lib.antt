@@ -1,2 +1,6 @@
+pub mod Admitting
 pub mod Asking
+pub mod Completions
+pub mod Filtering
+pub mod Loading
 pub mod Sources

@@ -57,7 +57,11 @@ unread_line path why = codes "cpgring: " ++ path ++ codes ": " ++ cause_text why
 abbrev pub greeting : List ℕ
 greeting = codes "cpgring: the script is read from the terminal; Ctrl-D at the start of a line ends it\n"
 
--- it is said at a terminal alone, as far as it can be
-abbrev pub GreetsAt : Bool → Option (List ℕ) → Option (List ℕ) → Type 0
-GreetsAt true old new = AppendsFront old new greeting
-GreetsAt false old new = Keeps old new
+-- what is said before a shell reads from a terminal
+abbrev pub shell_greeting : List ℕ
+shell_greeting = codes "cpgring: type help for the commands; Ctrl-D at the start of a line ends the shell\n"
+
+-- a text is said at a terminal alone, as far as it can be
+abbrev pub GreetsAt : Bool → List ℕ → Option (List ℕ) → Option (List ℕ) → Type 0
+GreetsAt true text old new = AppendsFront old new text
+GreetsAt false text old new = Keeps old new

@@ -2,28 +2,32 @@
 //!
 //! Proved: which subcommand is which run, its settings and words, and the exit status of what is said.
 
-ghost use Rattle.std.specs.Prelude.{◌≡◌, ◌<◌, ◌↔◌, true, false, Some, None, codes, length, map, slice_get, IfSome, IsSome};
-ghost use Rattle.clap.specs.Words.{found_of, subcommand_name_of};
+ghost use Rattle.std.specs.Prelude.{◌≡◌, ◌<◌, ◌↔◌, true, false, Some, None, codes, length, map, option_map, slice_get, IfOk, IfSome, IsSome};
+ghost use Rattle.clap.specs.Words.{found_of, first_value, subcommand_name_of};
 ghost use Rattle.clap.specs.Values.{kind_of};
 ghost use Rattle.cpg_program.specs.Pipes.{stream_of};
 ghost use Rattle.cpg_program.specs.declared.runs.Run.TheVariants.{Why};
 ghost use Rattle.cpg_print.specs.Entries.{conn_of_word};
+ghost use Rattle.cpgring.specs.Filtering.{is_filtered};
 ghost use Rattle.cpgring.specs.Sources.{but_input, path_of};
-ghost use Rattle.cpgring.specs.Asking.{name_of, words_found, AreSettingsGiven, IsAskedFor, IsFormGiven, IsPictureGiven, IsPlaceAsked, IsStatusOf, IsUnused, IsUsed, Says, is_numbered};
+ghost use Rattle.cpgring.specs.Asking.{name_of, words_found, AreSettingsGiven, IsAskedFor, IsFormGiven, IsMannerGiven, IsPictureGiven, IsShellGiven, IsSpokenGiven, patience_given, IsPlaceAsked, IsStatusOf, IsUnused, IsUsed, Says, is_numbered, question_named};
 
 use crate::commands::{
-    ACCEPT, ALL, CONNECTION, FILE, HOPS, JSON, NODES, NUMBERS, PLACE, PLACES, RING, TEXT,
-    build_command,
+    ACCEPT, ALL, CONNECTION, ECHO, FILE, HOPS, JSON, NODES, NUMBERS, PLACE, PLACES, RING, TEXT,
+    VERBOSE, WAIT, WHY, build_command,
 };
+use crate::filtering::{filter_of, is_filtered};
 use crate::sources::{Source, source_of, split_words};
 use clap::error::ErrorKind;
 use clap::{ArgMatches, Error};
 use cpg_cred::{MOST_NODES, NodeId, Refusal};
 use cpg_entry::MOST_CONNECTIONS;
-use cpg_program::{Asked as Question, Form, Picture, Piped, Run, tell_fault};
+use cpg_program::{
+    Asked as Question, Form, Manner, Patience, Picture, Piped, Run, Shown, Spoken, tell_fault,
+};
 use cpg_record::ConnId;
 use cpg_ring::Settings;
-use cpg_script::{Fault, cut, read_u32};
+use cpg_script::{Fault, cut, is, read_u32};
 use cpg_text::write_whole;
 use std::alloc::{AllocError, Global};
 use std::convert::AsStr;
@@ -66,9 +70,22 @@ pub fn read_asked<'a>(alloc: Global, matches: &'a ArgMatches<'_>) -> Result<Aske
     }
 }
 
-/// Why the command line asks for nothing that can be run: it has no subcommand, or `why` is asked in another way.
+/// Why the command line asks for nothing that can be run: it has no subcommand, or a
+/// word of `judge`, `why`, `step` or `run` says nothing.
 fn why_none(matches: &ArgMatches<'_>) -> (ErrorKind, &'static str) {
     match matches.subcommand_name() {
+        Some("judge") => (
+            ErrorKind::InvalidValue,
+            "'judge' takes KIND as denied, verdicts, messages, changes or rules, NODE.CONN as 1.1, and places as A..B, A.., ..B or A, from 1",
+        ),
+        Some("step") => (
+            ErrorKind::InvalidValue,
+            "'step' takes --why=PLACE, a number from 1, or NODE.CONN, or all",
+        ),
+        Some("run") => (
+            ErrorKind::InvalidValue,
+            "'run' takes --wait=MS, milliseconds from 0 to 4294967295",
+        ),
         Some("why") => (
             ErrorKind::InvalidValue,
             "'why' takes one of PLACE (a number from 1), --all and --connection=NODE.CONN, and then FILE, if any",
@@ -83,12 +100,11 @@ fn why_none(matches: &ArgMatches<'_>) -> (ErrorKind, &'static str) {
 /// What the subcommand asks for, where it is one.
 fn asked_of<'a>(matches: &'a ArgMatches<'_>) -> Option<Asked<'a>>
     ensures named { IfSome result (λ asked. subcommand_name_of matches.now ≡ Some (name_of asked.run)) }
-    ensures judge { subcommand_name_of matches.now ≡ Some (codes "judge") → IsSome result }
     ensures accept { subcommand_name_of matches.now ≡ Some (codes "accept") → IsSome result }
 {
     let (name, given) = matches.subcommand()?;
     if name == "judge" {
-        Some(judge_of(given))
+        judge_of(given)
     } else if name == "accept" {
         Some(accept_of(given))
     } else if name == "why" {
@@ -102,6 +118,14 @@ fn asked_of<'a>(matches: &'a ArgMatches<'_>) -> Option<Asked<'a>>
     } else {
         None
     }
+}
+
+/// Whether the option asks for a hint behind a fault's line.
+pub fn is_verbose(given: &ArgMatches<'_>) -> bool
+    ensures used { IsUsed (found_of given.now) (codes "verbose") → result ≡ true }
+    ensures unused { IsUnused (found_of given.now) (codes "verbose") → result ≡ false }
+{
+    given.get_flag(VERBOSE)
 }
 
 /// The form that the option asks for.
@@ -126,13 +150,24 @@ fn picture_of(given: &ArgMatches<'_>) -> Picture
     }
 }
 
-/// The judgement of a script, in the form that is asked for.
-fn judge_of<'a>(given: &'a ArgMatches<'_>) -> Asked<'a>
-    ensures { IsAskedFor (found_of given.now) (codes "judge") result }
+/// The judgement of a script, in the form and through the filter that are asked for.
+fn judge_of<'a>(given: &'a ArgMatches<'_>) -> Option<Asked<'a>>
+    ensures asked { IfSome result (IsAskedFor (found_of given.now) (codes "judge")) }
+    ensures plain { is_filtered (found_of given.now) ≡ false → IsSome result }
 {
-    Asked {
-        run: Run::Judge(form_of(given)),
-        source: source_of(given.get_str(FILE)),
+    let source = source_of(given.get_str(FILE));
+    if !is_filtered(given) {
+        return Some(Asked {
+            run: Run::Judge(form_of(given)),
+            source,
+        });
+    }
+    match filter_of(given) {
+        None => None,
+        Some(filter) => Some(Asked {
+            run: Run::JudgeOnly(filter),
+            source,
+        }),
     }
 }
 
@@ -152,16 +187,21 @@ fn why_of<'a>(given: &'a ArgMatches<'_>) -> Option<Asked<'a>>
 {
     let words = given.get_strs(PLACE).unwrap_or(&[]);
     let all = given.get_flag(ALL);
+    let form = form_of(given);
     match given.get_str(CONNECTION) {
         Some(_) if all => None,
-        Some(conn) => why_other(Question::Connection(read_conn(conn.as_bytes())?), words),
-        None if all => why_other(Question::Denials, words),
-        None => why_place(words),
+        Some(conn) => why_other(
+            form,
+            Question::Connection(read_conn(conn.as_bytes())?),
+            words,
+        ),
+        None if all => why_other(form, Question::Denials, words),
+        None => why_place(form, words),
     }
 }
 
 /// The connection of NODE.CONN.
-fn read_conn(word: &[u8]) -> Option<ConnId>
+pub(crate) fn read_conn(word: &[u8]) -> Option<ConnId>
     ensures { result ≡ conn_of_word word.now }
 {
     let (node, conn) = cut(b'.', word)?;
@@ -174,8 +214,8 @@ fn read_conn(word: &[u8]) -> Option<ConnId>
 }
 
 /// What is asked of no place: the one word that there may be is the path.
-fn why_other<'a>(question: Question, words: &'a [&'a str]) -> Option<Asked<'a>>
-    ensures run { IfSome result (λ asked. asked.run ≡ Why question) }
+fn why_other<'a>(form: Form, question: Question, words: &'a [&'a str]) -> Option<Asked<'a>>
+    ensures run { IfSome result (λ asked. asked.run ≡ Why form question) }
     ensures source { IfSome result (λ asked. path_of asked.source ≡ but_input (slice_get (map (λ word. word.now) words.now) 0)) }
     ensures none { (result ≡ None) ↔ (1 < length words.now) }
 {
@@ -183,15 +223,15 @@ fn why_other<'a>(question: Question, words: &'a [&'a str]) -> Option<Asked<'a>>
         return None;
     }
     Some(Asked {
-        run: Run::Why(question),
+        run: Run::Why(form, question),
         source: source_of(words.first().copied()),
     })
 }
 
 /// Why the entry of a place was answered as it was: the first word is the place, and the other, if there is one, the
 /// path.
-fn why_place<'a>(words: &'a [&'a str]) -> Option<Asked<'a>>
-    ensures run { IfSome result (λ asked. IsPlaceAsked (map (λ word. word.now) words.now) asked.run) }
+fn why_place<'a>(form: Form, words: &'a [&'a str]) -> Option<Asked<'a>>
+    ensures run { IfSome result (λ asked. IsPlaceAsked form (map (λ word. word.now) words.now) asked.run) }
     ensures source { IfSome result (λ asked. path_of asked.source ≡ but_input (slice_get (map (λ word. word.now) words.now) 1)) }
 {
     if words.len() > 2 {
@@ -199,7 +239,7 @@ fn why_place<'a>(words: &'a [&'a str]) -> Option<Asked<'a>>
     }
     let place = read_u32(1, u32::MAX, words.first()?.as_bytes())?;
     Some(Asked {
-        run: Run::Why(Question::Place(place)),
+        run: Run::Why(form, Question::Place(place)),
         source: source_of(words.get(1).copied()),
     })
 }
@@ -207,16 +247,33 @@ fn why_place<'a>(words: &'a [&'a str]) -> Option<Asked<'a>>
 /// The run of a script of commands with the settings and the words that are given.
 fn step_of<'a>(given: &'a ArgMatches<'_>) -> Option<Asked<'a>>
     ensures asked { IfSome result (IsAskedFor (found_of given.now) (codes "step")) }
-    ensures numbers { IfSome result (λ asked. IsUnused (found_of given.now) (codes "json") → IsUsed (found_of given.now) (codes "numbers") → is_numbered asked.run ≡ true) }
+    ensures numbers { first_value (found_of given.now) (codes "why") ≡ None → IfSome result (λ asked. IsUnused (found_of given.now) (codes "json") → IsUsed (found_of given.now) (codes "numbers") → is_numbered asked.run ≡ true) }
     ensures none { IfSome result (λ asked. IsUnused (found_of given.now) (codes "numbers") → is_numbered asked.run ≡ false) }
 {
     let settings = settings_of(given)?;
     let (source, words) = split_words(words_of(given));
-    let run = match form_of(given) {
-        Form::Text if given.get_flag(NUMBERS) => Run::Number(settings, words),
-        form => Run::Step(form, settings, words),
+    let form = form_of(given);
+    let run = match given.get_str(WHY) {
+        Some(word) => Run::StepWhy(form, read_question(word.as_bytes())?, settings, words),
+        None => match form {
+            Form::Text if given.get_flag(NUMBERS) => Run::Number(settings, words),
+            form => Run::Step(form, settings, words),
+        },
     };
     Some(Asked { run, source })
+}
+
+/// What the word asks why of: every denial, the entry of a place, or the way of a connection.
+fn read_question(word: &[u8]) -> Option<Question>
+    ensures { result ≡ question_named word.now }
+{
+    if is(word, b"all") {
+        return Some(Question::Denials);
+    }
+    match read_u32(1, u32::MAX, word) {
+        Some(place) => Some(Question::Place(place)),
+        None => Some(Question::Connection(read_conn(word)?)),
+    }
 }
 
 /// The picture of the run of a script of commands with the settings and the words that are given.
@@ -238,9 +295,77 @@ fn cluster_of<'a>(given: &'a ArgMatches<'_>) -> Option<Asked<'a>>
     let settings = settings_of(given)?;
     let (source, words) = split_words(words_of(given));
     Some(Asked {
-        run: Run::Cluster(settings, words),
+        run: Run::Cluster(manner_of(given)?, settings, words),
         source,
     })
+}
+
+/// What `shell` is asked for: how its lines are answered, over a cluster of which settings, and whom that lets in.
+#[derive(Clone, Copy)]
+pub struct AskedShell<'a> {
+    pub manner: Manner<Spoken>,
+    pub settings: Settings,
+    pub words: &'a [&'a str],
+}
+
+/// What `shell` is asked for, or what is said of options that ask for nothing.
+pub fn read_shell<'a>(alloc: Global, given: &'a ArgMatches<'_>) -> Result<AskedShell<'a>, Error>
+    ensures { IfOk result (IsShellGiven (found_of given.now)) }
+{
+    match shell_of(given) {
+        Some(asked) => Ok(asked),
+        None => {
+            let why = "'shell' takes --wait=MS, milliseconds from 0 to 4294967295";
+            Err(build_command(alloc)?.error(ErrorKind::InvalidValue, why)?)
+        }
+    }
+}
+
+/// What the options and the words of `shell` say, where they say it.
+fn shell_of<'a>(given: &'a ArgMatches<'_>) -> Option<AskedShell<'a>>
+    ensures { IfSome result (IsShellGiven (found_of given.now)) }
+{
+    Some(AskedShell {
+        manner: manner_of(given)?,
+        settings: settings_of(given)?,
+        words: words_of(given),
+    })
+}
+
+/// How the commands of a cluster are answered, where the options say it.
+fn manner_of(given: &ArgMatches<'_>) -> Option<Manner<Spoken>>
+    ensures { IfSome result (IsMannerGiven (found_of given.now)) }
+{
+    Some(Manner {
+        patience: read_patience(given.get_str(WAIT))?,
+        form: spoken_of(given),
+    })
+}
+
+/// How long a wait looks.
+fn read_patience(word: Option<&str>) -> Option<Patience>
+    ensures { result ≡ patience_given (option_map (λ text. text.now) word.entry) }
+{
+    match word {
+        None => Some(Patience::Looks),
+        Some(word) => {
+            let most = read_u32(0, u32::MAX, word.as_bytes())?;
+            Some(Patience::Millis(u64::from(most)))
+        }
+    }
+}
+
+/// The form of the answers of a cluster that the options ask for.
+fn spoken_of(given: &ArgMatches<'_>) -> Spoken
+    ensures { IsSpokenGiven (found_of given.now) result }
+{
+    if given.get_flag(JSON) {
+        Spoken::Json
+    } else if given.get_flag(ECHO) {
+        Spoken::Text(Shown::Echoed)
+    } else {
+        Spoken::Text(Shown::Plain)
+    }
 }
 
 /// The settings that the options give, where each is a number.

@@ -1,17 +1,18 @@
 //! The command line.
 
 use crate::help::{
-    ABOUT, ACCEPT_ABOUT, ACCEPT_HELP, ACCEPT_MORE, DRAW_ABOUT, DRAW_HELP, DRAW_MORE, JUDGE_ABOUT,
-    JUDGE_HELP, JUDGE_MORE, MORE, RUN_ABOUT, RUN_HELP, RUN_MORE, STEP_ABOUT, STEP_HELP, STEP_MORE,
-    WHY_ABOUT, WHY_HELP, WHY_MORE,
+    ABOUT, ACCEPT_ABOUT, ACCEPT_HELP, ACCEPT_MORE, ADMIT_ABOUT, ADMIT_HELP, ADMIT_MORE, DRAW_ABOUT,
+    DRAW_HELP, DRAW_MORE, JUDGE_ABOUT, JUDGE_HELP, JUDGE_MORE, MORE, RUN_ABOUT, RUN_HELP, RUN_MORE,
+    SHELL_ABOUT, SHELL_HELP, SHELL_MORE, STEP_ABOUT, STEP_HELP, STEP_MORE, WHY_ABOUT, WHY_HELP,
+    WHY_MORE,
 };
 use clap::{Arg, ArgAction, Command, value_parser};
 use cpg_cred::MOST_NODES;
 use cpg_entry::{MOST_HOPS, MOST_PLACES};
 use std::alloc::{AllocError, Global};
 
-/// The version of the program.
-const VERSION: &str = "0.1.0";
+/// The version of the program, with the toolchain that proves it.
+const VERSION: &str = "0.1.0 (rattle-kit-13f logic dac8208d650f15bf)";
 
 /// The options that set a ring up, and the words that let users and groups in.
 pub const RING: &str = "ring";
@@ -45,6 +46,36 @@ pub const ALL: &str = "all";
 /// The option that asks for the way of a connection.
 pub const CONNECTION: &str = "connection";
 
+/// The option that asks for the lines of one kind.
+pub const ONLY: &str = "only";
+
+/// The option that asks for the lines of one group; of `admit`, the accounts of groups.
+pub const GROUP: &str = "group";
+
+/// The option that asks for a hint behind a fault's line.
+pub const VERBOSE: &str = "verbose";
+
+/// The option that asks why, of what a script's commands made.
+pub const WHY: &str = "why";
+
+/// The option that says how long a wait looks.
+pub const WAIT: &str = "wait";
+
+/// The option that asks for the line and the session before each printed line.
+pub const ECHO: &str = "echo";
+
+/// The files of `admit`, and its words.
+pub const CONF: &str = "conf";
+
+pub const NAMES: &str = "names";
+
+pub const PASSWD: &str = "passwd";
+
+pub const ASKS: &str = "asks";
+
+/// The word of `completions`.
+pub const SHELL: &str = "shell";
+
 /// The command line of the program.
 pub fn build_command<'a>(alloc: Global) -> Result<Command<'a>, AllocError> {
     Command::new(alloc, "cpgring")
@@ -56,9 +87,12 @@ pub fn build_command<'a>(alloc: Global) -> Result<Command<'a>, AllocError> {
         .subcommand(judge_command(alloc)?)?
         .subcommand(why_command(alloc)?)?
         .subcommand(accept_command(alloc)?)?
+        .subcommand(admit_command(alloc)?)?
         .subcommand(step_command(alloc)?)?
         .subcommand(draw_command(alloc)?)?
-        .subcommand(run_command(alloc)?)
+        .subcommand(run_command(alloc)?)?
+        .subcommand(shell_command(alloc)?)?
+        .subcommand(completions_command(alloc)?)
 }
 
 /// The subcommand `judge`.
@@ -68,6 +102,29 @@ fn judge_command<'a>(alloc: Global) -> Result<Command<'a>, AllocError> {
         .long_about(JUDGE_HELP)
         .after_long_help(JUDGE_MORE)
         .arg(flag(alloc, JSON, "Print one object of JSON a line"))?
+        .arg(word(
+            alloc,
+            ONLY,
+            "KIND",
+            "Print lines of that kind alone: denied, verdicts, messages, changes, rules",
+        )
+        .conflicts_with(JSON)?)?
+        .arg(word(alloc, GROUP, "GROUP", "Print lines of that group alone").conflicts_with(JSON)?)?
+        .arg(word(
+            alloc,
+            CONNECTION,
+            "NODE.CONN",
+            "Print the entries and the inbox of that connection alone",
+        )
+        .conflicts_with(JSON)?)?
+        .arg(word(
+            alloc,
+            PLACES,
+            "A..B",
+            "Print lines of places A to B alone; A.., ..B and A, too",
+        )
+        .conflicts_with(JSON)?)?
+        .arg(verbose(alloc))?
         .arg(file(alloc))
 }
 
@@ -78,13 +135,14 @@ fn why_command<'a>(alloc: Global) -> Result<Command<'a>, AllocError> {
         .long_about(WHY_HELP)
         .after_long_help(WHY_MORE)
         .arg(flag(alloc, ALL, "Explain every denied entry"))?
-        .arg(
-            Arg::new(alloc, CONNECTION)
-                .long(CONNECTION)
-                .value_name("NODE.CONN")
-                .action(ArgAction::Set)
-                .help("Tell the way of that connection"),
-        )?
+        .arg(word(
+            alloc,
+            CONNECTION,
+            "NODE.CONN",
+            "Tell the way of that connection",
+        ))?
+        .arg(flag(alloc, JSON, "Print one object of JSON a line"))?
+        .arg(verbose(alloc))?
         .arg(
             Arg::new(alloc, PLACE)
                 .value_name("PLACE|FILE")
@@ -102,7 +160,49 @@ fn accept_command<'a>(alloc: Global) -> Result<Command<'a>, AllocError> {
         .long_about(ACCEPT_HELP)
         .after_long_help(ACCEPT_MORE)
         .arg(flag(alloc, JSON, "Print one object of JSON a line"))?
+        .arg(verbose(alloc))?
         .arg(file(alloc))
+}
+
+/// The subcommand `admit`.
+fn admit_command<'a>(alloc: Global) -> Result<Command<'a>, AllocError> {
+    Command::new(alloc, "admit")
+        .about(ADMIT_ABOUT)
+        .long_about(ADMIT_HELP)
+        .after_long_help(ADMIT_MORE)
+        .arg(word(
+            alloc,
+            CONF,
+            "FILE",
+            "The conf file, as /etc/corosync/corosync.conf",
+        )
+        .required(true))?
+        .arg(word(
+            alloc,
+            NAMES,
+            "FILE",
+            "The numbers of names: lines `user NAME N` and `group NAME N`",
+        ))?
+        .arg(word(
+            alloc,
+            PASSWD,
+            "FILE",
+            "Accounts of users, as /etc/passwd has them",
+        )
+        .conflicts_with(NAMES)?)?
+        .arg(word(
+            alloc,
+            GROUP,
+            "FILE",
+            "Accounts of groups, as /etc/group has them",
+        )
+        .conflicts_with(NAMES)?)?
+        .arg(
+            Arg::new(alloc, ASKS)
+                .value_name("UID:GID")
+                .action(ArgAction::Append)
+                .help("Whether these are let in; none: the list itself is printed"),
+        )
 }
 
 /// The file that a script is read from.
@@ -115,46 +215,101 @@ fn file<'a>(alloc: Global) -> Arg<'a> {
 
 /// The subcommand `step`: a ring is set up, and a script of commands run over it.
 fn step_command<'a>(alloc: Global) -> Result<Command<'a>, AllocError> {
-    with_ring(
-        alloc,
-        Command::new(alloc, "step")
-            .about(STEP_ABOUT)
-            .long_about(STEP_HELP)
-            .after_long_help(STEP_MORE),
-    )?
-    .arg(flag(alloc, JSON, "Print one object of JSON a line"))?
-    .arg(flag(
-        alloc,
-        NUMBERS,
-        "Print the numbers of the frames that each command sent",
-    )
-    .conflicts_with(JSON)?)
+    let command = Command::new(alloc, "step")
+        .about(STEP_ABOUT)
+        .long_about(STEP_HELP)
+        .after_long_help(STEP_MORE);
+    let command = with_ring(alloc, command)?
+        .arg(flag(alloc, JSON, "Print one object of JSON a line"))?
+        .arg(flag(
+            alloc,
+            NUMBERS,
+            "Print the numbers of the frames that each command sent",
+        )
+        .conflicts_with(JSON)?)?
+        .arg(word(
+            alloc,
+            WHY,
+            "PLACE",
+            "Explain in place of that the entry at the place; all: each denial; NODE.CONN: a connection's way",
+        )
+        .conflicts_with(NUMBERS)?)?
+        .arg(verbose(alloc))?;
+    with_words(alloc, command, "FILE|ACCEPT", FILE_AND_ACCEPT)
 }
 
 /// The subcommand `draw`: a ring is set up, and the run of a script of commands over it drawn.
 fn draw_command<'a>(alloc: Global) -> Result<Command<'a>, AllocError> {
-    with_ring(
-        alloc,
-        Command::new(alloc, "draw")
-            .about(DRAW_ABOUT)
-            .long_about(DRAW_HELP)
-            .after_long_help(DRAW_MORE),
-    )?
-    .arg(flag(alloc, TEXT, "Draw lines for a terminal, in place of an SVG"))
+    let command = Command::new(alloc, "draw")
+        .about(DRAW_ABOUT)
+        .long_about(DRAW_HELP)
+        .after_long_help(DRAW_MORE);
+    let command = with_ring(alloc, command)?
+        .arg(flag(alloc, TEXT, "Draw lines for a terminal, in place of an SVG"))?
+        .arg(verbose(alloc))?;
+    with_words(alloc, command, "FILE|ACCEPT", FILE_AND_ACCEPT)
 }
 
 /// The subcommand `run`: a cluster is started, and a script of sessions run over it.
 fn run_command<'a>(alloc: Global) -> Result<Command<'a>, AllocError> {
-    with_ring(
+    let command = Command::new(alloc, "run")
+        .about(RUN_ABOUT)
+        .long_about(RUN_HELP)
+        .after_long_help(RUN_MORE);
+    with_words(
         alloc,
-        Command::new(alloc, "run")
-            .about(RUN_ABOUT)
-            .long_about(RUN_HELP)
-            .after_long_help(RUN_MORE),
+        with_manner(alloc, with_ring(alloc, command)?.arg(verbose(alloc))?)?,
+        "FILE|ACCEPT",
+        FILE_AND_ACCEPT,
     )
 }
 
-/// The command with the options that set a ring up, and the words that let users and groups in.
+/// The subcommand `shell`: a cluster is started, and what is typed is answered over it.
+fn shell_command<'a>(alloc: Global) -> Result<Command<'a>, AllocError> {
+    let command = Command::new(alloc, "shell")
+        .about(SHELL_ABOUT)
+        .long_about(SHELL_HELP)
+        .after_long_help(SHELL_MORE);
+    with_words(
+        alloc,
+        with_manner(alloc, with_ring(alloc, command)?)?,
+        "ACCEPT",
+        "Whom the nodes let in beside uid 0 and gid 0: uid:N or gid:N, each N 0 to 4294967295",
+    )
+}
+
+/// The command with the options that say how the commands of a cluster are answered.
+fn with_manner<'a>(alloc: Global, command: Command<'a>) -> Result<Command<'a>, AllocError> {
+    command
+        .arg(word(
+            alloc,
+            WAIT,
+            "MS",
+            "How many milliseconds a wait looks at most, 0 to 4294967295; without it a million looks",
+        ))?
+        .arg(flag(alloc, JSON, "Print one object of JSON a line"))?
+        .arg(flag(
+            alloc,
+            ECHO,
+            "Print before each line the number of its script line and its session",
+        )
+        .conflicts_with(JSON)?)
+}
+
+/// The subcommand `completions`.
+fn completions_command<'a>(alloc: Global) -> Result<Command<'a>, AllocError> {
+    Command::new(alloc, "completions")
+        .about("Prints what a shell needs to complete command lines")
+        .arg(
+            Arg::new(alloc, SHELL)
+                .value_name("SHELL")
+                .action(ArgAction::Set)
+                .required(true)
+                .help("bash, zsh or fish"),
+        )
+}
+
+/// The command with the options that set a ring up.
 fn with_ring<'a>(alloc: Global, command: Command<'a>) -> Result<Command<'a>, AllocError> {
     command
         .arg(option(
@@ -180,16 +335,47 @@ fn with_ring<'a>(alloc: Global, command: Command<'a>) -> Result<Command<'a>, All
             "4611686018427387904",
             "How many hops the token makes, 1 to 4611686018427387904 (2^62)",
         )
-        .value_parser(value_parser!(u64).range(1..=MOST_HOPS as i64)))?
-        .arg(
-            Arg::new(alloc, ACCEPT)
-                .value_name("FILE|ACCEPT")
-                .action(ArgAction::Append)
-                .help(
-                    "First the script's file, if any, a path with / or . in it; - or none: standard input. Then whom \
-                     the nodes let in beside uid 0 and gid 0: uid:N or gid:N, each N 0 to 4294967295",
-                ),
+        .value_parser(value_parser!(u64).range(1..=MOST_HOPS as i64)))
+}
+
+/// What the words of a command are that has a script and lets users and groups in.
+const FILE_AND_ACCEPT: &str = "\
+First the script's file, if any, a path with / or . in it; - or none: standard input. Then whom \
+the nodes let in beside uid 0 and gid 0: uid:N or gid:N, each N 0 to 4294967295";
+
+/// The command with its words.
+fn with_words<'a>(
+    alloc: Global,
+    command: Command<'a>,
+    name: &'a str,
+    help: &'a str,
+) -> Result<Command<'a>, AllocError> {
+    command.arg(
+        Arg::new(alloc, ACCEPT)
+            .value_name(name)
+            .action(ArgAction::Append)
+            .help(help),
+    )
+}
+
+/// The option that asks for a hint behind a fault's line.
+fn verbose<'a>(alloc: Global) -> Arg<'a> {
+    Arg::new(alloc, VERBOSE)
+        .short('v')
+        .long(VERBOSE)
+        .action(ArgAction::SetTrue)
+        .help(
+            "Behind a fault's line, show the script's line, what does not fit and what is wanted there",
         )
+}
+
+/// An option of that name that takes a word.
+fn word<'a>(alloc: Global, name: &'a str, value: &'a str, help: &'a str) -> Arg<'a> {
+    Arg::new(alloc, name)
+        .long(name)
+        .value_name(value)
+        .action(ArgAction::Set)
+        .help(help)
 }
 
 /// An option of that name that takes no value.

@@ -16,6 +16,12 @@ Example: a process joins a group; how that is judged, and what it is told of it.
 A script is read from FILE, or from standard input where no FILE is given, or -:
   $ cpgring judge day.judge
 
+With -v the fault of a script is followed by its line and what is wanted there:
+  $ printf '1.1 x40 7 100 join db\\n' | cpgring judge -v
+  cpgring: 41 BadCommand 1
+  line 1: 1.1 x40 7 100 join db
+              ^ PID: a number from 0 to 4294967295
+
 Exit status: 0 done; 1 a fault, told on standard error as `cpgring: 41 BadCommand 2`; 2 a fault of the
 command line, a FILE that can't be read among them. Where the reader of a pipe has left, nothing is told.";
 
@@ -63,6 +69,12 @@ MEMBERS are NODE/PID, in the order of their joins; MOVES are NODE/PID:CAUSE, wit
 down, the end of the connection. Both are joined by commas, and - where there are none.
 
 With --json each line is an object with the same content; docs/JSON.md has its fields.
+
+--only, --group, --connection and --places print some of these lines alone; what is given of them has to hold
+of each line but that of the count, which is of all entries. KIND is denied (denied entries, and what is told
+of them), verdicts (each entry, and its answer), messages (what is sent), changes (who joins, leaves and ends)
+or rules (edits of rules); of the last three what is allowed. The line of an inbox stands where anything of it
+is printed.
 
 VERDICT is `allowed` with what allows it, or `denied` with the first reason. The first rule of the group's
 table that gives or denies the right and matches the connection decides: join for join, send for send,
@@ -132,6 +144,46 @@ Example:
 Exit status: 0 done; 1 a fault, told on standard error; 2 a fault of the command line, a PLACE that has no entry
 among them: `cpgring: there is no entry 3: the script has 2`. The faults are those of `cpgring judge`; nothing is
 printed before all is known.";
+
+pub const ADMIT_ABOUT: &str = "Tells whom a conf file lets in";
+
+pub const ADMIT_HELP: &str = "\
+Tells whom a conf file lets in, as it stands on a machine: for each UID:GID what `cpgring accept` prints of it;
+where none are given, the users and then the groups of the file, in the order of its lines, as the words that
+let them in for step, draw and run:
+
+  $ cpgring admit --conf=/etc/corosync/corosync.conf 1000:100 7:7
+  accepted user
+  refused 2 Access
+
+Of the file the sections `uidgid` at the outermost level are read alone, whose keys are uid and gid, each with a
+number of at most 4294967295 or a name; `cpgring accept --help` has the form. Names are looked up in a names text,
+or in accounts:
+
+  user NAME N                                of --names: the number of a user's name
+  group NAME N                               and of a group's
+  NAME:PASSWORD:UID:GID:GECOS:DIRECTORY:SHELL
+                                             of --passwd, as passwd(5) has it
+  NAME:PASSWORD:GID:MEMBERS                  of --group, as group(5) has it
+
+In each file space, tab and CR at both ends of a line are trimmed, lines that are empty or begin with # are
+ignored, and the first line for a name counts. A file has at most 16777216 bytes (16 MiB).";
+
+pub const ADMIT_MORE: &str = "\
+Printed for each UID:GID, the first that holds:
+
+  accepted root-user                         the user is 0
+  accepted root-group                        the group is 0
+  accepted user                              the user is listed
+  accepted group                             the group is listed
+  refused 2 Access                           nothing lets them in
+
+A fault of a file is told with the file, the line and what stands there, the names' before the conf file's:
+
+  corosync.conf:6: 36 UnknownName, uid: nosuch
+
+Exit status: 0 done; 1 a fault of a file, or one of writing; 2 a fault of the command line, a FILE that can't be
+read among them.";
 
 pub const ACCEPT_ABOUT: &str = "Answers which credentials the conf texts of a script let in";
 
@@ -226,7 +278,9 @@ it or none, members MEMBERS, groups and their names; for show a frame, as in the
 NODE.CONN PID UID GID CALL; for audit the lines of `cpgring judge` and records COUNT; for rules ID EFFECT
 RIGHT WHO of each and rules COUNT; and safe PLACE. With --numbers, frames K K ... stand behind `sent COUNT`,
 the numbers by which later commands bring them, and all is printed once the script is done; with --json each line
-is an object (docs/JSON.md). A command that is refused prints the refusal, as in
+is an object (docs/JSON.md). With --why=PLACE none of this is printed, but why the entry at that place was answered
+as it was, as `cpgring why` tells it, by what the node that delivered most delivered; --why=all tells it of each
+denied entry, --why=NODE.CONN the way of a connection. A command that is refused prints the refusal, as in
 `refused 10 Stale`, and the script goes on:
 
   2 Access           nobody lets the credentials in
@@ -349,8 +403,10 @@ but count as lines. The input has at most 16777216 bytes (16 MiB).";
 pub const RUN_MORE: &str = "\
 Printed is for each command, after it is done: session S, admitted, closed, the event as `cpgring judge`
 prints it, or none where after 1000000 looks there still was none, members MEMBERS, groups and their names,
-for audit the lines of `cpgring judge` and records COUNT, and safe PLACE. A command that is refused prints the
-refusal, and the script goes on:
+for audit the lines of `cpgring judge` and records COUNT, and safe PLACE. What was printed is handed on before a
+wait begins. With --wait=MS a wait looks for so many milliseconds, and at least once; with --echo each line stands
+behind the number of its script line and its session, `7 s2 `, or `7 - ` where it has none. A command that is
+refused prints the refusal, and the script goes on:
 
   2 Access           nobody lets the credentials in
   3 NoConnection     no open session has the number
@@ -385,3 +441,25 @@ Exit status: 0 done; 1 a fault, told on standard error; 2 a fault of the command
 word` among them. The faults are `cpgring: 41 BadCommand LINE`, the first line that is no command, before
 which nothing is done or printed; `cpgring: 42 Read`, also where the input is too long; `cpgring: 43 Write`;
 and `cpgring: 1 Memory`, which ends the script at the command that met it, also where a thread is not given.";
+
+pub const SHELL_ABOUT: &str = "Answers commands over a running cluster as they are typed";
+
+pub const SHELL_HELP: &str = "\
+Starts a cluster as `cpgring run` does, and answers its commands line by line as they are typed, each at once:
+`cpgring run --help` has them. `help` prints them; empty lines and lines that begin with # print nothing. A line
+that says nothing is told on standard error by its number, from 1, and the next is read; so is one of more than
+1048576 bytes. The end of the input stops the cluster.
+
+Over a pipe it serves as a driver for the tests of other programs: what a line prints is there before the next
+line is read.";
+
+pub const SHELL_MORE: &str = "\
+Example:
+  $ printf '%s\\n' 'connect 1 40 7 100' 'jump' 'call 1 join db' 'wait 1' | cpgring shell --nodes=1 uid:7
+  session 1
+  cpgring: 41 BadCommand 2
+  admitted
+  event 1 verdict allowed default
+
+Exit status: 0 at the end of the input, whatever lines said nothing; 1 a fault, told on standard error; 2 a fault
+of the command line. The faults are those of `cpgring run`, but for the bad lines.";

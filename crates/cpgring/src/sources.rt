@@ -5,7 +5,7 @@
 ghost use Rattle.std.specs.Prelude.{◌≡◌, ◌≢◌, ◌⊎◌, IfOk, IsOkUnless, map, option_map};
 ghost use Rattle.std.specs.List.{list_any};
 ghost use Rattle.cpg_text.specs.Streams.{AppendsFront};
-ghost use Rattle.cpgring.specs.Sources.{GreetsAt, but_input, cause_text, first_file, is_of_path, lets_nobody_in, names_file, path_of, unread_line, words_after};
+ghost use Rattle.cpgring.specs.Sources.{GreetsAt, but_input, cause_text, first_file, greeting, is_of_path, shell_greeting, lets_nobody_in, names_file, path_of, unread_line, words_after};
 
 use cpg_cred::Refusal;
 use cpg_program::tell_fault;
@@ -165,13 +165,31 @@ pub fn tell_unread<E: Write>(alloc: Global, errors: &mut E, path: &str, why: Unr
 
 /// Says, where standard input is a terminal, what is read there and how to end it.
 pub fn greet<E: Write>(errors: &mut E, at_terminal: bool)
-    ensures { GreetsAt at_terminal (E.contents errors.old) (E.contents errors.new) }
+    ensures { GreetsAt at_terminal greeting (E.contents errors.old) (E.contents errors.new) }
+{
+    say_at(errors, at_terminal, GREETING);
+}
+
+/// Says, where the commands of a shell are typed at a terminal, how to be told which there are and how to end it.
+pub fn greet_shell<E: Write>(errors: &mut E, at_terminal: bool)
+    ensures { GreetsAt at_terminal shell_greeting (E.contents errors.old) (E.contents errors.new) }
+{
+    say_at(errors, at_terminal, SHELL_GREETING);
+}
+
+/// Says the text at a terminal alone.
+fn say_at<E: Write>(errors: &mut E, at_terminal: bool, text: &str)
+    ensures { GreetsAt at_terminal text.now (E.contents errors.old) (E.contents errors.new) }
 {
     if at_terminal {
-        let _ = write_whole(errors, GREETING.as_bytes());
+        let _ = write_whole(errors, text.as_bytes());
     }
 }
 
 /// What is said before a script is read from a terminal.
 const GREETING: &str =
     "cpgring: the script is read from the terminal; Ctrl-D at the start of a line ends it\n";
+
+/// What is said before a shell reads from a terminal.
+const SHELL_GREETING: &str =
+    "cpgring: type help for the commands; Ctrl-D at the start of a line ends the shell\n";

@@ -41,11 +41,12 @@ fn command_lines_are_answered(rt: HostRuntime) {
     assert!(rt; why_none(alloc, &["cpgring", "accept"]).is_none());
     assert!(rt; why_none(alloc, &["cpgring", "why", "3", "day.judge"]).is_none());
     assert!(rt; why_none(alloc, &["cpgring", "why", "--all"]).is_none());
+    assert!(rt; why_none(alloc, &["cpgring", "judge", "--only=denied", "-v"]).is_none());
     expect(
         &rt,
         alloc,
         &["cpgring", "--version"],
-        "cpgring 0.1.0\n",
+        "cpgring 0.1.0 (rattle-kit-13f logic dac8208d650f15bf)\n",
         "",
         0,
     );
@@ -57,6 +58,22 @@ fn command_lines_are_answered(rt: HostRuntime) {
         "Judges the agreed",
         "",
         0,
+    );
+    expect(
+        &rt,
+        alloc,
+        &["cpgring", "judge", "--only=x"],
+        "",
+        "error: 'judge' takes KIND",
+        2,
+    );
+    expect(
+        &rt,
+        alloc,
+        &["cpgring", "run", "--wait", "x"],
+        "",
+        "error: 'run' takes --wait=MS",
+        2,
     );
     expect(&rt, alloc, &["cpgring"], "", about, 2);
     expect(
@@ -140,7 +157,7 @@ fn asks_to_run(alloc: Global, words: &[&str], settings: Settings, list: &[&str])
         Ok(matches) => match read_asked(alloc, &matches) {
             Ok(
                 Asked {
-                    run: Run::Cluster(asked, given),
+                    run: Run::Cluster(_, asked, given),
                     source: Source::Input,
                 },
             ) => asked == settings && given == list,

@@ -1,0 +1,10 @@
+-- how the answers of a cluster are written
+use Rattle.cpg_cluster.specs.Lines.{Printed, shown_as}
+use Rattle.cpg_json_run.specs.Answers.{printed_json}
+use Rattle.cpg_program.specs.declared.speaking.Spoken.{Spoken}
+use Rattle.cpg_program.specs.declared.speaking.Spoken.TheVariants.{Text, Json}
+
+-- as text, or as objects of JSON
+abbrev pub spoken_as : Spoken → Printed
+spoken_as (Text shown) = shown_as shown
+spoken_as Json = printed_json

@@ -1,0 +1,183 @@
+//! `cpgring shell`: a new cluster, and the lines that are typed over it.
+//!
+//! Proved: the words of the command line come first, then the settings, then the lines; what is printed and told, and the
+//! status.
+
+ghost use Rattle.std.specs.Prelude.{◌≡◌, None, Some, map, OnOk, IfErr};
+ghost use Rattle.cpg_program.specs.Pipes.{has_left, written};
+ghost use Rattle.cpg_program.specs.Shelling.{ShellEnds, ShellRuns, Shells};
+ghost use Rattle.cpg_program.specs.Speaking.{spoken_as};
+ghost use Rattle.cpg_program.specs.Words.{list_of_words};
+
+use crate::failures::Failure;
+use crate::pipes::Piped;
+use crate::runs::{Ended, failure_after, hand_on, tell};
+use crate::speaking::Spoken;
+use crate::words::read_list;
+use cpg_board::Board;
+use cpg_cluster::Manner;
+use cpg_cred::{AcceptList, Refusal};
+use cpg_daemon::{BoardName, Cluster, PassAll};
+use cpg_ring::{Settings, are_settings};
+use cpg_shell::shell_lines;
+use std::alloc::Global;
+use std::io::{BufWriter, Read, Write};
+use std::marker::Brand;
+use std::sync::Wait;
+use std::thread::Threads;
+use std::time::Clock;
+
+/// Answers the lines of the reader over a new cluster of those settings, whose nodes let in whom the words let in, stops
+/// the cluster, and tells why that ended early, if it did.
+///
+/// A wrong word comes first, then settings out of their ranges, then the faults of the shell.
+pub fn perform_shell<H, R, W, E>(
+    rt: H,
+    alloc: Global,
+    manner: &Manner<Spoken>,
+    settings: Settings,
+    words: &[&str],
+    reader: &mut R,
+    writer: &mut BufWriter<Piped<W>>,
+    errors: &mut E,
+) -> Ended
+where
+    H: Threads + Wait + Clock + Copy + Send + 'static,
+    R: Read,
+    W: Write + Drop,
+    E: Write,
+    ensures { ShellRuns (spoken_as (manner.now).form) settings (list_of_words (map (λ word. word.now) words.now)) (has_left writer.new) result.flushed result.failure
+        (R.remaining reader.old) (written W.contents writer.old) (written W.contents writer.new) (E.contents errors.old) (E.contents errors.new) }
+{
+    let done = run_shell(rt, alloc, manner, settings, words, reader, writer, errors);
+    let flushed = hand_on(writer);
+    let failure = failure_after(done, flushed);
+    let told = tell(errors, writer.get_ref().has_left(), &failure);
+    Ended {
+        failure,
+        flushed,
+        told,
+    }
+}
+
+/// Answers the lines over a new cluster, and stops it.
+#[tactic(auto, using(crate::proofs::Shelled::none_of_words, crate::proofs::Shelled::none_of_memory))]
+fn run_shell<H, R, W, E>(
+    rt: H,
+    alloc: Global,
+    manner: &Manner<Spoken>,
+    settings: Settings,
+    words: &[&str],
+    reader: &mut R,
+    writer: &mut W,
+    errors: &mut E,
+) -> Result<(), Failure>
+where
+    H: Threads + Wait + Clock + Copy + Send + 'static,
+    R: Read,
+    W: Write,
+    E: Write,
+    ensures ok { OnOk result (Shells (spoken_as (manner.now).form) settings (list_of_words (map (λ word. word.now) words.now)) None
+        (R.remaining reader.old) (W.contents writer.old) (W.contents writer.new) (E.contents errors.old) (E.contents errors.new)) }
+    ensures err { IfErr result (λ failure. Shells (spoken_as (manner.now).form) settings (list_of_words (map (λ word. word.now) words.now)) (Some failure)
+        (R.remaining reader.old) (W.contents writer.old) (W.contents writer.new) (E.contents errors.old) (E.contents errors.new)) }
+{
+    match read_list(alloc, words) {
+        Err(refusal) => Err(Failure::from(refusal)),
+        Ok(None) => Err(Failure::BadWord),
+        Ok(Some(list)) => shell_listed(rt, alloc, manner, settings, &list, reader, writer, errors),
+    }
+}
+
+/// Answers the lines over a new cluster of those settings and that list. The board is made here, and named.
+#[tactic(auto, using(crate::proofs::Shelled::none_of_settings, crate::proofs::Shelled::none_of_memory))]
+fn shell_listed<H, R, W, E>(
+    rt: H,
+    alloc: Global,
+    manner: &Manner<Spoken>,
+    settings: Settings,
+    list: &AcceptList,
+    reader: &mut R,
+    writer: &mut W,
+    errors: &mut E,
+) -> Result<(), Failure>
+where
+    H: Threads + Wait + Clock + Copy + Send + 'static,
+    R: Read,
+    W: Write,
+    E: Write,
+    ensures ok { OnOk result (Shells (spoken_as (manner.now).form) settings (Some list.now) None
+        (R.remaining reader.old) (W.contents writer.old) (W.contents writer.new) (E.contents errors.old) (E.contents errors.new)) }
+    ensures err { IfErr result (λ failure. Shells (spoken_as (manner.now).form) settings (Some list.now) (Some failure)
+        (R.remaining reader.old) (W.contents writer.old) (W.contents writer.new) (E.contents errors.old) (E.contents errors.new)) }
+{
+    if !are_settings(&settings) {
+        return Err(Failure::from(Refusal::Range));
+    }
+    match Board::new(alloc, settings.places) {
+        Err(_) => Err(Failure::from(Refusal::Memory)),
+        Ok(board) => shell_on::<Brand, H, R, W, E>(
+            rt, alloc, manner, settings, board, list, reader, writer, errors,
+        ),
+    }
+}
+
+/// Answers the lines over a new cluster on that board.
+#[tactic(auto, using(crate::proofs::Shelled::none_of_memory, crate::proofs::Shelled::left_shelled))]
+fn shell_on<B, H, R, W, E>(
+    rt: H,
+    alloc: Global,
+    manner: &Manner<Spoken>,
+    settings: Settings,
+    board: Board,
+    list: &AcceptList,
+    reader: &mut R,
+    writer: &mut W,
+    errors: &mut E,
+) -> Result<(), Failure>
+where
+    B: BoardName + Send + Sync + 'static,
+    H: Threads + Wait + Clock + Copy + Send + 'static,
+    R: Read,
+    W: Write,
+    E: Write,
+    requires { board ≡ B.cells }
+    ensures ok { OnOk result (Shells (spoken_as (manner.now).form) settings (Some list.now) None
+        (R.remaining reader.old) (W.contents writer.old) (W.contents writer.new) (E.contents errors.old) (E.contents errors.new)) }
+    ensures err { IfErr result (λ failure. Shells (spoken_as (manner.now).form) settings (Some list.now) (Some failure)
+        (R.remaining reader.old) (W.contents writer.old) (W.contents writer.new) (E.contents errors.old) (E.contents errors.new)) }
+{
+    match Cluster::<B, PassAll>::start(rt, alloc, settings, board, list, PassAll) {
+        Err(_) => Err(Failure::from(Refusal::Memory)),
+        Ok(cluster) => shell_over(rt, alloc, manner, cluster, reader, writer, errors),
+    }
+}
+
+/// Answers the lines over the cluster, and stops it.
+fn shell_over<B, H, R, W, E>(
+    rt: H,
+    alloc: Global,
+    manner: &Manner<Spoken>,
+    cluster: Cluster<B, PassAll>,
+    reader: &mut R,
+    writer: &mut W,
+    errors: &mut E,
+) -> Result<(), Failure>
+where
+    B: BoardName + Send + Sync + 'static,
+    H: Threads + Wait + Clock + Copy,
+    R: Read,
+    W: Write,
+    E: Write,
+    ensures ok { OnOk result (ShellEnds (spoken_as (manner.now).form) cluster.list cluster.nodes None
+        (R.remaining reader.old) (W.contents writer.old) (W.contents writer.new) (E.contents errors.old) (E.contents errors.new)) }
+    ensures err { IfErr result (λ failure. ShellEnds (spoken_as (manner.now).form) cluster.list cluster.nodes (Some failure)
+        (R.remaining reader.old) (W.contents writer.old) (W.contents writer.new) (E.contents errors.old) (E.contents errors.new)) }
+{
+    let done = shell_lines(&rt, alloc, reader, writer, errors, &cluster, manner);
+    drop(cluster.stop(&rt));
+    match done {
+        Ok(()) => Ok(()),
+        Err(fault) => Err(Failure::from(fault)),
+    }
+}
