@@ -6,7 +6,7 @@
 #![tactic(auto)]
 
 pub use cpg_accept::accept_script;
-pub use cpg_cluster::cluster_script;
+pub use cpg_cluster::{Manner, PLAIN, Patience, Shown, cluster_script};
 pub use cpg_judge::judge_script;
 pub use cpg_print::{entries_read_back, rules_read_back, whos_read_back};
 pub use cpg_script::{Fault, put_fault};

@@ -4,7 +4,7 @@ ghost use Rattle.std.specs.Prelude.{◌≡◌};
 
 use crate::streams::{Short, Slow};
 use cpg_board::Board;
-use cpg_console::cluster_script;
+use cpg_console::{PLAIN, cluster_script};
 use cpg_cred::{AcceptList, Refusal};
 use cpg_daemon::{BoardName, Cluster, PassAll};
 use cpg_node::Settings;
@@ -59,7 +59,7 @@ where
 {
     let list = list_of_seven(alloc)?;
     let cluster = Cluster::<B, PassAll>::start(rt, alloc, SETTINGS, board, &list, PassAll)?;
-    let done = cluster_script(&rt, alloc, reader, writer, &cluster);
+    let done = cluster_script(&rt, alloc, reader, writer, &cluster, &PLAIN);
     drop(cluster.stop(&rt));
     Ok(done.err().map(|fault| fault.refusal))
 }

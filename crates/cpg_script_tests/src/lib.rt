@@ -7,19 +7,27 @@ mod accepts;
 #[cfg(test)]
 mod confs;
 #[cfg(test)]
+mod hints;
+#[cfg(test)]
 mod json;
 #[cfg(test)]
 mod judges;
 #[cfg(test)]
 mod lines;
 #[cfg(test)]
+mod marked;
+#[cfg(test)]
 mod runs;
 #[cfg(test)]
 mod sessions;
 #[cfg(test)]
+mod shells;
+#[cfg(test)]
 mod steps;
 #[cfg(test)]
 mod texts;
+#[cfg(test)]
+mod why_objects;
 #[cfg(test)]
 mod whys;
 

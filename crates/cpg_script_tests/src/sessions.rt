@@ -2,8 +2,9 @@
 
 ghost use Rattle.std.specs.Prelude.{◌≡◌, ◌≤◌};
 
+use crate::marked::Marked;
 use cpg_board::Board;
-use cpg_cluster::cluster_script;
+use cpg_cluster::{Manner, PLAIN, Patience, PutsAnswer, Shown, cluster_script};
 use cpg_cred::{AcceptList, NodeId, Refusal};
 use cpg_daemon::{BoardName, Cluster, Fate, Gate, PassAll, Running};
 use cpg_node::Settings;
@@ -55,7 +56,7 @@ fn goes<B: BoardName, G, H: Wait + Clock>(
 ) -> bool {
     let mut reader = script;
     let mut written = Vec::new(alloc);
-    let ended = match cluster_script(rt, alloc, &mut reader, &mut written, running) {
+    let ended = match cluster_script(rt, alloc, &mut reader, &mut written, running, &PLAIN) {
         Ok(()) => None,
         Err(fault) => Some(fault.refusal),
     };
@@ -284,5 +285,133 @@ fn one_node_is_safe(rt: HostRuntime) -> Result<(), Fail> {
     let board = Board::new(rt.alloc(), 4_096)?;
     let alloc = rt.alloc();
     assert!(rt; prints_safe::<Brand, HostRuntime>(rt, alloc, board) == Ok(true));
+    Ok(())
+}
+
+/// A session that is let in, one that is not, a mark, a session that was not opened, and an audit of two lines.
+const ECHOED: &[u8] =
+    b"# two\nconnect 1 40 7 100\nconnect 2 60 9 9\n\nsafe 1\ncall 1 join db\nwait 1\nwait 1\naudit 1\nclose 2\n";
+
+/// What that prints, each line after its number and session.
+const ECHOED_PRINT: &[u8] =
+    b"2 s1 session 1\n3 - refused 2 Access\n5 - safe 0\n6 s1 admitted\n7 s1 event 1 verdict allowed default\n8 s1 event 1 change db members 1/40 left - joined 1/40:join\n9 s1 1 1.1 40 7 100 join db -> allowed default group db members 1/40\n9 s1 records 1\n10 s2 refused 3 NoConnection\n";
+
+/// Whether the script prints so in that manner, with a bar where what was printed is handed on; a writer that `fails`
+/// fails there. The script ends with `Write` exactly where it does.
+fn prints_marked<B: BoardName, G, H: Wait + Clock, P: PutsAnswer>(
+    rt: &H,
+    alloc: Global,
+    running: &Running<B, G>,
+    manner: &Manner<P>,
+    fails: bool,
+    script: &[u8],
+    answer: &[u8],
+) -> bool {
+    let mut reader = script;
+    let mut writer = Marked {
+        got: Vec::new(alloc),
+        fails,
+    };
+    let ended = match cluster_script(rt, alloc, &mut reader, &mut writer, running, manner) {
+        Ok(()) => None,
+        Err(fault) => Some(fault.refusal),
+    };
+    let wanted = if fails { Some(Refusal::Write) } else { None };
+    ended == wanted && writer.got.as_slice() == answer
+}
+
+/// A session that waits for its event, and then for one that doesn't come.
+const WAITS: &[u8] = b"connect 1 40 0 0\ncall 1 leave\nwait 1\nwait 1\nclose 1\n";
+
+/// Whether waits hand on what was printed, and end in their time.
+fn waits_well<B: BoardName, G, H: Wait + Clock>(
+    rt: &H,
+    alloc: Global,
+    running: &Running<B, G>,
+) -> bool {
+    let long = Manner {
+        patience: Patience::Millis(60_000),
+        form: Shown::Plain,
+    };
+    let none = Manner {
+        patience: Patience::Millis(1),
+        form: Shown::Echoed,
+    };
+    prints_marked(
+        rt,
+        alloc,
+        running,
+        &long,
+        false,
+        b"connect 1 40 0 0\ncall 1 leave\nwait 1\nwait 9\nclose 1\n",
+        b"session 1\nadmitted\n|event 1 verdict denied closed\n|refused 3 NoConnection\nclosed\n",
+    ) && prints_marked(
+        rt,
+        alloc,
+        running,
+        &none,
+        false,
+        b"connect 1 41 0 0\n\nwait 1\nclose 1\n",
+        b"1 s1 session 1\n|3 s1 none\n4 s1 closed\n",
+    ) && prints_marked(
+        rt,
+        alloc,
+        running,
+        &PLAIN,
+        true,
+        WAITS,
+        b"session 1\nadmitted\n",
+    )
+}
+
+/// Whether a new cluster of one node does.
+fn waits_on_one<B, R>(rt: R, alloc: Global, board: Board) -> Result<bool, Refusal>
+where
+    B: BoardName + Send + Sync + 'static,
+    R: Threads + Wait + Clock + Copy + Send + 'static,
+    requires { board ≡ B.cells }
+{
+    let list = list_of_two(alloc)?;
+    let cluster = Cluster::<B, PassAll>::start(rt, alloc, settings_of(1), board, &list, PassAll)?;
+    let waits = waits_well(&rt, alloc, &cluster);
+    drop(cluster.stop(&rt));
+    Ok(waits)
+}
+
+/// What was printed is handed on before each wait, and a wait ends in its time.
+#[test]
+fn waits(rt: HostRuntime) -> Result<(), Fail> {
+    let board = Board::new(rt.alloc(), 4_096)?;
+    let alloc = rt.alloc();
+    assert!(rt; waits_on_one::<Brand, HostRuntime>(rt, alloc, board) == Ok(true));
+    Ok(())
+}
+
+/// Whether the echoed script prints so on a new cluster of two nodes.
+fn echoes_on_two<B, R>(rt: R, alloc: Global, board: Board) -> Result<bool, Refusal>
+where
+    B: BoardName + Send + Sync + 'static,
+    R: Threads + Wait + Clock + Copy + Send + 'static,
+    requires { board ≡ B.cells }
+{
+    let list = list_of_two(alloc)?;
+    let cluster = Cluster::<B, PassAll>::start(rt, alloc, settings_of(2), board, &list, PassAll)?;
+    let echoed = Manner {
+        patience: Patience::Looks,
+        form: Shown::Echoed,
+    };
+    let mut reader = ECHOED;
+    let mut written = Vec::new(alloc);
+    let done = cluster_script(&rt, alloc, &mut reader, &mut written, &cluster, &echoed);
+    drop(cluster.stop(&rt));
+    Ok(done.is_ok() && written.as_slice() == ECHOED_PRINT)
+}
+
+/// Each line has the number of its command's line and its session.
+#[test]
+fn echoes(rt: HostRuntime) -> Result<(), Fail> {
+    let board = Board::new(rt.alloc(), 4_096)?;
+    let alloc = rt.alloc();
+    assert!(rt; echoes_on_two::<Brand, HostRuntime>(rt, alloc, board) == Ok(true));
     Ok(())
 }
