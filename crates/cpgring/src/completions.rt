@@ -21,7 +21,7 @@ _cpgring() {
             step) words="$ring --json --numbers --why -v --verbose" ;;
             draw) words="$ring --text -v --verbose" ;;
             run) words="$ring --json --wait --echo -v --verbose" ;;
-            shell) words="$ring --json --wait --echo" ;;
+            shell) words="$ring --json --wait --echo -v --verbose" ;;
             completions) words='bash zsh fish' ;;
         esac
         words="$words --help"
@@ -58,7 +58,7 @@ _cpgring() {
         step) _arguments $ring '--json' '--numbers' '--why=:place' $more ;;
         draw) _arguments $ring '--text' $more ;;
         run) _arguments $ring '--json' '--wait=:milliseconds' '--echo' $more ;;
-        shell) _arguments $ring '--json' '--wait=:milliseconds' '--echo' '--help' ;;
+        shell) _arguments $ring '--json' '--wait=:milliseconds' '--echo' '-v' '--verbose' '--help' ;;
         completions) compadd bash zsh fish ;;
     esac
 }
@@ -71,7 +71,7 @@ complete -c cpgring -n __fish_use_subcommand -f -a 'judge why accept admit step 
 complete -c cpgring -l help
 complete -c cpgring -n __fish_use_subcommand -l version
 complete -c cpgring -n '__fish_seen_subcommand_from judge why accept step run shell' -l json
-complete -c cpgring -n '__fish_seen_subcommand_from judge why accept step draw run' -s v -l verbose
+complete -c cpgring -n '__fish_seen_subcommand_from judge why accept step draw run shell' -s v -l verbose
 complete -c cpgring -n '__fish_seen_subcommand_from judge' -l only -x -a 'denied verdicts messages changes rules'
 complete -c cpgring -n '__fish_seen_subcommand_from judge' -l group -x
 complete -c cpgring -n '__fish_seen_subcommand_from judge step draw run shell' -l places -x

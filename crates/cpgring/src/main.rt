@@ -12,6 +12,7 @@ mod filtering;
 mod help;
 mod loading;
 mod sources;
+mod versions;
 #[cfg(test)]
 mod tests;
 
@@ -33,6 +34,7 @@ use std::rt::Stderr;
 use std::sync::Wait;
 use std::thread::Threads;
 use std::time::Clock;
+use versions::said_commit;
 
 fn main(rt: HostRuntime) -> ExitCode {
     let status = match start(&rt, rt) {
@@ -40,6 +42,7 @@ fn main(rt: HostRuntime) -> ExitCode {
         Err(error) => explain(
             rt.alloc(),
             &error,
+            said_commit(&rt).as_deref(),
             &mut Piped::new(rt.stdout()),
             &mut rt.stderr(),
         ),
