@@ -4,7 +4,10 @@ ghost use Rattle.std.specs.Prelude.{◌≡◌, ◌≤◌};
 
 use crate::marked::Marked;
 use cpg_board::Board;
-use cpg_cluster::{Manner, PLAIN, Patience, PutsAnswer, Shown, cluster_script};
+use cpg_cluster::{
+    Ask, Command, Known, Manner, Noted, Numbered, PLAIN, Patience, PutsAnswer, Reply, Shown,
+    cluster_script,
+};
 use cpg_cred::{AcceptList, NodeId, Refusal};
 use cpg_daemon::{BoardName, Cluster, Fate, Gate, PassAll, Running};
 use cpg_node::Settings;
@@ -413,5 +416,51 @@ fn echoes(rt: HostRuntime) -> Result<(), Fail> {
     let board = Board::new(rt.alloc(), 4_096)?;
     let alloc = rt.alloc();
     assert!(rt; echoes_on_two::<Brand, HostRuntime>(rt, alloc, board) == Ok(true));
+    Ok(())
+}
+
+/// What is known of waits by looks, over a ring of two places and nine hops.
+const KNOWN: Known = Known {
+    patience: Patience::Looks,
+    settings: Settings {
+        ring: 1,
+        nodes: 1,
+        places: 2,
+        hops: 9,
+    },
+};
+
+/// Whether that is said where no event came and the session has seen so many records.
+fn says(alloc: Global, seen: usize, shown: Shown, wanted: &[u8]) -> Result<bool, Refusal> {
+    let board = Board::new(alloc, 1)?;
+    let line = Numbered {
+        number: 7,
+        command: Command::Ask(2, Ask::Wait),
+    };
+    let form = Noted {
+        shown,
+        known: KNOWN,
+    };
+    let mut text = Vec::new(alloc);
+    form.put(alloc, &mut text, &board, &line, &Ok(Reply::Nothing(seen)))?;
+    Ok(text.as_slice() == wanted)
+}
+
+/// Behind a none stands what is known: where all places were seen, nothing more can come.
+#[test]
+fn what_is_known(rt: HostRuntime) -> Result<(), Fail> {
+    let some = says(
+        rt.alloc(),
+        1,
+        Shown::Plain,
+        b"none\n# nothing was told within 1000000 looks; the session has seen 1 of the ring's 2 places, and it ends after 9 hops\n",
+    )?;
+    let all = says(
+        rt.alloc(),
+        2,
+        Shown::Echoed,
+        b"7 s2 none\n7 s2 # nothing was told within 1000000 looks; the session has seen all of the ring's 2 places\n",
+    )?;
+    assert!(rt; some && all);
     Ok(())
 }
