@@ -10,7 +10,7 @@ ghost use Rattle.cpg_program.specs.declared.runs.Run.TheVariants.{Why};
 ghost use Rattle.cpg_print.specs.Entries.{conn_of_word};
 ghost use Rattle.cpgring.specs.Filtering.{is_filtered};
 ghost use Rattle.cpgring.specs.Sources.{but_input, path_of};
-ghost use Rattle.cpgring.specs.Asking.{name_of, words_found, AreSettingsGiven, IsAskedFor, IsFormGiven, IsMannerGiven, IsPictureGiven, IsShellGiven, IsSpokenGiven, patience_given, IsPlaceAsked, IsStatusOf, IsUnused, IsUsed, Says, is_numbered, question_named};
+ghost use Rattle.cpgring.specs.Asking.{name_of, words_found, AreSettingsGiven, IsAskedFor, IsFormGiven, IsInquiryGiven, IsMannerGiven, IsPictureGiven, IsShellGiven, IsSpokenGiven, patience_given, IsPlaceAsked, IsStatusOf, IsUnused, IsUsed, Says, is_numbered, question_named};
 
 use crate::commands::{
     ACCEPT, ALL, CONNECTION, ECHO, FILE, HOPS, JSON, NODES, NUMBERS, PLACE, PLACES, RING, TEXT,
@@ -23,7 +23,8 @@ use clap::{ArgMatches, Error};
 use cpg_cred::{MOST_NODES, NodeId, Refusal};
 use cpg_entry::MOST_CONNECTIONS;
 use cpg_program::{
-    Asked as Question, Form, Manner, Patience, Picture, Piped, Run, Shown, Spoken, tell_fault,
+    Asked as Question, Form, Inquiry, Manner, Patience, Picture, Piped, Run, Shown, Spoken,
+    tell_fault,
 };
 use cpg_record::ConnId;
 use cpg_ring::Settings;
@@ -84,7 +85,7 @@ fn why_none(matches: &ArgMatches<'_>) -> (ErrorKind, &'static str) {
         ),
         Some("run") => (
             ErrorKind::InvalidValue,
-            "'run' takes --wait=MS, milliseconds from 0 to 4294967295",
+            "'run' takes --wait=MS, milliseconds from 0 to 4294967295, and --why=PLACE, a number from 1, or NODE.CONN, or all",
         ),
         Some("why") => (
             ErrorKind::InvalidValue,
@@ -288,15 +289,28 @@ fn draw_of<'a>(given: &'a ArgMatches<'_>) -> Option<Asked<'a>>
     })
 }
 
-/// The run of a script of sessions over a cluster with the settings and the words that are given.
+/// The run of a script of sessions over a cluster with the settings and the words that are given, or what is asked of
+/// the entries that it leaves.
 fn cluster_of<'a>(given: &'a ArgMatches<'_>) -> Option<Asked<'a>>
     ensures { IfSome result (IsAskedFor (found_of given.now) (codes "run")) }
 {
     let settings = settings_of(given)?;
     let (source, words) = split_words(words_of(given));
-    Some(Asked {
-        run: Run::Cluster(manner_of(given)?, settings, words),
-        source,
+    let run = match given.get_str(WHY) {
+        Some(_) => Run::ClusterWhy(inquiry_of(given)?, settings, words),
+        None => Run::Cluster(manner_of(given)?, settings, words),
+    };
+    Some(Asked { run, source })
+}
+
+/// What is asked once a script of sessions was run, where the options say it.
+fn inquiry_of(given: &ArgMatches<'_>) -> Option<Inquiry>
+    ensures { IfSome result (IsInquiryGiven (found_of given.now)) }
+{
+    Some(Inquiry {
+        form: form_of(given),
+        asked: read_question(given.get_str(WHY)?.as_bytes())?,
+        patience: read_patience(given.get_str(WAIT))?,
     })
 }
 

@@ -42,6 +42,13 @@ fn command_lines_are_answered(rt: HostRuntime) {
     assert!(rt; why_none(alloc, &["cpgring", "why", "3", "day.judge"]).is_none());
     assert!(rt; why_none(alloc, &["cpgring", "why", "--all"]).is_none());
     assert!(rt; why_none(alloc, &["cpgring", "judge", "--only=denied", "-v"]).is_none());
+    assert!(rt;
+        why_none(
+            alloc,
+            &["cpgring", "run", "--why=1.2", "--wait=9", "--json"]
+        )
+        .is_none()
+    );
     expect(
         &rt,
         alloc,
