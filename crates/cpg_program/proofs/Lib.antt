@@ -3,6 +3,7 @@ pub mod Flushed
 pub mod Fronts
 pub mod Lines
 pub mod Clustered
+pub mod Audited
 pub mod Pictured
 pub mod Started
 pub mod Shelled

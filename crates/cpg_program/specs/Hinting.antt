@@ -9,7 +9,7 @@ use Rattle.cpg_hint.specs.declared.kinds.Kind.TheVariants as kind
 use Rattle.cpg_program.specs.declared.failures.Failure.{Failure}
 use Rattle.cpg_program.specs.declared.failures.Failure.TheVariants.{BadWord, Fault, NoEntry}
 use Rattle.cpg_program.specs.declared.runs.Run.{Run}
-use Rattle.cpg_program.specs.declared.runs.Run.TheVariants.{Judge, JudgeOnly, Why, Accept, Step, StepWhy, Draw, Number, Cluster}
+use Rattle.cpg_program.specs.declared.runs.Run.TheVariants.{Judge, JudgeOnly, Why, Accept, Step, StepWhy, Draw, Number, Cluster, ClusterWhy}
 
 -- the kind of script that a run reads
 abbrev pub kind_of : Run → Kind
@@ -22,6 +22,7 @@ kind_of (StepWhy form asked settings words) = kind.Step settings.nodes
 kind_of (Draw picture settings words) = kind.Step settings.nodes
 kind_of (Number settings words) = kind.Step settings.nodes
 kind_of (Cluster manner settings words) = kind.Cluster settings.nodes
+kind_of (ClusterWhy inquiry settings words) = kind.Cluster settings.nodes
 
 -- what is told behind the line of a fault
 abbrev pub hint_told : Run → List ℕ → Option Failure → List ℕ

@@ -27,6 +27,7 @@ use Rattle.cpg_why.specs.Forms as told
 use Rattle.cpg_why.specs.Scripts as why
 use Rattle.cpg_json_why.specs.Whys.{as_json}
 use Rattle.cpg_why_steps.specs.Explaining as told_steps
+use Rattle.cpg_why_audit.specs.Sessions as audit
 use Rattle.cpg_why.specs.declared.asking.Asked.{Asked}
 use Rattle.cpg_why.specs.declared.asking.WhyFault as why_faults
 use Rattle.cpg_why.specs.declared.asking.WhyFault.TheVariants as why_fault
@@ -42,7 +43,7 @@ use Rattle.cpg_program.specs.declared.runs.Form.TheVariants.{Text, Json}
 use Rattle.cpg_program.specs.declared.runs.Picture.{Picture}
 use Rattle.cpg_program.specs.declared.runs.Picture.TheVariants as picture
 use Rattle.cpg_program.specs.declared.runs.Run.{Run}
-use Rattle.cpg_program.specs.declared.runs.Run.TheVariants.{Judge, JudgeOnly, Why, Accept, Step, StepWhy, Draw, Number, Cluster}
+use Rattle.cpg_program.specs.declared.runs.Run.TheVariants.{Judge, JudgeOnly, Why, Accept, Step, StepWhy, Draw, Number, Cluster, ClusterWhy}
 
 -- the exit status: 0, after a fault 1, after a fault of the command line 2: a wrong word, or a place that has no entry
 abbrev pub status_after : Option Failure → ℕ
@@ -170,6 +171,27 @@ Clusters printed s (Some list) script None old new = ClustersAll printed s.nodes
 Clusters printed s (Some list) script (Some (Fault fault)) old new = (fault.part ≡ None) × ClustersUpTo printed s list script fault.refusal old new
 Clusters printed s (Some list) script _ old new = ⊥
 
+-- what is asked is told of the entries that stand on a board of so many places
+abbrev pub IsAudited : Form → Asked → ℕ → Option (List ℕ) → Option (List ℕ) → Type 0
+IsAudited form asked places old new = (board : List ℕ) × (length board ≡ places) × audit.IsTold (why_as form) board asked old new
+
+-- what a fault leaves of that, by its refusal; Range tells that there is no cluster of those settings
+abbrev pub AuditedUpTo : Refusal → Form → Asked → Settings → Listed → List ℕ → script_faults.Fault → Option (List ℕ) → Option (List ℕ) → Type 0
+AuditedUpTo Range form asked s list script fault old new = (¬ IsSettings s) × Keeps old new
+AuditedUpTo refused form asked s list script fault old new =
+    (board : List ℕ) × audit.Leaves (why_as form) board list (clustered.commands_of_script s.nodes script) asked (why_fault.Script fault) old new
+
+-- what `run --why` writes of a script, by the list that its words give: what is told of what stands on a new cluster's board after its commands
+abbrev pub TellsSessions : Form → Asked → Settings → Option Listed → List ℕ → Option Failure → Option (List ℕ) → Option (List ℕ) → Type 0
+TellsSessions form asked s None script failure old new = (failure ≡ Some BadWord) × Keeps old new
+TellsSessions form asked s (Some list) script None old new =
+    (length script ≤ MOST_BYTES) × audit.AreRun list (clustered.commands_of_script s.nodes script) × IsAudited form asked s.places old new
+TellsSessions form asked s (Some list) script (Some (Fault fault)) old new =
+    (fault.part ≡ None) × AuditedUpTo fault.refusal form asked s list script fault old new
+TellsSessions form asked s (Some list) script (Some (NoEntry place entries)) old new =
+    (board : List ℕ) × audit.Leaves (why_as form) board list (clustered.commands_of_script s.nodes script) asked (why_fault.NoEntry place entries) old new
+TellsSessions form asked s (Some list) script (Some BadWord) old new = ⊥
+
 -- a word of the run's command line lets nobody in
 abbrev pub HasWrongWord : Run → Type 0
 HasWrongWord (Judge form) = ⊥
@@ -181,6 +203,7 @@ HasWrongWord (StepWhy form asked settings words) = list_of_words (map (λ word. 
 HasWrongWord (Draw picture settings words) = list_of_words (map (λ word. word.now) words.now) ≡ None
 HasWrongWord (Number settings words) = list_of_words (map (λ word. word.now) words.now) ≡ None
 HasWrongWord (Cluster manner settings words) = list_of_words (map (λ word. word.now) words.now) ≡ None
+HasWrongWord (ClusterWhy inquiry settings words) = list_of_words (map (λ word. word.now) words.now) ≡ None
 
 -- what a run writes of a script to standard output: all of its text, or after a fault what that fault leaves
 abbrev pub Prints : Run → List ℕ → Option Failure → Option (List ℕ) → Option (List ℕ) → Type 0
@@ -196,6 +219,8 @@ Prints (StepWhy form asked settings words) script failure old new = TellsSteps f
 Prints (Draw kind settings words) script failure old new = Draws kind settings (list_of_words (map (λ word. word.now) words.now)) script failure old new
 Prints (Number settings words) script failure old new = Draws picture.Numbered settings (list_of_words (map (λ word. word.now) words.now)) script failure old new
 Prints (Cluster manner settings words) script failure old new = Clusters (spoken_as manner.form) settings (list_of_words (map (λ word. word.now) words.now)) script failure old new
+Prints (ClusterWhy inquiry settings words) script failure old new =
+    TellsSessions inquiry.form inquiry.asked settings (list_of_words (map (λ word. word.now) words.now)) script failure old new
 Prints _ script _ old new = ⊥
 
 -- nothing is written before the words were found right, and the script read and checked

@@ -38,7 +38,9 @@ fn kind_of(run: &Run<'_>) -> Kind
         | Run::StepWhy(_, _, settings, _)
         | Run::Draw(_, settings, _)
         | Run::Number(settings, _) => { Kind::Step(settings.nodes) }
-        Run::Cluster(_, settings, _) => Kind::Cluster(settings.nodes),
+        Run::Cluster(_, settings, _) | Run::ClusterWhy(_, settings, _) => {
+            Kind::Cluster(settings.nodes)
+        }
     }
 }
 
@@ -52,7 +54,8 @@ fn has_wrong_word(run: &Run<'_>) -> bool
         | Run::StepWhy(_, _, _, words)
         | Run::Draw(_, _, words)
         | Run::Number(_, words)
-        | Run::Cluster(_, _, words) => has_wrong(words),
+        | Run::Cluster(_, _, words)
+        | Run::ClusterWhy(_, _, words) => has_wrong(words),
     }
 }
 

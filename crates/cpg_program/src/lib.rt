@@ -5,6 +5,7 @@
 #![tactic(auto)]
 
 mod admitting;
+mod auditing;
 mod clustering;
 mod drawing;
 mod failures;
@@ -20,6 +21,7 @@ mod telling;
 mod words;
 
 pub use admitting::{Admission, NamedText, perform_admit, write_text};
+pub use auditing::Inquiry;
 pub use cpg_cluster::{Known, Manner, Noted, Patience, Shown};
 pub use cpg_filter::{Filter, Only};
 pub use cpg_why::Asked;

@@ -12,6 +12,7 @@ ghost use Rattle.cpg_program.specs.Runs.{failure_of, failure_told, status_after,
 ghost use Rattle.cpg_program.specs.Pipes.{has_left, written};
 ghost use Rattle.cpg_program.specs.Telling.{told_text};
 
+use crate::auditing::{Inquiry, explain_over_cluster};
 use crate::clustering::run_cluster;
 use crate::drawing::draw_over_world;
 use crate::failures::Failure;
@@ -75,6 +76,9 @@ pub enum Run<'a> {
     /// `cpgring run`: a script of sessions is run over a new cluster of those settings, whose nodes let in
     /// whom the words let in, and answers as the manner says.
     Cluster(Manner<Spoken>, Settings, &'a [&'a str]),
+    /// `cpgring run --why`: it is told why entries that stand on such a cluster's board after the script were answered
+    /// as they were.
+    ClusterWhy(Inquiry, Settings, &'a [&'a str]),
 }
 
 /// How a run ended.
@@ -247,6 +251,9 @@ where
         }
         Run::Cluster(manner, settings, words) => {
             run_cluster(rt, alloc, manner, *settings, words, reader, writer)?;
+        }
+        Run::ClusterWhy(inquiry, settings, words) => {
+            explain_over_cluster(rt, alloc, inquiry, *settings, words, reader, writer)?;
         }
     }
     Ok(())

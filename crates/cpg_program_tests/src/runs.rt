@@ -1,7 +1,9 @@
 //! Runs over streams that tell their bytes, and streams that fail.
 
 use cpg_filter::{Filter, Only};
-use cpg_program::{Asked, Form, Manner, Patience, Picture, Piped, Run, Shown, Spoken, perform};
+use cpg_program::{
+    Asked, Form, Inquiry, Manner, Patience, Picture, Piped, Run, Shown, Spoken, perform,
+};
 use cpg_ring::Settings;
 use std::alloc::Global;
 use std::io::{self, BufWriter, Error, ErrorKind, Write};
@@ -290,6 +292,46 @@ fn sessions_write_to_their_streams(rt: HostRuntime) -> Result<(), Fail> {
     expect_each(rt, rt.alloc(), &run, rows.as_slice())
 }
 
+#[test]
+fn explanations_of_steps_write_to_their_streams(rt: HostRuntime) -> Result<(), Fail> {
+    let _filter = denied();
+    let script = "connect 1 40 7 9\ncall 1 1 leave\nframe 1 1\ndeliver 1\n";
+    let why =
+        "entry 1: 1.1 40 7 9 leave\nverdict: denied closed\ndecided: closed: 1.1 is in no group: it never joined\n";
+    let rows = [
+        (script, 999, why, "", 0),
+        ("timer 1\njump", 99, "", "cpgring: 41 BadCommand 2\n", 1),
+        ("# none\n", 99, "", "cpgring: there is no entry 1: t", 2),
+    ];
+    let list = ["uid:7"];
+    let run = Run::StepWhy(Form::Text, Asked::Place(1), SMALL, &list);
+    expect_each(rt, rt.alloc(), &run, rows.as_slice())
+}
+
+/// What is asked once a script of sessions was run.
+const WHY_FIRST: Inquiry = Inquiry {
+    form: Form::Text,
+    asked: Asked::Place(1),
+    patience: Patience::Looks,
+};
+
+#[test]
+fn explanations_of_sessions_write_to_their_streams(rt: HostRuntime) -> Result<(), Fail> {
+    let _filter = denied();
+    let script = "connect 1 40 7 9\ncall 1 leave\nwait 1\n";
+    let why =
+        "entry 1: 1.1 40 7 9 leave\nverdict: denied closed\ndecided: closed: 1.1 is in no group: it never joined\n";
+    let rows = [
+        (script, 999, why, "", 0),
+        (script, 5, "entry", "cpgring: 43 Write\n", 1),
+        ("safe 1\njump", 99, "", "cpgring: 41 BadCommand 2\n", 1),
+        ("# none\n", 99, "", "cpgring: there is no entry 1: t", 2),
+    ];
+    let list = ["uid:7"];
+    let run = Run::ClusterWhy(WHY_FIRST, SMALL, &list);
+    expect_each(rt, rt.alloc(), &run, rows.as_slice())
+}
+
 /// Wrong words are told before settings out of their ranges, and these before a bad line.
 fn expect_faults_in_order<H: Abort + Threads + Wait + Clock + Copy + Send + 'static>(
     rt: H,
@@ -315,5 +357,8 @@ fn words_come_before_settings(rt: HostRuntime) -> Result<(), Fail> {
     expect_faults_in_order(rt, rt.alloc(), &bad, &large)?;
     let bad = Run::Cluster(USUAL, LARGE, &wrong);
     let large = Run::Cluster(USUAL, LARGE, &list);
+    expect_faults_in_order(rt, rt.alloc(), &bad, &large)?;
+    let bad = Run::ClusterWhy(WHY_FIRST, LARGE, &wrong);
+    let large = Run::ClusterWhy(WHY_FIRST, LARGE, &list);
     expect_faults_in_order(rt, rt.alloc(), &bad, &large)
 }

@@ -9,6 +9,7 @@ use Rattle.clap.specs.Words.{first_value, matched_of, one_text, raw_values}
 use Rattle.clap.specs.declared.error.kind.ErrorKind.{ErrorKind}
 use Rattle.clap.specs.declared.error.kind.ErrorKind.TheVariants.{DisplayHelp, DisplayVersion, OutOfMemory}
 use Rattle.cpg_ring.specs.declared.settings.Settings.{Settings}
+use Rattle.cpg_program.specs.declared.auditing.Inquiry.{Inquiry}
 use Rattle.cpg_program.specs.declared.runs.Run.{Run}
 use Rattle.cpg_cluster.specs.declared.forms.Manner.{Manner}
 use Rattle.cpg_cluster.specs.declared.forms.Patience.{Patience}
@@ -22,7 +23,7 @@ use Rattle.cpgring.specs.declared.asking.Asked.{Asked}
 use Rattle.cpgring.specs.declared.asking.AskedShell.{AskedShell}
 use Rattle.cpgring.specs.Filtering.{is_filtered, IsFilterGiven}
 use Rattle.cpgring.specs.Sources.{but_input, first_file, path_of, words_after}
-use Rattle.cpg_program.specs.declared.runs.Run.TheVariants.{Judge, JudgeOnly, Accept, Why, Step, StepWhy, Draw, Number, Cluster}
+use Rattle.cpg_program.specs.declared.runs.Run.TheVariants.{Judge, JudgeOnly, Accept, Why, Step, StepWhy, Draw, Number, Cluster, ClusterWhy}
 use Rattle.cpg_program.specs.declared.runs.Form.{Form}
 use Rattle.cpg_program.specs.declared.runs.Form.TheVariants.{Text, Json}
 use Rattle.cpg_program.specs.declared.runs.Picture.{Picture}
@@ -43,6 +44,7 @@ name_of (StepWhy form asked settings words) = codes "step"
 name_of (Draw picture settings words) = codes "draw"
 name_of (Number settings words) = codes "step"
 name_of (Cluster manner settings words) = codes "run"
+name_of (ClusterWhy inquiry settings words) = codes "run"
 
 -- the number is what the option's text writes, in ten digits
 abbrev pub IsGiven : Found → List ℕ → ℕ → Type 0
@@ -165,6 +167,13 @@ IsMannerGiven found settings manner =
     (patience_given (first_value found (codes "wait")) ≡ Some manner.patience)
     × IsSpokenGiven found (record { patience = manner.patience; settings = settings }) manner.form
 
+-- what is asked once a script of sessions was run is what the word asks, in the form that the option asks for, and a wait looks for as long as
+-- is given
+pub record IsInquiryGiven (found : Found) (inquiry : Inquiry) : Type 0 where
+  pub asked : question_asked (first_value found (codes "why")) ≡ Some inquiry.asked
+  pub form : IsFormGiven found inquiry.form
+  pub patience : patience_given (first_value found (codes "wait")) ≡ Some inquiry.patience
+
 -- a run has the form, the settings and the words that were given
 abbrev pub IsGivenBy : Found → Run → Type 0
 IsGivenBy found (Judge form) = IsFormGiven found form × (is_filtered found ≡ false)
@@ -176,7 +185,9 @@ IsGivenBy found (Draw picture settings words) = IsPictureGiven found picture × 
 IsGivenBy found (StepWhy form asked settings words) =
     (question_asked (first_value found (codes "why")) ≡ Some asked) × IsFormGiven found form × AreGiven found settings (map (λ word. word.now) words.now)
 IsGivenBy found (Number settings words) = (first_value found (codes "why") ≡ None) × AreGiven found settings (map (λ word. word.now) words.now)
-IsGivenBy found (Cluster manner settings words) = IsMannerGiven found settings manner × AreGiven found settings (map (λ word. word.now) words.now)
+IsGivenBy found (Cluster manner settings words) =
+    (first_value found (codes "why") ≡ None) × IsMannerGiven found settings manner × AreGiven found settings (map (λ word. word.now) words.now)
+IsGivenBy found (ClusterWhy inquiry settings words) = IsInquiryGiven found inquiry × AreGiven found settings (map (λ word. word.now) words.now)
 
 -- the numbers of frames are written, too
 abbrev pub is_numbered : Run → Bool

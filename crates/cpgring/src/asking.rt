@@ -11,7 +11,7 @@ ghost use Rattle.cpg_program.specs.declared.runs.Run.TheVariants.{Why};
 ghost use Rattle.cpg_print.specs.Entries.{conn_of_word};
 ghost use Rattle.cpgring.specs.Filtering.{is_filtered, IsBadFilter};
 ghost use Rattle.cpgring.specs.Sources.{but_input, path_of};
-ghost use Rattle.cpgring.specs.Asking.{name_of, words_found, AreSettingsGiven, IsAskedFor, IsFormGiven, IsMannerGiven, IsPictureGiven, IsShellGiven, IsShownGiven, IsSpokenGiven, patience_given, IsPlaceAsked, IsStatusOf, IsUnused, IsUsed, Says, is_numbered, question_named};
+ghost use Rattle.cpgring.specs.Asking.{name_of, words_found, AreSettingsGiven, IsAskedFor, IsFormGiven, IsInquiryGiven, IsMannerGiven, IsPictureGiven, IsShellGiven, IsShownGiven, IsSpokenGiven, patience_given, IsPlaceAsked, IsStatusOf, IsUnused, IsUsed, Says, is_numbered, question_named};
 
 use crate::commands::{
     ACCEPT, ALL, CONNECTION, ECHO, FILE, HOPS, JSON, NODES, NUMBERS, PLACE, PLACES, RING, TEXT,
@@ -19,18 +19,18 @@ use crate::commands::{
 };
 use crate::filtering::{filter_of, is_filtered};
 use crate::sources::{Source, source_of, split_words};
+use crate::versions::write_commit;
 use clap::error::ErrorKind;
 use clap::{ArgMatches, Error};
 use cpg_cred::{MOST_NODES, NodeId, Refusal};
 use cpg_entry::MOST_CONNECTIONS;
 use cpg_program::{
-    Asked as Question, Form, Known, Manner, Noted, Patience, Picture, Piped, Run, Shown, Spoken,
-    tell_fault,
+    Asked as Question, Form, Inquiry, Known, Manner, Noted, Patience, Picture, Piped, Run, Shown,
+    Spoken, tell_fault,
 };
 use cpg_record::ConnId;
 use cpg_ring::Settings;
 use cpg_script::{Fault, cut, is, read_u32};
-use crate::versions::write_commit;
 use cpg_text::write_whole;
 use std::alloc::{AllocError, Global};
 use std::convert::AsStr;
@@ -87,7 +87,7 @@ fn why_none(matches: &ArgMatches<'_>) -> (ErrorKind, &'static str) {
         ),
         Some("run") => (
             ErrorKind::InvalidValue,
-            "'run' takes --wait=MS, milliseconds from 0 to 4294967295",
+            "'run' takes --wait=MS, milliseconds from 0 to 4294967295, and --why=PLACE, a number from 1, or NODE.CONN, or all",
         ),
         Some("why") => (
             ErrorKind::InvalidValue,
@@ -292,15 +292,28 @@ fn draw_of<'a>(given: &'a ArgMatches<'_>) -> Option<Asked<'a>>
     })
 }
 
-/// The run of a script of sessions over a cluster with the settings and the words that are given.
+/// The run of a script of sessions over a cluster with the settings and the words that are given, or what is asked of
+/// the entries that it leaves.
 fn cluster_of<'a>(given: &'a ArgMatches<'_>) -> Option<Asked<'a>>
     ensures { IfSome result (IsAskedFor (found_of given.now) (codes "run")) }
 {
     let settings = settings_of(given)?;
     let (source, words) = split_words(words_of(given));
-    Some(Asked {
-        run: Run::Cluster(manner_of(given, settings)?, settings, words),
-        source,
+    let run = match given.get_str(WHY) {
+        Some(_) => Run::ClusterWhy(inquiry_of(given)?, settings, words),
+        None => Run::Cluster(manner_of(given, settings)?, settings, words),
+    };
+    Some(Asked { run, source })
+}
+
+/// What is asked once a script of sessions was run, where the options say it.
+fn inquiry_of(given: &ArgMatches<'_>) -> Option<Inquiry>
+    ensures { IfSome result (IsInquiryGiven (found_of given.now)) }
+{
+    Some(Inquiry {
+        form: form_of(given),
+        asked: read_question(given.get_str(WHY)?.as_bytes())?,
+        patience: read_patience(given.get_str(WAIT))?,
     })
 }
 

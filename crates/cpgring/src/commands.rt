@@ -266,10 +266,15 @@ fn run_command<'a>(alloc: Global) -> Result<Command<'a>, AllocError> {
         .after_long_help(RUN_MORE);
     with_words(
         alloc,
-        with_manner(
-            alloc,
-            with_ring(alloc, command)?.arg(verbose(alloc, HINTS_AND_NOTES))?,
-        )?,
+        with_manner(alloc, with_ring(alloc, command)?)?
+            .arg(word(
+                alloc,
+                WHY,
+                "PLACE",
+                "Explain in place of that, once all is done, the entry at the place; all: each denial; NODE.CONN: a connection's way",
+            )
+            .conflicts_with(ECHO)?)?
+            .arg(verbose(alloc, HINTS_AND_NOTES))?,
         "FILE|ACCEPT",
         FILE_AND_ACCEPT,
     )

@@ -20,7 +20,7 @@ _cpgring() {
             admit) words='--conf --names --passwd --group' ;;
             step) words="$ring --json --numbers --why -v --verbose" ;;
             draw) words="$ring --text -v --verbose" ;;
-            run) words="$ring --json --wait --echo -v --verbose" ;;
+            run) words="$ring --json --wait --echo --why -v --verbose" ;;
             shell) words="$ring --json --wait --echo -v --verbose" ;;
             completions) words='bash zsh fish' ;;
         esac
@@ -57,7 +57,7 @@ _cpgring() {
             '--help' ;;
         step) _arguments $ring '--json' '--numbers' '--why=:place' $more ;;
         draw) _arguments $ring '--text' $more ;;
-        run) _arguments $ring '--json' '--wait=:milliseconds' '--echo' $more ;;
+        run) _arguments $ring '--json' '--wait=:milliseconds' '--echo' '--why=:place' $more ;;
         shell) _arguments $ring '--json' '--wait=:milliseconds' '--echo' '-v' '--verbose' '--help' ;;
         completions) compadd bash zsh fish ;;
     esac
@@ -86,7 +86,7 @@ complete -c cpgring -n '__fish_seen_subcommand_from step draw run shell' -l node
 complete -c cpgring -n '__fish_seen_subcommand_from step draw run shell' -l hops -x
 complete -c cpgring -n '__fish_seen_subcommand_from step' -l numbers
 complete -c cpgring -n '__fish_seen_subcommand_from draw' -l text
-complete -c cpgring -n '__fish_seen_subcommand_from step' -l why -x
+complete -c cpgring -n '__fish_seen_subcommand_from step run' -l why -x
 complete -c cpgring -n '__fish_seen_subcommand_from run shell' -l wait -x
 complete -c cpgring -n '__fish_seen_subcommand_from run shell' -l echo
 complete -c cpgring -n '__fish_seen_subcommand_from completions' -f -a 'bash zsh fish'

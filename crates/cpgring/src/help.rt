@@ -407,7 +407,11 @@ is known then: how many of the ring's places the session has seen, and after how
 members MEMBERS, groups and their names, for audit the lines of `cpgring judge` and records COUNT, and safe
 PLACE. What was printed is handed on before a wait begins. With --wait=MS a wait looks for so many milliseconds,
 and at least once; with --echo each line stands behind the number of its script line and its session, `7 s2 `, or
-`7 - ` where it has none. A command that is refused prints the refusal, and the script goes on:
+`7 - ` where it has none. With --why=PLACE none of this is printed, but, once all commands are done, why the entry
+at that place was answered as it was, as `cpgring why` tells it; --why=all tells it of each denied entry,
+--why=NODE.CONN the way of a connection: a session is named by its connection, which its audit shows. All entries
+that the nodes have judged by then are told of, so wait for a call's verdict before the script ends. A command that
+is refused prints the refusal, and the script goes on:
 
   2 Access           nobody lets the credentials in
   3 NoConnection     no open session has the number
@@ -438,10 +442,21 @@ Example:
   3 1.1 40 7 100 send hi -> allowed default group db members 1/40
   records 3
 
+What a rule decided, explained:
+  $ printf '%s\\n' 'connect 2 50 0 0' 'call 1 insert db 0 deny join uid:7' 'wait 1' \\
+      'connect 1 40 7 100' 'call 2 join db' 'wait 2' |
+    cpgring run --why=2 uid:7
+  entry 2: 1.1 40 7 100 join db
+  verdict: denied rule 1
+  decided: rule 1 at 0 of 1 in db: deny join uid:7
+  put in: entry 1: 2.1 50 0 0 insert db 0 deny join uid:7
+  without it: allowed default
+
 Exit status: 0 done; 1 a fault, told on standard error; 2 a fault of the command line, `cpgring: bad accept
-word` among them. The faults are `cpgring: 41 BadCommand LINE`, the first line that is no command, before
-which nothing is done or printed; `cpgring: 42 Read`, also where the input is too long; `cpgring: 43 Write`;
-and `cpgring: 1 Memory`, which ends the script at the command that met it, also where a thread is not given.";
+word` among them, and with --why a PLACE that has no entry: `cpgring: there is no entry 9: the script has 2`. The
+faults are `cpgring: 41 BadCommand LINE`, the first line that is no command, before which nothing is done or
+printed; `cpgring: 42 Read`, also where the input is too long; `cpgring: 43 Write`; and `cpgring: 1 Memory`, which
+ends the script at the command that met it, also where a thread is not given.";
 
 pub const SHELL_ABOUT: &str = "Answers commands over a running cluster as they are typed";
 

@@ -12,9 +12,9 @@ mod filtering;
 mod help;
 mod loading;
 mod sources;
-mod versions;
 #[cfg(test)]
 mod tests;
+mod versions;
 
 use admitting::{files_of, read_asks};
 use asking::{explain, is_verbose, match_words, read_asked, read_shell, read_words};

@@ -23,7 +23,13 @@ fn expect(rt: &impl Abort, alloc: Global, words: &[&str], shown: &str, told: &st
     match why_none(alloc, words) {
         None => assert!(rt; false, "a run"),
         Some(error) => {
-            let said = explain(alloc, &error, None, &mut Piped::new(&mut writer), &mut errors);
+            let said = explain(
+                alloc,
+                &error,
+                None,
+                &mut Piped::new(&mut writer),
+                &mut errors,
+            );
             assert_eq!(rt; said, status);
         }
     }
@@ -42,6 +48,13 @@ fn command_lines_are_answered(rt: HostRuntime) {
     assert!(rt; why_none(alloc, &["cpgring", "why", "3", "day.judge"]).is_none());
     assert!(rt; why_none(alloc, &["cpgring", "why", "--all"]).is_none());
     assert!(rt; why_none(alloc, &["cpgring", "judge", "--only=denied", "-v"]).is_none());
+    assert!(rt;
+        why_none(
+            alloc,
+            &["cpgring", "run", "--why=1.2", "--wait=9", "--json"]
+        )
+        .is_none()
+    );
     expect(
         &rt,
         alloc,
