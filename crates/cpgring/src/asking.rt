@@ -132,7 +132,7 @@ pub fn is_verbose(given: &ArgMatches<'_>) -> bool
 }
 
 /// The form that the option asks for.
-fn form_of(given: &ArgMatches<'_>) -> Form
+pub fn form_of(given: &ArgMatches<'_>) -> Form
     ensures { IsFormGiven (found_of given.now) result }
 {
     if given.get_flag(JSON) {

@@ -205,6 +205,7 @@ fn admit_command<'a>(alloc: Global) -> Result<Command<'a>, AllocError> {
             "Accounts of groups, as /etc/group has them",
         )
         .conflicts_with(NAMES)?)?
+        .arg(flag(alloc, JSON, "Print one object of JSON a line"))?
         .arg(
             Arg::new(alloc, ASKS)
                 .value_name("UID:GID")

@@ -17,7 +17,7 @@ _cpgring() {
             judge) words='--json --only --group --connection --places -v --verbose' ;;
             why) words='--all --connection --json -v --verbose' ;;
             accept) words='--json -v --verbose' ;;
-            admit) words='--conf --names --passwd --group' ;;
+            admit) words='--conf --names --passwd --group --json' ;;
             step) words="$ring --json --numbers --why -v --verbose" ;;
             draw) words="$ring --text -v --verbose" ;;
             run) words="$ring --json --wait --echo --why -v --verbose" ;;
@@ -54,7 +54,7 @@ _cpgring() {
         why) _arguments '--all' '--connection=:connection' '--json' $more ;;
         accept) _arguments '--json' $more ;;
         admit) _arguments '--conf=:file:_files' '--names=:file:_files' '--passwd=:file:_files' '--group=:file:_files' \
-            '--help' ;;
+            '--json' '--help' ;;
         step) _arguments $ring '--json' '--numbers' '--why=:place' $more ;;
         draw) _arguments $ring '--text' $more ;;
         run) _arguments $ring '--json' '--wait=:milliseconds' '--echo' '--why=:place' $more ;;
@@ -70,7 +70,7 @@ pub const FISH: &str = r#"# cpgring completions fish > ~/.config/fish/completion
 complete -c cpgring -n __fish_use_subcommand -f -a 'judge why accept admit step draw run shell completions'
 complete -c cpgring -l help
 complete -c cpgring -n __fish_use_subcommand -l version
-complete -c cpgring -n '__fish_seen_subcommand_from judge why accept step run shell' -l json
+complete -c cpgring -n '__fish_seen_subcommand_from judge why accept admit step run shell' -l json
 complete -c cpgring -n '__fish_seen_subcommand_from judge why accept step draw run shell' -s v -l verbose
 complete -c cpgring -n '__fish_seen_subcommand_from judge' -l only -x -a 'denied verdicts messages changes rules'
 complete -c cpgring -n '__fish_seen_subcommand_from judge' -l group -x

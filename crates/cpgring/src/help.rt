@@ -178,6 +178,8 @@ Printed for each UID:GID, the first that holds:
   accepted group                             the group is listed
   refused 2 Access                           nothing lets them in
 
+With --json each line is an object (docs/JSON.md).
+
 A fault of a file is told with the file, the line and what stands there, the names' before the conf file's:
 
   corosync.conf:6: 36 UnknownName, uid: nosuch

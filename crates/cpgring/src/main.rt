@@ -17,7 +17,7 @@ mod tests;
 mod versions;
 
 use admitting::{files_of, read_asks};
-use asking::{explain, is_verbose, match_words, read_asked, read_shell, read_words};
+use asking::{explain, form_of, is_verbose, match_words, read_asked, read_shell, read_words};
 use clap::error::ErrorKind;
 use clap::{ArgMatches, Error};
 use commands::{SHELL, build_command};
@@ -130,6 +130,7 @@ fn admit(rt: &HostRuntime, given: &ArgMatches<'_>) -> Result<u8, Error> {
     match Loaded::read(rt, &files_of(given)) {
         Ok(loaded) => Ok(perform_admit(
             alloc,
+            form_of(given),
             &loaded.admission(),
             asks.as_slice(),
             &mut Piped::new(rt.stdout()),
