@@ -10,21 +10,42 @@ use Rattle.cpg_cluster.specs.declared.replies.Reply.TheVariants.{Nothing}
 use Rattle.cpg_cluster.specs.Answers.{Answer}
 use Rattle.cpg_cluster.specs.Lines.{Printed, answer_text, text_as}
 
+-- a number between two words
+abbrev pub counted : List ℕ → ℕ → List ℕ → List ℕ
+counted front number back = front ++ (decimal number ++ back)
+
 -- how long a wait looks
 abbrev pub span_text : Patience → List ℕ
 span_text Looks = decimal MOST_POLLS ++ codes " looks"
 span_text (Millis millis) = decimal millis ++ codes " ms"
 
+-- how long was waited
+abbrev pub waited_text : Patience → List ℕ
+waited_text patience = codes "# nothing was told in " ++ span_text patience
+
+-- how many places the ring has
+abbrev pub of_places_text : Settings → List ℕ
+of_places_text settings = counted (codes " of the ring's ") settings.places (codes " places")
+
+-- how many of them were seen
+abbrev pub places_text : Settings → ℕ → List ℕ
+places_text settings seen = decimal seen ++ of_places_text settings
+
+-- when the ring ends
+abbrev pub end_text : Settings → List ℕ
+end_text settings = counted (codes "; it ends after ") settings.hops (codes " hops")
+
+-- all of the ring's places were seen
+abbrev pub all_text : Settings → List ℕ
+all_text settings = counted (codes "all of the ring's ") settings.places (codes " places")
+
 -- which of the ring's places were seen: where all, nothing more can come; else also when the ring ends
 abbrev pub seen_text : Settings → ℕ → List ℕ
-seen_text settings seen =
-    if nat_le settings.places seen
-    then codes "all of the ring's " ++ decimal settings.places ++ codes " places"
-    else decimal seen ++ codes " of the ring's " ++ decimal settings.places ++ codes " places, and it ends after " ++ decimal settings.hops ++ codes " hops"
+seen_text settings seen = if nat_le settings.places seen then all_text settings else places_text settings seen ++ end_text settings
 
--- # nothing was told within 1000000 looks; the session has seen 3 of the ring's 4096 places, and it ends after 1000 hops
+-- # nothing was told in 1000000 looks; the session has seen 3 of the ring's 4096 places; it ends after 1000 hops
 abbrev pub note_line : Known → ℕ → List ℕ
-note_line known seen = codes "# nothing was told within " ++ span_text known.patience ++ codes "; the session has seen " ++ seen_text known.settings seen ++ codes "\n"
+note_line known seen = waited_text known.patience ++ codes "; the session has seen " ++ seen_text known.settings seen ++ codes "\n"
 
 -- what is known of an answer: of one that no event came, and else nothing
 abbrev pub note_of : Known → Answer → List ℕ

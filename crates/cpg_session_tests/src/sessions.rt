@@ -453,13 +453,13 @@ fn what_is_known(rt: HostRuntime) -> Result<(), Fail> {
         rt.alloc(),
         1,
         Shown::Plain,
-        b"none\n# nothing was told within 1000000 looks; the session has seen 1 of the ring's 2 places, and it ends after 9 hops\n",
+        b"none\n# nothing was told in 1000000 looks; the session has seen 1 of the ring's 2 places; it ends after 9 hops\n",
     )?;
     let all = says(
         rt.alloc(),
         2,
         Shown::Echoed,
-        b"7 s2 none\n7 s2 # nothing was told within 1000000 looks; the session has seen all of the ring's 2 places\n",
+        b"7 s2 none\n7 s2 # nothing was told in 1000000 looks; the session has seen all of the ring's 2 places\n",
     )?;
     assert!(rt; some && all);
     Ok(())
