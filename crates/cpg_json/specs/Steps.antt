@@ -16,8 +16,11 @@ use Rattle.cpg_step.specs.declared.commands.Command.{Command}
 use Rattle.cpg_step.specs.Running.{after, events_in}
 use Rattle.cpg_json.specs.Answers.{rule_json}
 use Rattle.cpg_json.specs.Events.{event_json}
+use Rattle.cpg_json.specs.Objects.{joined}
+use Rattle.cpg_json.specs.Records.{member_array}
 use Rattle.cpg_json.specs.Stepping.{step_json_lines}
 use Rattle.cpg_json.specs.Tails.{front_of, AreTails}
+use Rattle.cpg_json.specs.declared.records.KeptMembers.{KeptMembers}
 use Rattle.cpg_json.specs.declared.stretches.Inbox.{Inbox}
 
 -- the lines of a place for a connection
@@ -27,6 +30,10 @@ lines_at records conn place = map (event_json conn) (events records place conn)
 -- the lines of the places above one, up to another
 abbrev pub lines_between : List Record → ConnId → ℕ → ℕ → List (List ℕ)
 lines_between records conn after last = flat_map (lines_at records conn) (range_with_len (after + 1) (last - after))
+
+-- the text is that of the members
+abbrev pub IsKept : KeptMembers → Type 0
+IsKept kept = kept.text.items ≡ joined (map member_array kept.members)
 
 -- each of them is the place of a record
 abbrev pub ArePlaces : List Record → List ℕ → Type 0
