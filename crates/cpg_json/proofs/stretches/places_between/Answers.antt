@@ -1,4 +1,4 @@
-use Rattle.std.proofs.Common.{ap, length, ◌∙◌, arith}
+use Rattle.std.proofs.Common.{ap, length, arith}
 use Rattle.cpg_record.specs.Judging.{judged}
 use Rattle.cpg_record.specs.Nexts.{acts_in}
 use Rattle.cpg_json.proofs.Hearing.{counts, cut_between}
