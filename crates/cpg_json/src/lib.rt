@@ -17,6 +17,7 @@ mod looking;
 mod objects;
 mod records;
 mod running;
+mod stretches;
 mod strings;
 mod tails;
 
