@@ -1,6 +1,5 @@
 -- whom the files let in
-use Rattle.std.specs.Prelude.{◌≡◌, ◌⊎◌, ℕ, List, [], ◌++◌, map, codes, decimal, Option, Result, Ok, Err}
-use Rattle.std.specs.List.{flat_map}
+use Rattle.std.specs.Prelude.{◌≡◌, ◌⊎◌, ℕ, List, map, Option, Result, Ok, Err}
 use Rattle.cpg_cred.specs.Listed.{Listed, with_listed}
 use Rattle.cpg_cred.specs.Admission.{via_of}
 use Rattle.cpg_cred.specs.declared.admission.Via.{Via}
@@ -9,7 +8,6 @@ use Rattle.cpg_cred.specs.declared.refusals.Refusal.{Refusal}
 use Rattle.cpg_cred.specs.declared.refusals.Refusal.TheVariants.{Memory}
 use Rattle.cpg_conf.specs.Listed.{listed, nothing}
 use Rattle.cpg_conf.specs.Names.{Known, no_names, known_of}
-use Rattle.cpg_accept.specs.Asks.{answer_line}
 use Rattle.cpg_admit.specs.Accounts.{known_with}
 use Rattle.cpg_admit.specs.declared.accounts.Book.TheVariants.{Users, Groups}
 use Rattle.cpg_admit.specs.declared.texts.AdmitFault.{AdmitFault}
@@ -49,13 +47,3 @@ Fails read fault = (read ≡ Err fault) ⊎ (fault.refusal ≡ Memory)
 -- what lets each of the credentials in
 abbrev pub answers_of : Listed → List Cred → List (Option Via)
 answers_of list asks = map (via_of (with_listed nothing list)) asks
-
--- the listed users and groups, as the words that let them in
-abbrev pub words_text : Listed → List ℕ
-words_text list =
-    flat_map (λ uid. codes "uid:" ++ decimal uid ++ codes "\n") list.users ++ flat_map (λ gid. codes "gid:" ++ decimal gid ++ codes "\n") list.groups
-
--- what is printed: for each of the credentials whether they are let in; where none are asked for, the list
-abbrev pub admitted_text : Listed → List Cred → List ℕ
-admitted_text list [] = words_text list
-admitted_text list asks = flat_map answer_line (answers_of list asks)

@@ -1,4 +1,5 @@
 pub mod Accounts
 pub mod Admitting
+pub mod Forms
 pub mod Steps
 pub mod Telling

@@ -6,12 +6,14 @@
 
 mod accounts;
 mod admitting;
+mod forms;
 mod printing;
 mod telling;
 mod texts;
 
 pub use accounts::{Book, add_accounts};
 pub use admitting::{answer, read_list};
-pub use printing::print;
+pub use forms::{AsText, TellsAdmitted};
+pub use printing::{print, print_in_form};
 pub use telling::fault_line;
 pub use texts::{AdmitFault, File, NamesFrom};

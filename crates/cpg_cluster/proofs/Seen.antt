@@ -10,7 +10,7 @@ use Rattle.cpg_board.specs.Seats.{Begins, SeatValue}
 use Rattle.cpg_station.specs.Serving.{OverFront, moved_on}
 use Rattle.cpg_daemon.specs.Sessions.{SessionValue, IsTaken}
 use Rattle.cpg_cluster.specs.declared.commands.Ask.TheVariants as ask
-use Rattle.cpg_cluster.specs.declared.replies.Reply.TheVariants.{Took}
+use Rattle.cpg_cluster.specs.declared.replies.Reply.TheVariants.{Took, Nothing}
 use Rattle.cpg_cluster.specs.Answers.{Stays, IsNothing, Serves}
 use Rattle.cpg_cluster.specs.Steps.{IsPolled}
 
@@ -33,7 +33,7 @@ pub stays_self : (a : SessionValue) → Stays a a
 stays_self a = (refl, begins_self a.seat)
 
 -- an event that came after a stay
-pub awaited_on : (a b c : SessionValue) (event : Event) → Stays a b → Serves b ask.Wait (Ok (Took (Some event))) c → Serves a ask.Wait (Ok (Took (Some event))) c
+pub awaited_on : (a b c : SessionValue) (event : Event) → Stays a b → Serves b ask.Wait (Ok (Took event)) c → Serves a ask.Wait (Ok (Took event)) c
 awaited_on a b c event stay came = (over, after, begins_on a.seat b.seat c.seat stay.1 came.2)
   where
     over : OverFront a.seat c.seat (λ front. slice_get (inbox front a.who.id) a.who.taken ≡ Some event)
@@ -64,5 +64,5 @@ pub polled_behind : (a b : SessionValue) (reached : ℕ) → Stays a b → IsTak
 polled_behind a b reached stay behind = (stay, inr (reached, omega (arith, begins_length a.seat b.seat stay.1, behind)))
 
 -- nothing came while it stayed
-pub nothing_came : (a b : SessionValue) → Stays a b → IsNothing a b.seat → Serves a ask.Wait (Ok (Took None)) b
-nothing_came a b stay nothing = (nothing, stay.0, stay.1)
+pub nothing_came : (a b : SessionValue) → Stays a b → IsNothing a b.seat → Serves a ask.Wait (Ok (Nothing (length b.seat))) b
+nothing_came a b stay nothing = (nothing, stay, refl)

@@ -17,7 +17,7 @@ use Rattle.cpg_cluster.specs.declared.commands.Ask.TheVariants as ask
 use Rattle.cpg_cluster.specs.declared.commands.Command.{Command}
 use Rattle.cpg_cluster.specs.declared.commands.Command.TheVariants as command
 use Rattle.cpg_cluster.specs.declared.replies.Reply.{Reply}
-use Rattle.cpg_cluster.specs.declared.replies.Reply.TheVariants.{Opened, Admitted, Took, Members, Groups, Audit, Closed, Safe}
+use Rattle.cpg_cluster.specs.declared.replies.Reply.TheVariants.{Opened, Admitted, Took, Nothing, Members, Groups, Audit, Closed, Safe}
 
 -- a reply, or a refusal
 abbrev pub Answer : Type 0
@@ -49,10 +49,9 @@ abbrev pub IsNothing : SessionValue → SeatValue → Type 0
 IsNothing before seat =
     OverFront before.seat seat (λ front. slice_get (inbox front before.who.id) before.who.taken ≡ None) ⊎ ((reached : ℕ) × (reached < length seat))
 
--- an event that was waited for, if it came: the item of the session's inbox that follows those taken
-abbrev pub IsAwaited : SessionValue → Option Event → SeatValue → Type 0
-IsAwaited before None seat = IsNothing before seat
-IsAwaited before (Some event) seat = OverFront before.seat seat (λ front. slice_get (inbox front before.who.id) before.who.taken ≡ Some event)
+-- an event that was waited for: the item of the session's inbox that follows those taken
+abbrev pub IsAwaited : SessionValue → Event → SeatValue → Type 0
+IsAwaited before event seat = OverFront before.seat seat (λ front. slice_get (inbox front before.who.id) before.who.taken ≡ Some event)
 
 -- why waiting ends: never with Behind
 abbrev pub EndsWait : Refusal → Type 0
@@ -66,7 +65,8 @@ Serves before (ask.Call call) (Ok Admitted) after = after ≡ before
 Serves before (ask.Call call) (Err refusal.Memory) after = after ≡ before
 Serves before (ask.Call call) (Err why) after = SubmitRefuses call why × (after ≡ before)
 Serves before ask.Wait (Ok (Took event)) after =
-    IsAwaited before event after.seat × (after.who ≡ moved_on before.who event) × Begins before.seat after.seat
+    IsAwaited before event after.seat × (after.who ≡ moved_on before.who (Some event)) × Begins before.seat after.seat
+Serves before ask.Wait (Ok (Nothing seen)) after = IsNothing before after.seat × Stays before after × (seen ≡ length after.seat)
 Serves before ask.Wait (Err why) after = EndsWait why × Stays before after
 Serves before (ask.List g) (Ok (Members list)) after = IsListed before g after.seat (Ok list) × Stays before after
 Serves before (ask.List g) (Err why) after = IsListed before g after.seat (Err why) × Stays before after

@@ -1,5 +1,5 @@
 -- what answers print
-use Rattle.std.specs.Prelude.{ℕ, List, [], ◌∷◌, ◌++◌, length, codes, decimal, Ok, Err}
+use Rattle.std.specs.Prelude.{ℕ, List, [], ◌∷◌, ◌++◌, length, codes, decimal, Some, None, Ok, Err}
 use Rattle.std.specs.List.{concat, flat_map}
 use Rattle.cpg_text.specs.Lines.{lines_of}
 use Rattle.cpg_record.specs.declared.records.Record.{Record}
@@ -12,7 +12,7 @@ use Rattle.cpg_cluster.specs.declared.commands.Numbered.{Numbered}
 use Rattle.cpg_cluster.specs.declared.forms.Shown.{Shown}
 use Rattle.cpg_cluster.specs.declared.forms.Shown.TheVariants.{Plain, Echoed}
 use Rattle.cpg_cluster.specs.declared.replies.Reply.{Reply}
-use Rattle.cpg_cluster.specs.declared.replies.Reply.TheVariants.{Opened, Admitted, Took, Members, Groups, Audit, Closed, Safe}
+use Rattle.cpg_cluster.specs.declared.replies.Reply.TheVariants.{Opened, Admitted, Took, Nothing, Members, Groups, Audit, Closed, Safe}
 use Rattle.cpg_cluster.specs.Answers.{Answer}
 
 -- the audit lines of records, and how many there are
@@ -27,7 +27,8 @@ session_line number = codes "session " ++ decimal number ++ codes "\n"
 abbrev pub reply_text : Reply → List ℕ
 reply_text (Opened number) = session_line number
 reply_text Admitted = codes "admitted\n"
-reply_text (Took event) = took_line event
+reply_text (Took event) = took_line (Some event)
+reply_text (Nothing seen) = took_line None
 reply_text (Members processes) = members_line processes
 reply_text (Groups names) = groups_line names
 reply_text (Audit seat) = audit_text (records_of seat)
@@ -68,10 +69,14 @@ echoed_line words line = words ++ line ++ codes "\n"
 abbrev pub echoed : List ℕ → List ℕ → List ℕ
 echoed words text = flat_map (echoed_line words) (lines_of text)
 
+-- a text of an answer alone, or each of its lines after its echo
+abbrev pub text_as : Shown → Numbered → Answer → List ℕ → List ℕ
+text_as Plain line answer text = text
+text_as Echoed line answer text = echoed (echo_of line answer) text
+
 -- an answer alone, or each of its lines after its echo
 abbrev pub shown_as : Shown → Printed
-shown_as Plain line answer = answer_text answer
-shown_as Echoed line answer = echoed (echo_of line answer) (answer_text answer)
+shown_as shown line answer = text_as shown line answer (answer_text answer)
 
 -- the answers to commands, one after the other, by that form
 abbrev pub text_of : Printed → List Numbered → List Answer → List ℕ

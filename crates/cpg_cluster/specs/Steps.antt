@@ -19,7 +19,7 @@ numbered_by nodes numbers before line = option_map (numbered (slice_index number
 -- What one poll gives, and what the session is then: nothing, or an event of its inbox, or why waiting ends.
 abbrev pub IsPolled : SessionValue → Option (Result Event Refusal) → SessionValue → Type 0
 IsPolled before None after = Stays before after × IsNothing before after.seat
-IsPolled before (Some (Ok event)) after = Serves before ask.Wait (Ok (Took (Some event))) after
+IsPolled before (Some (Ok event)) after = Serves before ask.Wait (Ok (Took event)) after
 IsPolled before (Some (Err why)) after = Serves before ask.Wait (Err why) after
 
 -- the nodes of the open sessions are there

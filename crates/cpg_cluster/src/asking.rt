@@ -3,7 +3,7 @@
 //! Proved: the answer is one that `specs/Answers.antt` allows, whatever the threads do; and a wait by looks that gives
 //! up has asked `MOST_POLLS` times, a number that `limits` says. Of a wait by the clock no time is proved.
 
-ghost use Rattle.std.specs.Prelude.{◌≡◌, ◌≤◌, ◌<◌, ◌+◌, Ok, None, IfOk, OnOk, IsOkUnless};
+ghost use Rattle.std.specs.Prelude.{ℕ, ◌≡◌, ◌≤◌, ◌<◌, ◌+◌, Ok, OnOk, IsOkUnless};
 ghost use Rattle.cpg_board.specs.Seats.{IsSeatOf, Begins};
 ghost use Rattle.cpg_station.specs.Serving.{SubmitRefuses};
 ghost use Rattle.cpg_cluster.specs.declared.commands.Ask.TheVariants as asks;
@@ -112,17 +112,17 @@ fn wait_looks<B: BoardName, G, H: Wait + Clock>(
     requires node { session.old.who.id.node ≤ running.now.nodes }
     requires none { polls.old ≡ 0 }
     ensures answer { Serves session.old asks.Wait result session.new }
-    ensures polls { result ≡ Ok (replies.Took None) → polls.new ≡ MOST_POLLS }
+    ensures polls { (seen : ℕ) → result ≡ Ok (replies.Nothing seen) → polls.new ≡ MOST_POLLS }
     ensures seats { SeatsOn B.cells result }
 {
     for number in 0..MOST_POLLS {
         match poll(rt, running, session, polls) {
             None => rest(rt, number),
-            Some(Ok(event)) => return Ok(Reply::Took(Some(event))),
+            Some(Ok(event)) => return Ok(Reply::Took(event)),
             Some(Err(refusal)) => return Err(refusal),
         }
     }
-    Ok(Reply::Took(None))
+    Ok(Reply::Nothing(session.seat().len()))
 }
 
 /// Whether so much time went by since the start, as far as the clock tells.
@@ -160,14 +160,14 @@ fn wait_within<B: BoardName, G, H: Wait + Clock>(
         match look(rt, running, session) {
             None => {
                 if rest_within(rt, number, start, time) {
-                    return Ok(Reply::Took(None));
+                    return Ok(Reply::Nothing(session.seat().len()));
                 }
             }
-            Some(Ok(event)) => return Ok(Reply::Took(Some(event))),
+            Some(Ok(event)) => return Ok(Reply::Took(event)),
             Some(Err(refusal)) => return Err(refusal),
         }
     }
-    Ok(Reply::Took(None))
+    Ok(Reply::Nothing(session.seat().len()))
 }
 
 /// The session's next event, once it comes; nothing where patience ends before. Where the clock can't be read, a

@@ -1,13 +1,10 @@
 //! Answers as they are printed with the number of their command's line and its session before each line.
 
 ghost use Rattle.std.specs.Prelude.{◌≡◌, ◌++◌, codes, decimal, OnOk, IsOkUnless};
-ghost use Rattle.cpg_cluster.specs.Lines.{answer_text, opened_word, session_word, echo_of, echoed_line, echoed};
-ghost use Rattle.cpg_cluster.specs.Steps.{SeatsOn};
+ghost use Rattle.cpg_cluster.specs.Lines.{opened_word, session_word, echo_of, echoed_line, echoed};
 
 use crate::commands::{Command, Numbered};
-use crate::printing::put_answer;
 use crate::replies::Reply;
-use cpg_board::Board;
 use cpg_cred::Refusal;
 use cpg_script::{put, put_byte, put_bytes};
 use cpg_text::{Lines, push_number};
@@ -91,21 +88,18 @@ fn put_echoed(text: &mut Vec<u8>, words: &[u8], answer: &[u8]) -> Result<(), Ref
     Ok(())
 }
 
-/// Puts the text of the answer to a command, each line after its echo, at the text's end.
-pub fn put_echoed_answer(
+/// Puts a text of the answer to a command, each line after its echo, at the text's end.
+pub fn put_after_echo(
     alloc: Global,
     text: &mut Vec<u8>,
-    board: &Board,
     line: &Numbered,
     answer: &Result<Reply, Refusal>,
+    told: &[u8],
 ) -> Result<(), Refusal>
-    requires { SeatsOn board.now answer.now }
-    ensures ok { OnOk result (text.new.items ≡ text.old.items ++ echoed (echo_of line.now answer.now) (answer_text answer.now)) }
+    ensures ok { OnOk result (text.new.items ≡ text.old.items ++ echoed (echo_of line.now answer.now) told.now) }
     ensures memory { IsOkUnless result Refusal.Memory }
 {
     let mut words = Vec::new(alloc);
     put_echo(&mut words, line, answer)?;
-    let mut alone = Vec::new(alloc);
-    put_answer(alloc, &mut alone, board, answer)?;
-    put_echoed(text, words.as_slice(), alone.as_slice())
+    put_echoed(text, words.as_slice(), told)
 }

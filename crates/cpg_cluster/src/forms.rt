@@ -2,8 +2,14 @@
 //!
 //! The forms are this project's own. Proved: what is printed is the definition that a form names.
 
+ghost use Rattle.std.specs.Prelude.{◌≡◌, ◌++◌, OnOk, IsOkUnless};
+ghost use Rattle.cpg_cluster.specs.Lines.{answer_text};
+ghost use Rattle.cpg_cluster.specs.Notes.{note_of};
+ghost use Rattle.cpg_cluster.specs.Steps.{SeatsOn};
+
 use crate::commands::Numbered;
-use crate::echoing::put_echoed_answer;
+use crate::echoing::put_after_echo;
+use crate::noting::{Known, put_note};
 use crate::printing::put_answer;
 use crate::replies::Reply;
 use cpg_board::Board;
@@ -76,7 +82,60 @@ impl PutsAnswer for Shown {
     ) -> Result<(), Refusal> {
         match self {
             Shown::Plain => put_answer(alloc, text, board, answer),
-            Shown::Echoed => put_echoed_answer(alloc, text, board, line, answer),
+            Shown::Echoed => {
+                let mut alone = Vec::new(alloc);
+                put_answer(alloc, &mut alone, board, answer)?;
+                put_after_echo(alloc, text, line, answer, alone.as_slice())
+            }
+        }
+    }
+}
+
+/// Answers as text, and where a session that waited was told nothing, what is known, in a line that begins with `#`.
+#[derive(Debug, Clone, Copy)]
+pub struct Noted {
+    /// How they are shown.
+    pub shown: Shown,
+    /// What is known of each wait.
+    pub known: Known,
+}
+
+/// Puts the text of an answer, and what is known of it, at the text's end.
+fn put_noted(
+    alloc: Global,
+    text: &mut Vec<u8>,
+    board: &Board,
+    known: &Known,
+    answer: &Result<Reply, Refusal>,
+) -> Result<(), Refusal>
+    requires { SeatsOn board.now answer.now }
+    ensures ok { OnOk result (text.new.items ≡ text.old.items ++ answer_text answer.now ++ note_of known.now answer.now) }
+    ensures memory { IsOkUnless result Refusal.Memory }
+{
+    put_answer(alloc, text, board, answer)?;
+    put_note(text, known, answer)
+}
+
+impl PutsAnswer for Noted {
+    ghost use Rattle.cpg_cluster.specs.Notes.{noted_as};
+
+    ghost printed = { λ noted. noted_as noted.known noted.shown };
+
+    fn put(
+        &self,
+        alloc: Global,
+        text: &mut Vec<u8>,
+        board: &Board,
+        line: &Numbered,
+        answer: &Result<Reply, Refusal>,
+    ) -> Result<(), Refusal> {
+        match self.shown {
+            Shown::Plain => put_noted(alloc, text, board, &self.known, answer),
+            Shown::Echoed => {
+                let mut alone = Vec::new(alloc);
+                put_noted(alloc, &mut alone, board, &self.known, answer)?;
+                put_after_echo(alloc, text, line, answer, alone.as_slice())
+            }
         }
     }
 }

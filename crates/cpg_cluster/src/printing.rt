@@ -65,7 +65,8 @@ fn put_reply(text: &mut Vec<u8>, board: &Board, reply: &Reply) -> Result<(), Ref
     match reply {
         Reply::Opened(number) => put_session(text, *number),
         Reply::Admitted => put(text, "admitted\n"),
-        Reply::Took(event) => put_took_line(text, event.as_ref()),
+        Reply::Took(event) => put_took_line(text, Some(event)),
+        Reply::Nothing(_) => put_took_line(text, None),
         Reply::Members(processes) => put_members_line(text, processes.as_slice()),
         Reply::Groups(names) => put_groups_line(text, names.as_slice()),
         Reply::Audit(seat) => put_seat(text, board, seat),

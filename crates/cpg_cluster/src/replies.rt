@@ -9,8 +9,10 @@ pub enum Reply {
     /// The session's number.
     Opened(usize),
     Admitted,
-    /// The event that came, if one did.
-    Took(Option<Event>),
+    /// The event that came.
+    Took(Event),
+    /// No event came while it waited; the session has seen so many records.
+    Nothing(usize),
     Members(Processes),
     Groups(Names),
     /// A seat that has seen the records.

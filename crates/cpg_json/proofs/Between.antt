@@ -6,7 +6,6 @@ use Rattle.cpg_record.specs.declared.connections.ConnId.{ConnId}
 use Rattle.cpg_record.specs.declared.events.Event.{Event}
 use Rattle.cpg_record.specs.declared.records.Record.{Record}
 use Rattle.cpg_record.specs.Events.{events, inbox}
-use Rattle.cpg_record.specs.Nexts.{IsNextTold, TellsNoMore}
 use Rattle.cpg_script.proofs.Lined.{map-flat_map}
 use Rattle.cpg_json.specs.Events.{event_json}
 use Rattle.cpg_json.specs.Steps.{lines_at, lines_between}
@@ -37,42 +36,19 @@ module _ (rs : List Record) (conn : ConnId) where
       let all : length rs ≡ length rs - 0 = omega arith in
       map-flat_map (event_json conn) (λ place. events rs place conn) (range_with_len 1 (length rs)) ∙ ap (λ n. flat_map (lines_at rs conn) (range_with_len 1 n)) all
 
-  quiet_range : (start count : ℕ) → ((place : ℕ) → start ≤ place → place < start + count → events rs place conn ≡ []) → flat_map (lines_at rs conn) (range_with_len start count) ≡ []
-  quiet_range start zero quiet = refl
-  quiet_range start (suc count) quiet =
-      ap (λ told. map (event_json conn) told ++ flat_map (lines_at rs conn) (range_with_len (start + 1) count)) (quiet start (omega arith) (omega arith))
-      ∙ quiet_range (start + 1) count (λ place low high. quiet place (omega (arith, low)) (omega (arith, high)))
-
-  -- places that tell nothing have no lines
-  pub quiet_between : (after last : ℕ) → after ≤ last → ((place : ℕ) → after < place → place ≤ last → events rs place conn ≡ []) → lines_between rs conn after last ≡ []
-  quiet_between after last low quiet =
-      quiet_range (after + 1) (last - after) (λ place from upto. quiet place (omega (arith, from)) (omega (arith, low, upto)))
-
-  -- the lines up to the next place that tells anything are those of that place
-  pub next_between : (after place : ℕ) → IsNextTold rs after conn place → lines_between rs conn after place ≡ lines_at rs conn place
-  next_between after place next =
-      let one : place - (place - 1) ≡ 1 = omega (arith, next.above) in
-      let here : place - 1 + 1 ≡ place = omega (arith, next.above) in
-      between_parted after (place - 1) place (omega (arith, next.above)) (omega (arith, next.above))
-      ∙ ap (λ l. l ++ lines_between rs conn (place - 1) place) (quiet_between after (place - 1) (omega (arith, next.above)) (λ earlier from upto. next.none_between earlier from (omega (arith, upto, next.above))))
-      ∙ ap (λ n. flat_map (lines_at rs conn) (range_with_len (place - 1 + 1) n)) one
-      ∙ ap (λ n. lines_at rs conn n ++ []) here
-      ∙ append-nil (lines_at rs conn place)
-
-  -- the lines up to a place that tells something, those before it and its own
-  pub one_place_more : (after place : ℕ) → IsNextTold rs after conn place → lines_between rs conn 0 place ≡ lines_between rs conn 0 after ++ lines_at rs conn place
-  one_place_more after place next =
-      between_parted 0 after place (omega arith) (omega (arith, next.above)) ∙ ap (λ l. lines_between rs conn 0 after ++ l) (next_between after place next)
+  -- the lines up to a place, and those of the place
+  pub one_place_more : (after place : ℕ) → after < place → lines_between rs conn after place ≡ lines_between rs conn after (place - 1) ++ lines_at rs conn place
+  one_place_more after place above =
+      let one : place - (place - 1) ≡ 1 = omega (arith, above) in
+      let here : place - 1 + 1 ≡ place = omega (arith, above) in
+      between_parted after (place - 1) place (omega (arith, above)) (omega (arith, above))
+      ∙ ap (λ n. lines_between rs conn after (place - 1) ++ flat_map (lines_at rs conn) (range_with_len (place - 1 + 1) n)) one
+      ∙ ap (λ n. lines_between rs conn after (place - 1) ++ (lines_at rs conn n ++ [])) here
+      ∙ ap (λ l. lines_between rs conn after (place - 1) ++ l) (append-nil (lines_at rs conn place))
 
   -- the inbox, up to a place and after it
   pub inbox_parted : (place : ℕ) → place ≤ length rs → map (event_json conn) (inbox rs conn) ≡ lines_between rs conn 0 place ++ lines_between rs conn place (length rs)
   inbox_parted place within = inbox_by_place ∙ between_parted 0 place (length rs) (omega arith) within
-
-  -- where no place above tells anything
-  pub inbox_told : (after : ℕ) → after ≤ length rs → TellsNoMore rs after conn → map (event_json conn) (inbox rs conn) ≡ lines_between rs conn 0 after
-  inbox_told after within none =
-      inbox_parted after within ∙ ap (λ l. lines_between rs conn 0 after ++ l) (quiet_between after (length rs) within (λ place above upto. none place above))
-      ∙ append-nil (lines_between rs conn 0 after)
 
   -- lines as one text
   pub one_text : (told : List Event) → flat_map (event_json conn) told ≡ concat (map (event_json conn) told)

@@ -6,3 +6,4 @@ pub mod Doing
 pub mod Listing
 pub mod Back
 pub mod Told
+pub mod Hearing

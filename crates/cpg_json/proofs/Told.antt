@@ -74,7 +74,7 @@ by_op place before r conn g Gone some = some_if (hears_change before r conn g) (
 by_op place before r conn g (Act (Insert name index rule)) some = some_if (is_member before conn g) (told_by place before r g (Act (Insert name index rule))) some
 by_op place before r conn g (Act (Remove name id)) some = some_if (is_member before conn g) (told_by place before r g (Act (Remove name id))) some
 
-by_group : (place : ℕ) (before : List Record) (r : Record) (conn : ConnId) (o : Option (List ℕ))
+pub by_group : (place : ℕ) (before : List Record) (r : Record) (conn : ConnId) (o : Option (List ℕ))
     → is_some (news place before r conn o) ≡ true → news place before r conn o ≡ told_in place before r o
 by_group place before r conn None some = refl
 by_group place before r conn (Some g) some = by_verdict (is_allowed r.verdict) some

@@ -37,3 +37,7 @@ own_text own front event = if own then front ++ tail_of event else []
 -- the line of what a place tells the group, where the connection hears it
 abbrev pub heard_text : Bool → List ℕ → List ℕ → List ℕ
 heard_text heard front tail = if heard then front ++ tail else []
+
+-- the line of what a place tells its group, to a connection that hears it
+abbrev pub heard_line : List Record → ConnId → ℕ → List ℕ
+heard_line records conn place = front_of conn ++ tail_at records place

@@ -122,7 +122,7 @@ fn put_accepted(line: &mut Vec<u8>, via: Via) -> Result<(), Refusal>
 }
 
 /// Puts the line of what lets credentials in, or of their refusal, at the lines' end.
-pub(crate) fn put_accept(line: &mut Vec<u8>, answer: Option<Via>) -> Result<(), Refusal>
+pub fn put_accept(line: &mut Vec<u8>, answer: Option<Via>) -> Result<(), Refusal>
     ensures ok { OnOk result (line.new.items ≡ line.old.items ++ accept_json answer) }
     ensures memory { IsOkUnless result Refusal.Memory }
 {

@@ -3,19 +3,25 @@
 //! Proved: each function puts its lines behind those that were written and gathered, or leaves after a refusal what
 //! `Gathers` says of them.
 
-ghost use Rattle.std.specs.Prelude.{◌≡◌, ◌≤◌, ◌++◌, length, map, OnOk, IsOkUnless};
+ghost use Rattle.std.specs.Prelude.{◌≡◌, ◌≤◌, ◌++◌, Some, length, map, take, OnOk, IsOkUnless};
 ghost use Rattle.std.specs.List.{concat, flat_map};
+ghost use Rattle.std.specs.Option.{option_copied};
 ghost use Rattle.cpg_record.specs.Events as events;
 ghost use Rattle.cpg_record.specs.Judging.{judged};
+ghost use Rattle.cpg_record.specs.Membership.{group_of};
+ghost use Rattle.cpg_record.specs.Nexts.{is_made_by};
+ghost use Rattle.cpg_record.specs.Places.{IsNextOf};
 ghost use Rattle.cpg_judge.specs.Gathering.{Gathers};
 ghost use Rattle.cpg_json.specs.Events.{event_json};
 ghost use Rattle.cpg_json.specs.Judging.{inbox_lines};
-ghost use Rattle.cpg_json.specs.Steps.{lines_at};
+ghost use Rattle.cpg_json.specs.Steps.{lines_at, lines_between, IsInbox};
 ghost use Rattle.cpg_json.specs.Tails.{front_of, heard_text, own_text, AreTails};
 
 use crate::events::{put_front, put_inbox, put_verdict_tail};
+use crate::stretches::{Inbox, write_between};
 use crate::tails::Tails;
 use cpg_cred::Refusal;
+use cpg_entry::Name;
 use cpg_group::Policy;
 use cpg_judge::write_much;
 use cpg_record::{ConnId, Event, Verdict};
@@ -93,28 +99,63 @@ fn write_place<W: Write>(
     write_much(writer, lines)
 }
 
-/// Writes what the judged places tell the connection, from one that tells it anything to the next.
+/// Writes what the places above `after` tell the connection, up to the next at which it made the entry. It is in that
+/// group before that place, if it is in one.
+fn write_upto<W: Write>(
+    writer: &mut W,
+    lines: &mut Vec<u8>,
+    inbox: &Inbox<'_>,
+    group: Option<&Name>,
+    after: u32,
+    place: u32,
+) -> Result<(), Refusal>
+    requires inbox { IsInbox inbox.now }
+    requires group { option_copied group ≡ group_of (take after (judged inbox.now.policy.now)) inbox.now.conn.now }
+    requires next { IsNextOf (is_made_by inbox.now.conn.now) (judged inbox.now.policy.now) after (Some place) }
+    ensures { Gathers result (W.contents writer.old) lines.old.items (W.contents writer.new) lines.new.items (lines_between (judged inbox.now.policy.now) inbox.now.conn.now after place) }
+{
+    write_between(writer, lines, inbox, group, after, place - 1)?;
+    write_place(
+        writer,
+        lines,
+        inbox.policy,
+        inbox.tails,
+        inbox.front,
+        place,
+        inbox.conn,
+    )
+}
+
+/// Writes what the judged places tell the connection, from one at which it made the entry to the next.
 fn write_events<W: Write>(
     writer: &mut W,
     lines: &mut Vec<u8>,
-    policy: &Policy,
-    tails: &Tails,
-    front: &[u8],
-    conn: &ConnId,
+    inbox: &Inbox<'_>,
 ) -> Result<(), Refusal>
-    requires tails { AreTails tails.now (judged policy.now) (length (judged policy.now)) }
-    requires front { front.now ≡ front_of conn.now }
-    ensures { Gathers result (W.contents writer.old) lines.old.items (W.contents writer.new) lines.new.items (map (event_json conn.now) (events.inbox (judged policy.now) conn.now)) }
+    requires { IsInbox inbox.now }
+    ensures { Gathers result (W.contents writer.old) lines.old.items (W.contents writer.new) lines.new.items (map (event_json inbox.now.conn.now) (events.inbox (judged inbox.now.policy.now) inbox.now.conn.now)) }
 {
-    let mut after = 0u32;
-    while let Some(place) = policy.next_event(after, *conn) {
-        match write_place(writer, lines, policy, tails, front, place, conn) {
+    let trail = inbox.policy.trail(*inbox.conn);
+    let mut count = 0;
+    let mut after = 0;
+    while let Some(place) = trail.own(count) {
+        let group = trail.group_past(count);
+        match write_upto(writer, lines, inbox, group, after, place) {
             Ok(()) => {}
             Err(refusal) => return Err(refusal),
         }
+        count += 1;
         after = place;
     }
-    Ok(())
+    let group = trail.group_past(count);
+    write_between(
+        writer,
+        lines,
+        inbox,
+        group,
+        after,
+        inbox.policy.len() as u32,
+    )
 }
 
 /// Writes the inbox of a connection: a line that names it, and its events by place.
@@ -132,7 +173,13 @@ fn write_inbox<W: Write>(
     put_inbox(lines, conn)?;
     front.clear();
     put_front(front, conn)?;
-    write_events(writer, lines, policy, tails, front.as_slice(), conn)
+    let inbox = Inbox {
+        policy,
+        tails,
+        front: front.as_slice(),
+        conn,
+    };
+    write_events(writer, lines, &inbox)
 }
 
 /// Writes the inboxes of the connections, one after the other.

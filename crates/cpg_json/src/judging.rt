@@ -15,10 +15,11 @@ ghost use Rattle.cpg_judge.specs.Judging.{EndsJudging};
 ghost use Rattle.cpg_judge.specs.Scripts.{entries_of_script};
 ghost use Rattle.cpg_json.specs.Judging.{judge_json_lines, IsWritten, Leaves};
 ghost use Rattle.cpg_json.specs.Records.{record_json, records_json};
+ghost use Rattle.cpg_json.specs.Steps.{IsKept};
 ghost use Rattle.cpg_json.specs.Tails.{AreTails};
 
 use crate::inboxes::write_inboxes;
-use crate::records::{put_count, put_record};
+use crate::records::{KeptMembers, put_count, put_record_kept};
 use crate::tails::Tails;
 use cpg_cred::Refusal;
 use cpg_group::Policy;
@@ -82,7 +83,8 @@ fn write_judgement<W: Write>(alloc: Global, writer: &mut W, policy: Policy) -> R
     let tails = Tails::of(alloc, &policy)?;
     let mut lines = Vec::new(alloc);
     let mut front = Vec::new(alloc);
-    write_lines(writer, &mut lines, &policy, &tails, &mut front)
+    let mut kept = KeptMembers::new(alloc);
+    write_lines(writer, &mut lines, &policy, &tails, &mut front, &mut kept)
 }
 
 /// Writes the lines of the records, the count and the inboxes.
@@ -92,13 +94,15 @@ fn write_lines<W: Write>(
     policy: &Policy,
     tails: &Tails,
     front: &mut Vec<u8>,
+    kept: &mut KeptMembers,
 ) -> Result<(), Refusal>
     requires none { lines.old.items ≡ [] }
     requires tails { AreTails tails.now (judged policy.now) (length (judged policy.now)) }
+    requires kept { IsKept kept.old }
     ensures ok { OnOk result (Appends (W.contents writer.old) (W.contents writer.new) (concat (judge_json_lines policy.now))) }
     ensures err { IfErr result (λ refusal. LeavesLines (judge_json_lines policy.now) refusal (W.contents writer.old) (W.contents writer.new)) }
 {
-    write_records(writer, lines, policy)?;
+    write_records(writer, lines, policy, kept)?;
     put_count(lines, policy.len() as u32)?;
     write_inboxes(writer, lines, policy, tails, front, policy.connections())?;
     write_all(writer, lines)
@@ -109,11 +113,13 @@ fn write_records<W: Write>(
     writer: &mut W,
     lines: &mut Vec<u8>,
     policy: &Policy,
+    kept: &mut KeptMembers,
 ) -> Result<(), Refusal>
+    requires { IsKept kept.old }
     ensures { Gathers result (W.contents writer.old) lines.old.items (W.contents writer.new) lines.new.items (records_json (judged policy.now)) }
 {
     for index in 0..policy.len() {
-        match write_record(writer, lines, policy, index as u32 + 1) {
+        match write_record(writer, lines, policy, index as u32 + 1, kept) {
             Ok(()) => {}
             Err(refusal) => return Err(refusal),
         }
@@ -127,10 +133,13 @@ fn write_record<W: Write>(
     lines: &mut Vec<u8>,
     policy: &Policy,
     place: u32,
+    kept: &mut KeptMembers,
 ) -> Result<(), Refusal>
-    requires { (1 ≤ place) × (place ≤ length policy.now) }
-    ensures { (past : Record) → record_at (judged policy.now) place ≡ Some past → Gathers result (W.contents writer.old) lines.old.items (W.contents writer.new) lines.new.items (record_json place past ∷ []) }
+    requires place { (1 ≤ place) × (place ≤ length policy.now) }
+    requires kept { IsKept kept.old }
+    ensures lines { (past : Record) → record_at (judged policy.now) place ≡ Some past → Gathers result (W.contents writer.old) lines.old.items (W.contents writer.new) lines.new.items (record_json place past ∷ []) }
+    ensures kept { OnOk result (IsKept kept.new) }
 {
-    put_record(lines, place, &policy.records()[place as usize - 1])?;
+    put_record_kept(lines, place, &policy.records()[place as usize - 1], kept)?;
     write_much(writer, lines)
 }

@@ -17,11 +17,12 @@ mod looking;
 mod objects;
 mod records;
 mod running;
+mod stretches;
 mod strings;
 mod tails;
 
 pub use accepting::accept_json;
-pub use answers::{put_groups, put_process_list, put_refusal, put_safe};
+pub use answers::{put_accept, put_groups, put_process_list, put_refusal, put_safe};
 pub use calls::{put_group, put_rule, put_verdict, right_name};
 pub use cpg_script::Fault;
 pub use events::{put_event_fields, put_front};

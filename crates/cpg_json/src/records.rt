@@ -5,14 +5,16 @@ ghost use Rattle.std.specs.Option.{option_copied};
 ghost use Rattle.cpg_record.specs.Connections.{conn_of};
 ghost use Rattle.cpg_json.specs.Objects.{after_comma, joined, more};
 ghost use Rattle.cpg_json.specs.Records.{asked_fields, caller_fields, conn_fields, count_json, group_fields, member_array, members_field, outcome_fields, process_array, record_json};
+ghost use Rattle.cpg_json.specs.Steps.{IsKept};
 
 use crate::calls::{put_call, put_group, put_verdict};
 use crate::objects::{put_end, put_kind, put_name, put_number};
 use cpg_cred::{NodeId, Refusal};
 use cpg_entry::{Entry, Name};
-use cpg_record::{ConnId, Member, Record};
-use cpg_script::put;
+use cpg_record::{ConnId, Member, Members, Record};
+use cpg_script::{put, put_bytes};
 use cpg_text::push_number;
+use std::alloc::Global;
 
 /// Puts a connection at the line's end.
 pub fn put_conn(line: &mut Vec<u8>, conn: &ConnId) -> Result<(), Refusal>
@@ -108,6 +110,74 @@ fn put_group_members(
     }
 }
 
+/// The members whose text was put last, with that text: records in a row mostly have the same members.
+#[derive(Drop)]
+pub(crate) struct KeptMembers {
+    members: Members,
+    text: Vec<u8>,
+}
+
+impl KeptMembers {
+    /// Nobody, and no text.
+    pub(crate) fn new(alloc: Global) -> KeptMembers
+        ensures { IsKept result }
+    {
+        KeptMembers {
+            members: Members::new(alloc),
+            text: Vec::new(alloc),
+        }
+    }
+
+    /// Keeps those members with their text, unless they are kept.
+    fn keep(&mut self, members: &Members) -> Result<(), Refusal>
+        requires { IsKept self.old }
+        ensures ok { OnOk result (IsKept self.new × (self.new.members ≡ members.now)) }
+        ensures memory { IsOkUnless result Refusal.Memory }
+    {
+        if self.members.equals(members) {
+            return Ok(());
+        }
+        self.members = members.copy(*self.text.allocator())?;
+        self.text.clear();
+        put_joined_members(&mut self.text, members.as_slice())
+    }
+
+    /// Puts the kept members of a group at the line's end.
+    #[tactic(auto, unfolding(crate::specs::Objects::after_comma, crate::specs::Objects::field))]
+    fn put(&self, line: &mut Vec<u8>) -> Result<(), Refusal>
+        requires { IsKept self.now }
+        ensures ok { OnOk result (line.new.items ≡ line.old.items ++ after_comma (members_field self.now.members)) }
+        ensures memory { IsOkUnless result Refusal.Memory }
+    {
+        put_name(line, "members")?;
+        put(line, "[")?;
+        put_bytes(line, self.text.as_slice())?;
+        put(line, "]")
+    }
+}
+
+/// Puts the group and its members, where there is a group, at the line's end, by the kept text of the members.
+fn put_group_kept(
+    line: &mut Vec<u8>,
+    group: Option<&Name>,
+    members: &Members,
+    kept: &mut KeptMembers,
+) -> Result<(), Refusal>
+    requires { IsKept kept.old }
+    ensures ok { OnOk result (line.new.items ≡ line.old.items ++ more (group_fields (option_copied group.entry) members.now)) }
+    ensures kept { OnOk result (IsKept kept.new) }
+    ensures memory { IsOkUnless result Refusal.Memory }
+{
+    match group {
+        None => Ok(()),
+        Some(group) => {
+            kept.keep(members)?;
+            put_group(line, group.as_slice())?;
+            kept.put(line)
+        }
+    }
+}
+
 /// Puts an entry at its place at the line's end.
 #[tactic(auto, using(crate::proofs::Fields::more_append))]
 fn put_asked(line: &mut Vec<u8>, place: u32, entry: &Entry) -> Result<(), Refusal>
@@ -128,6 +198,21 @@ fn put_outcome(line: &mut Vec<u8>, past: &Record) -> Result<(), Refusal>
     put_group_members(line, past.group.as_ref(), past.members.as_slice())
 }
 
+#[tactic(auto, using(crate::proofs::Fields::more_append))]
+fn put_outcome_kept(
+    line: &mut Vec<u8>,
+    past: &Record,
+    kept: &mut KeptMembers,
+) -> Result<(), Refusal>
+    requires { IsKept kept.old }
+    ensures ok { OnOk result (line.new.items ≡ line.old.items ++ more (outcome_fields past.now)) }
+    ensures kept { OnOk result (IsKept kept.new) }
+    ensures memory { IsOkUnless result Refusal.Memory }
+{
+    put_verdict(line, past.verdict)?;
+    put_group_kept(line, past.group.as_ref(), &past.members, kept)
+}
+
 /// Puts the line of a record, which stands at that place, at the lines' end.
 #[tactic(auto, using(crate::proofs::Fields::more_append))]
 pub fn put_record(line: &mut Vec<u8>, place: u32, past: &Record) -> Result<(), Refusal>
@@ -137,6 +222,25 @@ pub fn put_record(line: &mut Vec<u8>, place: u32, past: &Record) -> Result<(), R
     put_kind(line, "record")?;
     put_asked(line, place, &past.entry)?;
     put_outcome(line, past)?;
+    put_end(line)
+}
+
+/// The same, by the kept text of the members.
+#[tactic(auto, using(crate::proofs::Fields::more_append))]
+pub(crate) fn put_record_kept(
+    line: &mut Vec<u8>,
+    place: u32,
+    past: &Record,
+    kept: &mut KeptMembers,
+) -> Result<(), Refusal>
+    requires { IsKept kept.old }
+    ensures ok { OnOk result (line.new.items ≡ line.old.items ++ record_json place past.now) }
+    ensures kept { OnOk result (IsKept kept.new) }
+    ensures memory { IsOkUnless result Refusal.Memory }
+{
+    put_kind(line, "record")?;
+    put_asked(line, place, &past.entry)?;
+    put_outcome_kept(line, past, kept)?;
     put_end(line)
 }
 

@@ -11,7 +11,7 @@ use Rattle.cpg_json.specs.Strings.{json_string}
 use Rattle.cpg_cluster.specs.declared.commands.Command.{Command}
 use Rattle.cpg_cluster.specs.declared.commands.Command.TheVariants as command
 use Rattle.cpg_cluster.specs.declared.replies.Reply.{Reply}
-use Rattle.cpg_cluster.specs.declared.replies.Reply.TheVariants.{Opened, Admitted, Took, Members, Groups, Audit, Closed, Safe}
+use Rattle.cpg_cluster.specs.declared.replies.Reply.TheVariants.{Opened, Admitted, Took, Nothing, Members, Groups, Audit, Closed, Safe}
 use Rattle.cpg_cluster.specs.Answers.{Answer}
 use Rattle.cpg_cluster.specs.Lines.{Printed}
 
@@ -35,8 +35,8 @@ audit_text records = concat (records_json records ++ count_json (length records)
 abbrev pub reply_json : Option ℕ → Reply → List ℕ
 reply_json session (Opened opened) = line (kind (codes "session") ∷ number (codes "session") opened ∷ [])
 reply_json session Admitted = line (kind (codes "admitted") ∷ whose session)
-reply_json session (Took None) = line (kind (codes "none") ∷ whose session)
-reply_json session (Took (Some event)) = line (kind (codes "event") ∷ whose session ++ event_fields event)
+reply_json session (Nothing seen) = line (kind (codes "none") ∷ whose session)
+reply_json session (Took event) = line (kind (codes "event") ∷ whose session ++ event_fields event)
 reply_json session (Members processes) = line (kind (codes "members") ∷ whose session ++ field (codes "members") (array (map process_array processes)) ∷ [])
 reply_json session (Groups names) = line (kind (codes "groups") ∷ whose session ++ field (codes "groups") (array (map json_string names)) ∷ [])
 reply_json session (Audit seat) = audit_text (records_of seat)

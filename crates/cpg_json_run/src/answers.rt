@@ -1,8 +1,7 @@
 //! What commands of sessions are answered, as lines.
 
-ghost use Rattle.std.specs.Prelude.{◌≡◌, ◌++◌, ◌∷◌, Some, Ok, codes, length, OnOk, IsOkUnless};
+ghost use Rattle.std.specs.Prelude.{◌≡◌, ◌++◌, ◌∷◌, Ok, codes, length, OnOk, IsOkUnless};
 ghost use Rattle.std.specs.List.{concat};
-ghost use Rattle.std.specs.Option.{option_copied};
 ghost use Rattle.cpg_board.specs.Seats.{IsSeatOf, records_of};
 ghost use Rattle.cpg_json.specs.Answers.{refusal_fields};
 ghost use Rattle.cpg_json.specs.Objects.{kind, line as object_line, more};
@@ -62,23 +61,13 @@ fn put_opened(text: &mut Vec<u8>, session: Option<u32>, number: usize) -> Result
 
 #[tactic(auto, using(cpg_json::proofs::Fields::more_append))]
 fn put_taken(text: &mut Vec<u8>, session: Option<u32>, event: &Event) -> Result<(), Refusal>
-    ensures ok { OnOk result (text.new.items ≡ text.old.items ++ reply_json session (replies.Took (Some event.now))) }
+    ensures ok { OnOk result (text.new.items ≡ text.old.items ++ reply_json session (replies.Took event.now)) }
     ensures memory { IsOkUnless result Refusal.Memory }
 {
     put_kind(text, "event")?;
     put_whose(text, session)?;
     put_event_fields(text, event)?;
     put_end(text)
-}
-
-fn put_took(text: &mut Vec<u8>, session: Option<u32>, event: Option<&Event>) -> Result<(), Refusal>
-    ensures ok { OnOk result (text.new.items ≡ text.old.items ++ reply_json session (replies.Took (option_copied event.entry))) }
-    ensures memory { IsOkUnless result Refusal.Memory }
-{
-    match event {
-        None => put_alone(text, session, "none"),
-        Some(event) => put_taken(text, session, event),
-    }
 }
 
 #[tactic(auto, using(cpg_json::proofs::Fields::more_append))]
@@ -148,7 +137,8 @@ fn put_reply(
     match reply {
         Reply::Opened(number) => put_opened(text, session, *number),
         Reply::Admitted => put_alone(text, session, "admitted"),
-        Reply::Took(event) => put_took(text, session, event.as_ref()),
+        Reply::Took(event) => put_taken(text, session, event),
+        Reply::Nothing(_) => put_alone(text, session, "none"),
         Reply::Members(processes) => put_members(text, session, processes.as_slice()),
         Reply::Groups(names) => put_names(text, session, names.as_slice()),
         Reply::Audit(seat) => put_seat(text, board, seat),

@@ -1,20 +1,25 @@
 -- what `cpgring admit` prints, and what it tells of a file's fault
 use Rattle.std.specs.Prelude.{ℕ, ◌≡◌, ◌⊎◌, zero, List, [], Option, Some, None, Result, Ok, Err}
 use Rattle.std.specs.Io.KnownBytes.{Appends, Keeps}
+use Rattle.cpg_cred.specs.Listed.{Listed}
 use Rattle.cpg_cred.specs.declared.credentials.Cred.{Cred}
 use Rattle.cpg_cred.specs.declared.refusals.Refusal.TheVariants as refusal
 use Rattle.cpg_text.specs.Streams.{AppendsFront}
 use Rattle.cpg_accept.specs.Accepting.{whole_fault}
 use Rattle.cpg_conf.specs.Listed.{listed}
 use Rattle.cpg_conf.specs.Names.{Known, known_of}
-use Rattle.cpg_admit.specs.Admitting.{admitted_text, and_then, known_in, read_in}
+use Rattle.cpg_admit.specs.Admitting.{and_then, known_in, read_in}
+use Rattle.cpg_admit.specs.Forms.{admitted_text}
 use Rattle.cpg_admit.specs.Telling.{fault_text}
 use Rattle.cpg_admit.specs.declared.texts.AdmitFault.{AdmitFault}
 use Rattle.cpg_admit.specs.declared.texts.File.{File}
 use Rattle.cpg_admit.specs.declared.texts.File.TheVariants as file
+use Rattle.cpg_json_admit.specs.Admitted.{admitted_json}
 use Rattle.cpg_program.specs.Telling.{error_line}
 use Rattle.cpg_program.specs.declared.admitting.Admission.{Admission}
 use Rattle.cpg_program.specs.declared.admitting.NamedText.{NamedText}
+use Rattle.cpg_program.specs.declared.runs.Form.{Form}
+use Rattle.cpg_program.specs.declared.runs.Form.TheVariants as forms
 
 -- the text of a file, and none where there is no file
 abbrev pub text_or_none : Option NamedText → List ℕ
@@ -47,9 +52,14 @@ names_of None passwd group = known_in passwd group
 abbrev pub names_told : Admission → Result Known AdmitFault
 names_told a = names_of a.names (text_or_none a.passwd) (text_or_none a.group)
 
--- what is printed, or the first fault: the names' before the conf file's
-abbrev pub printed_by : Admission → List Cred → Result (List ℕ) AdmitFault
-printed_by a asks = and_then (names_told a) (λ names. and_then (read_in file.Conf (listed names a.conf.text.now)) (λ list. Ok (admitted_text list asks)))
+-- whom a list lets in, or the list, in a form
+abbrev pub admitted_as : Form → Listed → List Cred → List ℕ
+admitted_as forms.Text list asks = admitted_text list asks
+admitted_as forms.Json list asks = admitted_json list asks
+
+-- what is printed in a form, or the first fault: the names' before the conf file's
+abbrev pub printed_by : Form → Admission → List Cred → Result (List ℕ) AdmitFault
+printed_by form a asks = and_then (names_told a) (λ names. and_then (read_in file.Conf (listed names a.conf.text.now)) (λ list. Ok (admitted_as form list asks)))
 
 -- the text is written, and nothing is told; or a front of it is, with the status of a fault
 abbrev pub WritesText : List ℕ → ℕ → Option (List ℕ) → Option (List ℕ) → Option (List ℕ) → Option (List ℕ) → Type 0

@@ -2,15 +2,19 @@
 //!
 //! Proved: the bytes on standard output and on standard error, and the exit status.
 
-ghost use Rattle.std.specs.Prelude.{◌≡◌, Ok, IfOk, IfErr};
+ghost use Rattle.std.specs.Prelude.{◌≡◌, Ok, IfOk, IfErr, IsOkUnless};
 ghost use Rattle.cpg_admit.specs.Admitting.{known_by, Fails};
-ghost use Rattle.cpg_program.specs.Admitting.{names_told, path_in, path_or_none, printed_by, text_in, text_or_none, Admits, TellsOf, WritesText};
+ghost use Rattle.cpg_conf.specs.Listed.{numbers_listed};
+ghost use Rattle.cpg_program.specs.Admitting.{admitted_as, names_told, path_in, path_or_none, printed_by, text_in, text_or_none, Admits, TellsOf, WritesText};
 ghost use Rattle.cpg_program.specs.Pipes.{stream_of};
 
 use crate::pipes::Piped;
+use crate::runs::Form;
 use crate::telling::{tell_fault, tell_memory, write_front};
 use cpg_admit::{AdmitFault, File, NamesFrom, fault_line, print, read_list};
+use cpg_conf::Numbers;
 use cpg_cred::{Cred, Refusal};
+use cpg_json_admit::print_json;
 use cpg_script::Fault;
 use cpg_text::write_whole;
 use std::alloc::Global;
@@ -88,19 +92,20 @@ impl<'a> Admission<'a> {
     }
 }
 
-/// Prints whom the files let in, or tells the first fault, and returns the exit status: 0 done, 1 a fault.
+/// Prints whom the files let in, in the form, or tells the first fault, and returns the exit status: 0 done, 1 a fault.
 ///
 /// Nothing is printed after a fault of a file. Where what is printed can't be written that is told, unless its reader has left.
 pub fn perform_admit<W: Write, E: Write>(
     alloc: Global,
+    form: Form,
     admission: &Admission<'_>,
     asks: &[Cred],
     writer: &mut Piped<W>,
     errors: &mut E,
 ) -> u8
-    ensures { Admits admission.now (printed_by admission.now asks.now) result (W.contents (stream_of writer.old)) (W.contents (stream_of writer.new)) (E.contents errors.old) (E.contents errors.new) }
+    ensures { Admits admission.now (printed_by form admission.now asks.now) result (W.contents (stream_of writer.old)) (W.contents (stream_of writer.new)) (E.contents errors.old) (E.contents errors.new) }
 {
-    match print_admitted(alloc, admission, asks) {
+    match print_admitted(alloc, form, admission, asks) {
         Ok(text) => write_text(writer, errors, text.as_slice()),
         Err(fault) => {
             tell(alloc, errors, admission, &fault);
@@ -112,19 +117,31 @@ pub fn perform_admit<W: Write, E: Write>(
 /// What is printed, or the first fault.
 fn print_admitted(
     alloc: Global,
+    form: Form,
     admission: &Admission<'_>,
     asks: &[Cred],
 ) -> Result<Vec<u8>, AdmitFault>
-    ensures ok { IfOk result (λ text. printed_by admission.now asks.now ≡ Ok text.items) }
-    ensures err { IfErr result (Fails (printed_by admission.now asks.now)) }
+    ensures ok { IfOk result (λ text. printed_by form admission.now asks.now ≡ Ok text.items) }
+    ensures err { IfErr result (Fails (printed_by form admission.now asks.now)) }
 {
     let numbers = read_list(alloc, &admission.names_from(), admission.conf.text)?;
-    match print(alloc, &numbers, asks) {
+    match print_as(alloc, form, &numbers, asks) {
         Ok(text) => Ok(text),
         Err(refusal) => Err(AdmitFault {
             file: File::Conf,
             refusal,
         }),
+    }
+}
+
+/// What is printed of those whom the listed users and groups let in, in the form.
+fn print_as(alloc: Global, form: Form, numbers: &Numbers, asks: &[Cred]) -> Result<Vec<u8>, Refusal>
+    ensures ok { IfOk result (λ text. text.items ≡ admitted_as form (numbers_listed numbers.now) asks.now) }
+    ensures memory { IsOkUnless result Refusal.Memory }
+{
+    match form {
+        Form::Text => print(alloc, numbers, asks),
+        Form::Json => print_json(alloc, numbers, asks),
     }
 }
 

@@ -22,7 +22,7 @@ mod words;
 
 pub use admitting::{Admission, NamedText, perform_admit, write_text};
 pub use auditing::Inquiry;
-pub use cpg_cluster::{Manner, Patience, Shown};
+pub use cpg_cluster::{Known, Manner, Noted, Patience, Shown};
 pub use cpg_filter::{Filter, Only};
 pub use cpg_why::Asked;
 pub use failures::Failure;

@@ -3,7 +3,7 @@
 //! Proved: each form is the definition of its crate.
 
 use cpg_board::Board;
-use cpg_cluster::{Numbered, PutsAnswer, Reply, Shown};
+use cpg_cluster::{Noted, Numbered, PutsAnswer, Reply, Shown};
 use cpg_cred::Refusal;
 use cpg_json_run::AnswersAsJson;
 use std::alloc::Global;
@@ -13,6 +13,8 @@ use std::alloc::Global;
 pub enum Spoken {
     /// As text.
     Text(Shown),
+    /// As text, with what is known where no event came.
+    Noted(Noted),
     /// As objects of JSON, one a line.
     Json,
 }
@@ -32,6 +34,7 @@ impl PutsAnswer for Spoken {
     ) -> Result<(), Refusal> {
         match self {
             Spoken::Text(shown) => shown.put(alloc, text, board, line, answer),
+            Spoken::Noted(noted) => noted.put(alloc, text, board, line, answer),
             Spoken::Json => AnswersAsJson.put(alloc, text, board, line, answer),
         }
     }

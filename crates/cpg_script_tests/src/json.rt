@@ -1,7 +1,9 @@
 //! A worked row through each call that writes JSON, by docs/JSON.md.
 
-use cpg_cred::AcceptList;
+use cpg_admit::{NamesFrom, read_list};
+use cpg_cred::{AcceptList, Cred};
 use cpg_json::{accept_json, judge_json, step_json};
+use cpg_json_admit::print_json;
 use cpg_ring::Settings;
 use cpg_world::World;
 use std::test::Fail;
@@ -26,6 +28,27 @@ fn accept_tells_what_lets_in(rt: HostRuntime) {
     let done = accept_json(rt.alloc(), &mut script.as_bytes(), &mut written);
     assert!(rt; done.is_ok());
     assert!(rt; written.as_slice() == lines.as_bytes());
+}
+
+#[test]
+fn admit_tells_whom_the_files_let_in(rt: HostRuntime) -> Result<(), Fail> {
+    let conf = "uidgid {\n\tgid: 20\n\tuid: 7\n}\n";
+    let list = "{\"kind\":\"listed\",\"uid\":7}\n{\"kind\":\"listed\",\"gid\":20}\n";
+    let lines =
+        "{\"kind\":\"accepted\",\"via\":\"root-group\"}\n{\"kind\":\"accepted\",\"via\":\"user\"}\n{\"kind\":\"accepted\",\"via\":\"group\"}\n{\"kind\":\"refused\",\"number\":2,\"refusal\":\"Access\"}\n";
+    let asks = [
+        Cred { uid: 9, gid: 0 },
+        Cred { uid: 7, gid: 9 },
+        Cred { uid: 9, gid: 20 },
+        Cred { uid: 20, gid: 7 },
+    ];
+    let alloc = rt.alloc();
+    let numbers = read_list(alloc, &NamesFrom::Nowhere, conf.as_bytes()).map_err(|_| "list")?;
+    let told = print_json(alloc, &numbers, &[]).map_err(|_| "told")?;
+    assert!(rt; told.as_slice() == list.as_bytes());
+    let answered = print_json(alloc, &numbers, &asks).map_err(|_| "answered")?;
+    assert!(rt; answered.as_slice() == lines.as_bytes());
+    Ok(())
 }
 
 #[test]

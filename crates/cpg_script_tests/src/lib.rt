@@ -1,5 +1,5 @@
-//! Tests of scripts and what they are read by: lines and words, conf texts, each kind of script, and runs of the program
-//! over streams. Nothing here is used by the other crates.
+//! Tests of scripts and what they are read by: lines and words, conf texts, entries that are judged, and commands over
+//! all nodes. Nothing here is used by the other crates.
 #![tactic(auto)]
 
 #[cfg(test)]
@@ -14,14 +14,6 @@ mod json;
 mod judges;
 #[cfg(test)]
 mod lines;
-#[cfg(test)]
-mod marked;
-#[cfg(test)]
-mod runs;
-#[cfg(test)]
-mod sessions;
-#[cfg(test)]
-mod shells;
 #[cfg(test)]
 mod steps;
 #[cfg(test)]

@@ -14,7 +14,9 @@ use Rattle.cpg_program.specs.declared.runs.Run.{Run}
 use Rattle.cpg_cluster.specs.declared.forms.Manner.{Manner}
 use Rattle.cpg_cluster.specs.declared.forms.Patience.{Patience}
 use Rattle.cpg_cluster.specs.declared.forms.Patience.TheVariants.{Looks, Millis}
+use Rattle.cpg_cluster.specs.declared.forms.Shown.{Shown}
 use Rattle.cpg_cluster.specs.declared.forms.Shown.TheVariants.{Plain, Echoed}
+use Rattle.cpg_cluster.specs.declared.noting.Known.{Known}
 use Rattle.cpg_program.specs.declared.speaking.Spoken.{Spoken}
 use Rattle.cpg_program.specs.declared.speaking.Spoken.TheVariants as spoken
 use Rattle.cpgring.specs.declared.asking.Asked.{Asked}
@@ -139,15 +141,31 @@ abbrev pub patience_given : Option (List ℕ) → Option Patience
 patience_given None = Some Looks
 patience_given (Some word) = option_map Millis (number_in 0 4294967295 word)
 
--- the answers of a cluster are objects of JSON, or written with the line and the session before each line, where an option asks for it
-pub record IsSpokenGiven (found : Found) (form : Spoken) : Type 0 where
-  pub json : IsUsed found (codes "json") → form ≡ spoken.Json
-  pub echo : IsUnused found (codes "json") → IsUsed found (codes "echo") → form ≡ spoken.Text Echoed
-  pub plain : IsUnused found (codes "json") → IsUnused found (codes "echo") → form ≡ spoken.Text Plain
+-- the line and the session stand before each line where the option asks for it
+abbrev pub IsShownGiven : Found → Shown → Type 0
+IsShownGiven found shown = (IsUsed found (codes "echo") → shown ≡ Echoed) × (IsUnused found (codes "echo") → shown ≡ Plain)
 
--- and a wait looks for as long as is given
-abbrev pub IsMannerGiven : Found → Manner Spoken → Type 0
-IsMannerGiven found manner = (patience_given (first_value found (codes "wait")) ≡ Some manner.patience) × IsSpokenGiven found manner.form
+-- the answers are text that is shown so
+abbrev pub IsTextGiven : Found → Spoken → Type 0
+IsTextGiven found (spoken.Text shown) = IsShownGiven found shown
+IsTextGiven found _ = ⊥
+
+-- and with what is known where no event came
+abbrev pub IsNotedGiven : Found → Known → Spoken → Type 0
+IsNotedGiven found known (spoken.Noted noted) = (noted.known ≡ known) × IsShownGiven found noted.shown
+IsNotedGiven found known _ = ⊥
+
+-- the answers of a cluster are objects of JSON where an option asks for it, and else text; with what is known where one asks for that
+pub record IsSpokenGiven (found : Found) (known : Known) (form : Spoken) : Type 0 where
+  pub json : IsUsed found (codes "json") → form ≡ spoken.Json
+  pub noted : IsUnused found (codes "json") → IsUsed found (codes "verbose") → IsNotedGiven found known form
+  pub text : IsUnused found (codes "json") → IsUnused found (codes "verbose") → IsTextGiven found form
+
+-- and a wait looks for as long as is given, over a ring of those settings
+abbrev pub IsMannerGiven : Found → Settings → Manner Spoken → Type 0
+IsMannerGiven found settings manner =
+    (patience_given (first_value found (codes "wait")) ≡ Some manner.patience)
+    × IsSpokenGiven found (record { patience = manner.patience; settings = settings }) manner.form
 
 -- what is asked once a script of sessions was run is what the word asks, in the form that the option asks for, and a wait looks for as long as
 -- is given
@@ -168,7 +186,7 @@ IsGivenBy found (StepWhy form asked settings words) =
     (question_asked (first_value found (codes "why")) ≡ Some asked) × IsFormGiven found form × AreGiven found settings (map (λ word. word.now) words.now)
 IsGivenBy found (Number settings words) = (first_value found (codes "why") ≡ None) × AreGiven found settings (map (λ word. word.now) words.now)
 IsGivenBy found (Cluster manner settings words) =
-    (first_value found (codes "why") ≡ None) × IsMannerGiven found manner × AreGiven found settings (map (λ word. word.now) words.now)
+    (first_value found (codes "why") ≡ None) × IsMannerGiven found settings manner × AreGiven found settings (map (λ word. word.now) words.now)
 IsGivenBy found (ClusterWhy inquiry settings words) = IsInquiryGiven found inquiry × AreGiven found settings (map (λ word. word.now) words.now)
 
 -- the numbers of frames are written, too
@@ -184,7 +202,7 @@ pub record IsAskedFor (found : Found) (called : List ℕ) (asked : Asked) : Type
 
 -- what `shell` is asked for is what was given; all its words let users and groups in
 pub record IsShellGiven (found : Found) (asked : AskedShell) : Type 0 where
-  pub manner : IsMannerGiven found asked.manner
+  pub manner : IsMannerGiven found asked.settings asked.manner
   pub settings : AreSettingsGiven found asked.settings
   pub words : map (λ word. word.now) asked.words.now ≡ words_found found
 

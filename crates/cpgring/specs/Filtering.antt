@@ -1,10 +1,11 @@
 -- the filter that the options of `judge` give
-use Rattle.std.specs.Prelude.{ℕ, ◌≡◌, ◌==◌, ◌||◌, Bool, is_some, List, codes, length, if◌then◌else◌, Option, Some, None, option_map}
+use Rattle.std.specs.Prelude.{ℕ, ◌≡◌, ◌==◌, ◌||◌, ◌⊎◌, Bool, is_some, List, codes, length, if◌then◌else◌, Option, Some, None, option_map}
 use Rattle.std.specs.Str.{bytes_eq}
 use Rattle.clap.specs.declared.parser.matches.Found.{Found}
 use Rattle.clap.specs.Words.{first_value}
 use Rattle.cpg_text.specs.Numbers.{number_in}
 use Rattle.cpg_script.specs.Words.{◌>>=◌, after_name, cut_at}
+use Rattle.cpg_entry.specs.Names.{is_name}
 use Rattle.cpg_print.specs.Entries.{conn_of_word}
 use Rattle.cpg_filter.specs.declared.filters.Filter.{Filter}
 use Rattle.cpg_filter.specs.declared.filters.Only.{Only}
@@ -19,6 +20,10 @@ kind_named word =
     else if bytes_eq word (codes "changes") then Some Changes
     else if bytes_eq word (codes "rules") then Some Rules
     else None
+
+-- the group of that name, where it is one
+abbrev pub group_named : List ℕ → Option (List ℕ)
+group_named word = if is_name word then Some word else None
 
 -- what a word says, where one is given
 abbrev pub read_given : {A : Type 0} → (List ℕ → Option A) → Option (List ℕ) → Option (Option A)
@@ -59,6 +64,12 @@ is_filtered found =
 -- the filter is the one that the options' words say
 pub record IsFilterGiven (found : Found) (filter : Filter) : Type 0 where
   pub only : read_given kind_named (first_value found (codes "only")) ≡ Some filter.only
-  pub group : option_map (λ name. name.now) filter.group ≡ first_value found (codes "group")
+  pub group : read_given group_named (first_value found (codes "group")) ≡ Some (option_map (λ name. name.now) filter.group)
   pub conn : read_given conn_of_word (first_value found (codes "connection")) ≡ Some filter.conn
   pub places : places_given (first_value found (codes "places")) ≡ Some (filter.first, filter.last)
+
+-- the word of one of the options says nothing
+abbrev pub IsBadFilter : Found → Type 0
+IsBadFilter found =
+    (read_given kind_named (first_value found (codes "only")) ≡ None) ⊎ (read_given group_named (first_value found (codes "group")) ≡ None)
+    ⊎ (read_given conn_of_word (first_value found (codes "connection")) ≡ None) ⊎ (places_given (first_value found (codes "places")) ≡ None)

@@ -4,3 +4,4 @@ pub mod Completions
 pub mod Filtering
 pub mod Loading
 pub mod Sources
+pub mod Versions

@@ -2,15 +2,16 @@
 //!
 //! Proved: which subcommand is which run, its settings and words, and the exit status of what is said.
 
-ghost use Rattle.std.specs.Prelude.{◌≡◌, ◌<◌, ◌↔◌, true, false, Some, None, codes, length, map, option_map, slice_get, IfOk, IfSome, IsSome};
+ghost use Rattle.std.specs.Prelude.{◌≡◌, ◌<◌, ◌↔◌, ◌⊎◌, true, false, Some, None, codes, length, map, option_map, slice_get, IfOk, IfSome, IsSome};
+ghost use Rattle.std.specs.Io.KnownBytes.{Keeps};
 ghost use Rattle.clap.specs.Words.{found_of, first_value, subcommand_name_of};
 ghost use Rattle.clap.specs.Values.{kind_of};
 ghost use Rattle.cpg_program.specs.Pipes.{stream_of};
 ghost use Rattle.cpg_program.specs.declared.runs.Run.TheVariants.{Why};
 ghost use Rattle.cpg_print.specs.Entries.{conn_of_word};
-ghost use Rattle.cpgring.specs.Filtering.{is_filtered};
+ghost use Rattle.cpgring.specs.Filtering.{is_filtered, IsBadFilter};
 ghost use Rattle.cpgring.specs.Sources.{but_input, path_of};
-ghost use Rattle.cpgring.specs.Asking.{name_of, words_found, AreSettingsGiven, IsAskedFor, IsFormGiven, IsInquiryGiven, IsMannerGiven, IsPictureGiven, IsShellGiven, IsSpokenGiven, patience_given, IsPlaceAsked, IsStatusOf, IsUnused, IsUsed, Says, is_numbered, question_named};
+ghost use Rattle.cpgring.specs.Asking.{name_of, words_found, AreSettingsGiven, IsAskedFor, IsFormGiven, IsInquiryGiven, IsMannerGiven, IsPictureGiven, IsShellGiven, IsShownGiven, IsSpokenGiven, patience_given, IsPlaceAsked, IsStatusOf, IsUnused, IsUsed, Says, is_numbered, question_named};
 
 use crate::commands::{
     ACCEPT, ALL, CONNECTION, ECHO, FILE, HOPS, JSON, NODES, NUMBERS, PLACE, PLACES, RING, TEXT,
@@ -18,13 +19,14 @@ use crate::commands::{
 };
 use crate::filtering::{filter_of, is_filtered};
 use crate::sources::{Source, source_of, split_words};
+use crate::versions::write_commit;
 use clap::error::ErrorKind;
 use clap::{ArgMatches, Error};
 use cpg_cred::{MOST_NODES, NodeId, Refusal};
 use cpg_entry::MOST_CONNECTIONS;
 use cpg_program::{
-    Asked as Question, Form, Inquiry, Manner, Patience, Picture, Piped, Run, Shown, Spoken,
-    tell_fault,
+    Asked as Question, Form, Inquiry, Known, Manner, Noted, Patience, Picture, Piped, Run, Shown,
+    Spoken, tell_fault,
 };
 use cpg_record::ConnId;
 use cpg_ring::Settings;
@@ -77,7 +79,7 @@ fn why_none(matches: &ArgMatches<'_>) -> (ErrorKind, &'static str) {
     match matches.subcommand_name() {
         Some("judge") => (
             ErrorKind::InvalidValue,
-            "'judge' takes KIND as denied, verdicts, messages, changes or rules, NODE.CONN as 1.1, and places as A..B, A.., ..B or A, from 1",
+            "'judge' takes KIND as denied, verdicts, messages, changes or rules, GROUP as 1 to 128 printing ASCII characters, NODE.CONN as 1.1, and places as A..B, A.., ..B or A, from 1",
         ),
         Some("step") => (
             ErrorKind::InvalidValue,
@@ -130,7 +132,7 @@ pub fn is_verbose(given: &ArgMatches<'_>) -> bool
 }
 
 /// The form that the option asks for.
-fn form_of(given: &ArgMatches<'_>) -> Form
+pub fn form_of(given: &ArgMatches<'_>) -> Form
     ensures { IsFormGiven (found_of given.now) result }
 {
     if given.get_flag(JSON) {
@@ -155,6 +157,7 @@ fn picture_of(given: &ArgMatches<'_>) -> Picture
 fn judge_of<'a>(given: &'a ArgMatches<'_>) -> Option<Asked<'a>>
     ensures asked { IfSome result (IsAskedFor (found_of given.now) (codes "judge")) }
     ensures plain { is_filtered (found_of given.now) ≡ false → IsSome result }
+    ensures none { result ≡ None → IsBadFilter (found_of given.now) }
 {
     let source = source_of(given.get_str(FILE));
     if !is_filtered(given) {
@@ -298,7 +301,7 @@ fn cluster_of<'a>(given: &'a ArgMatches<'_>) -> Option<Asked<'a>>
     let (source, words) = split_words(words_of(given));
     let run = match given.get_str(WHY) {
         Some(_) => Run::ClusterWhy(inquiry_of(given)?, settings, words),
-        None => Run::Cluster(manner_of(given)?, settings, words),
+        None => Run::Cluster(manner_of(given, settings)?, settings, words),
     };
     Some(Asked { run, source })
 }
@@ -339,21 +342,22 @@ pub fn read_shell<'a>(alloc: Global, given: &'a ArgMatches<'_>) -> Result<AskedS
 fn shell_of<'a>(given: &'a ArgMatches<'_>) -> Option<AskedShell<'a>>
     ensures { IfSome result (IsShellGiven (found_of given.now)) }
 {
+    let settings = settings_of(given)?;
     Some(AskedShell {
-        manner: manner_of(given)?,
-        settings: settings_of(given)?,
+        manner: manner_of(given, settings)?,
+        settings,
         words: words_of(given),
     })
 }
 
-/// How the commands of a cluster are answered, where the options say it.
-fn manner_of(given: &ArgMatches<'_>) -> Option<Manner<Spoken>>
-    ensures { IfSome result (IsMannerGiven (found_of given.now)) }
+/// How the commands of a cluster of those settings are answered, where the options say it.
+fn manner_of(given: &ArgMatches<'_>, settings: Settings) -> Option<Manner<Spoken>>
+    ensures given { IfSome result (IsMannerGiven (found_of given.now) settings) }
+    ensures none { result ≡ None → patience_given (first_value (found_of given.now) (codes "wait")) ≡ None }
 {
-    Some(Manner {
-        patience: read_patience(given.get_str(WAIT))?,
-        form: spoken_of(given),
-    })
+    let patience = read_patience(given.get_str(WAIT))?;
+    let form = spoken_of(given, Known { patience, settings });
+    Some(Manner { patience, form })
 }
 
 /// How long a wait looks.
@@ -369,16 +373,28 @@ fn read_patience(word: Option<&str>) -> Option<Patience>
     }
 }
 
-/// The form of the answers of a cluster that the options ask for.
-fn spoken_of(given: &ArgMatches<'_>) -> Spoken
-    ensures { IsSpokenGiven (found_of given.now) result }
+/// How the answers of a cluster are shown as text.
+fn shown_of(given: &ArgMatches<'_>) -> Shown
+    ensures { IsShownGiven (found_of given.now) result }
 {
+    if given.get_flag(ECHO) {
+        Shown::Echoed
+    } else {
+        Shown::Plain
+    }
+}
+
+/// The form of the answers of a cluster that the options ask for, where that is known of a wait.
+fn spoken_of(given: &ArgMatches<'_>, known: Known) -> Spoken
+    ensures { IsSpokenGiven (found_of given.now) known result }
+{
+    let shown = shown_of(given);
     if given.get_flag(JSON) {
         Spoken::Json
-    } else if given.get_flag(ECHO) {
-        Spoken::Text(Shown::Echoed)
+    } else if is_verbose(given) {
+        Spoken::Noted(Noted { shown, known })
     } else {
-        Spoken::Text(Shown::Plain)
+        Spoken::Text(shown)
     }
 }
 
@@ -406,6 +422,7 @@ fn words_of<'a>(given: &'a ArgMatches<'_>) -> &'a [&'a str]
 pub fn explain<W: Write, E: Write>(
     alloc: Global,
     error: &Error,
+    commit: Option<&str>,
     writer: &mut Piped<W>,
     errors: &mut E,
 ) -> u8
@@ -417,19 +434,48 @@ pub fn explain<W: Write, E: Write>(
             tell(errors, Refusal::Memory);
             1
         }
-        ErrorKind::DisplayHelp | ErrorKind::DisplayVersion => match show(alloc, error, writer) {
-            Ok(()) => 0,
-            Err(refusal) => {
-                if !writer.has_left() {
-                    tell(errors, refusal);
-                }
-                1
-            }
-        },
+        ErrorKind::DisplayHelp => show_asked(alloc, error, None, writer, errors),
+        ErrorKind::DisplayVersion => show_asked(alloc, error, commit, writer, errors),
         _ => {
             let _ = show(alloc, error, errors);
             2
         }
+    }
+}
+
+/// Writes what was asked for, and the line of the commit, if there is one, and returns the exit status.
+fn show_asked<W: Write, E: Write>(
+    alloc: Global,
+    error: &Error,
+    commit: Option<&str>,
+    writer: &mut Piped<W>,
+    errors: &mut E,
+) -> u8
+    ensures status { (result ≡ 0) ⊎ (result ≡ 1) }
+    ensures streams { result ≡ 0 → Keeps (E.contents errors.old) (E.contents errors.new) }
+{
+    match show_with(alloc, error, commit, writer) {
+        Ok(()) => 0,
+        Err(refusal) => {
+            if !writer.has_left() {
+                tell(errors, refusal);
+            }
+            1
+        }
+    }
+}
+
+/// Writes what clap says, and the line of the commit, if there is one.
+fn show_with<W: Write>(
+    alloc: Global,
+    error: &Error,
+    commit: Option<&str>,
+    writer: &mut Piped<W>,
+) -> Result<(), Refusal> {
+    show(alloc, error, writer)?;
+    match commit {
+        None => Ok(()),
+        Some(word) => write_commit(alloc, word, writer),
     }
 }
 

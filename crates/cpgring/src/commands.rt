@@ -52,8 +52,16 @@ pub const ONLY: &str = "only";
 /// The option that asks for the lines of one group; of `admit`, the accounts of groups.
 pub const GROUP: &str = "group";
 
-/// The option that asks for a hint behind a fault's line.
+/// The option that asks for a hint behind a fault's line, or for what is known where nothing is told.
 pub const VERBOSE: &str = "verbose";
+
+const HINTS: &str =
+    "Behind a fault's line, show the script's line, what does not fit and what is wanted there";
+
+const NOTES: &str = "Behind a none, say what is known";
+
+const HINTS_AND_NOTES: &str =
+    "Behind a fault's line, show the script's line and what is wanted there; behind a none, say what is known";
 
 /// The option that asks why, of what a script's commands made.
 pub const WHY: &str = "why";
@@ -124,7 +132,7 @@ fn judge_command<'a>(alloc: Global) -> Result<Command<'a>, AllocError> {
             "Print lines of places A to B alone; A.., ..B and A, too",
         )
         .conflicts_with(JSON)?)?
-        .arg(verbose(alloc))?
+        .arg(verbose(alloc, HINTS))?
         .arg(file(alloc))
 }
 
@@ -142,7 +150,7 @@ fn why_command<'a>(alloc: Global) -> Result<Command<'a>, AllocError> {
             "Tell the way of that connection",
         ))?
         .arg(flag(alloc, JSON, "Print one object of JSON a line"))?
-        .arg(verbose(alloc))?
+        .arg(verbose(alloc, HINTS))?
         .arg(
             Arg::new(alloc, PLACE)
                 .value_name("PLACE|FILE")
@@ -160,7 +168,7 @@ fn accept_command<'a>(alloc: Global) -> Result<Command<'a>, AllocError> {
         .long_about(ACCEPT_HELP)
         .after_long_help(ACCEPT_MORE)
         .arg(flag(alloc, JSON, "Print one object of JSON a line"))?
-        .arg(verbose(alloc))?
+        .arg(verbose(alloc, HINTS))?
         .arg(file(alloc))
 }
 
@@ -197,6 +205,7 @@ fn admit_command<'a>(alloc: Global) -> Result<Command<'a>, AllocError> {
             "Accounts of groups, as /etc/group has them",
         )
         .conflicts_with(NAMES)?)?
+        .arg(flag(alloc, JSON, "Print one object of JSON a line"))?
         .arg(
             Arg::new(alloc, ASKS)
                 .value_name("UID:GID")
@@ -234,7 +243,7 @@ fn step_command<'a>(alloc: Global) -> Result<Command<'a>, AllocError> {
             "Explain in place of that the entry at the place; all: each denial; NODE.CONN: a connection's way",
         )
         .conflicts_with(NUMBERS)?)?
-        .arg(verbose(alloc))?;
+        .arg(verbose(alloc, HINTS))?;
     with_words(alloc, command, "FILE|ACCEPT", FILE_AND_ACCEPT)
 }
 
@@ -246,7 +255,7 @@ fn draw_command<'a>(alloc: Global) -> Result<Command<'a>, AllocError> {
         .after_long_help(DRAW_MORE);
     let command = with_ring(alloc, command)?
         .arg(flag(alloc, TEXT, "Draw lines for a terminal, in place of an SVG"))?
-        .arg(verbose(alloc))?;
+        .arg(verbose(alloc, HINTS))?;
     with_words(alloc, command, "FILE|ACCEPT", FILE_AND_ACCEPT)
 }
 
@@ -266,7 +275,7 @@ fn run_command<'a>(alloc: Global) -> Result<Command<'a>, AllocError> {
                 "Explain in place of that, once all is done, the entry at the place; all: each denial; NODE.CONN: a connection's way",
             )
             .conflicts_with(ECHO)?)?
-            .arg(verbose(alloc))?,
+            .arg(verbose(alloc, HINTS_AND_NOTES))?,
         "FILE|ACCEPT",
         FILE_AND_ACCEPT,
     )
@@ -280,7 +289,10 @@ fn shell_command<'a>(alloc: Global) -> Result<Command<'a>, AllocError> {
         .after_long_help(SHELL_MORE);
     with_words(
         alloc,
-        with_manner(alloc, with_ring(alloc, command)?)?,
+        with_manner(
+            alloc,
+            with_ring(alloc, command)?.arg(verbose(alloc, NOTES))?,
+        )?,
         "ACCEPT",
         "Whom the nodes let in beside uid 0 and gid 0: uid:N or gid:N, each N 0 to 4294967295",
     )
@@ -366,15 +378,13 @@ fn with_words<'a>(
     )
 }
 
-/// The option that asks for a hint behind a fault's line.
-fn verbose<'a>(alloc: Global) -> Arg<'a> {
+/// The option that asks for more words: of a fault, or of nothing told.
+fn verbose<'a>(alloc: Global, help: &'a str) -> Arg<'a> {
     Arg::new(alloc, VERBOSE)
         .short('v')
         .long(VERBOSE)
         .action(ArgAction::SetTrue)
-        .help(
-            "Behind a fault's line, show the script's line, what does not fit and what is wanted there",
-        )
+        .help(help)
 }
 
 /// An option of that name that takes a word.

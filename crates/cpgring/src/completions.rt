@@ -17,11 +17,11 @@ _cpgring() {
             judge) words='--json --only --group --connection --places -v --verbose' ;;
             why) words='--all --connection --json -v --verbose' ;;
             accept) words='--json -v --verbose' ;;
-            admit) words='--conf --names --passwd --group' ;;
+            admit) words='--conf --names --passwd --group --json' ;;
             step) words="$ring --json --numbers --why -v --verbose" ;;
             draw) words="$ring --text -v --verbose" ;;
             run) words="$ring --json --wait --echo --why -v --verbose" ;;
-            shell) words="$ring --json --wait --echo" ;;
+            shell) words="$ring --json --wait --echo -v --verbose" ;;
             completions) words='bash zsh fish' ;;
         esac
         words="$words --help"
@@ -54,11 +54,11 @@ _cpgring() {
         why) _arguments '--all' '--connection=:connection' '--json' $more ;;
         accept) _arguments '--json' $more ;;
         admit) _arguments '--conf=:file:_files' '--names=:file:_files' '--passwd=:file:_files' '--group=:file:_files' \
-            '--help' ;;
+            '--json' '--help' ;;
         step) _arguments $ring '--json' '--numbers' '--why=:place' $more ;;
         draw) _arguments $ring '--text' $more ;;
         run) _arguments $ring '--json' '--wait=:milliseconds' '--echo' '--why=:place' $more ;;
-        shell) _arguments $ring '--json' '--wait=:milliseconds' '--echo' '--help' ;;
+        shell) _arguments $ring '--json' '--wait=:milliseconds' '--echo' '-v' '--verbose' '--help' ;;
         completions) compadd bash zsh fish ;;
     esac
 }
@@ -70,8 +70,8 @@ pub const FISH: &str = r#"# cpgring completions fish > ~/.config/fish/completion
 complete -c cpgring -n __fish_use_subcommand -f -a 'judge why accept admit step draw run shell completions'
 complete -c cpgring -l help
 complete -c cpgring -n __fish_use_subcommand -l version
-complete -c cpgring -n '__fish_seen_subcommand_from judge why accept step run shell' -l json
-complete -c cpgring -n '__fish_seen_subcommand_from judge why accept step draw run' -s v -l verbose
+complete -c cpgring -n '__fish_seen_subcommand_from judge why accept admit step run shell' -l json
+complete -c cpgring -n '__fish_seen_subcommand_from judge why accept step draw run shell' -s v -l verbose
 complete -c cpgring -n '__fish_seen_subcommand_from judge' -l only -x -a 'denied verdicts messages changes rules'
 complete -c cpgring -n '__fish_seen_subcommand_from judge' -l group -x
 complete -c cpgring -n '__fish_seen_subcommand_from judge step draw run shell' -l places -x

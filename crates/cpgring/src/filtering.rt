@@ -2,14 +2,15 @@
 //!
 //! Proved: the filter is the one that the words of the options say, and none where a word says nothing.
 
-ghost use Rattle.std.specs.Prelude.{◌≡◌, Some, option_map, IfSome};
+ghost use Rattle.std.specs.Prelude.{◌≡◌, None, option_map, IfSome};
 ghost use Rattle.clap.specs.Words.{found_of, first_value};
 ghost use Rattle.cpg_print.specs.Entries.{conn_of_word};
-ghost use Rattle.cpgring.specs.Filtering.{bound_of, kind_named, places_given, places_named, span_of, read_given, is_filtered, IsFilterGiven};
+ghost use Rattle.cpgring.specs.Filtering.{bound_of, group_named, kind_named, places_given, places_named, span_of, read_given, is_filtered, IsBadFilter, IsFilterGiven};
 
 use crate::asking::read_conn;
 use crate::commands::{CONNECTION, GROUP, ONLY, PLACES};
 use clap::ArgMatches;
+use cpg_entry::accepts_name;
 use cpg_program::{Filter, Only};
 use cpg_record::ConnId;
 use cpg_script::{cut, is, read_u32, strip_name};
@@ -26,25 +27,27 @@ pub fn is_filtered(given: &ArgMatches<'_>) -> bool
 
 /// The filter that the options give, where their words say one.
 pub fn filter_of<'a>(given: &'a ArgMatches<'_>) -> Option<Filter<'a>>
-    ensures { IfSome result (IsFilterGiven (found_of given.now)) }
+    ensures given { IfSome result (IsFilterGiven (found_of given.now)) }
+    ensures none { result ≡ None → IsBadFilter (found_of given.now) }
 {
     let (first, last) = read_places(given.get_str(PLACES))?;
     Some(Filter {
         only: read_only(given.get_str(ONLY))?,
-        group: bytes_of(given.get_str(GROUP)),
+        group: read_group(given.get_str(GROUP))?,
         conn: read_connection(given.get_str(CONNECTION))?,
         first,
         last,
     })
 }
 
-/// The bytes of a word.
-fn bytes_of(word: Option<&str>) -> Option<&[u8]>
-    ensures { option_map (λ bytes. bytes.now) result ≡ option_map (λ text. text.now) word.entry }
+/// The group that is asked for, if one is; its name is one that a group may have.
+fn read_group(word: Option<&str>) -> Option<Option<&[u8]>>
+    ensures { option_map (option_map (λ name. name.now)) result ≡ read_given group_named (option_map (λ text. text.now) word.entry) }
 {
     match word {
-        None => None,
-        Some(word) => Some(word.as_bytes()),
+        None => Some(None),
+        Some(word) if accepts_name(word.as_bytes()) => Some(Some(word.as_bytes())),
+        Some(_) => None,
     }
 }
 

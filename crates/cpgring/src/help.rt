@@ -178,6 +178,8 @@ Printed for each UID:GID, the first that holds:
   accepted group                             the group is listed
   refused 2 Access                           nothing lets them in
 
+With --json each line is an object (docs/JSON.md).
+
 A fault of a file is told with the file, the line and what stands there, the names' before the conf file's:
 
   corosync.conf:6: 36 UnknownName, uid: nosuch
@@ -402,14 +404,16 @@ but count as lines. The input has at most 16777216 bytes (16 MiB).";
 
 pub const RUN_MORE: &str = "\
 Printed is for each command, after it is done: session S, admitted, closed, the event as `cpgring judge`
-prints it, or none where after 1000000 looks there still was none, members MEMBERS, groups and their names,
-for audit the lines of `cpgring judge` and records COUNT, and safe PLACE. What was printed is handed on before a
-wait begins. With --wait=MS a wait looks for so many milliseconds, and at least once; with --echo each line stands
-behind the number of its script line and its session, `7 s2 `, or `7 - ` where it has none. With --why=PLACE none of
-this is printed, but, once all commands are done, why the entry at that place was answered as it was, as `cpgring why`
-tells it; --why=all tells it of each denied entry, --why=NODE.CONN the way of a connection: a session is named by its
-connection, which its audit shows. All entries that the nodes have judged by then are told of, so wait for a call's
-verdict before the script ends. A command that is refused prints the refusal, and the script goes on:
+prints it, or none where after 1000000 looks there still was none (with -v, a line that begins with # says what
+is known then: how many of the ring's places the session has seen, and after how many hops the ring ends),
+members MEMBERS, groups and their names, for audit the lines of `cpgring judge` and records COUNT, and safe
+PLACE. What was printed is handed on before a wait begins. With --wait=MS a wait looks for so many milliseconds,
+and at least once; with --echo each line stands behind the number of its script line and its session, `7 s2 `, or
+`7 - ` where it has none. With --why=PLACE none of this is printed, but, once all commands are done, why the entry
+at that place was answered as it was, as `cpgring why` tells it; --why=all tells it of each denied entry,
+--why=NODE.CONN the way of a connection: a session is named by its connection, which its audit shows. All entries
+that the nodes have judged by then are told of, so wait for a call's verdict before the script ends. A command that
+is refused prints the refusal, and the script goes on:
 
   2 Access           nobody lets the credentials in
   3 NoConnection     no open session has the number
@@ -465,7 +469,7 @@ that says nothing is told on standard error by its number, from 1, and the next 
 1048576 bytes. The end of the input stops the cluster.
 
 Over a pipe it serves as a driver for the tests of other programs: what a line prints is there before the next
-line is read.";
+line is read. With -v, a line that begins with # says behind a none what is known.";
 
 pub const SHELL_MORE: &str = "\
 Example:

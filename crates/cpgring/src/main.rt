@@ -14,9 +14,10 @@ mod loading;
 mod sources;
 #[cfg(test)]
 mod tests;
+mod versions;
 
 use admitting::{files_of, read_asks};
-use asking::{explain, is_verbose, match_words, read_asked, read_shell, read_words};
+use asking::{explain, form_of, is_verbose, match_words, read_asked, read_shell, read_words};
 use clap::error::ErrorKind;
 use clap::{ArgMatches, Error};
 use commands::{SHELL, build_command};
@@ -33,6 +34,7 @@ use std::rt::Stderr;
 use std::sync::Wait;
 use std::thread::Threads;
 use std::time::Clock;
+use versions::said_commit;
 
 fn main(rt: HostRuntime) -> ExitCode {
     let status = match start(&rt, rt) {
@@ -40,6 +42,7 @@ fn main(rt: HostRuntime) -> ExitCode {
         Err(error) => explain(
             rt.alloc(),
             &error,
+            said_commit(&rt).as_deref(),
             &mut Piped::new(rt.stdout()),
             &mut rt.stderr(),
         ),
@@ -127,6 +130,7 @@ fn admit(rt: &HostRuntime, given: &ArgMatches<'_>) -> Result<u8, Error> {
     match Loaded::read(rt, &files_of(given)) {
         Ok(loaded) => Ok(perform_admit(
             alloc,
+            form_of(given),
             &loaded.admission(),
             asks.as_slice(),
             &mut Piped::new(rt.stdout()),

@@ -23,7 +23,13 @@ fn expect(rt: &impl Abort, alloc: Global, words: &[&str], shown: &str, told: &st
     match why_none(alloc, words) {
         None => assert!(rt; false, "a run"),
         Some(error) => {
-            let said = explain(alloc, &error, &mut Piped::new(&mut writer), &mut errors);
+            let said = explain(
+                alloc,
+                &error,
+                None,
+                &mut Piped::new(&mut writer),
+                &mut errors,
+            );
             assert_eq!(rt; said, status);
         }
     }
@@ -118,6 +124,7 @@ fn help_that_cannot_be_written_is_a_fault(rt: HostRuntime) {
         let status = explain(
             alloc,
             &error,
+            None,
             &mut Piped::new(&mut room.as_mut_slice()),
             &mut errors,
         );

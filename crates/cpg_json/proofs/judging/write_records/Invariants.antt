@@ -3,8 +3,11 @@ use Rattle.std.specs.Prelude.{Ok}
 use Rattle.cpg_record.specs.Judging.{judged}
 use Rattle.cpg_judge.specs.Gathering.{Gathers}
 use Rattle.cpg_json.specs.Records.{records_json}
+use Rattle.cpg_json.specs.Steps.{IsKept}
 use Rattle.cpg_json.proofs.judging.write_records.Given as goal
 
 abbrev pub invariant-loop-index : goal.invariant-loop-index
-invariant-loop-index g l =
-    Gathers (Ok tt) (g.W.Write.contents l.initial.writer) l.initial.lines.items (g.W.Write.contents l.writer) l.lines.items (records_json (take l.index (judged l.policy)))
+invariant-loop-index g l = record {
+  gathered : Gathers (Ok tt) (g.W.Write.contents l.initial.writer) l.initial.lines.items (g.W.Write.contents l.writer) l.lines.items (records_json (take l.index (judged l.policy)));
+  kept : IsKept l.kept;
+}

@@ -1,4 +1,0 @@
-use Rattle.cpg_script_tests.proofs.sessions.lossy_links.Given as goal
-
-abbrev pub ghosts-prints : goal.ghosts-prints
-ghosts-prints g a = record { cells = a.board }

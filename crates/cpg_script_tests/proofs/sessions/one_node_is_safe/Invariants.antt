@@ -1,4 +1,0 @@
-use Rattle.cpg_script_tests.proofs.sessions.one_node_is_safe.Given as goal
-
-abbrev pub ghosts-prints_safe : goal.ghosts-prints_safe
-ghosts-prints_safe g a = record { cells = a.board }

@@ -1,4 +1,0 @@
-use Rattle.cpg_script_tests.proofs.shells.typed_lines.Given as goal
-
-abbrev pub ghosts-answers_on_one : goal.ghosts-answers_on_one
-ghosts-answers_on_one g a = record { cells = a.board }
