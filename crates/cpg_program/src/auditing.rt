@@ -45,7 +45,7 @@ pub struct Inquiry {
 ///
 /// A wrong word comes first, then settings out of their ranges, then the faults of the script, and then that no entry
 /// stands at the place that is asked of.
-#[tactic(auto, using(crate::proofs::Audited::none_of_words, crate::proofs::Audited::none_of_memory))]
+#[tactic(auto, using(crate::proofs::Audited::none_of_words, crate::proofs::Audited::none_of_words_memory))]
 pub fn explain_over_cluster<H, R, W>(
     rt: H,
     alloc: Global,
