@@ -1,16 +1,19 @@
 -- the first bad line of each kind of script is told
-use Rattle.std.proofs.Common.{◌≡◌, ℕ, ◌+◌, Bool, true, false, not, List, Option, Some, None, Err, is_some, refl, sym, ap, ◌∙◌, arith}
+use Rattle.std.proofs.Common.{◌≡◌, ℕ, ◌+◌, Bool, true, false, not, List, [], ◌∷◌, Option, Some, None, Result, Ok, Err, is_some, option_map, refl, sym, ap, ◌∙◌, arith}
 use Rattle.std.specs.Prelude.{nat_le, if◌then◌else◌}
 use Rattle.cpg_entry.specs.declared.entries.Entry.{Entry}
 use Rattle.cpg_record.specs.Judging.{most_places}
 use Rattle.cpg_text.specs.Lines.{lines_of, trimmed, words_of}
-use Rattle.cpg_script.specs.Reading.{read_all}
+use Rattle.cpg_script.specs.Commands.{commands_of}
+use Rattle.cpg_script.specs.Reading.{item_then, items_after, read_all}
 use Rattle.cpg_print.specs.Entries.{entry_of}
 use Rattle.cpg_judge.specs.Scripts.{entries_of_script, entry_in}
 use Rattle.cpg_step.specs.Commands.{command_of as step_of}
 use Rattle.cpg_step.specs.Scripts.{commands_of_script as steps_of_script}
 use Rattle.cpg_cluster.specs.Commands.{command_of as run_of}
-use Rattle.cpg_cluster.specs.Scripts.{commands_of_script as runs_of_script}
+use Rattle.cpg_cluster.specs.Scripts.{commands_in, commands_of_script as runs_of_script, numbered}
+use Rattle.cpg_cluster.specs.declared.commands.Command.{Command}
+use Rattle.cpg_cluster.specs.declared.commands.Numbered.{Numbered}
 use Rattle.cpg_hint.specs.declared.kinds.Kind.{Kind}
 use Rattle.cpg_hint.specs.declared.kinds.Kind.TheVariants as kind
 use Rattle.cpg_hint.specs.declared.words.Unfit.{Unfit}
@@ -91,8 +94,24 @@ step_tells nodes script number h =
     tells (kind.Step nodes) (λ before line. step_of nodes (words_of line)) (λ before line. why_no_step nodes (words_of line)) (λ before line. step_why nodes (words_of line))
     (λ before number line unfit in_part is. ap or_room is) script number h
 
+-- the numbers of commands change nothing of which line is bad
+run_said : (number bad : ℕ) (said : Option Command) (rest : Result (List Numbered) ℕ) (plain : Result (List Command) ℕ) → (rest ≡ Err bad → plain ≡ Err bad)
+    → item_then number (option_map (numbered number) said) rest ≡ Err bad → item_then number said plain ≡ Err bad
+run_said number bad None rest plain next h =
+    let same : number ≡ bad = cc in
+    ap Err same
+run_said number bad (Some command) (Ok commands) plain next h = cc
+run_said number bad (Some command) (Err other) plain next h = ap (item_then number (Some command)) (next h)
+
+run_read : (nodes before bad : ℕ) (lines : List (ℕ × List ℕ)) → commands_in nodes lines ≡ Err bad
+    → items_after (λ before line. run_of nodes (words_of line)) before lines ≡ Err bad
+run_read nodes before bad [] h = cc
+run_read nodes before bad (line ∷ later) h =
+    run_said line.0 bad (run_of nodes (words_of line.1)) (commands_in nodes later) (items_after (λ before line. run_of nodes (words_of line)) (before + 1) later)
+    (run_read nodes (before + 1) bad later) h
+
 pub run_tells : (nodes : ℕ) (script : List ℕ) (number : ℕ) → runs_of_script nodes script ≡ Err number
     → Tells (kind.Cluster nodes) (λ before line. why_no_run nodes (words_of line)) script number
 run_tells nodes script number h =
     tells (kind.Cluster nodes) (λ before line. run_of nodes (words_of line)) (λ before line. why_no_run nodes (words_of line)) (λ before line. run_why nodes (words_of line))
-    (λ before number line unfit in_part is. ap or_room is) script number h
+    (λ before number line unfit in_part is. ap or_room is) script number (run_read nodes 0 number (commands_of script) h)
