@@ -7,9 +7,13 @@ use Rattle.std.specs.List.{list_all}
 abbrev pub is_hex : ℕ → Bool
 is_hex byte = is_ascii_digit byte || (nat_le 97 byte && nat_le byte 102)
 
+-- as long as the name of a commit may be
+abbrev pub is_of_length : List ℕ → Bool
+is_of_length word = nat_le 7 (length word) && nat_le (length word) 64
+
 -- the name of a commit, whole or shortened
 abbrev pub is_commit : List ℕ → Bool
-is_commit word = nat_le 7 (length word) && nat_le (length word) 64 && list_all is_hex word
+is_commit word = is_of_length word && list_all is_hex word
 
 -- its line, where the word is one
 abbrev pub commit_text : List ℕ → List ℕ

@@ -3,11 +3,11 @@
 //! The launcher says it in the variable `CPGRING_COMMIT` where the program is of a commit with no change. Proved: which
 //! words are commits, and what is written of one.
 
-ghost use Rattle.std.specs.Prelude.{◌≡◌, ◌≤◌, OnOk, OnErr, IfOk, IsOkUnless};
+ghost use Rattle.std.specs.Prelude.{◌≡◌, OnOk, OnErr, IfOk, IsOkUnless};
 ghost use Rattle.std.specs.List.{list_all};
 ghost use Rattle.std.specs.Io.KnownBytes.{Appends};
 ghost use Rattle.cpg_text.specs.Streams.{AppendsFront};
-ghost use Rattle.cpgring.specs.Versions.{commit_text, is_commit, is_hex};
+ghost use Rattle.cpgring.specs.Versions.{commit_text, is_commit, is_hex, is_of_length};
 
 use cpg_cred::Refusal;
 use cpg_script::put;
@@ -31,11 +31,25 @@ fn is_hex(byte: u8) -> bool
     byte.is_ascii_digit() || (b'a' <= byte && byte <= b'f')
 }
 
+/// Whether the word has hexadecimal digits alone.
+fn has_digits_alone(word: &[u8]) -> bool
+    ensures { result ≡ list_all is_hex word.now }
+{
+    word.iter().all(|byte| is_hex(*byte))
+}
+
+/// Whether the word is as long as the name of a commit may be.
+fn is_of_length(word: &[u8]) -> bool
+    ensures { result ≡ is_of_length word.now }
+{
+    7 <= word.len() && word.len() <= 64
+}
+
 /// Whether the word is the name of a commit, whole or shortened: 7 to 64 hexadecimal digits.
 fn is_commit(word: &[u8]) -> bool
     ensures { result ≡ is_commit word.now }
 {
-    7 <= word.len() && word.len() <= 64 && word.iter().all(|byte| is_hex(*byte))
+    is_of_length(word) && has_digits_alone(word)
 }
 
 /// The line of the commit, where the word is the name of one, and else nothing.
