@@ -1,3 +1,4 @@
+pub mod Accepts
 pub mod Hints
 pub mod Marks
 pub mod Parts

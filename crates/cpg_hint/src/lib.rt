@@ -4,6 +4,7 @@
 //! The forms are this project's own.
 #![tactic(auto)]
 
+mod accepts;
 mod fits;
 mod hints;
 mod kinds;
@@ -16,6 +17,7 @@ mod told;
 mod wants;
 mod words;
 
+pub use accepts::accept_hint;
 pub use hints::hint_of;
 pub use kinds::Kind;
 pub use laws::{

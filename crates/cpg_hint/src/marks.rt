@@ -49,7 +49,7 @@ fn put_number(text: &mut Vec<u8>, number: u64) -> Result<(), Refusal>
 }
 
 /// Puts the line, escaped and cut, at the text's end.
-fn put_shown(alloc: Global, text: &mut Vec<u8>, line: &[u8]) -> Result<(), Refusal>
+pub(crate) fn put_shown(alloc: Global, text: &mut Vec<u8>, line: &[u8]) -> Result<(), Refusal>
     ensures ok { OnOk result (text.new.items ≡ text.old.items ++ shown line.now) }
     ensures memory { IsOkUnless result Refusal.Memory }
 {
@@ -120,7 +120,7 @@ fn upper_digit(digit: u8) -> u8
 }
 
 /// Puts a space for each character at the text's end.
-fn put_blanks(text: &mut Vec<u8>, before: &[u8]) -> Result<(), Refusal>
+pub(crate) fn put_blanks(text: &mut Vec<u8>, before: &[u8]) -> Result<(), Refusal>
     ensures ok { OnOk result (text.new.items ≡ text.old.items ++ blanks before.now) }
     ensures memory { IsOkUnless result Refusal.Memory }
 {

@@ -79,7 +79,7 @@ up_to _ form asked s list lines fault board a b ends h = (board, h)
 part : (form : Form) (asked : Asked) (s : Settings) (list : Listed) (lines : List ℕ) (fault : WhyFault) (board : List ℕ) (a b : Option (List ℕ)) → EndsWhy asked fault a b
     → Leaves (why_as form) board list (commands_of_script s.nodes lines) asked fault a b → TellsSessions form asked s (Some list) lines (Some (failure_of_why fault)) a b
 part form asked s list lines (why.Script fault) board a b ends h = (ends.0, up_to fault.refusal form asked s list lines fault board a b ends.1 h)
-part form asked s list lines (why.NoEntry place count) board a b ends h = (board, h)
+part form asked s list lines (why.Missing what) board a b ends h = (board, h)
 
 -- a fault ended it
 pub part_told : (known : Option (List ℕ)) (form : Form) (asked : Asked) (s : Settings) (list : Listed) (cluster : ClusterValue) (board : List ℕ) (fault : WhyFault) (failure : Failure) (a b : Option (List ℕ))

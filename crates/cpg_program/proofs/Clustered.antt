@@ -15,7 +15,7 @@ use Rattle.cpg_cluster.specs.Lines.{Printed}
 use Rattle.cpg_cluster.specs.Running as cluster
 use Rattle.cpg_cluster.specs.Scripts.{commands_of_script}
 use Rattle.cpg_program.specs.declared.failures.Failure.{Failure}
-use Rattle.cpg_program.specs.declared.failures.Failure.TheVariants.{BadWord, Fault, NoEntry}
+use Rattle.cpg_program.specs.declared.failures.Failure.TheVariants.{BadWord, Fault, Missing}
 use Rattle.cpg_program.specs.Runs.{Clusters, ClustersUpTo, FailsLate}
 use Rattle.cpg_program.specs.Starting.{ClusterLeaves}
 
@@ -49,7 +49,7 @@ up_to printed s list lines refused a b h = h
 
 left : (printed : Printed) (s : Settings) (list : Listed) (lines : List ℕ) (failure : Failure) (a b : Option (List ℕ)) → ClusterLeaves printed s.nodes list lines failure a b → Clusters printed s (Some list) lines (Some failure) a b
 left printed s list lines BadWord a b h = h
-left printed s list lines (NoEntry place entries) a b h = h
+left printed s list lines (Missing what) a b h = h
 left printed s list lines (Fault fault) a b h = (h.0, up_to printed s list lines fault.refusal a b h.1)
 
 -- a fault of the script ended it

@@ -1,7 +1,7 @@
 -- what is told of what a new world delivered, and of one that is not there
 use Rattle.std.proofs.Common.{◌≡◌, ◌≤◌, ℕ, List, length, Option, Some, None, Result, Ok, Err, refl, sym, ap, subst, inl, inr}
 use Rattle.std.specs.Prelude.{IfSome}
-use Rattle.std.proofs.KnownBytes.{Appends-nil, Keeps-refl}
+use Rattle.std.proofs.KnownBytes.{Keeps-refl}
 use Rattle.cpg_cred.specs.Listed.{Listed}
 use Rattle.cpg_cred.specs.declared.refusals.Refusal.{Refusal}
 use Rattle.cpg_cred.specs.declared.refusals.Refusal.TheVariants as refusal
@@ -18,7 +18,6 @@ use Rattle.cpg_why.specs.Forms as told
 use Rattle.cpg_why.specs.Scripts.{EndsBy, EndsWhy}
 use Rattle.cpg_why_steps.specs.Explaining.{IsExplained, Leaves, LeavesBy}
 use Rattle.cpg_program.specs.declared.failures.Failure.{Failure}
-use Rattle.cpg_program.specs.declared.failures.Failure.TheVariants.{BadWord, Fault, NoEntry}
 use Rattle.cpg_program.specs.declared.runs.Form.{Form}
 use Rattle.cpg_program.specs.Runs.{failure_of_why, why_as, FailsLate, TellsSteps, ToldUpTo}
 use Rattle.cpg_program.specs.Starting.{IsStarted, IsNotStarted}
@@ -64,7 +63,7 @@ up_to form asked s list lines refused world a b h = (world, h)
 part : (form : Form) (asked : Asked) (s : Settings) (list : Listed) (lines : List ℕ) (fault : WhyFault) (world : WorldValue) (a b : Option (List ℕ))
     → Leaves (why_as form) (commands_of_script s.nodes lines) asked fault (new_world s list) a b world → TellsSteps form asked s (Some list) lines (Some (failure_of_why fault)) a b
 part form asked s list lines (why.Script fault) world a b h = (h.0, up_to form asked s list lines fault.refusal world a b h.1)
-part form asked s list lines (why.NoEntry place count) world a b h = (world, h)
+part form asked s list lines (why.Missing what) world a b h = (world, h)
 
 -- a fault ended it
 pub part_told : (known : Option (List ℕ)) (form : Form) (asked : Asked) (s : Settings) (list : Option Listed) (w world : WorldValue) (fault : WhyFault) (failure : Failure) (a b : Option (List ℕ)) → IsStarted s list w
@@ -86,7 +85,7 @@ late_by _ a b h = absurd h
 
 late_of : (asked : Asked) (fault : WhyFault) (a b : Option (List ℕ)) → EndsWhy asked fault a b → FailsLate (failure_of_why fault) a b
 late_of asked (why.Script fault) a b h = late_by fault.refusal a b h.1
-late_of asked (why.NoEntry place count) a b h = h.1
+late_of asked (why.Missing what) a b h = h.1
 
 -- nothing was written before what is told was whole
 pub part_late : (asked : Asked) (fault : WhyFault) (failure : Failure) (a b : Option (List ℕ)) → failure ≡ failure_of_why fault → EndsWhy asked fault a b → FailsLate failure a b

@@ -29,8 +29,8 @@ told_late : (done : Result (Unit {0}) Failure) (flushed : Bool) (a b c : Option 
     → IfErr done (λ end. FailsLate end a b) → Keeps b c → IfSome (failure_told flushed (failure_of done)) (λ end. FailsLate end a c)
 told_late (Err failure.BadWord) false a b c h k = Keeps-trans a b c h k
 told_late (Err failure.BadWord) true a b c h k = Keeps-trans a b c h k
-told_late (Err (failure.NoEntry place entries)) false a b c h k = Keeps-trans a b c h k
-told_late (Err (failure.NoEntry place entries)) true a b c h k = Keeps-trans a b c h k
+told_late (Err (failure.Missing what)) false a b c h k = Keeps-trans a b c h k
+told_late (Err (failure.Missing what)) true a b c h k = Keeps-trans a b c h k
 told_late (Err (failure.Fault fault)) false a b c h k = tt
 told_late (Err (failure.Fault fault)) true a b c h k = late_kept fault.refusal a b c h k
 told_late (Ok done) false a b c h k = tt
@@ -47,6 +47,6 @@ pub word_told : (run : Run) (done : Result (Unit {0}) Failure) (flushed : Bool) 
 word_told run (Err failure.BadWord) flushed end e h = ((λ is. h.0 refl), (λ wrong. e))
 word_told run (Err (failure.Fault fault)) false end e h = ((λ is. absurd (cc)), (λ wrong. let same = h.1 wrong in absurd (cc)))
 word_told run (Err (failure.Fault fault)) true end e h = ((λ is. absurd (cc)), (λ wrong. let same = h.1 wrong in absurd (cc)))
-word_told run (Err (failure.NoEntry place entries)) flushed end e h = ((λ is. absurd (cc)), (λ wrong. let same = h.1 wrong in absurd (cc)))
+word_told run (Err (failure.Missing what)) flushed end e h = ((λ is. absurd (cc)), (λ wrong. let same = h.1 wrong in absurd (cc)))
 word_told run (Ok done) false end e h = ((λ is. absurd (cc)), (λ wrong. let same = h.1 wrong in absurd (cc)))
 word_told run (Ok done) true end e h = ((λ is. absurd (cc)), (λ wrong. let same = h.1 wrong in absurd (cc)))

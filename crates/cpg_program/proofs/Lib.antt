@@ -6,5 +6,6 @@ pub mod Clustered
 pub mod Audited
 pub mod Pictured
 pub mod Started
+pub mod Worded
 pub mod Shelled
 pub mod Explained

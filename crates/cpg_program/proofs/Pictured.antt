@@ -17,7 +17,7 @@ use Rattle.cpg_numbers.specs.Stepping as numbers
 use Rattle.cpg_program.specs.declared.runs.Picture.{Picture}
 use Rattle.cpg_program.specs.declared.runs.Picture.TheVariants as picture
 use Rattle.cpg_program.specs.declared.failures.Failure.{Failure}
-use Rattle.cpg_program.specs.declared.failures.Failure.TheVariants.{BadWord, Fault}
+use Rattle.cpg_program.specs.declared.failures.Failure.TheVariants.{Fault}
 use Rattle.cpg_program.specs.Runs.{Draws, DrawsUpTo, FailsLate, IsDrawn, LeavesDrawn}
 use Rattle.cpg_program.specs.Starting.{IsStarted, IsNotStarted}
 

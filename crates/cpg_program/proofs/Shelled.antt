@@ -12,7 +12,7 @@ use Rattle.cpg_cluster.specs.Lines.{Printed}
 use Rattle.cpg_shell.specs.Shelled.{IsEnded}
 use Rattle.cpg_program.specs.Shelling.{ShellEnds, Shells, ShellsUpTo}
 use Rattle.cpg_program.specs.declared.failures.Failure.{Failure}
-use Rattle.cpg_program.specs.declared.failures.Failure.TheVariants.{BadWord, Fault, NoEntry}
+use Rattle.cpg_program.specs.declared.failures.Failure.TheVariants.{BadWord, Fault, Missing}
 
 -- want of memory before the first line
 none_ended : (form : Printed) (list : Listed) (nodes : ℕ) (input : Option (List ℕ)) (a t : Option (List ℕ)) → IsEnded refusal.Memory form list nodes input a a t t
@@ -60,5 +60,5 @@ up_to form s list refused input a b t u h = h
 pub left_shelled : (form : Printed) (s : Settings) (list : Listed) (failure : Failure) (input a b t u : Option (List ℕ))
     → ShellEnds form list s.nodes (Some failure) input a b t u → Shells form s (Some list) (Some failure) input a b t u
 left_shelled form s list BadWord input a b t u h = h
-left_shelled form s list (NoEntry place entries) input a b t u h = h
+left_shelled form s list (Missing what) input a b t u h = h
 left_shelled form s list (Fault fault) input a b t u h = (h.0, up_to form s list fault.refusal input a b t u h.1)

@@ -16,7 +16,7 @@ use Rattle.cpg_program.specs.declared.runs.Form.{Form}
 use Rattle.cpg_program.specs.declared.runs.Form.TheVariants.{Text, Json}
 use Rattle.cpg_step.specs.Scripts.{commands_of_script}
 use Rattle.cpg_program.specs.declared.failures.Failure.{Failure}
-use Rattle.cpg_program.specs.declared.failures.Failure.TheVariants.{BadWord, Fault, NoEntry}
+use Rattle.cpg_program.specs.declared.failures.Failure.TheVariants.{BadWord, Fault, Missing}
 use Rattle.cpg_program.specs.Runs.{FailsLate, IsRun, LeavesRun, Steps, StepsUpTo}
 use Rattle.cpg_program.specs.Starting.{IsStarted, IsNotStarted}
 
@@ -49,7 +49,7 @@ late_refl _ a = Keeps-refl a
 
 pub none_late : (s : Settings) (list : Option Listed) (failure : Failure) (a : Option (List ℕ)) → IsNotStarted s list failure → FailsLate failure a a
 none_late s list BadWord a h = Keeps-refl a
-none_late s list (NoEntry place entries) a h = Keeps-refl a
+none_late s list (Missing what) a h = Keeps-refl a
 none_late s list (Fault fault) a h = late_refl fault.refusal a
 
 -- the whole script was run over the new world

@@ -37,7 +37,7 @@ use Rattle.cpg_cluster.specs.Scripts as clustered
 use Rattle.cpg_program.specs.Speaking.{spoken_as}
 use Rattle.cpg_program.specs.Words.{list_of_words}
 use Rattle.cpg_program.specs.declared.failures.Failure.{Failure}
-use Rattle.cpg_program.specs.declared.failures.Failure.TheVariants.{BadWord, Fault, NoEntry}
+use Rattle.cpg_program.specs.declared.failures.Failure.TheVariants.{BadWord, Fault, Missing}
 use Rattle.cpg_program.specs.declared.runs.Form.{Form}
 use Rattle.cpg_program.specs.declared.runs.Form.TheVariants.{Text, Json}
 use Rattle.cpg_program.specs.declared.runs.Picture.{Picture}
@@ -45,12 +45,12 @@ use Rattle.cpg_program.specs.declared.runs.Picture.TheVariants as picture
 use Rattle.cpg_program.specs.declared.runs.Run.{Run}
 use Rattle.cpg_program.specs.declared.runs.Run.TheVariants.{Judge, JudgeOnly, Why, Accept, Step, StepWhy, Draw, Number, Cluster, ClusterWhy}
 
--- the exit status: 0, after a fault 1, after a fault of the command line 2: a wrong word, or a place that has no entry
+-- the exit status: 0, after a fault 1, after a fault of the command line 2: a wrong word, or a question of what is not there
 abbrev pub status_after : Option Failure → ℕ
 status_after None = 0
 status_after (Some (Fault fault)) = 1
 status_after (Some BadWord) = 2
-status_after (Some (NoEntry place entries)) = 2
+status_after (Some (Missing what)) = 2
 
 -- how `why` tells what it tells
 abbrev pub why_as : Form → told.Form
@@ -95,8 +95,8 @@ TellsSteps form asked s None script failure old new = (failure ≡ Some BadWord)
 TellsSteps form asked s (Some list) script None old new =
     (length script ≤ MOST_BYTES) × ((world : WorldValue) × told_steps.IsExplained (why_as form) (commands_of_script s.nodes script) asked (new_world s list) old new world)
 TellsSteps form asked s (Some list) script (Some (Fault fault)) old new = (fault.part ≡ None) × ToldUpTo form asked s list script fault.refusal old new
-TellsSteps form asked s (Some list) script (Some (NoEntry place entries)) old new =
-    (world : WorldValue) × told_steps.Leaves (why_as form) (commands_of_script s.nodes script) asked (why_fault.NoEntry place entries) (new_world s list) old new world
+TellsSteps form asked s (Some list) script (Some (Missing what)) old new =
+    (world : WorldValue) × told_steps.Leaves (why_as form) (commands_of_script s.nodes script) asked (why_fault.Missing what) (new_world s list) old new world
 TellsSteps form asked s (Some list) script (Some BadWord) old new = ⊥
 
 -- the picture of a script's run, as one SVG or as lines for a terminal, is written, or its lines with the numbers of frames
@@ -146,13 +146,13 @@ LeavesAnswered Json script fault old new = json_accept.Ends script fault old new
 -- why nothing is explained, as a failure
 abbrev pub failure_of_why : why_faults.WhyFault → Failure
 failure_of_why (why_fault.Script fault) = Fault fault
-failure_of_why (why_fault.NoEntry place entries) = NoEntry place entries
+failure_of_why (why_fault.Missing what) = Missing what
 
 -- what `why` writes of a script: what it tells of what is asked, or after a fault what that fault leaves
 abbrev pub Explains : Form → Asked → List ℕ → Option Failure → Option (List ℕ) → Option (List ℕ) → Type 0
 Explains form asked script None old new = (length script ≤ MOST_BYTES) × why.IsWritten (why_as form) (entries_of_script script) (why.numbers_of script) asked old new
 Explains form asked script (Some (Fault fault)) old new = why.Leaves (why_as form) (entries_of_script script) (why.numbers_of script) asked (why_fault.Script fault) old new
-Explains form asked script (Some (NoEntry place entries)) old new = why.Leaves (why_as form) (entries_of_script script) (why.numbers_of script) asked (why_fault.NoEntry place entries) old new
+Explains form asked script (Some (Missing what)) old new = why.Leaves (why_as form) (entries_of_script script) (why.numbers_of script) asked (why_fault.Missing what) old new
 Explains form asked script (Some BadWord) old new = ⊥
 
 -- The script was run over a cluster of so many nodes that accept by that list, and all its text is written.
@@ -188,8 +188,8 @@ TellsSessions form asked s (Some list) script None old new =
     (length script ≤ MOST_BYTES) × audit.AreRun list (clustered.commands_of_script s.nodes script) × IsAudited form asked s.places old new
 TellsSessions form asked s (Some list) script (Some (Fault fault)) old new =
     (fault.part ≡ None) × AuditedUpTo fault.refusal form asked s list script fault old new
-TellsSessions form asked s (Some list) script (Some (NoEntry place entries)) old new =
-    (board : List ℕ) × audit.Leaves (why_as form) board list (clustered.commands_of_script s.nodes script) asked (why_fault.NoEntry place entries) old new
+TellsSessions form asked s (Some list) script (Some (Missing what)) old new =
+    (board : List ℕ) × audit.Leaves (why_as form) board list (clustered.commands_of_script s.nodes script) asked (why_fault.Missing what) old new
 TellsSessions form asked s (Some list) script (Some BadWord) old new = ⊥
 
 -- a word of the run's command line lets nobody in
@@ -226,7 +226,7 @@ Prints _ script _ old new = ⊥
 -- nothing is written before the words were found right, and the script read and checked
 abbrev pub FailsLate : Failure → Option (List ℕ) → Option (List ℕ) → Type 0
 FailsLate BadWord old new = Keeps old new
-FailsLate (NoEntry place entries) old new = Keeps old new
+FailsLate (Missing what) old new = Keeps old new
 FailsLate (Fault fault) old new = WritesLate fault.refusal old new
 
 -- the failure is a fault of the command line
@@ -243,7 +243,7 @@ failure_of (Ok done) = None
 -- written, stays
 abbrev pub failure_told : Bool → Option Failure → Option Failure
 failure_told flushed (Some BadWord) = Some BadWord
-failure_told flushed (Some (NoEntry place entries)) = Some (NoEntry place entries)
+failure_told flushed (Some (Missing what)) = Some (Missing what)
 failure_told true first = first
 failure_told false first = Some (Fault (accept.whole_fault Write))
 

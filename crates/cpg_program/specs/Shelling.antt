@@ -1,5 +1,6 @@
 -- what a shell prints and tells, and how it ends
-use Rattle.std.specs.Prelude.{ℕ, ◌≡◌, Bool, List, Option, Some, None}
+use Rattle.std.specs.Borrow.{Bor}
+use Rattle.std.specs.Prelude.{ℕ, ◌≡◌, ◌++◌, Bool, List, [], Option, Some, None}
 use Rattle.std.specs.Io.KnownBytes.{Keeps}
 use Rattle.cpg_cred.specs.Listed.{Listed}
 use Rattle.cpg_cred.specs.declared.refusals.Refusal.{Refusal}
@@ -11,6 +12,9 @@ use Rattle.cpg_cluster.specs.Lines.{Printed}
 use Rattle.cpg_shell.specs.Shelled.{IsEnded, IsShelled}
 use Rattle.cpg_program.specs.Runs.{failure_told}
 use Rattle.cpg_program.specs.Telling.{told_text}
+use Rattle.cpg_program.specs.Words.{wrong_hint}
+use Rattle.cpg_program.specs.declared.speaking.Spoken.{Spoken}
+use Rattle.cpg_program.specs.declared.speaking.Spoken.TheVariants.{Noted}
 use Rattle.cpg_program.specs.declared.failures.Failure.{Failure}
 use Rattle.cpg_program.specs.declared.failures.Failure.TheVariants.{BadWord, Fault}
 
@@ -32,12 +36,17 @@ Shells form s (Some list) None input old new told said = IsShelled form list s.n
 Shells form s (Some list) (Some (Fault fault)) input old new told said = (fault.part ≡ None) × ShellsUpTo form s list fault.refusal input old new told said
 Shells form s (Some list) (Some failure) input old new told said = ⊥
 
--- A shell prints and tells what its own end leaves; a flush changes nothing of that, and its end, or the flush that failed, is told behind it.
-pub record ShellRuns (form : Printed) (s : Settings) (list : Option Listed) (left flushed : Bool) (failure : Option Failure) (input old new told said : Option (List ℕ)) : Type 0 where
+-- where it is told what is known, the first wrong word is told of, too
+abbrev pub word_told : Spoken → List (Bor (List ℕ)) → Option Failure → List ℕ
+word_told (Noted noted) words (Some BadWord) = wrong_hint words
+word_told _ words _ = []
+
+-- A shell prints and tells what its own end leaves; a flush changes nothing of that, and its end, or the flush that failed, is told behind it, with a hint.
+pub record ShellRuns (form : Printed) (s : Settings) (list : Option Listed) (left flushed : Bool) (failure : Option Failure) (hint : List ℕ) (input old new told said : Option (List ℕ)) : Type 0 where
   pub first : Option Failure
   pub gathered : Option (List ℕ)
   pub between : Option (List ℕ)
   pub shells : Shells form s list first input old gathered told between
   pub kept : Keeps gathered new
   pub ends : failure ≡ failure_told flushed first
-  pub tells : AppendsFront between said (told_text left failure)
+  pub tells : AppendsFront between said (told_text left failure ++ hint)

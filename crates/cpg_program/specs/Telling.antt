@@ -5,17 +5,25 @@ use Rattle.cpg_cred.specs.declared.refusals.Refusal.TheVariants.{Write}
 use Rattle.cpg_script.specs.declared.faults.Fault as script
 use Rattle.cpg_script.specs.Faults.{fault_text}
 use Rattle.cpg_program.specs.declared.failures.Failure.{Failure}
-use Rattle.cpg_program.specs.declared.failures.Failure.TheVariants.{BadWord, Fault, NoEntry}
+use Rattle.cpg_why.specs.declared.asking.Missing as absent
+use Rattle.cpg_why.specs.declared.asking.Missing.TheVariants.{Entry, Event}
+use Rattle.cpg_program.specs.declared.failures.Failure.TheVariants.{BadWord, Fault, Missing}
 
 -- the line of a fault
 abbrev pub error_line : script.Fault → List ℕ
 error_line fault = codes "cpgring: " ++ fault_text fault ++ codes "\n"
 
+-- the line of what is asked of and is not there
+abbrev pub missing_line : absent.Missing → List ℕ
+missing_line (Entry place entries) = codes "cpgring: there is no entry " ++ decimal place ++ codes ": the script has " ++ decimal entries ++ codes "\n"
+missing_line (Event conn event events) =
+    codes "cpgring: there is no event " ++ decimal event ++ codes ": " ++ decimal conn.node ++ codes "." ++ decimal conn.conn ++ codes " was told " ++ decimal events ++ codes "\n"
+
 -- the line of a failure
 abbrev pub failure_line : Failure → List ℕ
 failure_line (Fault fault) = error_line fault
 failure_line BadWord = codes "cpgring: bad accept word\n"
-failure_line (NoEntry place entries) = codes "cpgring: there is no entry " ++ decimal place ++ codes ": the script has " ++ decimal entries ++ codes "\n"
+failure_line (Missing what) = missing_line what
 
 -- the line of a failure, where there is one
 abbrev pub error_text : Option Failure → List ℕ

@@ -43,8 +43,8 @@ pub struct Inquiry {
 /// Runs the script over a new cluster of those settings, whose nodes let in whom the words let in, writes what is asked
 /// of the entries that stand on its board then, and stops the cluster.
 ///
-/// A wrong word comes first, then settings out of their ranges, then the faults of the script, and then that no entry
-/// stands at the place that is asked of.
+/// A wrong word comes first, then settings out of their ranges, then the faults of the script, and then that what is
+/// asked of is not there.
 #[tactic(auto, using(crate::proofs::Audited::none_of_words, crate::proofs::Audited::none_of_words_memory))]
 pub fn explain_over_cluster<H, R, W>(
     rt: H,

@@ -7,7 +7,7 @@ ghost use Rattle.cpg_program.specs.declared.failures.Failure.TheVariants as fail
 
 use cpg_cred::Refusal;
 use cpg_script::Fault;
-use cpg_why::WhyFault;
+use cpg_why::{Missing, WhyFault};
 
 /// Why a run ended before it did all that it was asked for.
 #[derive(Debug, Drop)]
@@ -16,8 +16,8 @@ pub enum Failure {
     BadWord,
     /// A fault of the script, or a refusal when the list or the world is made.
     Fault(Fault),
-    /// The command line asks of the entry at a place where none stands: the script has so many.
-    NoEntry { place: u32, entries: u32 },
+    /// The command line asks of what is not there: an entry, or an event that a connection was told.
+    Missing(Missing),
 }
 
 impl Failure {
@@ -26,7 +26,7 @@ impl Failure {
         ensures { result ≡ failed_to_write (Some self.now) }
     {
         match self {
-            Failure::BadWord | Failure::NoEntry { .. } => false,
+            Failure::BadWord | Failure::Missing(_) => false,
             Failure::Fault(fault) => match fault.refusal {
                 Refusal::Write => true,
                 _ => false,
@@ -49,7 +49,7 @@ impl From<WhyFault> for Failure {
     fn from(fault: WhyFault) -> Failure {
         match fault {
             WhyFault::Script(fault) => Failure::Fault(fault),
-            WhyFault::NoEntry { place, entries } => Failure::NoEntry { place, entries },
+            WhyFault::Missing(what) => Failure::Missing(what),
         }
     }
 }

@@ -1,23 +1,24 @@
-//! `-v`: behind a fault's line, what a person needs to mend the script.
+//! `-v`: behind a fault's line, what a person needs to mend the script, or a word of the command line.
 //!
 //! The form is this project's own. Proved, where the streams tell their bytes: all that `perform` promises, and the hint
 //! that stands on standard error behind the fault's line.
 
-ghost use Rattle.std.specs.Prelude.{◌≡◌, ◌⊎◌, ◌↔◌, ◌++◌, [], false, true, Some, IfOk, IfSome, IsSomeAnd, IsTrue, IsOkUnless};
+ghost use Rattle.std.specs.Prelude.{◌≡◌, ◌⊎◌, ◌↔◌, ◌++◌, ℕ, List, [], false, true, Some, IfOk, IfSome, IsSomeAnd, IsTrue, IsOkUnless};
 ghost use Rattle.std.specs.Io.Buffered.{writer_buffer};
 ghost use Rattle.std.specs.Io.KnownBytes.{Appends, Keeps};
 ghost use Rattle.cpg_text.specs.Streams.{AppendsFront};
 ghost use Rattle.cpg_accept.specs.Accepting.{whole_fault};
-ghost use Rattle.cpg_program.specs.Hinting.{failure_unread, hint_told, kind_of, EndsUnread};
+ghost use Rattle.cpg_program.specs.Hinting.{failure_unread, hint_told, kind_of, words_of, EndsUnread};
 ghost use Rattle.cpg_program.specs.Pipes.{has_left, written};
 ghost use Rattle.cpg_program.specs.Runs.{FailsLate, HasWrongWord, IsOfWords, Runs};
 ghost use Rattle.cpg_program.specs.Telling.{told_text};
+ghost use Rattle.cpg_program.specs.Words.{wrong_hint};
 
 use crate::failures::Failure;
 use crate::pipes::Piped;
 use crate::runs::{Ended, Run, hand_on, perform, tell};
 use crate::telling::write_front;
-use crate::words::has_wrong;
+use crate::words::{has_wrong, hint_wrong};
 use cpg_cred::Refusal;
 use cpg_hint::{Kind, hint_of};
 use cpg_text::read_whole;
@@ -59,6 +60,22 @@ fn has_wrong_word(run: &Run<'_>) -> bool
     }
 }
 
+/// What a person needs to mend the first word of the run's command line that lets nobody in.
+fn hint_words(alloc: Global, run: &Run<'_>) -> Result<Vec<u8>, Refusal>
+    ensures ok { IfOk result (λ hint. hint.items ≡ wrong_hint (words_of run.now)) }
+    ensures memory { IsOkUnless result Refusal.Memory }
+{
+    match run {
+        Run::Judge(_) | Run::JudgeOnly(_) | Run::Why(_, _) | Run::Accept(_) => Ok(Vec::new(alloc)),
+        Run::Step(_, _, words)
+        | Run::StepWhy(_, _, _, words)
+        | Run::Draw(_, _, words)
+        | Run::Number(_, words)
+        | Run::Cluster(_, _, words)
+        | Run::ClusterWhy(_, _, words) => hint_wrong(alloc, words),
+    }
+}
+
 /// Runs the subcommand over the streams as `perform` does, and tells a hint behind the line of a script's fault.
 ///
 /// The script is read whole before anything else is done; where it can't be read, that is the fault, but for a wrong word.
@@ -89,7 +106,7 @@ where
 {
     match read_whole(alloc, reader) {
         Ok(script) => run_read(rt, alloc, run, script.as_slice(), writer, errors),
-        Err(refusal) => end_unread(run, refusal, writer, errors),
+        Err(refusal) => end_unread(alloc, run, refusal, writer, errors),
     }
 }
 
@@ -158,12 +175,48 @@ fn hint_for(
 {
     match failure {
         Some(Failure::Fault(fault)) => hint_of(alloc, kind_of(run), script, fault),
+        Some(Failure::BadWord) => hint_words(alloc, run),
         _ => Ok(Vec::new(alloc)),
     }
 }
 
-/// Ends a run whose script could not be read.
+/// Tells the failure, if there is one that is to be told, and the hint behind it, and says whether that was done.
+#[tactic(auto, using(crate::proofs::Fronts::then_all, crate::proofs::Fronts::then_front, crate::proofs::Fronts::front_more))]
+fn tell_hinted<E: Write>(
+    alloc: Global,
+    errors: &mut E,
+    left: bool,
+    run: &Run<'_>,
+    script: &[u8],
+    failure: &Option<Failure>,
+) -> bool
+    ensures told { IsTrue result → Appends (E.contents errors.old) (E.contents errors.new) (told_text left failure.now ++ hint_told run.now script.now failure.now) }
+    ensures untold { AppendsFront (E.contents errors.old) (E.contents errors.new) (told_text left failure.now ++ hint_told run.now script.now failure.now) }
+{
+    if !tell(errors, left, failure) {
+        return false;
+    }
+    tell_hint(alloc, errors, run, script, failure)
+}
+
+/// The same of the failure of a run whose script could not be read, whatever it may be.
+fn tell_unread<E: Write>(
+    alloc: Global,
+    errors: &mut E,
+    left: bool,
+    run: &Run<'_>,
+    failure: &Option<Failure>,
+) -> bool
+    requires { IsSomeAnd failure.now EndsUnread }
+    ensures told { (script : List ℕ) → IsTrue result → Appends (E.contents errors.old) (E.contents errors.new) (told_text left failure.now ++ hint_told run.now script failure.now) }
+    ensures untold { (script : List ℕ) → AppendsFront (E.contents errors.old) (E.contents errors.new) (told_text left failure.now ++ hint_told run.now script failure.now) }
+{
+    tell_hinted(alloc, errors, left, run, &[], failure)
+}
+
+/// Ends a run whose script could not be read; a hint is told of a wrong word.
 fn end_unread<W, E>(
+    alloc: Global,
     run: &Run<'_>,
     refusal: Refusal,
     writer: &mut BufWriter<Piped<W>>,
@@ -178,12 +231,13 @@ where
     ensures word { (result.failure ≡ Some Failure.BadWord) ↔ HasWrongWord run.now }
     ensures flushed { IsTrue result.flushed → writer_buffer writer.new ≡ [] }
     ensures unflushed { result.flushed ≡ false → (result.failure ≡ Some (Failure.Fault (whole_fault Refusal.Write))) ⊎ IsSomeAnd result.failure IsOfWords }
-    ensures told { IsTrue result.told → Appends (E.contents errors.old) (E.contents errors.new) (told_text (has_left writer.new) result.failure) }
-    ensures untold { AppendsFront (E.contents errors.old) (E.contents errors.new) (told_text (has_left writer.new) result.failure) }
+    ensures told { (script : List ℕ) → IsTrue result.told → Appends (E.contents errors.old) (E.contents errors.new) (told_text (has_left writer.new) result.failure ++ hint_told run.now script result.failure) }
+    ensures untold { (script : List ℕ) → AppendsFront (E.contents errors.old) (E.contents errors.new) (told_text (has_left writer.new) result.failure ++ hint_told run.now script result.failure) }
 {
     let flushed = hand_on(writer);
     let failure = Some(unread_by(has_wrong_word(run), refusal, flushed));
-    let told = tell(errors, writer.get_ref().has_left(), &failure);
+    let left = writer.get_ref().has_left();
+    let told = tell_unread(alloc, errors, left, run, &failure);
     Ended {
         failure,
         flushed,

@@ -93,14 +93,14 @@ pub struct Ended {
 }
 
 impl Ended {
-    /// The exit status: 0; after a fault 1; and 2 where a word of the command line is wrong, or asks of no entry.
+    /// The exit status: 0; after a fault 1; and 2 where a word of the command line is wrong, or asks of what is not there.
     pub fn status(&self) -> u8
         ensures { result ≡ status_after (self.now).failure }
     {
         match &self.failure {
             None => 0,
             Some(Failure::Fault(_)) => 1,
-            Some(Failure::BadWord | Failure::NoEntry { .. }) => 2,
+            Some(Failure::BadWord | Failure::Missing(_)) => 2,
         }
     }
 }
@@ -205,7 +205,7 @@ pub(crate) fn failure_after(done: Result<(), Failure>, flushed: bool) -> Option<
 {
     match done {
         Err(Failure::BadWord) => Some(Failure::BadWord),
-        Err(Failure::NoEntry { place, entries }) => Some(Failure::NoEntry { place, entries }),
+        Err(Failure::Missing(what)) => Some(Failure::Missing(what)),
         _ if !flushed => Some(Failure::from(Refusal::Write)),
         Err(failure) => Some(failure),
         Ok(()) => None,

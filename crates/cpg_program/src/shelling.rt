@@ -3,17 +3,20 @@
 //! Proved: the words of the command line come first, then the settings, then the lines; what is printed and told, and the
 //! status.
 
-ghost use Rattle.std.specs.Prelude.{◌≡◌, None, Some, map, OnOk, IfErr};
+ghost use Rattle.std.specs.Prelude.{◌≡◌, ◌++◌, None, Some, map, OnOk, IfErr, IfOk, IsOkUnless};
+ghost use Rattle.cpg_text.specs.Streams.{AppendsFront};
 ghost use Rattle.cpg_program.specs.Pipes.{has_left, written};
-ghost use Rattle.cpg_program.specs.Shelling.{ShellEnds, ShellRuns, Shells};
+ghost use Rattle.cpg_program.specs.Shelling.{ShellEnds, ShellRuns, Shells, word_told};
 ghost use Rattle.cpg_program.specs.Speaking.{spoken_as};
+ghost use Rattle.cpg_program.specs.Telling.{told_text};
 ghost use Rattle.cpg_program.specs.Words.{list_of_words};
 
 use crate::failures::Failure;
 use crate::pipes::Piped;
 use crate::runs::{Ended, failure_after, hand_on, tell};
 use crate::speaking::Spoken;
-use crate::words::read_list;
+use crate::telling::write_front;
+use crate::words::{hint_wrong, read_list};
 use cpg_board::Board;
 use cpg_cluster::Manner;
 use cpg_cred::{AcceptList, Refusal};
@@ -47,16 +50,71 @@ where
     W: Write + Drop,
     E: Write,
     ensures { ShellRuns (spoken_as (manner.now).form) settings (list_of_words (map (λ word. word.now) words.now)) (has_left writer.new) result.flushed result.failure
+        (word_told (manner.now).form words.now result.failure)
         (R.remaining reader.old) (written W.contents writer.old) (written W.contents writer.new) (E.contents errors.old) (E.contents errors.new) }
 {
     let done = run_shell(rt, alloc, manner, settings, words, reader, writer, errors);
     let flushed = hand_on(writer);
     let failure = failure_after(done, flushed);
-    let told = tell(errors, writer.get_ref().has_left(), &failure);
+    let left = writer.get_ref().has_left();
+    let told = tell_hinted(alloc, errors, left, &manner.form, words, &failure);
     Ended {
         failure,
         flushed,
         told,
+    }
+}
+
+/// Tells the failure, if there is one that is to be told, and of the first wrong word behind it, and says whether that was
+/// done.
+#[tactic(auto, using(crate::proofs::Fronts::then_front, crate::proofs::Fronts::front_more))]
+fn tell_hinted<E: Write>(
+    alloc: Global,
+    errors: &mut E,
+    left: bool,
+    form: &Spoken,
+    words: &[&str],
+    failure: &Option<Failure>,
+) -> bool
+    ensures { AppendsFront (E.contents errors.old) (E.contents errors.new) (told_text left failure.now ++ word_told form.now words.now failure.now) }
+{
+    if !tell(errors, left, failure) {
+        return false;
+    }
+    tell_word(alloc, errors, form, words, failure)
+}
+
+/// Tells of the first wrong word, where that is the failure and it is told what is known, as far as memory and the
+/// stream allow, and says whether that was done.
+#[tactic(auto, using(crate::proofs::Fronts::none_of))]
+fn tell_word<E: Write>(
+    alloc: Global,
+    errors: &mut E,
+    form: &Spoken,
+    words: &[&str],
+    failure: &Option<Failure>,
+) -> bool
+    ensures { AppendsFront (E.contents errors.old) (E.contents errors.new) (word_told form.now words.now failure.now) }
+{
+    match word_hint(alloc, form, words, failure) {
+        Ok(hint) => write_front(errors, hint.as_slice()),
+        Err(_) => false,
+    }
+}
+
+/// What is told of the first wrong word, where that is the failure and it is told what is known.
+fn word_hint(
+    alloc: Global,
+    form: &Spoken,
+    words: &[&str],
+    failure: &Option<Failure>,
+) -> Result<Vec<u8>, Refusal>
+    ensures ok { IfOk result (λ hint. hint.items ≡ word_told form.now words.now failure.now) }
+    ensures memory { IsOkUnless result Refusal.Memory }
+{
+    match (form, failure) {
+        (Spoken::Noted(_), Some(Failure::BadWord)) => hint_wrong(alloc, words),
+        _ => Ok(Vec::new(alloc)),
     }
 }
 

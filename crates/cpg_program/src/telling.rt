@@ -8,13 +8,15 @@ ghost use Rattle.std.specs.Io.KnownBytes.{Appends};
 ghost use Rattle.cpg_text.specs.Streams.{AppendsFront};
 ghost use Rattle.cpg_script.specs.Faults.{part_text};
 ghost use Rattle.cpg_accept.specs.Accepting.{whole_fault};
-ghost use Rattle.cpg_program.specs.Telling.{error_line, failure_line};
+ghost use Rattle.cpg_program.specs.Telling.{error_line, failure_line, missing_line};
 
 use crate::failures::Failure;
 use arrayvec::ArrayString;
 use cpg_cred::Refusal;
+use cpg_record::ConnId;
 use cpg_script::Fault;
 use cpg_text::write_whole;
+use cpg_why::Missing;
 use std::fmt::{self, Write as _};
 use std::io::Write;
 
@@ -60,7 +62,8 @@ pub(crate) fn tell_memory<E: Write>(errors: &mut E)
 }
 
 /// Writes the failure as it is told: a fault as `tell_fault` does, and a wrong word of the command line as
-/// `cpgring: bad accept word` on a line; or `cpgring: there is no entry 9: the script has 8`.
+/// `cpgring: bad accept word` on a line; or `cpgring: there is no entry 9: the script has 8`, or
+/// `cpgring: there is no event 9: 1.2 was told 8`.
 #[tactic(auto, using(crate::proofs::Fronts::none_of))]
 pub fn tell_failure<E: Write>(errors: &mut E, failure: &Failure) -> Result<(), Refusal>
     ensures ok { OnOk result (Appends (E.contents errors.old) (E.contents errors.new) (failure_line failure.now)) }
@@ -70,7 +73,7 @@ pub fn tell_failure<E: Write>(errors: &mut E, failure: &Failure) -> Result<(), R
     match failure {
         Failure::BadWord => write_whole(errors, b"cpgring: bad accept word\n"),
         Failure::Fault(fault) => tell_fault(errors, fault),
-        Failure::NoEntry { place, entries } => match entry_line(*place, *entries) {
+        Failure::Missing(what) => match missing_line(what) {
             Ok(line) => write_whole(errors, line.as_bytes()),
             Err(_) => Err(Refusal::Memory),
         },
@@ -89,9 +92,40 @@ fn line_of(fault: &Fault) -> Result<ArrayString<ROOM>, fmt::Error>
     Ok(line)
 }
 
+/// The line of what is asked of and is not there.
+fn missing_line(what: &Missing) -> Result<ArrayString<ROOM>, fmt::Error>
+    ensures { IfOk result (λ line. line.bytes ≡ missing_line what.now) }
+{
+    match what {
+        Missing::Entry { place, entries } => entry_line(*place, *entries),
+        Missing::Event {
+            conn,
+            event,
+            events,
+        } => event_line(conn, *event, *events),
+    }
+}
+
+/// The line of an event that is none of the so many that a connection was told.
+fn event_line(conn: &ConnId, event: u32, events: u32) -> Result<ArrayString<ROOM>, fmt::Error>
+    ensures { IfOk result (λ line. line.bytes ≡ missing_line (Missing.Event conn.now event events)) }
+{
+    let mut line = ArrayString::new();
+    line.write_str("cpgring: there is no event ")?;
+    put_number(&mut line, event)?;
+    line.write_str(": ")?;
+    put_number(&mut line, u32::from(conn.node.get()))?;
+    line.write_str(".")?;
+    put_number(&mut line, u32::from(conn.conn))?;
+    line.write_str(" was told ")?;
+    put_number(&mut line, events)?;
+    line.write_str("\n")?;
+    Ok(line)
+}
+
 /// The line of a place at which none of so many entries stands.
 fn entry_line(place: u32, entries: u32) -> Result<ArrayString<ROOM>, fmt::Error>
-    ensures { IfOk result (λ line. line.bytes ≡ failure_line (Failure.NoEntry place entries)) }
+    ensures { IfOk result (λ line. line.bytes ≡ missing_line (Missing.Entry place entries)) }
 {
     let mut line = ArrayString::new();
     line.write_str("cpgring: there is no entry ")?;

@@ -4,9 +4,10 @@
 
 ghost use Rattle.std.specs.Prelude.{◌≡◌, ◌↔◌, false, true, None, Some, map, All, IsTrue, IsSome, OnOk, IfOk, IfErr, IsOkUnless};
 ghost use Rattle.std.specs.List.{fold, list_all};
-ghost use Rattle.cpg_program.specs.Words.{is_accept_word, number_named, and_word, with_word, list_of_words};
+ghost use Rattle.cpg_program.specs.Words.{is_accept_word, number_named, and_word, first_wrong, hint_at, hint_of_word, list_of_words, with_word, wrong_hint};
 
 use cpg_cred::{AcceptList, Refusal};
+use cpg_hint::accept_hint;
 use cpg_script::{read_u32, strip_name};
 use std::alloc::Global;
 
@@ -46,6 +47,35 @@ pub(crate) fn has_wrong(words: &[&str]) -> bool
     ensures { (result ≡ true) ↔ (list_of_words (map (λ word. word.now) words.now) ≡ None) }
 {
     !are_accept_words(words)
+}
+
+/// Where the first word stands that lets nobody in, from 0, if one does.
+fn find_wrong(words: &[&str]) -> Option<usize>
+    ensures { result ≡ first_wrong words.now }
+{
+    words.iter().position(|word| !lets_in(word.as_bytes()))
+}
+
+/// What a person needs to mend the first word that lets nobody in; nothing where there is none.
+pub(crate) fn hint_wrong(alloc: Global, words: &[&str]) -> Result<Vec<u8>, Refusal>
+    ensures ok { IfOk result (λ hint. hint.items ≡ wrong_hint words.now) }
+    ensures memory { IsOkUnless result Refusal.Memory }
+{
+    match find_wrong(words) {
+        None => Ok(Vec::new(alloc)),
+        Some(index) => hint_at(alloc, words, index),
+    }
+}
+
+/// What a person needs to mend the word that stands there.
+fn hint_at(alloc: Global, words: &[&str], index: usize) -> Result<Vec<u8>, Refusal>
+    ensures ok { IfOk result (λ hint. hint.items ≡ hint_at words.now (Some index)) }
+    ensures memory { IsOkUnless result Refusal.Memory }
+{
+    match words.get(index) {
+        None => Ok(Vec::new(alloc)),
+        Some(word) => accept_hint(alloc, index as u64 + 1, word.as_bytes()),
+    }
 }
 
 /// Whether each word lets a user or a group in.

@@ -2,7 +2,7 @@
 
 use cpg_cred::{NodeId, Refusal};
 use cpg_record::ConnId;
-use cpg_why::{Asked, WhyFault, why_script};
+use cpg_why::{Asked, Missing, WhyFault, why_script};
 use std::alloc::Global;
 use std::process::Abort;
 use std::test::Fail;
@@ -93,6 +93,61 @@ fn all_denials(rt: HostRuntime) -> Result<(), Fail> {
 }
 
 #[test]
+fn what_told_an_event(rt: HostRuntime) -> Result<(), Fail> {
+    let node = NodeId::new(1).ok_or("a node")?;
+    let first = ConnId { node, conn: 1 };
+    // of its verdicts and changes, by place: 3 3 6 7 7 8
+    expect(
+        &rt,
+        rt.alloc(),
+        SCRIPT,
+        Asked::Told(first, 3),
+        DENIED_JOINED,
+    );
+    expect(
+        &rt,
+        rt.alloc(),
+        SCRIPT,
+        Asked::Told(first, 6),
+        DENIED_CLOSED,
+    );
+    let second = ConnId { node, conn: 2 };
+    expect(
+        &rt,
+        rt.alloc(),
+        SCRIPT,
+        Asked::Told(second, 1),
+        DENIED_TWICE,
+    );
+    Ok(())
+}
+
+/// Whether it is told that the connection was told so many events, and no more.
+fn told_no_more(alloc: Global, conn: ConnId, event: u32, events: u32) -> bool {
+    let mut written = Vec::new(alloc);
+    let asked = Asked::Told(conn, event);
+    let done = why_script(alloc, &mut SCRIPT.as_bytes(), &mut written, asked);
+    let missing = Missing::Event {
+        conn,
+        event,
+        events,
+    };
+    let same = matches!(&done, Err(WhyFault::Missing(what)) if *what == missing);
+    same && written.is_empty()
+}
+
+#[test]
+fn an_event_that_was_not_told(rt: HostRuntime) -> Result<(), Fail> {
+    let node = NodeId::new(1).ok_or("a node")?;
+    let first = ConnId { node, conn: 1 };
+    let other = ConnId { node, conn: 9 };
+    assert!(rt; told_no_more(rt.alloc(), first, 7, 6));
+    assert!(rt; told_no_more(rt.alloc(), first, 0, 6));
+    assert!(rt; told_no_more(rt.alloc(), other, 1, 0));
+    Ok(())
+}
+
+#[test]
 fn the_way_of_a_connection(rt: HostRuntime) -> Result<(), Fail> {
     let node = NodeId::new(1).ok_or("a node")?;
     let answer =
@@ -118,7 +173,10 @@ fn no_entry_stands_there(rt: HostRuntime) {
             Asked::Place(place),
         );
         assert!(rt;
-            matches!(&done, Err(WhyFault::NoEntry { place: told, entries: 8 }) if *told == place)
+            matches!(
+                &done,
+                Err(WhyFault::Missing(Missing::Entry { place: told, entries: 8 })) if *told == place
+            )
         );
         assert!(rt; written.is_empty());
     }

@@ -1,6 +1,7 @@
 pub mod Before
 pub mod Chained
 pub mod Conditions
+pub mod Counted
 pub mod Deciding
 pub mod Denied
 pub mod Few

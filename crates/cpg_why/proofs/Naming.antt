@@ -1,5 +1,5 @@
 -- the rule that a verdict carries is the rule that is named
-use Rattle.std.proofs.Common.{◌≡◌, ◌≢◌, ℕ, ◌==◌, nat_le, nat_lt, Bool, true, false, cond, List, length, slice_get, ◌⊎◌, inl, inr, Option, Some, None, refl, sym, ap, subst, ◌∙◌}
+use Rattle.std.proofs.Common.{◌≡◌, ℕ, ◌==◌, nat_le, nat_lt, Bool, true, false, cond, List, length, slice_get, inl, inr, Option, Some, None, refl, sym, ap, subst, ◌∙◌}
 use Rattle.std.specs.Prelude.{is_some}
 use Rattle.std.specs.List.{find, position_or_len}
 use Rattle.std.proofs.lemmas.List.Folds.{find_at}
@@ -29,10 +29,9 @@ use Rattle.cpg_record.specs.Connections.{conn_of}
 use Rattle.cpg_record.specs.Judging.{entry_group}
 use Rattle.cpg_record.specs.Membership.{group_of, members}
 use Rattle.cpg_record.specs.RuleTables.{rules_of}
-use Rattle.cpg_record.specs.Verdicts.{decided, edit_decision, has_process, op_verdict, send_verdict, insert_verdict, join_verdict, remove_verdict}
+use Rattle.cpg_record.specs.Verdicts.{decided, edit_decision, has_process, op_verdict, send_verdict}
 use Rattle.cpg_why.specs.Laws.{basis_of, IsByRule, NamedIsTheVerdicts}
 use Rattle.cpg_why.specs.Texts.{right_needed}
-use Rattle.cpg_why.specs.Without.{join_states}
 use Rattle.cpg_why.proofs.Before.{states}
 use Rattle.cpg_why.proofs.Deciding.{basis_ruling, no_rule, same_rule}
 

@@ -1,9 +1,11 @@
 -- forms in which what is asked is told, and what they tell
-use Rattle.std.specs.Prelude.{ℕ, Bool, List, [], ◌++◌, length, codes, Option, Some, None, if◌then◌else◌}
+use Rattle.std.specs.Prelude.{ℕ, ◌-◌, Bool, List, [], ◌++◌, length, codes, slice_get, Option, Some, None, option_map, if◌then◌else◌}
 use Rattle.std.specs.List.{flat_map, join_by, range_with_len}
 use Rattle.cpg_record.specs.declared.connections.ConnId.{ConnId}
 use Rattle.cpg_record.specs.declared.records.Record.{Record}
+use Rattle.cpg_record.specs.Events.{inbox}
 use Rattle.cpg_record.specs.Places.{places_of, record_at, records_before}
+use Rattle.cpg_record.specs.Receiving.{place_of}
 use Rattle.cpg_why.specs.Texts.{block_text, is_denied, way_at}
 
 -- A form, over the numbers of the entries' lines: how the entry of a record at a place is explained, over the records before it; what
@@ -45,3 +47,16 @@ way_by form numbers records conn place = form.way numbers records conn place
 -- the way of a connection: what each place has of it, in order
 abbrev pub way_told : Form → List ℕ → List Record → ConnId → List ℕ
 way_told form numbers records conn = flat_map (way_by form numbers records conn) (range_with_len 1 (length records))
+
+-- the place of the event of that number, from 1, that the connection was told, if it was told so many
+abbrev pub event_place : List Record → ConnId → ℕ → Option ℕ
+event_place records conn event = option_map place_of (slice_get (inbox records conn) (event - 1))
+
+-- why the entry of a place was answered as it was, if there is one
+abbrev pub why_by : Form → List ℕ → List Record → Option ℕ → List ℕ
+why_by form numbers records None = []
+why_by form numbers records (Some place) = why_told form numbers records place
+
+-- why the entry was answered as it was that told the connection its event of that number
+abbrev pub event_told : Form → List ℕ → List Record → ConnId → ℕ → List ℕ
+event_told form numbers records conn event = why_by form numbers records (event_place records conn event)

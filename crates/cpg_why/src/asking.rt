@@ -18,6 +18,27 @@ pub enum Asked {
     /// The way of that connection: each of its entries with its verdict, and each change of its group's members that
     /// it was told, in order. A connection that made no entry has none.
     Connection(ConnId),
+    /// Why the entry was answered as it was that told that connection its event of that number; events are counted
+    /// from 1, in the order in which the connection was told them.
+    Told(ConnId, u32),
+}
+
+/// What is asked of and is not there.
+#[derive(Debug, Clone, Copy, PartialEq, Eq, Error)]
+pub enum Missing {
+    /// No entry stands at the place, as there are so many.
+    #[error("no entry {place}: there are {entries}")]
+    Entry {
+        place: u32,
+        entries: u32,
+    },
+    /// The connection was told no event of that number, as it was told so many.
+    #[error("no event {event} of {}.{}: it was told {events}", .conn.node.get(), .conn.conn)]
+    Event {
+        conn: ConnId,
+        event: u32,
+        events: u32,
+    },
 }
 
 /// Why nothing is told, or not all.
@@ -26,9 +47,9 @@ pub enum WhyFault {
     /// The script cannot be read, has a bad line, memory is refused, or the writer fails.
     #[error("{0}")]
     Script(Fault),
-    /// No entry stands at the place, as there are so many.
-    #[error("no entry {place}: the script has {entries}")]
-    NoEntry { place: u32, entries: u32 },
+    /// What is asked of is not there.
+    #[error("{0}")]
+    Missing(Missing),
 }
 
 impl From<Refusal> for WhyFault {

@@ -18,7 +18,7 @@ use std::io::Write;
 
 /// Judges the entries, and writes what is asked of them in a form, without numbers of lines.
 ///
-/// The faults come in this order: that no entry stands at the place that is asked of, with how many there are;
+/// The faults come in this order: that what is asked of is not there, with how many entries or events there are;
 /// `Memory` may come at any time; both with nothing written. Last is `Write`, which leaves a front of what is told.
 pub fn why_of_entries<F: Tells, W: Write>(
     alloc: Global,

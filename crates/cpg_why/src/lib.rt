@@ -8,6 +8,7 @@
 mod asking;
 mod audits;
 mod forms;
+mod inboxes;
 mod laws;
 mod moves;
 mod numbers;
@@ -20,7 +21,7 @@ mod walk;
 mod way;
 mod without;
 
-pub use asking::{Asked, WhyFault};
+pub use asking::{Asked, Missing, WhyFault};
 pub use audits::{why_of_entries, why_of_records};
 pub use cpg_script::Fault;
 pub use forms::{AsText, Tells};

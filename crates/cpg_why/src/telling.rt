@@ -2,17 +2,18 @@
 //!
 //! Proved: the bytes, after success and after each fault.
 
-ghost use Rattle.std.specs.Prelude.{◌≡◌, ◌≤◌, Ok, length, OnOk, IfOk, IfErr, IfSome};
-ghost use Rattle.cpg_record.specs.Judging.{most_places};
+ghost use Rattle.std.specs.Prelude.{◌≡◌, ◌≤◌, Ok, Some, length, OnOk, IfOk, IfErr, IfSome};
+ghost use Rattle.cpg_record.specs.Judging.{judged, most_places};
 ghost use Rattle.cpg_judge.specs.Scripts.{entries_of_script};
-ghost use Rattle.cpg_why.specs.Forms.{as_text};
-ghost use Rattle.cpg_why.specs.Scripts.{asked_told, numbers_of, CanTell, EndsWhy, IsTold, IsWritten, Leaves, TellsNot};
+ghost use Rattle.cpg_why.specs.Forms.{as_text, event_place};
+ghost use Rattle.cpg_why.specs.Scripts.{asked_told, numbers_of, CanTell, EndsWhy, IsTold, IsWritten, Leaves, Stands, TellsNot};
 
-use crate::asking::{Asked, WhyFault};
+use crate::asking::{Asked, Missing, WhyFault};
 use crate::forms::{AsText, Tells};
+use crate::inboxes::{find_told, stands};
 use crate::numbers::read_numbers;
 use crate::scripts::read_entries;
-use crate::walk::{put_denials, put_why_of};
+use crate::walk::{pass_all, put_denials, put_why_of};
 use crate::way::put_way_of;
 use cpg_entry::Entry;
 use cpg_record::ConnId;
@@ -22,9 +23,9 @@ use std::io::{Read, Write};
 
 /// Judges the entries of a script, and writes what is asked of them, as lines of text.
 ///
-/// The faults come in this order: `Read`, then `BadCommand` with the first bad line, then that no entry stands at the
-/// place that is asked of, with how many there are; `Memory` may come at any time; all with nothing written. Last is
-/// `Write`, which leaves a front of the text.
+/// The faults come in this order: `Read`, then `BadCommand` with the first bad line, then that what is asked of
+/// is not there, with how many entries or events there are; `Memory` may come at any time; all with nothing written.
+/// Last is `Write`, which leaves a front of the text.
 pub fn why_script<R: Read, W: Write>(
     alloc: Global,
     reader: &mut R,
@@ -80,13 +81,14 @@ pub(crate) fn tell_entries<F: Tells>(
     asked: Asked,
 ) -> Result<Vec<u8>, WhyFault>
     requires { length entries.now ≤ most_places }
-    ensures ok { IfOk result (λ text. CanTell asked (length entries.now) × (text.items ≡ asked_told F.form numbers.now entries.now asked)) }
+    ensures ok { IfOk result (λ text. CanTell asked entries.now × (text.items ≡ asked_told F.form numbers.now entries.now asked)) }
     ensures err { IfErr result (TellsNot (Ok entries.now) asked) }
 {
     match asked {
         Asked::Place(place) => tell_place::<F>(alloc, numbers, entries, place),
         Asked::Denials => tell_denials::<F>(alloc, numbers, entries),
         Asked::Connection(conn) => tell_way::<F>(alloc, numbers, entries, &conn),
+        Asked::Told(conn, event) => tell_event::<F>(alloc, numbers, entries, &conn, event),
     }
 }
 
@@ -98,15 +100,15 @@ fn tell_place<F: Tells>(
     place: u32,
 ) -> Result<Vec<u8>, WhyFault>
     requires { length entries.now ≤ most_places }
-    ensures ok { IfOk result (λ text. CanTell (Asked.Place place) (length entries.now) × (text.items ≡ asked_told F.form numbers.now entries.now (Asked.Place place))) }
+    ensures ok { IfOk result (λ text. CanTell (Asked.Place place) entries.now × (text.items ≡ asked_told F.form numbers.now entries.now (Asked.Place place))) }
     ensures err { IfErr result (TellsNot (Ok entries.now) (Asked.Place place)) }
 {
     let count = entries.len() as u32;
-    if place == 0 || place > count {
-        return Err(WhyFault::NoEntry {
+    if !stands(place, count) {
+        return Err(WhyFault::Missing(Missing::Entry {
             place,
             entries: count,
-        });
+        }));
     }
     let mut text = Vec::new(alloc);
     match put_why_of::<F>(&mut text, numbers, entries, place as usize - 1) {
@@ -148,4 +150,36 @@ fn tell_way<F: Tells>(
         Ok(()) => Ok(text),
         Err(refusal) => Err(WhyFault::from(refusal)),
     }
+}
+
+/// Why the entry was answered as it was that told the connection its event of that number.
+fn tell_event<F: Tells>(
+    alloc: Global,
+    numbers: &[u32],
+    entries: &[Entry],
+    conn: &ConnId,
+    event: u32,
+) -> Result<Vec<u8>, WhyFault>
+    requires { length entries.now ≤ most_places }
+    ensures ok { IfOk result (λ text. CanTell (Asked.Told conn.now event) entries.now × (text.items ≡ asked_told F.form numbers.now entries.now (Asked.Told conn.now event))) }
+    ensures err { IfErr result (TellsNot (Ok entries.now) (Asked.Told conn.now event)) }
+{
+    let place = place_told(alloc, entries, conn, event)?;
+    let mut text = Vec::new(alloc);
+    match put_why_of::<F>(&mut text, numbers, entries, place as usize - 1) {
+        Ok(()) => Ok(text),
+        Err(refusal) => Err(WhyFault::from(refusal)),
+    }
+}
+
+/// The place of the entry that told the connection its event of that number.
+fn place_told(alloc: Global, entries: &[Entry], conn: &ConnId, event: u32) -> Result<u32, WhyFault>
+    requires { length entries.now ≤ most_places }
+    ensures told { IfOk result (λ place. CanTell (Asked.Told conn.now event) entries.now) }
+    ensures ok { IfOk result (λ place. event_place (judged entries.now) conn.now event ≡ Some place) }
+    ensures place { IfOk result (λ place. Stands place (length entries.now)) }
+    ensures err { IfErr result (TellsNot (Ok entries.now) (Asked.Told conn.now event)) }
+{
+    let walk = pass_all(alloc, entries)?;
+    find_told(&walk.policy, conn, event)
 }

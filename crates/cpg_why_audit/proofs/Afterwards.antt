@@ -10,9 +10,10 @@ use Rattle.cpg_board.specs.Seats.{SeatValue, IsSeatOf, records_of}
 use Rattle.cpg_script.specs.declared.faults.Fault.{Fault}
 use Rattle.cpg_why.specs.declared.asking.Asked.{Asked}
 use Rattle.cpg_why.specs.declared.asking.WhyFault.{WhyFault}
-use Rattle.cpg_why.specs.declared.asking.WhyFault.TheVariants.{Script, NoEntry}
+use Rattle.cpg_why.specs.declared.asking.WhyFault.TheVariants.{Script, Missing}
 use Rattle.cpg_why.specs.Forms.{Form}
 use Rattle.cpg_why.specs.Scripts.{IsWritten, LeavesTold, LeavesEntries, EndsBy, EndsWhy}
+use Rattle.cpg_why.proofs.Counted.{asked_of}
 use Rattle.cpg_cluster.specs.declared.commands.Numbered.{Numbered}
 use Rattle.cpg_cluster.specs.Running as running
 use Rattle.cpg_why_audit.specs.Sessions.{unprinted, AreRun, AreStopped, IsTold, IsToldInPart, Leaves}
@@ -52,7 +53,7 @@ told_ends_by form entries asked _ old new left = absurd left
 -- and as a fault
 pub told_ends : (form : Form) (entries : List Entry) (asked : Asked) (fault : WhyFault) (old new : Option (List ℕ)) → LeavesEntries form [] entries asked fault old new → EndsWhy asked fault old new
 told_ends form entries asked (Script fault) old new left = (left.0, told_ends_by form entries asked fault.refusal old new left.1)
-told_ends form entries asked (NoEntry place count) old new left = (left.0.0, left.1)
+told_ends form entries asked (Missing what) old new left = (asked_of entries asked what left.0, left.1)
 
 -- a fault of the script
 pub stopped : (form : Form) (board : List ℕ) (list : Listed) (script : Result (List Numbered) ℕ) (asked : Asked) (fault : Fault) (old new : Option (List ℕ)) → fault.part ≡ None

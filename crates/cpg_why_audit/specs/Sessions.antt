@@ -7,7 +7,7 @@ use Rattle.cpg_record.specs.Judging.{entries_of}
 use Rattle.cpg_board.specs.Seats.{SeatValue, IsSeatOf, records_of}
 use Rattle.cpg_why.specs.declared.asking.Asked.{Asked}
 use Rattle.cpg_why.specs.declared.asking.WhyFault.{WhyFault}
-use Rattle.cpg_why.specs.declared.asking.WhyFault.TheVariants.{Script, NoEntry}
+use Rattle.cpg_why.specs.declared.asking.WhyFault.TheVariants.{Script, Missing}
 use Rattle.cpg_why.specs.Forms.{Form}
 use Rattle.cpg_why.specs.Scripts.{IsWritten, LeavesEntries}
 use Rattle.cpg_cluster.specs.declared.commands.Numbered.{Numbered}
@@ -29,7 +29,7 @@ AreStopped list script refused = (left : Option (List ℕ)) × running.Leaves un
 -- The script ends with that fault, and nothing is told.
 abbrev pub IsUntold : Listed → Result (List Numbered) ℕ → WhyFault → Option (List ℕ) → Option (List ℕ) → Type 0
 IsUntold list script (Script fault) old new = (fault.part ≡ None) × AreStopped list script fault.refusal × Keeps old new
-IsUntold list script (NoEntry place count) old new = ⊥
+IsUntold list script (Missing what) old new = ⊥
 
 -- What is asked is told of the entries of the records that a seat of the board has read.
 pub record IsTold (form : Form) (board : List ℕ) (asked : Asked) (old new : Option (List ℕ)) : Type 0 where

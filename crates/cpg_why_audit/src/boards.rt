@@ -57,7 +57,7 @@ fn read_entries(alloc: Global, board: &Board, seat: &mut Seat) -> Result<Vec<Ent
 /// Lets a seat that knows nothing read what stands on the board, judges those entries again, and writes what is asked
 /// of them in a form. A board has at most 1,048,576 places, so all are told of.
 ///
-/// The faults come in this order: that no entry stands at the place that is asked of, with how many there are;
+/// The faults come in this order: that what is asked of is not there, with how many entries or events there are;
 /// `Memory` may come at any time; both with nothing written. Last is `Write`, which leaves a front of what is told.
 pub fn why_of_board<F: Tells, W: Write>(
     alloc: Global,

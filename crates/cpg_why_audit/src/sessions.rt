@@ -64,7 +64,7 @@ fn tell_board<F: Tells, B: BoardName, G, W: Write>(
 /// that stand on their board. What the commands are answered is not written.
 ///
 /// The faults come in this order: `Read`, then `BadCommand` with the first bad line, both with nothing done; then, after
-/// all commands, that no entry stands at the place that is asked of, with how many there are; `Memory` may come at any
+/// all commands, that what is asked of is not there, with how many there are; `Memory` may come at any
 /// time; all with nothing written. Last is `Write`, which leaves a front of what is told.
 #[tactic(auto, using(crate::proofs::Afterwards::stopped, crate::proofs::Afterwards::left_after))]
 pub fn why_of_sessions<F, B, G, H, R, W>(

@@ -10,9 +10,10 @@ use Rattle.cpg_step.specs.declared.commands.Command.{Command}
 use Rattle.cpg_step.specs.Running.{after, IsUntouched}
 use Rattle.cpg_why.specs.declared.asking.Asked.{Asked}
 use Rattle.cpg_why.specs.declared.asking.WhyFault.{WhyFault}
-use Rattle.cpg_why.specs.declared.asking.WhyFault.TheVariants.{Script, NoEntry}
+use Rattle.cpg_why.specs.declared.asking.WhyFault.TheVariants.{Script, Missing}
 use Rattle.cpg_why.specs.Forms.{Form}
 use Rattle.cpg_why.specs.Scripts.{LeavesTold, LeavesEntries, EndsBy, EndsWhy}
+use Rattle.cpg_why.proofs.Counted.{asked_of}
 use Rattle.cpg_why_steps.specs.Explaining.{delivered_by_most, LeavesBy, Leaves}
 use Rattle.cpg_why_steps.proofs.Done.{all_done}
 
@@ -32,7 +33,7 @@ told_by form commands asked _ w world old new done left = absurd left
 pub told_left : (form : Form) (commands : List Command) (asked : Asked) (fault : WhyFault) (w world : WorldValue) (old new : Option (List ℕ)) → world ≡ after w commands
     → LeavesEntries form [] (delivered_by_most world) asked fault old new → Leaves form (Ok commands) asked fault w old new world
 told_left form commands asked (Script fault) w world old new done left = (left.0, told_by form commands asked fault.refusal w world old new done left.1)
-told_left form commands asked (NoEntry place count) w world old new done left = (done, left)
+told_left form commands asked (Missing what) w world old new done left = (done, left)
 
 -- the same whatever was done: a refusal of what is told
 told_ends_by : (form : Form) (entries : List Entry) (asked : Asked) (refused : Refusal) (old new : Option (List ℕ)) → LeavesTold form [] entries asked refused old new → EndsBy refused old new
@@ -43,7 +44,7 @@ told_ends_by form entries asked _ old new left = absurd left
 -- and a fault
 pub told_ends : (form : Form) (entries : List Entry) (asked : Asked) (fault : WhyFault) (old new : Option (List ℕ)) → LeavesEntries form [] entries asked fault old new → EndsWhy asked fault old new
 told_ends form entries asked (Script fault) old new left = (left.0, told_ends_by form entries asked fault.refusal old new left.1)
-told_ends form entries asked (NoEntry place count) old new left = (left.0.0, left.1)
+told_ends form entries asked (Missing what) old new left = (asked_of entries asked what left.0, left.1)
 
 -- a script that is not read
 pub read_ends : (refused : Refusal) (old new : Option (List ℕ)) → (refused ≡ Memory) ⊎ (refused ≡ Read) → Keeps old new → EndsBy refused old new

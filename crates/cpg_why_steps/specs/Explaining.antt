@@ -14,7 +14,7 @@ use Rattle.cpg_step.specs.declared.commands.Command.{Command}
 use Rattle.cpg_step.specs.Running.{after, IsUntouched}
 use Rattle.cpg_why.specs.declared.asking.Asked.{Asked}
 use Rattle.cpg_why.specs.declared.asking.WhyFault.{WhyFault}
-use Rattle.cpg_why.specs.declared.asking.WhyFault.TheVariants.{Script, NoEntry}
+use Rattle.cpg_why.specs.declared.asking.WhyFault.TheVariants.{Script, Missing}
 use Rattle.cpg_why.specs.Forms.{Form}
 use Rattle.cpg_why.specs.Scripts.{IsWritten, LeavesTold, LeavesEntries}
 
@@ -55,9 +55,9 @@ LeavesBy form (Ok commands) asked refusal.Write w old new world =
     (world ≡ after w commands) × LeavesTold form [] (delivered_by_most world) asked refusal.Write old new
 LeavesBy _ _ _ _ _ _ _ _ = ⊥
 
--- The same of a fault. That no entry stands at the place comes after all commands, and leaves nothing written.
+-- The same of a fault. What is not there is told after all commands, and leaves nothing written.
 abbrev pub Leaves : Form → Result (List Command) ℕ → Asked → WhyFault → WorldValue → Option (List ℕ) → Option (List ℕ) → WorldValue → Type 0
 Leaves form script asked (Script fault) w old new world = (fault.part ≡ None) × LeavesBy form script asked fault.refusal w old new world
-Leaves form (Ok commands) asked (NoEntry place count) w old new world =
-    (world ≡ after w commands) × LeavesEntries form [] (delivered_by_most world) asked (NoEntry place count) old new
-Leaves form (Err line) asked (NoEntry place count) w old new world = ⊥
+Leaves form (Ok commands) asked (Missing what) w old new world =
+    (world ≡ after w commands) × LeavesEntries form [] (delivered_by_most world) asked (Missing what) old new
+Leaves form (Err line) asked (Missing what) w old new world = ⊥

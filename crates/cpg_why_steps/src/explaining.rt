@@ -22,8 +22,8 @@ use std::io::{Read, Write};
 /// then by the node that delivered most. What the commands print is not written.
 ///
 /// The faults come in this order: `Read`, then `BadCommand` with the first bad line, both with nothing done; then that
-/// no entry stands at the place that is asked of, with how many there are; `Memory` may come at any time; all with
-/// nothing written. Last is `Write`, which leaves a front of what is told.
+/// what is asked of is not there, with how many there are; `Memory` may come at any time; all with nothing written.
+/// Last is `Write`, which leaves a front of what is told.
 #[tactic(auto, using(crate::proofs::Left::none_left, crate::proofs::Left::read_ends, crate::proofs::Left::bad_ends))]
 pub fn why_of_steps<F: Tells, R: Read, W: Write>(
     alloc: Global,

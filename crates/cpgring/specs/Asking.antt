@@ -1,7 +1,6 @@
 -- what the command line asks for, and what is said of one that asks for nothing that can be run
 use Rattle.std.specs.Prelude.{◌≡◌, ◌⊎◌, ℕ, Bool, true, false, List, [], ◌∷◌, codes, map, slice_get, if◌then◌else◌, Option, Some, None, option_map}
 use Rattle.std.specs.Io.KnownBytes.{Keeps}
-use Rattle.std.specs.Str.{bytes_eq}
 use Rattle.std.specs.Str.Parse.{digits_value, without_leading_plus}
 use Rattle.clap.specs.declared.parser.matches.Found.{Found}
 use Rattle.clap.specs.declared.parser.matches.MatchedArg.{MatchedArg}
@@ -22,6 +21,7 @@ use Rattle.cpg_program.specs.declared.speaking.Spoken.TheVariants as spoken
 use Rattle.cpgring.specs.declared.asking.Asked.{Asked}
 use Rattle.cpgring.specs.declared.asking.AskedShell.{AskedShell}
 use Rattle.cpgring.specs.Filtering.{is_filtered, IsFilterGiven}
+use Rattle.cpgring.specs.Questions.{entry_named, question_named, words_for}
 use Rattle.cpgring.specs.Sources.{but_input, first_file, path_of, words_after}
 use Rattle.cpg_program.specs.declared.runs.Run.TheVariants.{Judge, JudgeOnly, Accept, Why, Step, StepWhy, Draw, Number, Cluster, ClusterWhy}
 use Rattle.cpg_program.specs.declared.runs.Form.{Form}
@@ -29,7 +29,7 @@ use Rattle.cpg_program.specs.declared.runs.Form.TheVariants.{Text, Json}
 use Rattle.cpg_program.specs.declared.runs.Picture.{Picture}
 use Rattle.cpg_program.specs.declared.runs.Picture.TheVariants.{Svg, Lines}
 use Rattle.cpg_why.specs.declared.asking.Asked.{Asked as Question}
-use Rattle.cpg_why.specs.declared.asking.Asked.TheVariants.{Place, Denials, Connection}
+use Rattle.cpg_why.specs.declared.asking.Asked.TheVariants.{Denials, Connection}
 use Rattle.cpg_print.specs.Entries.{conn_of_word}
 use Rattle.cpg_text.specs.Numbers.{number_in}
 
@@ -74,14 +74,13 @@ words_given found = words_after (words_found found)
 abbrev pub why_words : Found → List (List ℕ)
 why_words found = texts_of (matched_of found (codes "place"))
 
--- The path of the script, where one was given: behind the place that is asked of, or the first word where all denials are asked for; of a
+-- The path of the script, where one was given: behind the entry that is asked of, or the first word where none is; of a
 -- script over a ring the first word, where it names a file; else an argument of its own.
 abbrev pub path_given : Run → Found → Option (List ℕ)
 path_given (Judge form) found = but_input (first_value found (codes "file"))
 path_given (JudgeOnly filter) found = but_input (first_value found (codes "file"))
 path_given (Accept form) found = but_input (first_value found (codes "file"))
-path_given (Why form (Place place)) found = but_input (slice_get (why_words found) 1)
-path_given (Why form asked) found = but_input (slice_get (why_words found) 0)
+path_given (Why form asked) found = but_input (slice_get (why_words found) (words_for asked))
 path_given _ found = first_file (words_found found)
 
 -- the option was used, or not
@@ -99,20 +98,20 @@ IsFormGiven found form = (IsUsed found (codes "json") → form ≡ Json) × (IsU
 abbrev pub IsPictureGiven : Found → Picture → Type 0
 IsPictureGiven found picture = (IsUsed found (codes "text") → picture ≡ Lines) × (IsUnused found (codes "text") → picture ≡ Svg)
 
--- the place that is asked of is the number of the first word
-abbrev pub IsPlaceAsked : Form → List (List ℕ) → Run → Type 0
-IsPlaceAsked form (word ∷ rest) (Why given (Place place)) = (given ≡ form) × (number_in 1 4294967295 word ≡ Some place)
-IsPlaceAsked form _ _ = ⊥
+-- the entry that is asked of is the one that the first word names
+abbrev pub IsEntryAsked : Form → List (List ℕ) → Run → Type 0
+IsEntryAsked form (word ∷ rest) (Why given asked) = (given ≡ form) × (entry_named word ≡ Some asked)
+IsEntryAsked form _ _ = ⊥
 
 -- that connection is asked for
 abbrev pub IsWayAsked : Form → List ℕ → Run → Type 0
 IsWayAsked form word (Why given (Connection conn)) = (given ≡ form) × (conn_of_word word ≡ Some conn)
 IsWayAsked form word _ = ⊥
 
--- what is asked where a connection is named, and where none is: all denials where that option is used, else the place of the first word
+-- what is asked where a connection is named, and where none is: all denials where that option is used, else the entry of the first word
 abbrev pub IsWhyAsked : Form → Found → Option (List ℕ) → Run → Type 0
 IsWhyAsked form found (Some word) run = IsWayAsked form word run
-IsWhyAsked form found None run = (IsUsed found (codes "all") → run ≡ Why form Denials) × (IsUnused found (codes "all") → IsPlaceAsked form (why_words found) run)
+IsWhyAsked form found None run = (IsUsed found (codes "all") → run ≡ Why form Denials) × (IsUnused found (codes "all") → IsEntryAsked form (why_words found) run)
 
 -- the same of the connection that was given, in the form that the option asks for
 abbrev pub IsWhyGiven : Form → Found → Run → Type 0
@@ -122,16 +121,7 @@ IsWhyGiven form found run = IsFormGiven found form × IsWhyAsked form found (fir
 abbrev pub AreGiven : Found → Settings → List (List ℕ) → Type 0
 AreGiven found settings words = AreSettingsGiven found settings × (words ≡ words_given found)
 
--- the entry of a place, or the way of a connection
-abbrev pub or_way : List ℕ → Option ℕ → Option Question
-or_way word (Some place) = Some (Place place)
-or_way word None = option_map Connection (conn_of_word word)
-
--- what a word asks why of: every denial, the entry of a place, or the way of a connection
-abbrev pub question_named : List ℕ → Option Question
-question_named word = if bytes_eq word (codes "all") then Some Denials else or_way word (number_in 1 4294967295 word)
-
--- and where it is given
+-- what is asked why of, where a word is given
 abbrev pub question_asked : Option (List ℕ) → Option Question
 question_asked None = None
 question_asked (Some word) = question_named word

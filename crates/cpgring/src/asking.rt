@@ -8,29 +8,27 @@ ghost use Rattle.clap.specs.Words.{found_of, first_value, subcommand_name_of};
 ghost use Rattle.clap.specs.Values.{kind_of};
 ghost use Rattle.cpg_program.specs.Pipes.{stream_of};
 ghost use Rattle.cpg_program.specs.declared.runs.Run.TheVariants.{Why};
-ghost use Rattle.cpg_print.specs.Entries.{conn_of_word};
 ghost use Rattle.cpgring.specs.Filtering.{is_filtered, IsBadFilter};
 ghost use Rattle.cpgring.specs.Sources.{but_input, path_of};
-ghost use Rattle.cpgring.specs.Asking.{name_of, words_found, AreSettingsGiven, IsAskedFor, IsFormGiven, IsInquiryGiven, IsMannerGiven, IsPictureGiven, IsShellGiven, IsShownGiven, IsSpokenGiven, patience_given, IsPlaceAsked, IsStatusOf, IsUnused, IsUsed, Says, is_numbered, question_named};
+ghost use Rattle.cpgring.specs.Asking.{name_of, words_found, AreSettingsGiven, IsAskedFor, IsFormGiven, IsInquiryGiven, IsMannerGiven, IsPictureGiven, IsShellGiven, IsShownGiven, IsSpokenGiven, patience_given, IsEntryAsked, IsStatusOf, IsUnused, IsUsed, Says, is_numbered};
 
 use crate::commands::{
     ACCEPT, ALL, CONNECTION, ECHO, FILE, HOPS, JSON, NODES, NUMBERS, PLACE, PLACES, RING, TEXT,
     VERBOSE, WAIT, WHY, build_command,
 };
 use crate::filtering::{filter_of, is_filtered};
+use crate::questions::{read_conn, read_entry, read_question};
 use crate::sources::{Source, source_of, split_words};
 use crate::versions::write_commit;
 use clap::error::ErrorKind;
 use clap::{ArgMatches, Error};
-use cpg_cred::{MOST_NODES, NodeId, Refusal};
-use cpg_entry::MOST_CONNECTIONS;
+use cpg_cred::Refusal;
 use cpg_program::{
     Asked as Question, Form, Inquiry, Known, Manner, Noted, Patience, Picture, Piped, Run, Shown,
     Spoken, tell_fault,
 };
-use cpg_record::ConnId;
 use cpg_ring::Settings;
-use cpg_script::{Fault, cut, is, read_u32};
+use cpg_script::{Fault, read_u32};
 use cpg_text::write_whole;
 use std::alloc::{AllocError, Global};
 use std::convert::AsStr;
@@ -83,15 +81,15 @@ fn why_none(matches: &ArgMatches<'_>) -> (ErrorKind, &'static str) {
         ),
         Some("step") => (
             ErrorKind::InvalidValue,
-            "'step' takes --why=PLACE, a number from 1, or NODE.CONN, or all",
+            "'step' takes --why=PLACE, a number from 1, or NODE.CONN, NODE.CONN:EVENT, or all",
         ),
         Some("run") => (
             ErrorKind::InvalidValue,
-            "'run' takes --wait=MS, milliseconds from 0 to 4294967295, and --why=PLACE, a number from 1, or NODE.CONN, or all",
+            "'run' takes --wait=MS, milliseconds from 0 to 4294967295, and --why=PLACE, a number from 1, or NODE.CONN, NODE.CONN:EVENT, or all",
         ),
         Some("why") => (
             ErrorKind::InvalidValue,
-            "'why' takes one of PLACE (a number from 1), --all and --connection=NODE.CONN, and then FILE, if any",
+            "'why' takes one of PLACE (a number from 1), NODE.CONN:EVENT, --all and --connection=NODE.CONN, and then FILE, if any",
         ),
         _ => (
             ErrorKind::MissingSubcommand,
@@ -186,6 +184,7 @@ fn accept_of<'a>(given: &'a ArgMatches<'_>) -> Asked<'a>
 }
 
 /// Why entries of a script were answered as they were, where that is asked for as it should be.
+#[tactic(auto, using(crate::proofs::Entered::path_of_entry))]
 fn why_of<'a>(given: &'a ArgMatches<'_>) -> Option<Asked<'a>>
     ensures { IfSome result (IsAskedFor (found_of given.now) (codes "why")) }
 {
@@ -200,21 +199,8 @@ fn why_of<'a>(given: &'a ArgMatches<'_>) -> Option<Asked<'a>>
             words,
         ),
         None if all => why_other(form, Question::Denials, words),
-        None => why_place(form, words),
+        None => why_entry(form, words),
     }
-}
-
-/// The connection of NODE.CONN.
-pub(crate) fn read_conn(word: &[u8]) -> Option<ConnId>
-    ensures { result ≡ conn_of_word word.now }
-{
-    let (node, conn) = cut(b'.', word)?;
-    let node = read_u32(1, u32::from(MOST_NODES), node)?;
-    let conn = read_u32(1, u32::from(MOST_CONNECTIONS), conn)?;
-    Some(ConnId {
-        node: NodeId::new(node as u8)?,
-        conn: conn as u16,
-    })
 }
 
 /// What is asked of no place: the one word that there may be is the path.
@@ -232,18 +218,18 @@ fn why_other<'a>(form: Form, question: Question, words: &'a [&'a str]) -> Option
     })
 }
 
-/// Why the entry of a place was answered as it was: the first word is the place, and the other, if there is one, the
-/// path.
-fn why_place<'a>(form: Form, words: &'a [&'a str]) -> Option<Asked<'a>>
-    ensures run { IfSome result (λ asked. IsPlaceAsked form (map (λ word. word.now) words.now) asked.run) }
+/// Why one entry was answered as it was: the first word is its place or an event that it told, and the other, if there is
+/// one, the path.
+fn why_entry<'a>(form: Form, words: &'a [&'a str]) -> Option<Asked<'a>>
+    ensures run { IfSome result (λ asked. IsEntryAsked form (map (λ word. word.now) words.now) asked.run) }
     ensures source { IfSome result (λ asked. path_of asked.source ≡ but_input (slice_get (map (λ word. word.now) words.now) 1)) }
 {
     if words.len() > 2 {
         return None;
     }
-    let place = read_u32(1, u32::MAX, words.first()?.as_bytes())?;
+    let question = read_entry(words.first()?.as_bytes())?;
     Some(Asked {
-        run: Run::Why(form, Question::Place(place)),
+        run: Run::Why(form, question),
         source: source_of(words.get(1).copied()),
     })
 }
@@ -265,19 +251,6 @@ fn step_of<'a>(given: &'a ArgMatches<'_>) -> Option<Asked<'a>>
         },
     };
     Some(Asked { run, source })
-}
-
-/// What the word asks why of: every denial, the entry of a place, or the way of a connection.
-fn read_question(word: &[u8]) -> Option<Question>
-    ensures { result ≡ question_named word.now }
-{
-    if is(word, b"all") {
-        return Some(Question::Denials);
-    }
-    match read_u32(1, u32::MAX, word) {
-        Some(place) => Some(Question::Place(place)),
-        None => Some(Question::Connection(read_conn(word)?)),
-    }
 }
 
 /// The picture of the run of a script of commands with the settings and the words that are given.

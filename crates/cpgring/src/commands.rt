@@ -153,10 +153,10 @@ fn why_command<'a>(alloc: Global) -> Result<Command<'a>, AllocError> {
         .arg(verbose(alloc, HINTS))?
         .arg(
             Arg::new(alloc, PLACE)
-                .value_name("PLACE|FILE")
+                .value_name("PLACE|EVENT|FILE")
                 .action(ArgAction::Append)
                 .help(
-                    "The entry's place, from 1 (none with an option), and the script; - or none: standard input",
+                    "The entry's place, from 1, or NODE.CONN:EVENT (none with an option), and the script; - or none: standard input",
                 ),
         )
 }
@@ -240,7 +240,7 @@ fn step_command<'a>(alloc: Global) -> Result<Command<'a>, AllocError> {
             alloc,
             WHY,
             "PLACE",
-            "Explain in place of that the entry at the place; all: each denial; NODE.CONN: a connection's way",
+            "Explain in place of that the entry at the place; NODE.CONN:EVENT: the one that told it; all: each denial; NODE.CONN: a connection's way",
         )
         .conflicts_with(NUMBERS)?)?
         .arg(verbose(alloc, HINTS))?;
@@ -272,7 +272,7 @@ fn run_command<'a>(alloc: Global) -> Result<Command<'a>, AllocError> {
                 alloc,
                 WHY,
                 "PLACE",
-                "Explain in place of that, once all is done, the entry at the place; all: each denial; NODE.CONN: a connection's way",
+                "Explain in place of that, once all is done, the entry at the place; NODE.CONN:EVENT: the one that told it; all: each denial; NODE.CONN: a connection's way",
             )
             .conflicts_with(ECHO)?)?
             .arg(verbose(alloc, HINTS_AND_NOTES))?,

@@ -111,10 +111,12 @@ all lines were read.";
 pub const WHY_ABOUT: &str = "Explains why entries of a script were answered as they were";
 
 pub const WHY_HELP: &str = "\
-Judges the agreed entries of a script as `cpgring judge` does, and explains the answer to the entry at PLACE, or
-with --all each denial: the rule that decides, or the state that does, and which entry made it. With --connection
-it tells the way of one connection instead: its entries with their verdicts, and the changes of its group's
-members that it was told. The help of `cpgring judge` has the script and the words of a verdict.";
+Judges the agreed entries of a script as `cpgring judge` does, and explains the answer to the entry at PLACE, or to
+the one that told a connection its event of a number, by NODE.CONN:EVENT, or with --all each denial: the rule that
+decides, or the state that does, and which entry made it. With --connection it tells the way of one connection
+instead: its entries with their verdicts, and the changes of its group's members that it was told. The help of
+`cpgring judge` has the script and the words of a verdict; a connection's events are numbered from 1 in the order in
+which it was told them, as `cpgring judge --connection=NODE.CONN` prints them.";
 
 pub const WHY_MORE: &str = "\
 Printed are lines that each begin with what they tell; between the entries of --all stands an empty line:
@@ -142,8 +144,8 @@ Example:
   without it: allowed default
 
 Exit status: 0 done; 1 a fault, told on standard error; 2 a fault of the command line, a PLACE that has no entry
-among them: `cpgring: there is no entry 3: the script has 2`. The faults are those of `cpgring judge`; nothing is
-printed before all is known.";
+and an EVENT that was not told among them: `cpgring: there is no entry 3: the script has 2`, `cpgring: there is no
+event 4: 1.2 was told 3`. The faults are those of `cpgring judge`; nothing is printed before all is known.";
 
 pub const ADMIT_ABOUT: &str = "Tells whom a conf file lets in";
 
@@ -281,9 +283,9 @@ NODE.CONN PID UID GID CALL; for audit the lines of `cpgring judge` and records C
 RIGHT WHO of each and rules COUNT; and safe PLACE. With --numbers, frames K K ... stand behind `sent COUNT`,
 the numbers by which later commands bring them, and all is printed once the script is done; with --json each line
 is an object (docs/JSON.md). With --why=PLACE none of this is printed, but why the entry at that place was answered
-as it was, as `cpgring why` tells it, by what the node that delivered most delivered; --why=all tells it of each
-denied entry, --why=NODE.CONN the way of a connection. A command that is refused prints the refusal, as in
-`refused 10 Stale`, and the script goes on:
+as it was, as `cpgring why` tells it, by what the node that delivered most delivered; --why=NODE.CONN:EVENT tells it
+of the entry that told the connection that event, --why=all of each denied entry, --why=NODE.CONN the way of a
+connection. A command that is refused prints the refusal, as in `refused 10 Stale`, and the script goes on:
 
   2 Access           nobody lets the credentials in
   3 NoConnection     the node has no open connection of that number
@@ -410,10 +412,11 @@ members MEMBERS, groups and their names, for audit the lines of `cpgring judge` 
 PLACE. What was printed is handed on before a wait begins. With --wait=MS a wait looks for so many milliseconds,
 and at least once; with --echo each line stands behind the number of its script line and its session, `7 s2 `, or
 `7 - ` where it has none. With --why=PLACE none of this is printed, but, once all commands are done, why the entry
-at that place was answered as it was, as `cpgring why` tells it; --why=all tells it of each denied entry,
---why=NODE.CONN the way of a connection: a session is named by its connection, which its audit shows. All entries
-that the nodes have judged by then are told of, so wait for a call's verdict before the script ends. A command that
-is refused prints the refusal, and the script goes on:
+at that place was answered as it was, as `cpgring why` tells it; --why=NODE.CONN:EVENT tells it of the entry that
+told the connection that event, --why=all of each denied entry, --why=NODE.CONN the way of a connection: a session
+is named by its connection, which its audit shows. All entries that the nodes have judged by then are told of, so
+wait for a call's verdict before the script ends. A command that is refused prints the refusal, and the script goes
+on:
 
   2 Access           nobody lets the credentials in
   3 NoConnection     no open session has the number
@@ -455,10 +458,11 @@ What a rule decided, explained:
   without it: allowed default
 
 Exit status: 0 done; 1 a fault, told on standard error; 2 a fault of the command line, `cpgring: bad accept
-word` among them, and with --why a PLACE that has no entry: `cpgring: there is no entry 9: the script has 2`. The
-faults are `cpgring: 41 BadCommand LINE`, the first line that is no command, before which nothing is done or
-printed; `cpgring: 42 Read`, also where the input is too long; `cpgring: 43 Write`; and `cpgring: 1 Memory`, which
-ends the script at the command that met it, also where a thread is not given.";
+word` among them, and with --why a PLACE that has no entry or an EVENT that was not told: `cpgring: there is no entry
+9: the script has 2`, `cpgring: there is no event 4: 1.2 was told 3`. The faults are `cpgring: 41 BadCommand LINE`, the
+first line that is no command, before which nothing is done or printed; `cpgring: 42 Read`, also where the input is too
+long; `cpgring: 43 Write`; and `cpgring: 1 Memory`, which ends the script at the command that met it, also where a
+thread is not given.";
 
 pub const SHELL_ABOUT: &str = "Answers commands over a running cluster as they are typed";
 

@@ -11,9 +11,8 @@ mod completions;
 mod filtering;
 mod help;
 mod loading;
+mod questions;
 mod sources;
-#[cfg(test)]
-mod tests;
 mod versions;
 
 use admitting::{files_of, read_asks};
