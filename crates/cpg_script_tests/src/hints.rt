@@ -1,7 +1,7 @@
 //! What is told beside a fault, for each kind of script: the line, the mark and what was wanted.
 
 use cpg_cred::Refusal;
-use cpg_hint::{Kind, hint_of};
+use cpg_hint::{Kind, accept_hint, hint_of};
 use cpg_script::Fault;
 use std::alloc::Global;
 use std::process::Abort;
@@ -97,4 +97,13 @@ fn parts(rt: HostRuntime) {
     ] {
         expect(&rt, rt.alloc(), Kind::Accept, script, part, refusal, told);
     }
+}
+
+#[test]
+fn a_word_that_lets_nobody_in(rt: HostRuntime) -> Result<(), Fail> {
+    let hint = accept_hint(rt.alloc(), 12, b"uid:\xFF")?;
+    let shown =
+        "word 12: uid:\\xFF\n         ^ ACCEPT: uid:N or gid:N, N a number from 0 to 4294967295\n";
+    assert!(rt; hint.as_slice() == shown.as_bytes());
+    Ok(())
 }
