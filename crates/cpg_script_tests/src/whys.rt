@@ -92,58 +92,41 @@ fn all_denials(rt: HostRuntime) -> Result<(), Fail> {
     Ok(())
 }
 
-#[test]
-fn what_told_an_event(rt: HostRuntime) -> Result<(), Fail> {
-    let node = NodeId::new(1).ok_or("a node")?;
-    let first = ConnId { node, conn: 1 };
-    // of its verdicts and changes, by place: 3 3 6 7 7 8
-    expect(
-        &rt,
-        rt.alloc(),
-        SCRIPT,
-        Asked::Told(first, 3),
-        DENIED_JOINED,
-    );
-    expect(
-        &rt,
-        rt.alloc(),
-        SCRIPT,
-        Asked::Told(first, 6),
-        DENIED_CLOSED,
-    );
-    let second = ConnId { node, conn: 2 };
-    expect(
-        &rt,
-        rt.alloc(),
-        SCRIPT,
-        Asked::Told(second, 1),
-        DENIED_TWICE,
-    );
-    Ok(())
+/// What told that connection of node 1 its event of that number.
+fn told(conn: u16, event: u32) -> Option<Asked> {
+    let node = NodeId::new(1)?;
+    Some(Asked::Told(ConnId { node, conn }, event))
 }
 
-/// Whether it is told that the connection was told so many events, and no more.
-fn told_no_more(alloc: Global, conn: ConnId, event: u32, events: u32) -> bool {
-    let mut written = Vec::new(alloc);
-    let asked = Asked::Told(conn, event);
-    let done = why_script(alloc, &mut SCRIPT.as_bytes(), &mut written, asked);
-    let missing = Missing::Event {
-        conn,
-        event,
-        events,
-    };
-    let same = matches!(&done, Err(WhyFault::Missing(what)) if *what == missing);
-    same && written.is_empty()
+#[test]
+fn what_told_an_event(rt: HostRuntime) -> Result<(), Fail> {
+    // of the first connection: verdicts and changes of the places 3, 3, 6, 7, 7 and 8
+    for (conn, event, answer) in [
+        (1u16, 3u32, DENIED_JOINED),
+        (1, 6, DENIED_CLOSED),
+        (2, 1, DENIED_TWICE),
+    ] {
+        let asked = told(conn, event).ok_or("a node")?;
+        expect(&rt, rt.alloc(), SCRIPT, asked, answer);
+    }
+    Ok(())
 }
 
 #[test]
 fn an_event_that_was_not_told(rt: HostRuntime) -> Result<(), Fail> {
-    let node = NodeId::new(1).ok_or("a node")?;
-    let first = ConnId { node, conn: 1 };
-    let other = ConnId { node, conn: 9 };
-    assert!(rt; told_no_more(rt.alloc(), first, 7, 6));
-    assert!(rt; told_no_more(rt.alloc(), first, 0, 6));
-    assert!(rt; told_no_more(rt.alloc(), other, 1, 0));
+    for (conn, event, events) in [(1u16, 7u32, 6u32), (1, 0, 6), (9, 1, 0)] {
+        let asked = told(conn, event).ok_or("a node")?;
+        let mut written = Vec::new(rt.alloc());
+        let done = why_script(rt.alloc(), &mut SCRIPT.as_bytes(), &mut written, asked);
+        assert!(rt;
+            matches!(
+                &done,
+                Err(WhyFault::Missing(Missing::Event { event: number, events: count, .. }))
+                    if *number == event && *count == events
+            )
+        );
+        assert!(rt; written.is_empty());
+    }
     Ok(())
 }
 

@@ -1,5 +1,6 @@
 -- one entry that is asked of by the first word
-use Rattle.std.proofs.Common.{◌≡◌, ℕ, List, [], ◌∷◌, Option, Some, None, slice_get, sym, ap, ◌∙◌}
+use Rattle.std.proofs.Common.{◌≡◌, ℕ, List, [], ◌∷◌, Option, Some, None, slice_get, codes, refl, sym, subst, ap, ◌∙◌}
+use Rattle.std.specs.Prelude.{IfSome}
 use Rattle.std.proofs.lemmas.Option.{none-some, same_Some}
 use Rattle.cpg_record.specs.declared.connections.ConnId.{ConnId}
 use Rattle.cpg_text.specs.Numbers.{number_in}
@@ -7,13 +8,16 @@ use Rattle.cpg_script.specs.Words.{cut_at}
 use Rattle.cpg_print.specs.Entries.{conn_of_word}
 use Rattle.cpg_why.specs.declared.asking.Asked.{Asked as Question}
 use Rattle.cpg_why.specs.declared.asking.Asked.TheVariants.{Place, Told}
+use Rattle.clap.specs.declared.parser.matches.Found.{Found}
+use Rattle.clap.specs.Words.{first_value}
 use Rattle.cpg_program.specs.declared.runs.Form.{Form}
 use Rattle.cpg_program.specs.declared.runs.Run.{Run}
 use Rattle.cpg_program.specs.declared.runs.Run.TheVariants.{Why}
-use Rattle.clap.specs.declared.parser.matches.Found.{Found}
-use Rattle.cpgring.specs.Asking.{path_given, why_words, IsEntryAsked}
+use Rattle.cpgring.specs.declared.asking.Asked.{Asked}
+use Rattle.cpgring.specs.declared.sources.Source.{Source}
+use Rattle.cpgring.specs.Asking.{why_words, words_before, IsAskedFor, IsEntryAsked, IsFormGiven, IsGivenBy, IsUsed, IsWhyAsked}
 use Rattle.cpgring.specs.Questions.{entry_named, event_of_parts, or_event, told_by, words_for}
-use Rattle.cpgring.specs.Sources.{but_input}
+use Rattle.cpgring.specs.Sources.{but_input, path_of}
 
 of_told : (conn : Option ConnId) (event : Option ℕ) (asked : Question) → told_by conn event ≡ Some asked → words_for asked ≡ 1
 of_told (Some conn) (Some event) asked is = sym (ap words_for (same_Some (Told conn event) asked is))
@@ -29,10 +33,27 @@ of_place word (Some place) asked is = sym (ap words_for (same_Some (Place place)
 of_place word None asked is = of_parts (cut_at 58 word) asked is
 
 -- the path stands behind the word that names the entry
-pub path_of_entry : (form : Form) (found : Found) (words : List (List ℕ)) (run : Run) (path : Option (List ℕ)) → words ≡ why_words found → IsEntryAsked form words run
-    → path ≡ but_input (slice_get words 1) → path ≡ path_given run found
-path_of_entry form found (word ∷ rest) (Why given asked) path is entry at =
-    at ∙ ap (λ (ws : List (List ℕ)). but_input (slice_get ws 1)) is
-    ∙ ap (λ n. but_input (slice_get (why_words found) n)) (sym (of_place word (number_in 1 4294967295 word) asked entry.1))
-path_of_entry form found (word ∷ rest) _ path is entry at = absurd entry
-path_of_entry form found [] run path is entry at = absurd entry
+pub path_behind : (word : List ℕ) (asked : Question) (words : List (List ℕ)) (path : Option (List ℕ)) → Some asked ≡ entry_named word → path ≡ but_input (slice_get words 1)
+    → path ≡ but_input (slice_get words (words_for asked))
+path_behind word asked words path is at = at ∙ ap (λ n. but_input (slice_get words n)) (sym (of_place word (number_in 1 4294967295 word) asked (sym is)))
+
+module _ (form : Form) (found : Found) (words : List (List ℕ)) (is : words ≡ why_words found) (given : IsFormGiven found form) (conn : first_value found (codes "connection") ≡ None)
+    (unused : IsUsed found (codes "all") → ⊥) where
+  by_run : (named : List (List ℕ)) (run : Run) (source : Source) → words ≡ named → IsEntryAsked form named run → path_of source ≡ but_input (slice_get words (words_before run))
+      → IsAskedFor found (codes "why") (record { run = run; source = source })
+  by_run (word ∷ rest) (Why how q) source same entry at = record {
+    name = refl;
+    run = (
+      subst (IsFormGiven found) (sym entry.0) given,
+      subst (λ (o : Option (List ℕ)). IsWhyAsked how found o (Why how q)) (sym conn)
+          ((λ used. absurd (unused used)), (λ un. subst (λ (ws : List (List ℕ)). IsEntryAsked how ws (Why how q)) (sym same ∙ is) (refl, entry.1))),
+    );
+    source = at ∙ ap (λ (ws : List (List ℕ)). but_input (slice_get ws (words_for q))) is;
+  }
+  by_run (word ∷ rest) _ source same entry at = absurd entry
+  by_run [] _ source same entry at = absurd entry
+
+  pub entry_asked : (result : Option Asked) → IfSome result (λ asked. IsEntryAsked form words asked.run)
+      → IfSome result (λ asked. path_of asked.source ≡ but_input (slice_get words (words_before asked.run))) → IfSome result (IsAskedFor found (codes "why"))
+  entry_asked None entry at = tt
+  entry_asked (Some asked) entry at = by_run words asked.run asked.source refl entry at

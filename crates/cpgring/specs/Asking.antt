@@ -74,6 +74,11 @@ words_given found = words_after (words_found found)
 abbrev pub why_words : Found → List (List ℕ)
 why_words found = texts_of (matched_of found (codes "place"))
 
+-- how many words name what a run asks why of
+abbrev pub words_before : Run → ℕ
+words_before (Why form asked) = words_for asked
+words_before _ = 0
+
 -- The path of the script, where one was given: behind the entry that is asked of, or the first word where none is; of a
 -- script over a ring the first word, where it names a file; else an argument of its own.
 abbrev pub path_given : Run → Found → Option (List ℕ)

@@ -10,7 +10,7 @@ ghost use Rattle.cpg_program.specs.Pipes.{stream_of};
 ghost use Rattle.cpg_program.specs.declared.runs.Run.TheVariants.{Why};
 ghost use Rattle.cpgring.specs.Filtering.{is_filtered, IsBadFilter};
 ghost use Rattle.cpgring.specs.Sources.{but_input, path_of};
-ghost use Rattle.cpgring.specs.Asking.{name_of, words_found, AreSettingsGiven, IsAskedFor, IsFormGiven, IsInquiryGiven, IsMannerGiven, IsPictureGiven, IsShellGiven, IsShownGiven, IsSpokenGiven, patience_given, IsEntryAsked, IsStatusOf, IsUnused, IsUsed, Says, is_numbered};
+ghost use Rattle.cpgring.specs.Asking.{name_of, words_found, AreSettingsGiven, IsAskedFor, IsFormGiven, IsInquiryGiven, IsMannerGiven, IsPictureGiven, IsShellGiven, IsShownGiven, IsSpokenGiven, patience_given, IsEntryAsked, words_before, IsStatusOf, IsUnused, IsUsed, Says, is_numbered};
 
 use crate::commands::{
     ACCEPT, ALL, CONNECTION, ECHO, FILE, HOPS, JSON, NODES, NUMBERS, PLACE, PLACES, RING, TEXT,
@@ -184,7 +184,6 @@ fn accept_of<'a>(given: &'a ArgMatches<'_>) -> Asked<'a>
 }
 
 /// Why entries of a script were answered as they were, where that is asked for as it should be.
-#[tactic(auto, using(crate::proofs::Entered::path_of_entry))]
 fn why_of<'a>(given: &'a ArgMatches<'_>) -> Option<Asked<'a>>
     ensures { IfSome result (IsAskedFor (found_of given.now) (codes "why")) }
 {
@@ -222,7 +221,7 @@ fn why_other<'a>(form: Form, question: Question, words: &'a [&'a str]) -> Option
 /// one, the path.
 fn why_entry<'a>(form: Form, words: &'a [&'a str]) -> Option<Asked<'a>>
     ensures run { IfSome result (λ asked. IsEntryAsked form (map (λ word. word.now) words.now) asked.run) }
-    ensures source { IfSome result (λ asked. path_of asked.source ≡ but_input (slice_get (map (λ word. word.now) words.now) 1)) }
+    ensures source { IfSome result (λ asked. path_of asked.source ≡ but_input (slice_get (map (λ word. word.now) words.now) (words_before asked.run))) }
 {
     if words.len() > 2 {
         return None;
@@ -230,8 +229,15 @@ fn why_entry<'a>(form: Form, words: &'a [&'a str]) -> Option<Asked<'a>>
     let question = read_entry(words.first()?.as_bytes())?;
     Some(Asked {
         run: Run::Why(form, question),
-        source: source_of(words.get(1).copied()),
+        source: source_behind(words),
     })
+}
+
+/// The script's source behind the word that names an entry: the second word, if there is one.
+fn source_behind<'a>(words: &'a [&'a str]) -> Source<'a>
+    ensures { path_of result ≡ but_input (slice_get (map (λ word. word.now) words.now) 1) }
+{
+    source_of(words.get(1).copied())
 }
 
 /// The run of a script of commands with the settings and the words that are given.
