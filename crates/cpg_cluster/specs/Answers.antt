@@ -61,7 +61,7 @@ EndsWait _ = ⊥
 
 -- what an open session is answered, and what it is then
 abbrev pub Serves : SessionValue → Ask → Answer → SessionValue → Type 0
-Serves before (ask.Call call) (Ok Admitted) after = after ≡ before
+Serves before (ask.Call call) (Ok Admitted) after = (after.who ≡ before.who) × (after.seat ≡ before.seat)
 Serves before (ask.Call call) (Err refusal.Memory) after = after ≡ before
 Serves before (ask.Call call) (Err why) after = SubmitRefuses call why × (after ≡ before)
 Serves before ask.Wait (Ok (Took event)) after =

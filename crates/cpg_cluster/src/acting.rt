@@ -14,13 +14,13 @@ use crate::commands::{Ask, Command, Numbered};
 use crate::forms::{Manner, Patience, PutsAnswer};
 use crate::replies::Reply;
 use cpg_cred::{Cred, NodeId, Refusal, is_memory};
-use cpg_daemon::{BoardName, Running, Session};
+use cpg_daemon::{HistoryName, Running, Session};
 use std::alloc::Global;
 use std::sync::Wait;
 use std::time::Clock;
 
 /// A session for the process at the node, put last among the sessions.
-fn connect<B: BoardName, G, H: Wait>(
+fn connect<B: HistoryName, G, H: Wait>(
     rt: &H,
     running: &Running<B, G>,
     sessions: &mut Vec<Option<Session<B>>>,
@@ -40,7 +40,7 @@ fn connect<B: BoardName, G, H: Wait>(
 }
 
 /// What the session is answered, if it is an open one.
-fn serve_open<B: BoardName, G, H: Wait + Clock>(
+fn serve_open<B: HistoryName, G, H: Wait + Clock>(
     rt: &H,
     alloc: Global,
     running: &Running<B, G>,
@@ -60,7 +60,7 @@ fn serve_open<B: BoardName, G, H: Wait + Clock>(
 }
 
 /// Ends the session, if it is an open one; it stays where it is refused.
-fn close_open<B: BoardName, G, H: Wait>(
+fn close_open<B: HistoryName, G, H: Wait>(
     rt: &H,
     running: &Running<B, G>,
     slot: &mut Option<Session<B>>,
@@ -90,7 +90,7 @@ fn is_given<T>(sessions: &[T], number: u32) -> bool
 }
 
 /// What the session of that number is answered.
-fn ask<B: BoardName, G, H: Wait + Clock>(
+fn ask<B: HistoryName, G, H: Wait + Clock>(
     rt: &H,
     alloc: Global,
     running: &Running<B, G>,
@@ -118,7 +118,7 @@ fn ask<B: BoardName, G, H: Wait + Clock>(
 }
 
 /// Ends the session of that number.
-fn close<B: BoardName, G, H: Wait>(
+fn close<B: HistoryName, G, H: Wait>(
     rt: &H,
     running: &Running<B, G>,
     sessions: &mut Vec<Option<Session<B>>>,
@@ -136,7 +136,7 @@ fn close<B: BoardName, G, H: Wait>(
 }
 
 /// What the command is answered.
-fn answer<B: BoardName, G, H: Wait + Clock>(
+fn answer<B: HistoryName, G, H: Wait + Clock>(
     rt: &H,
     alloc: Global,
     running: &Running<B, G>,
@@ -158,7 +158,7 @@ fn answer<B: BoardName, G, H: Wait + Clock>(
 }
 
 /// What the command is answered where memory was not refused.
-pub fn answer_with_memory<B: BoardName, G, H: Wait + Clock>(
+pub fn answer_with_memory<B: HistoryName, G, H: Wait + Clock>(
     rt: &H,
     alloc: Global,
     running: &Running<B, G>,
@@ -180,7 +180,7 @@ pub fn answer_with_memory<B: BoardName, G, H: Wait + Clock>(
 
 /// Does the command, and puts what is printed of its answer where there is none.
 #[tactic(auto, using(crate::proofs::Doing::answer_done))]
-pub fn do_command<B: BoardName, G, H: Wait + Clock, P: PutsAnswer>(
+pub fn do_command<B: HistoryName, G, H: Wait + Clock, P: PutsAnswer>(
     rt: &H,
     alloc: Global,
     text: &mut Vec<u8>,

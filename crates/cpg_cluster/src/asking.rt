@@ -16,7 +16,7 @@ use crate::forms::Patience;
 use crate::replies::Reply;
 use cpg_board::{Board, Seat};
 use cpg_cred::Refusal;
-use cpg_daemon::{BoardName, Running, Session};
+use cpg_daemon::{HistoryName, Running, Session};
 use cpg_entry::Call;
 use cpg_node::Event;
 use std::alloc::Global;
@@ -39,7 +39,7 @@ pub fn limits()
 {}
 
 /// The session's call is to wait at its node.
-fn submit<B: BoardName, G, H: Wait>(
+fn submit<B: HistoryName, G, H: Wait>(
     rt: &H,
     alloc: Global,
     running: &Running<B, G>,
@@ -60,7 +60,7 @@ fn submit<B: BoardName, G, H: Wait>(
 /// What the session is told when it asks for its next event once: nothing where there is none yet, or where its node
 /// is behind.
 #[tactic(auto, using(crate::proofs::Seen::polled_none, crate::proofs::Seen::polled_behind))]
-fn look<B: BoardName, G, H: Wait>(
+fn look<B: HistoryName, G, H: Wait>(
     rt: &H,
     running: &Running<B, G>,
     session: &mut Session<B>,
@@ -77,7 +77,7 @@ fn look<B: BoardName, G, H: Wait>(
 }
 
 /// The same, counted.
-fn poll<B: BoardName, G, H: Wait>(
+fn poll<B: HistoryName, G, H: Wait>(
     rt: &H,
     running: &Running<B, G>,
     session: &mut Session<B>,
@@ -103,7 +103,7 @@ fn rest<H: Clock>(rt: &H, poll: u32) {
 
 /// The session's next event, once it comes; nothing where it does not come for `MOST_POLLS` polls, which are counted.
 #[tactic(auto, using(crate::proofs::Seen::stays_on, crate::proofs::Seen::stays_self, crate::proofs::Seen::awaited_on, crate::proofs::Seen::nothing_on, crate::proofs::Seen::nothing_came, crate::proofs::Seen::ended_on))]
-fn wait_looks<B: BoardName, G, H: Wait + Clock>(
+fn wait_looks<B: HistoryName, G, H: Wait + Clock>(
     rt: &H,
     running: &Running<B, G>,
     session: &mut Session<B>,
@@ -145,7 +145,7 @@ fn rest_within<H: Clock>(rt: &H, poll: u64, start: &Instant, time: Duration) -> 
 /// The session's next event, once it comes; nothing where it does not come within the time since the start. It is
 /// asked for at least once.
 #[tactic(auto, using(crate::proofs::Seen::stays_on, crate::proofs::Seen::stays_self, crate::proofs::Seen::awaited_on, crate::proofs::Seen::nothing_on, crate::proofs::Seen::nothing_came, crate::proofs::Seen::ended_on))]
-fn wait_within<B: BoardName, G, H: Wait + Clock>(
+fn wait_within<B: HistoryName, G, H: Wait + Clock>(
     rt: &H,
     running: &Running<B, G>,
     session: &mut Session<B>,
@@ -172,7 +172,7 @@ fn wait_within<B: BoardName, G, H: Wait + Clock>(
 
 /// The session's next event, once it comes; nothing where patience ends before. Where the clock can't be read, a
 /// time is as long as `MOST_POLLS` polls.
-fn wait<B: BoardName, G, H: Wait + Clock>(
+fn wait<B: HistoryName, G, H: Wait + Clock>(
     rt: &H,
     running: &Running<B, G>,
     patience: Patience,
@@ -191,7 +191,7 @@ fn wait<B: BoardName, G, H: Wait + Clock>(
     wait_looks(rt, running, session, &mut polls)
 }
 
-fn list<B: BoardName, G, H: Wait>(
+fn list<B: HistoryName, G, H: Wait>(
     rt: &H,
     running: &Running<B, G>,
     session: &mut Session<B>,
@@ -207,7 +207,7 @@ fn list<B: BoardName, G, H: Wait>(
     }
 }
 
-fn groups<B: BoardName, G, H: Wait>(
+fn groups<B: HistoryName, G, H: Wait>(
     rt: &H,
     running: &Running<B, G>,
     session: &mut Session<B>,
@@ -249,7 +249,7 @@ fn read_all(board: &Board, seat: &mut Seat, other: &Seat) -> Result<(), Refusal>
 }
 
 /// A seat that knows all that the session and the board know.
-fn audit<B: BoardName, G>(running: &Running<B, G>, session: &Session<B>) -> Result<Reply, Refusal>
+fn audit<B: HistoryName, G>(running: &Running<B, G>, session: &Session<B>) -> Result<Reply, Refusal>
     ensures answer { Serves session.now asks.Audit result session.now }
     ensures seats { SeatsOn B.cells result }
 {
@@ -264,7 +264,7 @@ fn audit<B: BoardName, G>(running: &Running<B, G>, session: &Session<B>) -> Resu
 }
 
 /// What an open session is answered.
-pub fn serve<B: BoardName, G, H: Wait + Clock>(
+pub fn serve<B: HistoryName, G, H: Wait + Clock>(
     rt: &H,
     alloc: Global,
     running: &Running<B, G>,

@@ -15,7 +15,7 @@ use crate::commands::{Ask, Command, Numbered};
 use crate::forms::{Manner, PutsAnswer};
 use crate::scripts::read_commands;
 use cpg_cred::Refusal;
-use cpg_daemon::{BoardName, Running, Session};
+use cpg_daemon::{HistoryName, Running, Session};
 use cpg_script::Fault;
 use cpg_text::{MOST_BYTES, read_whole, write_whole};
 use std::alloc::Global;
@@ -40,7 +40,7 @@ pub fn cluster_script<B, G, H, R, W, P>(
     manner: &Manner<P>,
 ) -> Result<(), Fault>
 where
-    B: BoardName,
+    B: HistoryName,
     H: Wait + Clock,
     R: Read,
     W: Write,
@@ -69,7 +69,7 @@ fn run_whole<B, G, H, R, W, P>(
     manner: &Manner<P>,
 ) -> Result<(), Refusal>
 where
-    B: BoardName,
+    B: HistoryName,
     H: Wait + Clock,
     R: Read,
     W: Write,
@@ -86,7 +86,7 @@ where
 }
 
 /// Runs the commands from no session on, one after the other, and writes the lines of each.
-fn run_commands<B: BoardName, G, H: Wait + Clock, W: Write, P: PutsAnswer>(
+fn run_commands<B: HistoryName, G, H: Wait + Clock, W: Write, P: PutsAnswer>(
     rt: &H,
     alloc: Global,
     writer: &mut W,
@@ -141,7 +141,7 @@ fn hand_on_before<W: Write>(writer: &mut W, line: &Numbered) -> Result<(), Refus
 
 /// Hands on what was written where the command is to wait, does it, and then writes its lines.
 #[tactic(auto, using(crate::proofs::Doing::written_whole, crate::proofs::Doing::written_in_part, crate::proofs::Doing::not_written, crate::proofs::Doing::not_begun))]
-fn run_command<B: BoardName, G, H: Wait + Clock, W: Write, P: PutsAnswer>(
+fn run_command<B: HistoryName, G, H: Wait + Clock, W: Write, P: PutsAnswer>(
     rt: &H,
     alloc: Global,
     writer: &mut W,

@@ -10,13 +10,19 @@ use Rattle.cpg_record.specs.Events.{inbox}
 use Rattle.cpg_record.specs.Listings.{listing, AreGroups}
 use Rattle.cpg_node.specs.declared.connections.Connection.{Connection}
 use Rattle.cpg_board.specs.Seats.{SeatValue}
+use Rattle.cpg_world_laws.specs.declared.events.WorldEvent.{WorldEvent}
+use Rattle.cpg_world_laws.specs.declared.events.WorldEvent.TheVariants.{Disconnect}
+use Rattle.cpg_world_laws.specs.declared.replies.Reply.TheVariants.{Closed}
+use Rattle.cpg_world_laws.specs.Worlds.{WorldValue}
+use Rattle.cpg_history.specs.Members.{Told}
 use Rattle.cpg_station.specs.Admitting.{Accepts, IsAdmitted}
 use Rattle.cpg_station.specs.Serving.{OverFront, asker_of}
 
--- A session: its connection, with how many events it took, and the records that it has seen.
+-- A session: its connection, with how many events it took, the records that it has seen, and the beginning of the history that it has seen.
 pub record SessionValue : Type 0 where
   pub who : Connection
   pub seat : SeatValue
+  pub seen : List WorldEvent
 
 -- the session of a process that was let in just now, which has seen nothing
 abbrev pub IsNew : Listed → ℕ → ℕ → Cred → SessionValue → Type 0
@@ -58,3 +64,7 @@ abbrev pub IsEndRefusal : Refusal → Type 0
 IsEndRefusal Memory = Unit {0}
 IsEndRefusal Stopped = Unit {0}
 IsEndRefusal _ = ⊥
+
+-- the session's end came to the history, after all that the session had seen
+abbrev pub IsClosed : WorldValue → SessionValue → Type 0
+IsClosed start session = (seen : List WorldEvent) × Told start session.seen (Disconnect session.who.id.node session.who.id.conn) (Ok Closed) seen

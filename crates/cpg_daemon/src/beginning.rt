@@ -8,7 +8,7 @@ use crate::lines::Lines;
 use crate::running::Running;
 use crate::stopping::{Begun, SoMany, Thread};
 use cpg_cred::NodeId;
-use cpg_station::BoardName;
+use cpg_history::HistoryName;
 use std::alloc::{AllocError, Global};
 use std::sync::{Arc, Wait};
 use std::thread;
@@ -16,7 +16,7 @@ use std::thread::Threads;
 use std::time::Clock;
 
 /// The last so many ends of links of each kind.
-fn last_lines(lines: &mut Lines, peers: usize) -> Result<Lines, AllocError>
+fn last_lines<B: HistoryName>(lines: &mut Lines<B>, peers: usize) -> Result<Lines<B>, AllocError>
     requires { (peers ≤ vec_len lines.old.outgoing) × (peers ≤ vec_len lines.old.incoming) }
     ensures ok { IfOk result (λ last. (vec_len last.outgoing ≡ peers) × (vec_len last.incoming ≡ peers)) }
     ensures rest { OnOk result ((vec_len lines.new.outgoing + peers ≡ vec_len lines.old.outgoing) × (vec_len lines.new.incoming + peers ≡ vec_len lines.old.incoming)) }
@@ -31,11 +31,11 @@ fn begin_one<B, G, R>(
     rt: R,
     running: &Arc<Running<B, G>, Global>,
     node: NodeId,
-    lines: Lines,
+    lines: Lines<B>,
     peers: usize,
-) -> Result<Thread, AllocError>
+) -> Result<Thread<B>, AllocError>
 where
-    B: BoardName + Send + Sync + 'static,
+    B: HistoryName + Send + Sync + 'static,
     G: Gate + Send + Sync + Drop + 'static,
     R: Threads + Wait + Clock + Copy + Send + 'static,
     requires node { node ≤ (arc_value running.now).nodes }
@@ -60,11 +60,11 @@ pub(crate) fn begin_all<B, G, R>(
     running: &Arc<Running<B, G>, Global>,
     nodes: u8,
     peers: usize,
-    mut lines: Lines,
-    threads: &mut Begun,
+    mut lines: Lines<B>,
+    threads: &mut Begun<B>,
 ) -> Result<(), AllocError>
 where
-    B: BoardName + Send + Sync + 'static,
+    B: HistoryName + Send + Sync + 'static,
     G: Gate + Send + Sync + Drop + 'static,
     R: Threads + Wait + Clock + Copy + Send + 'static,
     requires nodes { nodes ≡ (arc_value running.now).nodes }

@@ -2,21 +2,21 @@
 
 ghost use Rattle.std.specs.Prelude.{◌≡◌, ◌≤◌, ◌*◌, All, IfOk, IfErr, IsOkUnless, vec_len};
 ghost use Rattle.std.specs.Arc.{arc_value};
+ghost use Rattle.cpg_history.specs.Histories.{first_world};
 ghost use Rattle.cpg_daemon.specs.Clusters.{IsUnstarted};
 ghost use Rattle.cpg_daemon.specs.Links.{peers_of, links_of};
 
 use crate::beginning::begin_all;
 use crate::gates::Gate;
 use crate::lines::Lines;
-use crate::making::{first_token, new_links, new_locks, new_room, peers, put_first};
+use crate::making::{first_token, new_links, new_locks, new_room, new_spares, peers, put_first};
 use crate::running::Running;
 use crate::stopping::{Begun, Room, gather, pair, take_out};
 use cpg_board::Board;
 use cpg_cred::{AcceptList, Refusal};
+use cpg_history::{Beginning, History, HistoryName, Member, Opened, Parcel};
 use cpg_link::{LinkRx, LinkTx};
-use cpg_node::Settings;
 use cpg_ring::are_settings;
-use cpg_station::{BoardName, Station};
 use std::alloc::Global;
 use std::marker::Model;
 use std::ops::Deref;
@@ -26,13 +26,13 @@ use std::time::Clock;
 
 /// Nodes in threads of their own. It lends the running nodes, whose calls are those of sessions. Contracts see
 /// it as these. It can't be let go but by `stop`, which waits for its threads.
-pub struct Cluster<B: BoardName, G> {
+pub struct Cluster<B: HistoryName, G> {
     running: Arc<Running<B, G>, Global>,
-    threads: Begun,
+    threads: Begun<B>,
     room: Room<B>,
 }
 
-impl<B: BoardName, G> Model for Cluster<B, G> {
+impl<B: HistoryName, G> Model for Cluster<B, G> {
     ghost use Rattle.std.specs.Prelude.{◌≡◌, All, vec_len};
     ghost use Rattle.std.specs.Arc.{arc_value};
     ghost use Rattle.cpg_daemon.specs.Clusters.{ClusterValue};
@@ -45,7 +45,7 @@ impl<B: BoardName, G> Model for Cluster<B, G> {
     ghost invariant = { λ cluster. (cluster.room.nodes ≡ (arc_value cluster.running).nodes) × (vec_len cluster.threads.threads ≡ (arc_value cluster.running).nodes) × All (λ thread. thread.promise.0 ≡ peers_of cluster.room.nodes) cluster.threads.threads.items };
 }
 
-impl<B: BoardName, G> Deref for Cluster<B, G> {
+impl<B: HistoryName, G> Deref for Cluster<B, G> {
     type Target = Running<B, G>;
 
     ghost use Rattle.std.specs.Prelude.{◌≡◌};
@@ -57,25 +57,27 @@ impl<B: BoardName, G> Deref for Cluster<B, G> {
     }
 }
 
-/// What a stopped cluster leaves: each node's station, in their order, and the two ends of each link.
+/// What a stopped cluster leaves: each node's station with its pen, in their order, and the two ends of each link.
 #[derive(Drop)]
-pub struct Ends<B: BoardName> {
-    pub stations: Vec<Station<B>>,
-    pub links: Vec<(LinkTx, LinkRx)>,
+pub struct Ends<B: HistoryName> {
+    pub stations: Vec<Member<B>>,
+    pub links: Vec<(LinkTx<Parcel<B>>, LinkRx<Parcel<B>>)>,
 }
 
 /// Running nodes with those stations.
-fn new_running<B: BoardName, G>(
+fn new_running<B: HistoryName, G>(
     alloc: Global,
     board: Board,
+    history: History<B>,
     list: AcceptList,
-    stations: Vec<Mutex<Station<B>>>,
+    stations: Vec<Mutex<Member<B>>>,
     nodes: u8,
     gate: G,
 ) -> Result<Arc<Running<B, G>, Global>, Refusal>
 where
     G: Drop,
     requires board { board ≡ B.cells }
+    requires list { list ≡ B.start.list }
     requires nodes { (vec_len stations ≡ nodes) × (nodes ≤ 8) }
     ensures ok { IfOk result (λ running. arc_value running ≡ record { nodes = nodes; list = list }) }
     ensures memory { IsOkUnless result Refusal.Memory }
@@ -84,6 +86,7 @@ where
         alloc,
         Running {
             board,
+            history,
             list,
             nodes,
             stations,
@@ -94,10 +97,10 @@ where
 
 /// What running nodes leave, once they are halted.
 #[tactic(auto, using(crate::proofs::Counting::fits_fewer))]
-fn leave<B: BoardName, G, R: Threads + Wait>(
+fn leave<B: HistoryName, G, R: Threads + Wait>(
     rt: &R,
     running: &Running<B, G>,
-    threads: Begun,
+    threads: Begun<B>,
     room: Room<B>,
 ) -> Ends<B>
     requires room { room.nodes ≡ running.now.nodes }
@@ -121,9 +124,9 @@ fn leave<B: BoardName, G, R: Threads + Wait>(
 }
 
 /// A cluster of these.
-fn cluster_of<B: BoardName, G>(
+fn cluster_of<B: HistoryName, G>(
     running: Arc<Running<B, G>, Global>,
-    threads: Begun,
+    threads: Begun<B>,
     room: Room<B>,
 ) -> Cluster<B, G>
     requires room { room.nodes ≡ (arc_value running).nodes }
@@ -143,11 +146,11 @@ fn begin<B, G, R>(
     rt: R,
     alloc: Global,
     running: Arc<Running<B, G>, Global>,
-    lines: Lines,
+    lines: Lines<B>,
     room: Room<B>,
 ) -> Result<Cluster<B, G>, Refusal>
 where
-    B: BoardName + Send + Sync + 'static,
+    B: HistoryName + Send + Sync + 'static,
     G: Gate + Send + Sync + Drop + 'static,
     R: Threads + Wait + Clock + Copy + Send + 'static,
     requires nodes { room.nodes ≡ (arc_value running).nodes }
@@ -168,35 +171,39 @@ where
 
 impl<B, G> Cluster<B, G>
 where
-    B: BoardName + Send + Sync + 'static,
+    B: HistoryName + Send + Sync + 'static,
     G: Gate + Send + Sync + Drop + 'static,
 {
     /// Starts a thread for each node, with a link of 64 frames for each ordered pair of different nodes, or
-    /// one from node 1 to itself where it is the only one, and the first token on its way to node 1. Each
-    /// node accepts by a list of the same users and groups. Refused with Range where a setting is out of its
-    /// range; with Memory, also where a thread is not given.
+    /// one from node 1 to itself where it is the only one, and the first token on its way to node 1. The nodes are those of
+    /// the new world that the history begins with: they have its settings, and accept by lists of its users and groups.
+    /// Refused with Range where a setting is out of its range; with Memory, also where a thread is not given.
     pub fn start<R: Threads + Wait + Clock + Copy + Send + 'static>(
         rt: R,
         alloc: Global,
-        settings: Settings,
         board: Board,
-        list: &AcceptList,
+        opened: Opened,
         gate: G,
     ) -> Result<Cluster<B, G>, Refusal>
-        requires { board ≡ B.cells }
-        ensures ok { IfOk result (λ cluster. cluster ≡ record { nodes = settings.nodes; list = list.now }) }
-        ensures err { IfErr result (IsUnstarted settings) }
+        requires board { board ≡ B.cells }
+        requires history { (opened.table ≡ B.table) × (first_world opened.start ≡ B.start) }
+        ensures ok { IfOk result (λ cluster. cluster ≡ record { nodes = opened.start.settings.nodes; list = opened.start.list }) }
+        ensures err { IfErr result (IsUnstarted opened.start.settings) }
     {
-        if !are_settings(&settings) {
+        if !are_settings(&opened.beginning().settings) {
             return Err(Refusal::Range);
         }
+        let (history, mut pens, beginning) = opened.named::<B>();
+        let settings = beginning.settings;
         let nodes = settings.nodes;
-        let room = new_room(alloc, settings, &board)?;
-        let locks = new_locks(alloc, settings, &board, list)?;
+        let locks = new_locks(alloc, &board, &beginning, &history, &mut pens)?;
+        let spares = new_spares(alloc, settings, &board, &history, &mut pens)?;
+        let room = new_room(alloc, nodes, spares)?;
         let mut lines = new_links(alloc, nodes, peers(nodes))?;
-        let token = first_token(&rt, &locks)?;
+        let token = first_token(&rt, &history, &locks)?;
         put_first(&rt, nodes, token, lines.outgoing.as_mut_slice());
-        let running = new_running(alloc, board, list.copy(alloc)?, locks, nodes, gate)?;
+        let Beginning { settings: _, list } = beginning;
+        let running = new_running(alloc, board, history, list, locks, nodes, gate)?;
         begin(rt, alloc, running, lines, room)
     }
 

@@ -16,6 +16,7 @@ mod stopping;
 mod turns;
 
 pub use clusters::{Cluster, Ends};
+pub use cpg_history::{Beginning, Front, HistoryName, Member, Opened, Parcel};
 pub use cpg_link::{LinkRx, LinkTx, MOST_FRAMES, close, link};
 pub use cpg_station::{BoardName, Station};
 pub use gates::{Fate, Gate, PassAll};

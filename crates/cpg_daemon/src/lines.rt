@@ -1,10 +1,9 @@
 //! The links of a cluster: which there are, and the ends that each node's thread holds.
 
 use crate::gates::{Fate, Gate};
-use bytes::Bytes;
-use cpg_cred::{NodeId, Refusal};
-use cpg_link::{LinkRx, LinkTx, link};
-use std::alloc::Global;
+use cpg_cred::NodeId;
+use cpg_history::{History, HistoryName, Parcel};
+use cpg_link::{LinkRx, LinkTx};
 use std::sync::Wait;
 
 /// How many frames a link of a cluster has room for.
@@ -31,37 +30,30 @@ impl Way {
 
 /// The end of a link into which its node's thread puts frames.
 #[derive(Drop)]
-pub(crate) struct Outgoing {
+pub(crate) struct Outgoing<B: HistoryName> {
     pub way: Way,
     /// How many frames of this way the gate was asked for; it stays at its last value.
     pub index: u64,
-    pub link: LinkTx,
+    pub link: LinkTx<Parcel<B>>,
 }
 
 /// The end of a link from which its node's thread takes frames.
 #[derive(Drop)]
-pub(crate) struct Incoming {
+pub(crate) struct Incoming<B: HistoryName> {
     pub way: Way,
-    pub link: LinkRx,
+    pub link: LinkRx<Parcel<B>>,
 }
 
 /// The ends that a node's thread holds.
 #[derive(Drop)]
-pub(crate) struct Lines {
-    pub outgoing: Vec<Outgoing>,
-    pub incoming: Vec<Incoming>,
+pub(crate) struct Lines<B: HistoryName> {
+    pub outgoing: Vec<Outgoing<B>>,
+    pub incoming: Vec<Incoming<B>>,
 }
 
-/// Puts a copy of the frame, unless memory is refused or the link is full: then it is lost.
-fn put_copy<R: Wait>(rt: &R, sender: &mut LinkTx, frame: &Bytes) {
-    if let Ok(copy) = frame.clone() {
-        let _ = sender.put(rt, copy);
-    }
-}
-
-impl Incoming {
+impl<B: HistoryName> Incoming<B> {
     /// The end of a new link.
-    pub fn new(from: NodeId, to: NodeId, link: LinkRx) -> Incoming {
+    pub fn new(from: NodeId, to: NodeId, link: LinkRx<Parcel<B>>) -> Incoming<B> {
         Incoming {
             way: Way { from, to },
             link,
@@ -69,9 +61,9 @@ impl Incoming {
     }
 }
 
-impl Outgoing {
+impl<B: HistoryName> Outgoing<B> {
     /// The end of a new link.
-    pub fn new(from: NodeId, to: NodeId, link: LinkTx) -> Outgoing {
+    pub fn new(from: NodeId, to: NodeId, link: LinkTx<Parcel<B>>) -> Outgoing<B> {
         Outgoing {
             way: Way { from, to },
             index: 0,
@@ -79,15 +71,28 @@ impl Outgoing {
         }
     }
 
+    /// Puts the frame once more, unless memory is refused or the link is full: then it is lost.
+    fn put<R: Wait>(&mut self, rt: &R, history: &History<B>, frame: &mut Parcel<B>) {
+        if let Ok(again) = frame.again(history) {
+            let _ = self.link.put(rt, again);
+        }
+    }
+
     /// Sends the frame, as the gate has it.
-    pub fn send<G: Gate, R: Wait>(&mut self, rt: &R, gate: &G, frame: &Bytes) {
+    pub fn send<G: Gate, R: Wait>(
+        &mut self,
+        rt: &R,
+        gate: &G,
+        history: &History<B>,
+        frame: &mut Parcel<B>,
+    ) {
         self.index = self.index.saturating_add(1);
         match gate.fate(self.way.from, self.way.to, self.index) {
-            Fate::Pass => put_copy(rt, &mut self.link, frame),
+            Fate::Pass => self.put(rt, history, frame),
             Fate::Drop => {}
             Fate::Repeat => {
-                put_copy(rt, &mut self.link, frame);
-                put_copy(rt, &mut self.link, frame);
+                self.put(rt, history, frame);
+                self.put(rt, history, frame);
             }
         }
     }

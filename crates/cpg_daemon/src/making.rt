@@ -1,15 +1,17 @@
 //! What a cluster is made of: stations, links, and the first token on its way.
 
-ghost use Rattle.std.specs.Prelude.{◌≡◌, ◌≤◌, ◌<◌, ◌+◌, ◌*◌, [], false, IfOk, OnOk, IsOkUnless, vec_len};
+ghost use Rattle.std.specs.Prelude.{◌≡◌, ◌≤◌, ◌<◌, ◌+◌, ◌*◌, ◌^◌, suc, [], false, IfOk, OnOk, IsOkUnless, vec_len};
 ghost use Rattle.cpg_ring.specs.States.{IsSettings};
 ghost use Rattle.cpg_node.specs.Nodes.{new_value};
+ghost use Rattle.cpg_history.specs.Histories.{first_world, all_nodes};
 ghost use Rattle.cpg_daemon.specs.Links.{peers_of, peer_of};
 
 use crate::lines::{Incoming, Lines, Outgoing, ROOM};
 use crate::stopping::Room;
-use bytes::Bytes;
 use cpg_board::Board;
 use cpg_cred::{AcceptList, NodeId, Refusal};
+use cpg_history::laws::first_nodes;
+use cpg_history::{Beginning, History, HistoryName, Member, Parcel, Pen};
 use cpg_link::link;
 use cpg_node::{Node, Settings};
 use cpg_station::{BoardName, Station};
@@ -20,60 +22,96 @@ use std::sync::{Mutex, Wait};
 fn new_station<B: BoardName>(
     alloc: Global,
     settings: Settings,
-    number: u8,
+    id: NodeId,
     board: &Board,
     list: &AcceptList,
 ) -> Result<Station<B>, Refusal>
     requires settings { IsSettings settings }
-    requires number { (1 ≤ number) × (number ≤ settings.nodes) }
+    requires number { id ≤ settings.nodes }
     requires board { board.now ≡ B.cells }
-    ensures ok { IfOk result (λ station. station ≡ record { node = new_value settings number list.now; seat = []; halted = false }) }
+    ensures ok { IfOk result (λ station. station ≡ record { node = new_value settings id list.now; seat = []; halted = false }) }
     ensures memory { IsOkUnless result Refusal.Memory }
 {
-    let Some(id) = NodeId::new(number) else {
-        return Err(Refusal::Range);
-    };
     match Node::new(alloc, settings, id, list.copy(alloc)?) {
         Ok(node) => Ok(Station::new(node, board.seat())),
         Err(refused) => Err(refused.into_refusal()),
     }
 }
 
-/// A new station for each node, in their order.
-pub(crate) fn new_stations<B: BoardName>(
+/// A spare for each node, to be left in the place of its station.
+pub(crate) fn new_spares<B: HistoryName>(
     alloc: Global,
     settings: Settings,
     board: &Board,
-    list: &AcceptList,
-) -> Result<Vec<Station<B>>, Refusal>
+    history: &History<B>,
+    pens: &mut Pen<B>,
+) -> Result<Vec<Member<B>>, Refusal>
     requires settings { IsSettings settings }
     requires board { board.now ≡ B.cells }
-    ensures ok { IfOk result (λ stations. vec_len stations ≡ settings.nodes) }
+    requires pens { pens.old.from + settings.nodes ≤ pens.old.to }
+    ensures ok { IfOk result (λ spares. vec_len spares ≡ settings.nodes) }
     ensures memory { IsOkUnless result Refusal.Memory }
 {
-    let mut stations = Vec::new(alloc);
+    history.begins();
+    let none = AcceptList::new(alloc);
+    let mut spares = Vec::new(alloc);
     for before in 0..settings.nodes {
-        stations.push(new_station(alloc, settings, before + 1, board, list)?)?;
+        let Some(id) = NodeId::new(before + 1) else {
+            return Err(Refusal::Range);
+        };
+        let station = new_station(alloc, settings, id, board, &none)?;
+        spares.push(Member::spare(id, station, history.next(pens)))?;
     }
-    Ok(stations)
+    Ok(spares)
 }
 
-/// A lock for each node, in their order, with a new station in it.
-pub(crate) fn new_locks<B: BoardName>(
+/// The next node's new station, with its pen.
+fn new_member<B: HistoryName>(
     alloc: Global,
-    settings: Settings,
+    id: NodeId,
     board: &Board,
-    list: &AcceptList,
-) -> Result<Vec<Mutex<Station<B>>>, Refusal>
-    requires settings { IsSettings settings }
+    beginning: &Beginning,
+    history: &History<B>,
+    pens: &mut Pen<B>,
+) -> Result<Member<B>, Refusal>
+    requires settings { IsSettings beginning.now.settings }
+    requires number { id ≤ beginning.now.settings.nodes }
+    requires begins { first_world beginning.now ≡ B.start }
     requires board { board.now ≡ B.cells }
-    ensures ok { IfOk result (λ locks. vec_len locks ≡ settings.nodes) }
+    requires pens { (pens.old.from ≡ id) × (id < pens.old.to) × (pens.old.seen ≡ []) }
+    ensures ok { IfOk result (λ member. member ≡ record { id = id; station = record { node = new_value beginning.now.settings id beginning.now.list; seat = []; halted = false }; spare = false; seen = [] }) }
+    ensures rest { OnOk result ((pens.new.from ≡ suc id) × (pens.new.to ≡ pens.old.to) × (pens.new.seen ≡ [])) }
+    ensures memory { IsOkUnless result Refusal.Memory }
+{
+    first_nodes();
+    history.begins();
+    let station = new_station(alloc, beginning.settings, id, board, &beginning.list)?;
+    Ok(Member::new(id, station, history.next(pens)))
+}
+
+/// A lock for each node, in their order, with a new station in it and the node's pen.
+pub(crate) fn new_locks<B: HistoryName>(
+    alloc: Global,
+    board: &Board,
+    beginning: &Beginning,
+    history: &History<B>,
+    pens: &mut Pen<B>,
+) -> Result<Vec<Mutex<Member<B>>>, Refusal>
+    requires settings { IsSettings beginning.now.settings }
+    requires begins { first_world beginning.now ≡ B.start }
+    requires board { board.now ≡ B.cells }
+    requires pens { pens.old ≡ all_nodes }
+    ensures ok { IfOk result (λ locks. vec_len locks ≡ beginning.now.settings.nodes) }
+    ensures rest { OnOk result ((pens.new.from ≡ suc beginning.now.settings.nodes) × (pens.new.to ≡ pens.old.to)) }
     ensures memory { IsOkUnless result Refusal.Memory }
 {
     let mut locks = Vec::new(alloc);
-    for before in 0..settings.nodes {
-        let station = new_station(alloc, settings, before + 1, board, list)?;
-        locks.push(Mutex::new(station))?;
+    for before in 0..beginning.settings.nodes {
+        let Some(id) = NodeId::new(before + 1) else {
+            return Err(Refusal::Range);
+        };
+        let member = new_member(alloc, id, board, beginning, history, pens)?;
+        locks.push(Mutex::new(member))?;
     }
     Ok(locks)
 }
@@ -104,7 +142,12 @@ fn peer(nodes: u8, from: NodeId, index: u8) -> NodeId
 
 /// Adds a link from one node to another. Its number of frames is within what a link may have room for, so memory alone can
 /// refuse it.
-fn add_link(alloc: Global, from: NodeId, to: NodeId, lines: &mut Lines) -> Result<(), Refusal>
+fn add_link<B: HistoryName>(
+    alloc: Global,
+    from: NodeId,
+    to: NodeId,
+    lines: &mut Lines<B>,
+) -> Result<(), Refusal>
     ensures ok { OnOk result ((vec_len lines.new.outgoing ≡ vec_len lines.old.outgoing + 1) × (vec_len lines.new.incoming ≡ vec_len lines.old.incoming + 1)) }
     ensures memory { IsOkUnless result Refusal.Memory }
 {
@@ -115,12 +158,12 @@ fn add_link(alloc: Global, from: NodeId, to: NodeId, lines: &mut Lines) -> Resul
 }
 
 /// Adds the links that come from the node.
-fn add_links_from(
+fn add_links_from<B: HistoryName>(
     alloc: Global,
     nodes: u8,
     number: u8,
     peers: u8,
-    lines: &mut Lines,
+    lines: &mut Lines<B>,
 ) -> Result<(), Refusal>
     requires number { (1 ≤ number) × (number ≤ nodes) × (nodes ≤ 8) }
     requires peers { peers ≡ peers_of nodes }
@@ -137,7 +180,11 @@ fn add_links_from(
 }
 
 /// A link of each way: the sending ends in the order of their nodes, and so the receiving ones.
-pub(crate) fn new_links(alloc: Global, nodes: u8, peers: u8) -> Result<Lines, Refusal>
+pub(crate) fn new_links<B: HistoryName>(
+    alloc: Global,
+    nodes: u8,
+    peers: u8,
+) -> Result<Lines<B>, Refusal>
     requires nodes { nodes ≤ 8 }
     requires peers { peers ≡ peers_of nodes }
     ensures ok { IfOk result (λ lines. (vec_len lines.outgoing ≡ nodes * peers) × (vec_len lines.incoming ≡ nodes * peers)) }
@@ -157,24 +204,28 @@ pub(crate) fn new_links(alloc: Global, nodes: u8, peers: u8) -> Result<Lines, Re
 }
 
 /// The last token that the last node has sent: the first token, where all are new.
-pub(crate) fn first_token<B: BoardName, R: Wait>(
+pub(crate) fn first_token<B: HistoryName, R: Wait>(
     rt: &R,
-    locks: &Vec<Mutex<Station<B>>>,
-) -> Result<Option<Bytes>, Refusal>
+    history: &History<B>,
+    locks: &Vec<Mutex<Member<B>>>,
+) -> Result<Option<Parcel<B>>, Refusal>
     ensures { IsOkUnless result Refusal.Memory }
 {
-    match locks.last() {
-        Some(lock) => lock.lock(rt).timer(),
-        None => Ok(None),
+    let Some(lock) = locks.last() else {
+        return Ok(None);
+    };
+    match lock.lock(rt).timer(history) {
+        Ok(token) => Ok(token),
+        Err(_) => Err(Refusal::Memory),
     }
 }
 
 /// Puts the first token into the link from the last node to the first.
-pub(crate) fn put_first<R: Wait>(
+pub(crate) fn put_first<B: HistoryName, R: Wait>(
     rt: &R,
     nodes: u8,
-    mut token: Option<Bytes>,
-    outgoing: &mut [Outgoing],
+    mut token: Option<Parcel<B>>,
+    outgoing: &mut [Outgoing<B>],
 ) {
     for end in outgoing.iter_mut() {
         if end.way.from.get() == nodes && end.way.to.get() == 1 {
@@ -185,23 +236,21 @@ pub(crate) fn put_first<R: Wait>(
     }
 }
 
-/// Room for what a cluster of so many nodes leaves.
-pub(crate) fn new_room<B: BoardName>(
+/// Room for what a cluster of so many nodes leaves, with those spares.
+pub(crate) fn new_room<B: HistoryName>(
     alloc: Global,
-    settings: Settings,
-    board: &Board,
+    nodes: u8,
+    spares: Vec<Member<B>>,
 ) -> Result<Room<B>, Refusal>
-    requires settings { IsSettings settings }
-    requires board { board.now ≡ B.cells }
-    ensures ok { IfOk result (λ room. room.nodes ≡ settings.nodes) }
+    requires nodes { (1 ≤ nodes) × (nodes ≤ 8) }
+    requires spares { vec_len spares ≡ nodes }
+    ensures ok { IfOk result (λ room. room.nodes ≡ nodes) }
     ensures memory { IsOkUnless result Refusal.Memory }
 {
-    let nodes = settings.nodes;
     let ends = usize::from(nodes) * usize::from(peers(nodes));
-    let none = AcceptList::new(alloc);
     Ok(Room {
         nodes,
-        spares: new_stations(alloc, settings, board, &none)?,
+        spares,
         stations: Vec::with_capacity(alloc, usize::from(nodes))?,
         ends: Lines {
             outgoing: Vec::with_capacity(alloc, ends)?,

@@ -4,25 +4,26 @@ ghost use Rattle.std.specs.Prelude.{◌≡◌, ◌≤◌, []};
 ghost use Rattle.cpg_board.specs.Seats.{IsSeatOf};
 ghost use Rattle.cpg_daemon.specs.Links.{next_of};
 
-use bytes::Bytes;
 use cpg_board::{Board, Seat};
 use cpg_cred::{AcceptList, NodeId, Refusal};
-use cpg_station::{BoardName, Station};
+use cpg_history::{History, HistoryName, Member, Parcel, Parcels};
 use std::marker::Model;
 use std::sync::{Mutex, Wait};
 
-/// Running nodes: a station for each behind a lock, their board, and the list that they accept by. All
+/// Running nodes: a station for each behind a lock, with its node's pen of their history, their board, and the list that
+/// they accept by. All
 /// threads may share it. Contracts see how many nodes there are, and the list.
 #[derive(Drop)]
-pub struct Running<B: BoardName, G> {
+pub struct Running<B: HistoryName, G> {
     pub(crate) board: Board,
+    pub(crate) history: History<B>,
     pub(crate) list: AcceptList,
     pub(crate) nodes: u8,
-    pub(crate) stations: Vec<Mutex<Station<B>>>,
+    pub(crate) stations: Vec<Mutex<Member<B>>>,
     pub(crate) gate: G,
 }
 
-impl<B: BoardName, G> Model for Running<B, G> {
+impl<B: HistoryName, G> Model for Running<B, G> {
     ghost use Rattle.std.specs.Prelude.{◌≡◌, ◌≤◌, vec_len};
     ghost use Rattle.cpg_daemon.specs.Clusters.{ClusterValue};
 
@@ -30,10 +31,10 @@ impl<B: BoardName, G> Model for Running<B, G> {
 
     ghost view = { λ running. record { nodes = running.nodes; list = running.list } };
 
-    ghost invariant = { λ running. (running.board ≡ B.cells) × (vec_len running.stations ≡ running.nodes) × (running.nodes ≤ 8) };
+    ghost invariant = { λ running. (running.board ≡ B.cells) × (running.list ≡ B.start.list) × (vec_len running.stations ≡ running.nodes) × (running.nodes ≤ 8) };
 }
 
-impl<B: BoardName, G> Running<B, G> {
+impl<B: HistoryName, G> Running<B, G> {
     /// The board that all nodes share.
     pub fn board(&self) -> &Board
         ensures { result.now ≡ B.cells }
@@ -56,7 +57,7 @@ impl<B: BoardName, G> Running<B, G> {
     }
 
     /// The lock of a node.
-    pub(crate) fn station(&self, node: NodeId) -> &Mutex<Station<B>>
+    pub(crate) fn station(&self, node: NodeId) -> &Mutex<Member<B>>
         requires { node ≤ self.now.nodes }
     {
         &self.stations[usize::from(node.get()) - 1]
@@ -89,28 +90,35 @@ impl<B: BoardName, G> Running<B, G> {
         &self,
         rt: &R,
         node: NodeId,
-        bytes: &[u8],
-    ) -> Result<Vec<Bytes>, Refusal>
+        frame: Parcel<B>,
+    ) -> Result<Parcels<B>, Refusal>
         requires { node ≤ self.now.nodes }
     {
-        self.station(node).lock(rt).frame(bytes)
+        self.station(node).lock(rt).frame(&self.history, frame)
     }
 
     /// Whether the node delivers a place.
     pub(crate) fn deliver<R: Wait>(&self, rt: &R, node: NodeId) -> bool
         requires { node ≤ self.now.nodes }
     {
-        match self.station(node).lock(rt).deliver(&self.board) {
+        match self
+            .station(node)
+            .lock(rt)
+            .deliver(&self.history, &self.board)
+        {
             Ok(place) => place.is_some(),
             Err(_) => false,
         }
     }
 
     /// The node's last token sent, if there is one, and a copy could be made.
-    pub(crate) fn timer<R: Wait>(&self, rt: &R, node: NodeId) -> Option<Bytes>
+    pub(crate) fn timer<R: Wait>(&self, rt: &R, node: NodeId) -> Option<Parcel<B>>
         requires { node ≤ self.now.nodes }
     {
-        self.station(node).lock(rt).timer().unwrap_or(None)
+        self.station(node)
+            .lock(rt)
+            .timer(&self.history)
+            .unwrap_or(None)
     }
 
     /// The node to which this one sends the token.

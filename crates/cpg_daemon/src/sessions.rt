@@ -1,41 +1,45 @@
 //! Sessions: a process at a node, with what it has seen.
 
-ghost use Rattle.std.specs.Prelude.{◌≡◌, ◌≤◌, ◌<◌, length, IfOk, IfErr, OnOk, OnErr, IsOkUnless, IsOk};
+ghost use Rattle.std.specs.Prelude.{◌≡◌, ◌≤◌, ◌<◌, [], length, Ok, IfOk, IfErr, OnOk, OnErr, IsOkUnless, IsOk};
 ghost use Rattle.cpg_cred.specs.declared.refusals.Refusal.TheVariants.{Memory, Stopped};
 ghost use Rattle.cpg_board.specs.Seats.{IsSeatOf, Begins, IsLonger};
 ghost use Rattle.cpg_station.specs.Serving.{SubmitRefuses, moved_on};
-ghost use Rattle.cpg_daemon.specs.Sessions.{IsNew, ConnectRefuses, IsTaken, IsListed, AreNamed, IsEndRefusal};
+ghost use Rattle.cpg_daemon.specs.Sessions.{IsNew, ConnectRefuses, IsTaken, IsListed, AreNamed, IsClosed, IsEndRefusal};
+ghost use Rattle.cpg_history.specs.Members.{Told};
+ghost use mathlib.Core.List.{IsPrefix};
+ghost use Rattle.cpg_world_laws.specs.declared.events.WorldEvent.TheVariants as events;
+ghost use Rattle.cpg_world_laws.specs.declared.replies.Reply.TheVariants as reply;
 
 use crate::running::Running;
 use cpg_board::Seat;
 use cpg_cred::{Cred, NodeId, Refusal, Refused};
 use cpg_entry::Call;
+use cpg_history::{Front, HistoryName};
 use cpg_node::{Connection, Event, Names, Processes};
-use cpg_station::BoardName;
-use std::marker::{Model, PhantomData};
+use std::marker::{Brand, Model};
 use std::sync::Wait;
 
-/// A process at a node, with a seat of the board. Contracts see its connection, with how many events it took,
-/// and what its seat knows.
+/// A process at a node, with a seat of the board and a front of the history. Contracts see its connection, with how many
+/// events it took, what its seat knows, and the beginning of the history that it has seen.
 #[derive(Drop)]
-pub struct Session<B: BoardName> {
+pub struct Session<B: HistoryName> {
     who: Connection,
     seat: Seat,
-    of: PhantomData<B>,
+    front: Front<B>,
 }
 
-impl<B: BoardName> Model for Session<B> {
+impl<B: HistoryName> Model for Session<B> {
     ghost use Rattle.cpg_board.specs.Seats.{IsSeatOf};
     ghost use Rattle.cpg_daemon.specs.Sessions.{SessionValue};
 
     ghost Value = { SessionValue };
 
-    ghost view = { λ session. record { who = session.who; seat = session.seat } };
+    ghost view = { λ session. record { who = session.who; seat = session.seat; seen = session.front.seen } };
 
     ghost invariant = { λ session. IsSeatOf B.cells session.seat };
 }
 
-impl<B: BoardName> Session<B> {
+impl<B: HistoryName> Session<B> {
     /// What it has seen.
     pub fn seat(&self) -> &Seat
         ensures { (result.now ≡ self.now.seat) × IsSeatOf B.cells result.now }
@@ -51,7 +55,7 @@ impl<B: BoardName> Session<B> {
     }
 }
 
-impl<B: BoardName, G> Running<B, G> {
+impl<B: HistoryName, G> Running<B, G> {
     /// A session for the process at the node. Refused with Stopped; Access where nothing lets the
     /// credentials in; ConnectionsFull; Memory.
     #[tactic(auto, using(crate::proofs::Answering::connect_refuses))]
@@ -64,16 +68,17 @@ impl<B: BoardName, G> Running<B, G> {
     ) -> Result<Session<B>, Refusal>
         requires { node ≤ self.now.nodes }
         ensures ok { IfOk result (λ session. IsNew self.now.list node pid cred session) }
+        ensures history { IfOk result (λ session. Told B.start [] (events.Connect node pid cred) (Ok (reply.Connected session.who.id.conn)) session.seen) }
         ensures err { IfErr result (ConnectRefuses self.now.list cred) }
     {
-        let who = self
+        let (who, front) = self
             .station(node)
             .lock(rt)
-            .admit(&self.list, node, pid, cred)?;
+            .admit(&self.history, &self.list, node, pid, cred)?;
         Ok(Session {
             who,
             seat: self.auditor(),
-            of: PhantomData,
+            front,
         })
     }
 
@@ -86,12 +91,14 @@ impl<B: BoardName, G> Running<B, G> {
         call: Call,
     ) -> Result<(), Refused<Call>>
         requires { session.old.who.id.node ≤ self.now.nodes }
-        ensures same { session.new ≡ session.old }
+        ensures same { (session.new.who ≡ session.old.who) × (session.new.seat ≡ session.old.seat) }
+        ensures history { OnOk result (Told B.start session.old.seen (events.Submit session.old.who.id.node session.old.who.id.conn call) (Ok reply.Admitted) session.new.seen) }
         ensures err { IfErr result (λ refused. (refused.back ≡ call) × SubmitRefuses call refused.refusal) }
+        ensures unchanged { OnErr result (session.new ≡ session.old) }
     {
         self.station(session.who.id.node)
             .lock(rt)
-            .submit_for(&session.who, call)
+            .submit_for(&self.history, &mut session.front, &session.who, call)
     }
 
     /// The next event of the session, if there is one. Refused with Stopped; with Behind where its node has
@@ -100,13 +107,18 @@ impl<B: BoardName, G> Running<B, G> {
     pub fn take<R: Wait>(&self, rt: &R, session: &mut Session<B>) -> Result<Option<Event>, Refusal>
         requires { session.old.who.id.node ≤ self.now.nodes }
         ensures answer { IsTaken session.old session.new.seat result }
+        ensures history { IfOk result (λ event. Told B.start session.old.seen (events.Take session.old.who.id.node session.old.who.id.conn) (Ok (reply.Took event)) session.new.seen) }
         ensures who { IfOk result (λ event. session.new.who ≡ moved_on session.old.who event) }
-        ensures err { OnErr result (session.new.who ≡ session.old.who) }
+        ensures err { OnErr result ((session.new.who ≡ session.old.who) × (session.new.seen ≡ session.old.seen)) }
         ensures seat { Begins session.old.seat session.new.seat }
     {
-        self.station(session.who.id.node)
-            .lock(rt)
-            .take_for(&self.board, &mut session.who, &mut session.seat)
+        self.station(session.who.id.node).lock(rt).take_for(
+            &self.history,
+            &mut session.front,
+            &self.board,
+            &mut session.who,
+            &mut session.seat,
+        )
     }
 
     /// The members of a group. Refused with Stopped; Behind; with Denied where the group's rules deny the
@@ -120,12 +132,19 @@ impl<B: BoardName, G> Running<B, G> {
     ) -> Result<Processes, Refusal>
         requires { session.old.who.id.node ≤ self.now.nodes }
         ensures answer { IsListed session.old group.now session.new.seat result }
+        ensures history { IfOk result (λ list. Told B.start session.old.seen (events.List session.old.who.id.node session.old.who.id.conn group.now) (Ok (reply.Members list)) session.new.seen) }
+        ensures err { OnErr result (session.new.seen ≡ session.old.seen) }
         ensures who { session.new.who ≡ session.old.who }
         ensures seat { Begins session.old.seat session.new.seat }
     {
-        self.station(session.who.id.node)
-            .lock(rt)
-            .list_for(&self.board, &session.who, &mut session.seat, group)
+        self.station(session.who.id.node).lock(rt).list_for(
+            &self.history,
+            &mut session.front,
+            &self.board,
+            &session.who,
+            &mut session.seat,
+            group,
+        )
     }
 
     /// The names of the groups with members that the session may list. Refused with Stopped; Behind; Memory.
@@ -133,21 +152,28 @@ impl<B: BoardName, G> Running<B, G> {
     pub fn groups<R: Wait>(&self, rt: &R, session: &mut Session<B>) -> Result<Names, Refusal>
         requires { session.old.who.id.node ≤ self.now.nodes }
         ensures answer { AreNamed session.old session.new.seat result }
+        ensures history { IfOk result (λ names. Told B.start session.old.seen (events.Groups session.old.who.id.node session.old.who.id.conn) (Ok (reply.Groups names)) session.new.seen) }
+        ensures err { OnErr result (session.new.seen ≡ session.old.seen) }
         ensures who { session.new.who ≡ session.old.who }
         ensures seat { Begins session.old.seat session.new.seat }
     {
-        self.station(session.who.id.node)
-            .lock(rt)
-            .groups_for(&self.board, &session.who, &mut session.seat)
+        self.station(session.who.id.node).lock(rt).groups_for(
+            &self.history,
+            &mut session.front,
+            &self.board,
+            &session.who,
+            &mut session.seat,
+        )
     }
 
     /// Ends the session's connection: its end waits behind its calls. Refused with Stopped; with Memory. The
     /// session comes back.
-    pub fn close<R: Wait>(&self, rt: &R, session: Session<B>) -> Result<(), Refused<Session<B>>>
+    pub fn close<R: Wait>(&self, rt: &R, mut session: Session<B>) -> Result<(), Refused<Session<B>>>
         requires { session.who.id.node ≤ self.now.nodes }
-        ensures { IfErr result (λ refused. (refused.back ≡ session) × IsEndRefusal refused.refusal) }
+        ensures history { OnOk result (IsClosed B.start session) }
+        ensures err { IfErr result (λ refused. (refused.back ≡ session) × IsEndRefusal refused.refusal) }
     {
-        match self.end(rt, &session) {
+        match self.end(rt, &mut session) {
             Ok(()) => Ok(()),
             Err(refusal) => Err(Refused {
                 refusal,
@@ -157,13 +183,24 @@ impl<B: BoardName, G> Running<B, G> {
     }
 
     /// Ends the session's connection at its node.
-    fn end<R: Wait>(&self, rt: &R, session: &Session<B>) -> Result<(), Refusal>
-        requires { session.now.who.id.node ≤ self.now.nodes }
-        ensures { IfErr result IsEndRefusal }
+    fn end<R: Wait>(&self, rt: &R, session: &mut Session<B>) -> Result<(), Refusal>
+        requires { session.old.who.id.node ≤ self.now.nodes }
+        ensures history { OnOk result (Told B.start session.old.seen (events.Disconnect session.old.who.id.node session.old.who.id.conn) (Ok reply.Closed) session.new.seen) }
+        ensures err { IfErr result (λ why. IsEndRefusal why × (session.new ≡ session.old)) }
     {
         self.station(session.who.id.node)
             .lock(rt)
-            .close_for(&session.who)
+            .close_for(&self.history, &mut session.front, &session.who)
+    }
+
+    /// A front of the history that has seen what both sessions have: what they saw begins one history.
+    pub fn meet(&self, one: &mut Session<B>, two: &mut Session<B>) -> Front<B>
+        ensures one { IsPrefix one.old.seen result.seen × (one.new ≡ one.old) }
+        ensures two { IsPrefix two.old.seen result.seen × (two.new ≡ two.old) }
+    {
+        let first = self.history.again::<Brand>(&mut one.front);
+        let second = self.history.again::<Brand>(&mut two.front);
+        self.history.meet(first, second)
     }
 
     /// The session has seen what that seat knows, if that is more. Refused with Memory.

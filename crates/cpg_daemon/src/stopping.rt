@@ -4,8 +4,8 @@ ghost use Rattle.std.specs.Prelude.{◌≡◌, ◌≤◌, ◌+◌, ◌*◌, ◌<
 ghost use Rattle.cpg_daemon.specs.Links.{links_of, peers_of};
 
 use crate::lines::{Incoming, Lines, Outgoing};
+use cpg_history::{HistoryName, Member, Parcel};
 use cpg_link::{LinkRx, LinkTx};
-use cpg_station::{BoardName, Station};
 use std::alloc::{AllocError, Global};
 use std::sync::{Mutex, Wait};
 use std::thread::{Promise, PromisedHandle, Threads};
@@ -14,23 +14,23 @@ use std::thread::{Promise, PromisedHandle, Threads};
 #[derive(Clone, Copy)]
 pub(crate) struct SoMany(pub usize);
 
-impl Promise<Lines> for SoMany {
+impl<B: HistoryName> Promise<Lines<B>> for SoMany {
     ghost use Rattle.std.specs.Prelude.{◌≡◌, vec_len};
 
     ghost kept_by = { λ promise lines. (vec_len lines.outgoing ≡ promise.0) × (vec_len lines.incoming ≡ promise.0) };
 }
 
 /// A node's thread, which gives back its ends of links.
-pub(crate) type Thread = PromisedHandle<Lines, SoMany>;
+pub(crate) type Thread<B> = PromisedHandle<Lines<B>, SoMany>;
 
 /// The threads that have begun. They can't be let go but by `gather`, which waits for each of them.
-pub(crate) struct Begun {
-    threads: Vec<Thread>,
+pub(crate) struct Begun<B: HistoryName> {
+    threads: Vec<Thread<B>>,
 }
 
-impl Begun {
+impl<B: HistoryName> Begun<B> {
     /// No threads, with room for so many.
-    pub fn none(alloc: Global, room: usize) -> Result<Begun, AllocError>
+    pub fn none(alloc: Global, room: usize) -> Result<Begun<B>, AllocError>
         ensures { IfOk result (λ begun. (vec_len begun.threads ≡ 0) × (room ≤ vec_capacity begun.threads)) }
     {
         Ok(Begun {
@@ -39,7 +39,7 @@ impl Begun {
     }
 
     /// Puts a thread behind the others, for which there is room.
-    pub fn add(&mut self, thread: Thread, peers: usize)
+    pub fn add(&mut self, thread: Thread<B>, peers: usize)
         requires all { All (λ thread. thread.promise.0 ≡ peers) self.old.threads.items × (thread.promise.0 ≡ peers) }
         requires room { vec_len self.old.threads < vec_capacity self.old.threads }
         ensures all { All (λ thread. thread.promise.0 ≡ peers) self.new.threads.items }
@@ -52,12 +52,12 @@ impl Begun {
 
 /// Room for what a cluster of so many nodes leaves, and a station to leave in each lock.
 #[derive(Drop)]
-pub(crate) struct Room<B: BoardName> {
+pub(crate) struct Room<B: HistoryName> {
     pub nodes: u8,
-    pub spares: Vec<Station<B>>,
-    pub stations: Vec<Station<B>>,
-    pub ends: Lines,
-    pub links: Vec<(LinkTx, LinkRx)>,
+    pub spares: Vec<Member<B>>,
+    pub stations: Vec<Member<B>>,
+    pub ends: Lines<B>,
+    pub links: Vec<(LinkTx<Parcel<B>>, LinkRx<Parcel<B>>)>,
     ghost some: { 1 ≤ nodes },
     ghost spared: { vec_len spares ≡ nodes },
     ghost empty: { (vec_len stations ≡ 0) × (vec_len ends.outgoing ≡ 0) × (vec_len ends.incoming ≡ 0) × (vec_len links ≡ 0) },
@@ -79,7 +79,7 @@ fn append<T: Drop>(list: &mut Vec<T>, mut more: Vec<T>)
 }
 
 /// Puts a thread's ends of links behind those of others.
-fn take_in(ends: &mut Lines, more: Lines)
+fn take_in<B: HistoryName>(ends: &mut Lines<B>, more: Lines<B>)
     requires room { (vec_len ends.old.outgoing + vec_len more.outgoing ≤ vec_capacity ends.old.outgoing) × (vec_len ends.old.incoming + vec_len more.incoming ≤ vec_capacity ends.old.incoming) }
     ensures count { (vec_len ends.new.outgoing ≡ vec_len ends.old.outgoing + vec_len more.outgoing) × (vec_len ends.new.incoming ≡ vec_len ends.old.incoming + vec_len more.incoming) }
     ensures room { (vec_capacity ends.new.outgoing ≡ vec_capacity ends.old.outgoing) × (vec_capacity ends.new.incoming ≡ vec_capacity ends.old.incoming) }
@@ -90,7 +90,7 @@ fn take_in(ends: &mut Lines, more: Lines)
 }
 
 /// The last of the threads, if there is one.
-fn next_thread(threads: &mut Vec<Thread>, peers: usize) -> Option<Thread>
+fn next_thread<B: HistoryName>(threads: &mut Vec<Thread<B>>, peers: usize) -> Option<Thread<B>>
     requires { All (λ thread. thread.promise.0 ≡ peers) threads.old.items }
     ensures all { All (λ thread. thread.promise.0 ≡ peers) threads.new.items }
     ensures some { IfSome result (λ thread. thread.promise.0 ≡ peers) }
@@ -101,7 +101,12 @@ fn next_thread(threads: &mut Vec<Thread>, peers: usize) -> Option<Thread>
 
 /// Joins the threads, and gathers their ends of links.
 #[tactic(auto, using(crate::proofs::Counting::room_for_more, crate::proofs::Counting::one_more))]
-pub(crate) fn gather<R: Threads>(rt: &R, begun: Begun, mut ends: Lines, peers: usize) -> Lines
+pub(crate) fn gather<B: HistoryName, R: Threads>(
+    rt: &R,
+    begun: Begun<B>,
+    mut ends: Lines<B>,
+    peers: usize,
+) -> Lines<B>
     requires threads { All (λ thread. thread.promise.0 ≡ peers) begun.threads.items }
     requires empty { (vec_len ends.outgoing ≡ 0) × (vec_len ends.incoming ≡ 0) }
     requires room { (vec_len begun.threads * peers ≤ vec_capacity ends.outgoing) × (vec_len begun.threads * peers ≤ vec_capacity ends.incoming) }
@@ -116,17 +121,20 @@ pub(crate) fn gather<R: Threads>(rt: &R, begun: Begun, mut ends: Lines, peers: u
     ends
 }
 
-fn sender_of(end: Outgoing) -> LinkTx {
+fn sender_of<B: HistoryName>(end: Outgoing<B>) -> LinkTx<Parcel<B>> {
     end.link
 }
 
-fn receiver_of(end: Incoming) -> LinkRx {
+fn receiver_of<B: HistoryName>(end: Incoming<B>) -> LinkRx<Parcel<B>> {
     end.link
 }
 
 /// The two ends of each link, in the order of the nodes that the links come from, and then of those that they
 /// go to.
-pub(crate) fn pair(mut ends: Lines, mut links: Vec<(LinkTx, LinkRx)>) -> Vec<(LinkTx, LinkRx)>
+pub(crate) fn pair<B: HistoryName>(
+    mut ends: Lines<B>,
+    mut links: Vec<(LinkTx<Parcel<B>>, LinkRx<Parcel<B>>)>,
+) -> Vec<(LinkTx<Parcel<B>>, LinkRx<Parcel<B>>)>
     requires same { vec_len ends.outgoing ≡ vec_len ends.incoming }
     requires room { (vec_len links ≡ 0) × (vec_len ends.outgoing ≤ vec_capacity links) }
     ensures { vec_len result ≡ vec_len ends.outgoing }
@@ -151,12 +159,12 @@ pub(crate) fn pair(mut ends: Lines, mut links: Vec<(LinkTx, LinkRx)>) -> Vec<(Li
 }
 
 /// Takes the station out of each lock, and leaves a spare one there.
-pub(crate) fn take_out<B: BoardName, R: Wait>(
+pub(crate) fn take_out<B: HistoryName, R: Wait>(
     rt: &R,
-    locks: &Vec<Mutex<Station<B>>>,
-    mut spares: Vec<Station<B>>,
-    mut stations: Vec<Station<B>>,
-) -> Vec<Station<B>>
+    locks: &Vec<Mutex<Member<B>>>,
+    mut spares: Vec<Member<B>>,
+    mut stations: Vec<Member<B>>,
+) -> Vec<Member<B>>
     requires count { vec_len locks.now ≡ vec_len spares }
     requires room { (vec_len stations ≡ 0) × (vec_len spares ≤ vec_capacity stations) }
     ensures { vec_len result ≡ vec_len spares }

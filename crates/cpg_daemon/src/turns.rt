@@ -5,9 +5,8 @@ ghost use Rattle.std.specs.Prelude.{◌≡◌, ◌≤◌, vec_len};
 use crate::gates::Gate;
 use crate::lines::{Incoming, Lines, Outgoing};
 use crate::running::Running;
-use bytes::Bytes;
 use cpg_cred::NodeId;
-use cpg_station::BoardName;
+use cpg_history::{History, HistoryName, Parcel, Parcels};
 use std::sync::Wait;
 use std::thread;
 use std::time::{Clock, Duration};
@@ -157,60 +156,79 @@ fn rest<R: Clock>(rt: &R, lull: Lull) {
     }
 }
 
-/// Sends what a frame is answered with: its last is a token, which goes to the next node, the others are data,
-/// which goes to all others.
-fn send_all<G: Gate, R: Wait>(
+/// Sends a frame to all other nodes.
+fn send_data<B: HistoryName, G: Gate, R: Wait>(
     rt: &R,
     gate: &G,
-    next: NodeId,
-    sent: &[Bytes],
-    outgoing: &mut [Outgoing],
+    history: &History<B>,
+    packet: &mut Parcel<B>,
+    outgoing: &mut [Outgoing<B>],
 ) {
-    let Some((token, packets)) = sent.split_last() else {
-        return;
-    };
-    for packet in packets {
-        for end in outgoing.iter_mut() {
-            if end.way.from != end.way.to {
-                end.send(rt, gate, packet);
-            }
+    for end in outgoing.iter_mut() {
+        if end.way.from != end.way.to {
+            end.send(rt, gate, history, packet);
         }
     }
-    send_token(rt, gate, next, token, outgoing);
 }
 
 /// Sends a token to the next node.
-fn send_token<G: Gate, R: Wait>(
+fn send_token<B: HistoryName, G: Gate, R: Wait>(
     rt: &R,
     gate: &G,
+    history: &History<B>,
     next: NodeId,
-    token: &Bytes,
-    outgoing: &mut [Outgoing],
+    token: &mut Parcel<B>,
+    outgoing: &mut [Outgoing<B>],
 ) {
     for end in outgoing.iter_mut() {
         if end.way.to == next {
-            end.send(rt, gate, token);
+            end.send(rt, gate, history, token);
         }
     }
 }
 
-impl<B: BoardName, G: Gate> Running<B, G> {
+impl<B: HistoryName, G: Gate> Running<B, G> {
+    /// Sends what a frame is answered with: its last is a token, which goes to the next node, the others are data, which
+    /// goes to all others. What memory is refused for is lost.
+    fn send_all<R: Wait>(
+        &self,
+        rt: &R,
+        node: NodeId,
+        sent: &mut Parcels<B>,
+        outgoing: &mut [Outgoing<B>],
+    )
+        requires { node ≤ self.now.nodes }
+    {
+        let count = sent.len();
+        for index in 0..count {
+            let Ok(mut frame) = sent.parcel(&self.history, index) else {
+                continue;
+            };
+            if index + 1 < count {
+                send_data(rt, &self.gate, &self.history, &mut frame, outgoing);
+            } else {
+                let next = self.next(node);
+                send_token(rt, &self.gate, &self.history, next, &mut frame, outgoing);
+            }
+        }
+    }
+
     /// Takes at most one frame from a link, and sends what the node answers it with. A refused frame is lost.
     fn hear<R: Wait>(
         &self,
         rt: &R,
         node: NodeId,
-        incoming: &mut Incoming,
-        outgoing: &mut [Outgoing],
+        incoming: &mut Incoming<B>,
+        outgoing: &mut [Outgoing<B>],
     ) -> Turn
         requires { node ≤ self.now.nodes }
     {
         let Some(frame) = incoming.link.take(rt) else {
             return Turn::Idle;
         };
-        match self.frame(rt, node, frame.as_slice()) {
-            Ok(sent) => {
-                send_all(rt, &self.gate, self.next(node), sent.as_slice(), outgoing);
+        match self.frame(rt, node, frame) {
+            Ok(mut sent) => {
+                self.send_all(rt, node, &mut sent, outgoing);
                 turn_of(sent.len())
             }
             Err(_) => Turn::Stale,
@@ -222,8 +240,8 @@ impl<B: BoardName, G: Gate> Running<B, G> {
         &self,
         rt: &R,
         node: NodeId,
-        incoming: &mut [Incoming],
-        outgoing: &mut [Outgoing],
+        incoming: &mut [Incoming<B>],
+        outgoing: &mut [Outgoing<B>],
     ) -> Turn
         requires { node ≤ self.now.nodes }
     {
@@ -249,11 +267,12 @@ impl<B: BoardName, G: Gate> Running<B, G> {
     }
 
     /// Sends the node's last token again.
-    fn send_again<R: Wait>(&self, rt: &R, node: NodeId, outgoing: &mut [Outgoing])
+    fn send_again<R: Wait>(&self, rt: &R, node: NodeId, outgoing: &mut [Outgoing<B>])
         requires { node ≤ self.now.nodes }
     {
-        if let Some(token) = self.timer(rt, node) {
-            send_token(rt, &self.gate, self.next(node), &token, outgoing);
+        if let Some(mut token) = self.timer(rt, node) {
+            let next = self.next(node);
+            send_token(rt, &self.gate, &self.history, next, &mut token, outgoing);
         }
     }
 
@@ -262,8 +281,8 @@ impl<B: BoardName, G: Gate> Running<B, G> {
         &self,
         rt: &R,
         node: NodeId,
-        incoming: &mut [Incoming],
-        outgoing: &mut [Outgoing],
+        incoming: &mut [Incoming<B>],
+        outgoing: &mut [Outgoing<B>],
     ) -> Turn
         requires { node ≤ self.now.nodes }
     {
@@ -272,7 +291,7 @@ impl<B: BoardName, G: Gate> Running<B, G> {
     }
 
     /// A node's thread. It gives back its ends of links.
-    pub(crate) fn run<R: Wait + Clock>(&self, rt: &R, node: NodeId, mut lines: Lines) -> Lines
+    pub(crate) fn run<R: Wait + Clock>(&self, rt: &R, node: NodeId, mut lines: Lines<B>) -> Lines<B>
         requires { node ≤ self.now.nodes }
         ensures { (vec_len result.outgoing ≡ vec_len lines.outgoing) × (vec_len result.incoming ≡ vec_len lines.incoming) }
     {

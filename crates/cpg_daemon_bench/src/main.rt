@@ -6,14 +6,15 @@
 //! rest, and no times.
 #![tactic(auto)]
 
-ghost use Rattle.std.specs.Prelude.{◌≡◌, ◌≤◌};
+ghost use Rattle.std.specs.Prelude.{◌≡◌, ◌≤◌, IfOk};
+ghost use Rattle.cpg_history.specs.Histories.{first_world};
 
 use cpg_board::Board;
 use cpg_cred::{AcceptList, Cred, NodeId, Refusal};
-use cpg_daemon::{BoardName, Cluster, PassAll, Running, Session};
+use cpg_daemon::{Beginning, Cluster, HistoryName, Opened, PassAll, Running, Session};
 use cpg_entry::Call;
 use cpg_node::Settings;
-use std::alloc::Global;
+use std::alloc::{AllocError, Global};
 use std::marker::Brand;
 use std::rt::Clock;
 use std::sync::Wait;
@@ -25,7 +26,7 @@ use std::{env, io};
 const MOST_ASKS: u32 = 100_000_000;
 
 /// Whether the session's call is admitted, and its next event comes.
-fn is_answered<B: BoardName, R: Wait>(
+fn is_answered<B: HistoryName, R: Wait>(
     rt: &R,
     running: &Running<B, PassAll>,
     session: &mut Session<B>,
@@ -47,7 +48,7 @@ fn is_answered<B: BoardName, R: Wait>(
 
 /// Rests for so many seconds, and then has a call answered. Prints whether it was, and its time where there was
 /// a rest.
-fn go_round<B: BoardName, R: Wait + Clock + Print + Alloc>(
+fn go_round<B: HistoryName, R: Wait + Clock + Print + Alloc>(
     rt: &R,
     running: &Running<B, PassAll>,
     session: &mut Session<B>,
@@ -68,7 +69,7 @@ fn go_round<B: BoardName, R: Wait + Clock + Print + Alloc>(
 }
 
 /// So many rounds of a process of the root user at the last node.
-fn go<B: BoardName, R: Wait + Clock + Print + Alloc>(
+fn go<B: HistoryName, R: Wait + Clock + Print + Alloc>(
     rt: &R,
     running: &Running<B, PassAll>,
     node: NodeId,
@@ -91,14 +92,29 @@ fn start<B, R>(
     rt: R,
     alloc: Global,
     board: Board,
+    opened: Opened,
     node: NodeId,
     rounds: u32,
     rest: u64,
 ) -> io::Result<()>
 where
-    B: BoardName + Send + Sync + 'static,
+    B: HistoryName + Send + Sync + 'static,
     R: Threads + Wait + Clock + Print + Alloc + Copy + Send + 'static,
-    requires { board ≡ B.cells }
+    requires board { board ≡ B.cells }
+    requires history { (opened.table ≡ B.table) × (first_world opened.start ≡ B.start) }
+    requires nodes { node ≡ opened.start.settings.nodes }
+{
+    let Ok(cluster) = Cluster::<B, PassAll>::start(rt, alloc, board, opened, PassAll) else {
+        return println!(rt; "no cluster");
+    };
+    let done = go(&rt, &cluster, node, rounds, rest);
+    drop(cluster.stop(&rt));
+    done
+}
+
+/// A history that begins with nodes up to that one, which let the root user alone in.
+fn opened_to(alloc: Global, node: NodeId) -> Result<Opened, AllocError>
+    ensures { IfOk result (λ opened. opened.start.settings.nodes ≡ node) }
 {
     let settings = Settings {
         ring: 1,
@@ -107,13 +123,7 @@ where
         hops: 1 << 62,
     };
     let list = AcceptList::new(alloc);
-    let Ok(cluster) = Cluster::<B, PassAll>::start(rt, alloc, settings, board, &list, PassAll)
-    else {
-        return println!(rt; "no cluster");
-    };
-    let done = go(&rt, &cluster, node, rounds, rest);
-    drop(cluster.stop(&rt));
-    done
+    Opened::new(alloc, Beginning { settings, list })
 }
 
 /// The number that an argument gives.
@@ -131,9 +141,12 @@ fn main(rt: HostRuntime) -> io::Result<()> {
     let rounds = read_number(words.as_slice(), 2).unwrap_or(1);
     let number = asked.unwrap_or(1).clamp(1, 8) as u8;
     let rest = u64::from(asked.is_some());
-    match (NodeId::new(number), Board::new(alloc, 4_096)) {
-        (Some(node), Ok(board)) => {
-            start::<Brand, HostRuntime>(rt, alloc, board, node, rounds, rest)
+    let Some(node) = NodeId::new(number) else {
+        return println!(rt; "no node");
+    };
+    match (Board::new(alloc, 4_096), opened_to(alloc, node)) {
+        (Ok(board), Ok(opened)) => {
+            start::<Brand, HostRuntime>(rt, alloc, board, opened, node, rounds, rest)
         }
         _ => println!(rt; "no board"),
     }

@@ -1,11 +1,14 @@
 //! Clusters on the gate that passes everything.
 
 ghost use Rattle.std.specs.Prelude.{◌≡◌, ◌≤◌};
+ghost use Rattle.cpg_history.specs.Histories.{first_world};
 
-use crate::sharing::{MOST_ASKS, ROOT, Told, next_told, node_of, refusal_in, settings_of};
+use crate::sharing::{
+    MOST_ASKS, ROOT, Told, next_told, node_of, opened_of, refusal_in, settings_of,
+};
 use cpg_board::Board;
-use cpg_cred::{AcceptList, NodeId, Refusal};
-use cpg_daemon::{BoardName, Cluster, Ends, PassAll, Running, Session};
+use cpg_cred::{NodeId, Refusal};
+use cpg_daemon::{Cluster, Ends, HistoryName, Opened, PassAll, Running, Session};
 use cpg_entry::Call;
 use cpg_node::Settings;
 use std::alloc::Global;
@@ -17,7 +20,7 @@ use std::thread::Threads;
 use std::time::Clock;
 
 /// A process of the root user at the node submits a leave.
-fn leave<B: BoardName, R: Wait>(
+fn leave<B: HistoryName, R: Wait>(
     rt: &R,
     running: &Running<B, PassAll>,
     node: NodeId,
@@ -31,7 +34,7 @@ fn leave<B: BoardName, R: Wait>(
 }
 
 /// Whether the node's safe mark gets to place 1.
-fn gets_safe<B: BoardName, R: Wait>(rt: &R, running: &Running<B, PassAll>, node: NodeId) -> bool
+fn gets_safe<B: HistoryName, R: Wait>(rt: &R, running: &Running<B, PassAll>, node: NodeId) -> bool
     requires { node ≤ running.now.nodes }
 {
     for _ in 0..MOST_ASKS {
@@ -44,7 +47,7 @@ fn gets_safe<B: BoardName, R: Wait>(rt: &R, running: &Running<B, PassAll>, node:
 }
 
 /// Whether a process leaves, in no group, and then all nodes hold place 1.
-fn leaves_and_gets_safe<B: BoardName, R: Wait>(
+fn leaves_and_gets_safe<B: HistoryName, R: Wait>(
     rt: &R,
     running: &Running<B, PassAll>,
     node: NodeId,
@@ -55,7 +58,7 @@ fn leaves_and_gets_safe<B: BoardName, R: Wait>(
 }
 
 /// Whether a node that gave three of its 65,535 connection numbers gives the others, and then tells that none is left.
-fn gives_every_number<B: BoardName, R: Wait>(
+fn gives_every_number<B: HistoryName, R: Wait>(
     rt: &R,
     running: &Running<B, PassAll>,
     node: NodeId,
@@ -74,7 +77,7 @@ fn gives_every_number<B: BoardName, R: Wait>(
 }
 
 /// Whether a hundred leaves of the session are admitted.
-fn submits_hundred<B: BoardName, R: Wait>(
+fn submits_hundred<B: HistoryName, R: Wait>(
     rt: &R,
     running: &Running<B, PassAll>,
     session: &mut Session<B>,
@@ -91,7 +94,7 @@ fn submits_hundred<B: BoardName, R: Wait>(
 }
 
 /// Whether the session is told a hundred verdicts.
-fn takes_hundred<B: BoardName, R: Wait>(
+fn takes_hundred<B: HistoryName, R: Wait>(
     rt: &R,
     running: &Running<B, PassAll>,
     session: &mut Session<B>,
@@ -109,7 +112,7 @@ fn takes_hundred<B: BoardName, R: Wait>(
 
 /// Whether a session leaves, in no group, 1,100 times, is told each verdict, and another session, which has seen nothing, is
 /// told all that it saw.
-fn goes_on<B: BoardName, R: Wait>(
+fn goes_on<B: HistoryName, R: Wait>(
     rt: &R,
     running: &Running<B, PassAll>,
     mut session: Session<B>,
@@ -128,7 +131,7 @@ fn goes_on<B: BoardName, R: Wait>(
 }
 
 /// Whether two sessions at the node do so.
-fn serves_long<B: BoardName, R: Wait>(rt: &R, running: &Running<B, PassAll>, node: NodeId) -> bool
+fn serves_long<B: HistoryName, R: Wait>(rt: &R, running: &Running<B, PassAll>, node: NodeId) -> bool
     requires { node ≤ running.now.nodes }
 {
     match (
@@ -141,13 +144,13 @@ fn serves_long<B: BoardName, R: Wait>(rt: &R, running: &Running<B, PassAll>, nod
 }
 
 /// How many stations and links the cluster leaves.
-fn counts_of<B: BoardName>(ends: Ends<B>) -> (usize, usize) {
+fn counts_of<B: HistoryName>(ends: Ends<B>) -> (usize, usize) {
     (ends.stations.len(), ends.links.len())
 }
 
 /// Whether a process at node 1 leaves, in no group, all nodes then hold place 1, sessions are served for long, and the node
 /// gives the numbers left.
-fn first_gets_safe<B: BoardName, R: Wait>(rt: &R, running: &Running<B, PassAll>) -> bool
+fn first_gets_safe<B: HistoryName, R: Wait>(rt: &R, running: &Running<B, PassAll>) -> bool
     requires { 1 ≤ running.now.nodes }
 {
     match node_of(1) {
@@ -163,88 +166,60 @@ fn first_gets_safe<B: BoardName, R: Wait>(rt: &R, running: &Running<B, PassAll>)
 /// Whether the cluster of one node gets safe, and leaves one station and one link.
 fn one_runs<B, R: Threads + Wait>(rt: &R, cluster: Cluster<B, PassAll>) -> bool
 where
-    B: BoardName + Send + Sync + 'static,
+    B: HistoryName + Send + Sync + 'static,
     requires { 1 ≤ cluster.nodes }
 {
     let safe = cluster.nodes() == 1 && first_gets_safe(rt, &cluster);
     counts_of(cluster.stop(rt)) == (1, 1) && safe
 }
 
-/// Whether a cluster of one node does so, with that list.
-fn one_starts<B, R>(rt: R, alloc: Global, board: Board, list: &AcceptList) -> bool
+/// Whether a cluster of one node does so.
+fn one_goes<B, R>(rt: R, alloc: Global, board: Board, opened: Opened) -> bool
 where
-    B: BoardName + Send + Sync + 'static,
+    B: HistoryName + Send + Sync + 'static,
     R: Threads + Wait + Clock + Copy + Send + 'static,
-    requires { board ≡ B.cells }
+    requires board { board ≡ B.cells }
+    requires history { (opened.table ≡ B.table) × (first_world opened.start ≡ B.start) }
+    requires nodes { opened.start.settings.nodes ≡ 1 }
 {
-    match Cluster::<B, PassAll>::start(rt, alloc, settings_of(1), board, list, PassAll) {
+    match Cluster::<B, PassAll>::start(rt, alloc, board, opened, PassAll) {
         Ok(cluster) => one_runs(&rt, cluster),
         Err(_) => false,
     }
-}
-
-/// Whether a cluster of one node does so.
-fn one_goes<B, R>(rt: R, alloc: Global, board: Board) -> bool
-where
-    B: BoardName + Send + Sync + 'static,
-    R: Threads + Wait + Clock + Copy + Send + 'static,
-    requires { board ≡ B.cells }
-{
-    let list = AcceptList::new(alloc);
-    let answer = one_starts::<B, R>(rt, alloc, board, &list);
-    drop(list);
-    answer
 }
 
 #[test]
 fn a_cluster_of_one_gets_safe(rt: HostRuntime) -> Result<(), Fail> {
     let board = Board::new(rt.alloc(), 4_096)?;
     let alloc = rt.alloc();
-    assert!(rt; one_goes::<Brand, HostRuntime>(rt, alloc, board));
+    let opened = opened_of(alloc, settings_of(1))?;
+    assert!(rt; one_goes::<Brand, HostRuntime>(rt, alloc, board, opened));
     Ok(())
 }
 
 /// Stops the cluster, and lets go of what it leaves.
 fn stop<B, R: Threads + Wait>(rt: &R, cluster: Cluster<B, PassAll>)
 where
-    B: BoardName + Send + Sync + 'static,
+    B: HistoryName + Send + Sync + 'static,
 {
     drop(cluster.stop(rt));
 }
 
-/// What refuses to start a cluster of those settings with that list, if anything does.
-fn refusal_with<B, R>(
-    rt: R,
-    alloc: Global,
-    board: Board,
-    settings: Settings,
-    list: &AcceptList,
-) -> Option<Refusal>
+/// Whether a cluster of the settings that the history begins with is out of range.
+fn is_out_of_range<B, R>(rt: R, alloc: Global, board: Board, opened: Opened) -> bool
 where
-    B: BoardName + Send + Sync + 'static,
+    B: HistoryName + Send + Sync + 'static,
     R: Threads + Wait + Clock + Copy + Send + 'static,
-    requires { board ≡ B.cells }
+    requires board { board ≡ B.cells }
+    requires history { (opened.table ≡ B.table) × (first_world opened.start ≡ B.start) }
 {
-    match Cluster::<B, PassAll>::start(rt, alloc, settings, board, list, PassAll) {
+    match Cluster::<B, PassAll>::start(rt, alloc, board, opened, PassAll) {
         Ok(cluster) => {
             stop(&rt, cluster);
-            None
+            false
         }
-        Err(refusal) => Some(refusal),
+        Err(refusal) => refusal == Refusal::Range,
     }
-}
-
-/// Whether a cluster of those settings is out of range.
-fn is_out_of_range<B, R>(rt: R, alloc: Global, board: Board, settings: Settings) -> bool
-where
-    B: BoardName + Send + Sync + 'static,
-    R: Threads + Wait + Clock + Copy + Send + 'static,
-    requires { board ≡ B.cells }
-{
-    let list = AcceptList::new(alloc);
-    let refusal = refusal_with::<B, R>(rt, alloc, board, settings, &list);
-    drop(list);
-    refusal == Some(Refusal::Range)
 }
 
 /// Settings of which one is out of its range.
@@ -271,7 +246,8 @@ fn settings_have_ranges(rt: HostRuntime) -> Result<(), Fail> {
     for settings in bad_settings() {
         let board = Board::new(rt.alloc(), 10)?;
         let alloc = rt.alloc();
-        assert!(rt; is_out_of_range::<Brand, HostRuntime>(rt, alloc, board, settings));
+        let opened = opened_of(alloc, settings)?;
+        assert!(rt; is_out_of_range::<Brand, HostRuntime>(rt, alloc, board, opened));
     }
     Ok(())
 }

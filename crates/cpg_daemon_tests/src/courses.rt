@@ -5,7 +5,7 @@ ghost use Rattle.std.specs.Prelude.{◌≡◌, ◌≤◌, IfOk};
 use crate::sharing::{MOST_ASKS, Told, join, next_told, refusal_in};
 use crate::stepping::{Marks, Plan, Stepping};
 use cpg_cred::{By, Cred, NodeId, Refusal};
-use cpg_daemon::{BoardName, Running, Session};
+use cpg_daemon::{HistoryName, Running, Session};
 use cpg_entry::{Call, MOST_MESSAGE_BYTES, Message};
 use cpg_record::{Reason, Verdict};
 use std::alloc::Global;
@@ -45,7 +45,10 @@ pub struct Row {
 }
 
 /// The node of that number, where there is one.
-pub fn node_in<B: BoardName>(running: &Running<B, Stepping>, number: u8) -> Result<NodeId, Refusal>
+pub fn node_in<B: HistoryName>(
+    running: &Running<B, Stepping>,
+    number: u8,
+) -> Result<NodeId, Refusal>
     ensures { IfOk result (λ node. (node ≡ number) × (node ≤ running.now.nodes)) }
 {
     match NodeId::new(number) {
@@ -55,7 +58,7 @@ pub fn node_in<B: BoardName>(running: &Running<B, Stepping>, number: u8) -> Resu
 }
 
 /// A session of user 7 at the node.
-fn connect<B: BoardName, R: Wait>(
+fn connect<B: HistoryName, R: Wait>(
     rt: &R,
     running: &Running<B, Stepping>,
     number: u8,
@@ -67,7 +70,7 @@ fn connect<B: BoardName, R: Wait>(
 }
 
 /// Whether user 7 is let in at each node.
-fn connects_all<B: BoardName, R: Wait>(rt: &R, running: &Running<B, Stepping>) -> bool {
+fn connects_all<B: HistoryName, R: Wait>(rt: &R, running: &Running<B, Stepping>) -> bool {
     for before in 0..running.nodes() {
         if connect(rt, running, before + 1).is_err() {
             return false;
@@ -77,14 +80,14 @@ fn connects_all<B: BoardName, R: Wait>(rt: &R, running: &Running<B, Stepping>) -
 }
 
 /// Whether the call is put among those that wait.
-fn submits<B: BoardName, R: Wait>(
+fn submits<B: HistoryName, R: Wait>(
     rt: &R,
     running: &Running<B, Stepping>,
     session: &mut Session<B>,
     call: Result<Call, Refusal>,
 ) -> bool
     requires { session.old.who.id.node ≤ running.now.nodes }
-    ensures { session.new ≡ session.old }
+    ensures { session.new.who ≡ session.old.who }
 {
     match call {
         Ok(call) => refusal_in(running.submit(rt, session, call)) == None,
@@ -102,7 +105,7 @@ fn long_message(alloc: Global) -> Result<Call, Refusal> {
 const MOST_ROUNDS: u32 = 30;
 
 /// What the session is told next.
-fn told_next<B: BoardName, R: Wait>(
+fn told_next<B: HistoryName, R: Wait>(
     rt: &R,
     running: &Running<B, Stepping>,
     session: &mut Session<B>,
@@ -120,7 +123,7 @@ fn told_next<B: BoardName, R: Wait>(
 }
 
 /// Whether the session is told next that its entry at that place is allowed by default.
-fn is_allowed<B: BoardName, R: Wait>(
+fn is_allowed<B: HistoryName, R: Wait>(
     rt: &R,
     running: &Running<B, Stepping>,
     session: &mut Session<B>,
@@ -133,7 +136,7 @@ fn is_allowed<B: BoardName, R: Wait>(
 }
 
 /// Whether a join and the longest message of the session are allowed and told in the first turn of its node.
-fn takes_turn<B: BoardName, R: Wait>(
+fn takes_turn<B: HistoryName, R: Wait>(
     rt: &R,
     alloc: Global,
     running: &Running<B, Stepping>,
@@ -152,7 +155,7 @@ fn takes_turn<B: BoardName, R: Wait>(
 }
 
 /// Whether node 1 does so, and asks for the fates of the data to all others, and of the token to the next.
-fn turn_goes<B: BoardName, R: Wait>(
+fn turn_goes<B: HistoryName, R: Wait>(
     rt: &R,
     alloc: Global,
     running: &Running<B, Stepping>,
@@ -185,7 +188,7 @@ fn full_goes(marks: &Marks) -> bool {
 }
 
 /// Whether the safe marks of nodes 1 and 2 are these.
-fn are_safe<B: BoardName, R: Wait>(
+fn are_safe<B: HistoryName, R: Wait>(
     rt: &R,
     running: &Running<B, Stepping>,
     first: u32,
@@ -198,7 +201,7 @@ fn are_safe<B: BoardName, R: Wait>(
 }
 
 /// Whether the session, which is told what the other saw, is shown that `db` has a member.
-fn lists_one<B: BoardName, R: Wait>(
+fn lists_one<B: HistoryName, R: Wait>(
     rt: &R,
     running: &Running<B, Stepping>,
     session: &mut Session<B>,
@@ -215,7 +218,7 @@ fn lists_one<B: BoardName, R: Wait>(
 
 /// Whether a join at node 1 is told there in its first turn, delivered at node 2 in the first turn of that, and
 /// the token passed on in the second turns; and whether the safe mark of node 1 is 1 once it sent the token twice.
-fn joins_safely<B: BoardName, R: Wait>(
+fn joins_safely<B: HistoryName, R: Wait>(
     rt: &R,
     alloc: Global,
     running: &Running<B, Stepping>,
@@ -241,7 +244,7 @@ fn joins_safely<B: BoardName, R: Wait>(
 }
 
 /// Whether nodes 1 and 2 do so, and the safe marks stay once they are halted.
-fn rounds_go<B: BoardName, R: Wait>(
+fn rounds_go<B: HistoryName, R: Wait>(
     rt: &R,
     alloc: Global,
     running: &Running<B, Stepping>,
@@ -258,7 +261,7 @@ fn rounds_go<B: BoardName, R: Wait>(
 }
 
 /// Whether a process at the node leaves, in no group, and is told so at the place of that number.
-fn leaves<B: BoardName, R: Wait>(rt: &R, running: &Running<B, Stepping>, number: u8) -> bool {
+fn leaves<B: HistoryName, R: Wait>(rt: &R, running: &Running<B, Stepping>, number: u8) -> bool {
     match connect(rt, running, number) {
         Ok(mut session) => {
             let wanted = Told::Verdict(u32::from(number), Verdict::Denied(Reason::Closed));
@@ -270,7 +273,7 @@ fn leaves<B: BoardName, R: Wait>(rt: &R, running: &Running<B, Stepping>, number:
 }
 
 /// Whether the node's safe mark gets to that place.
-fn gets_safe<B: BoardName, R: Wait>(
+fn gets_safe<B: HistoryName, R: Wait>(
     rt: &R,
     running: &Running<B, Stepping>,
     number: u8,
@@ -289,7 +292,11 @@ fn gets_safe<B: BoardName, R: Wait>(
 }
 
 /// Whether a process at each node, one after the other, is told so, and then all nodes hold all.
-fn free_goes<B: BoardName, R: Wait>(rt: &R, running: &Running<B, Stepping>, marks: &Marks) -> bool {
+fn free_goes<B: HistoryName, R: Wait>(
+    rt: &R,
+    running: &Running<B, Stepping>,
+    marks: &Marks,
+) -> bool {
     let nodes = running.nodes();
     marks.let_all_go();
     for before in 0..nodes {
@@ -306,7 +313,7 @@ fn free_goes<B: BoardName, R: Wait>(rt: &R, running: &Running<B, Stepping>, mark
 }
 
 /// Whether the session leaves, in no group, so often, and is told so each time.
-fn leaves_often<B: BoardName, R: Wait>(
+fn leaves_often<B: HistoryName, R: Wait>(
     rt: &R,
     running: &Running<B, Stepping>,
     session: &mut Session<B>,
@@ -326,7 +333,7 @@ fn leaves_often<B: BoardName, R: Wait>(
 }
 
 /// Whether a session does so, and another, which has seen nothing, then is told all that it saw.
-fn many_go<B: BoardName, R: Wait>(rt: &R, running: &Running<B, Stepping>, marks: &Marks) -> bool {
+fn many_go<B: HistoryName, R: Wait>(rt: &R, running: &Running<B, Stepping>, marks: &Marks) -> bool {
     marks.let_all_go();
     match (connect(rt, running, 1), connect(rt, running, 1)) {
         (Ok(mut one), Ok(mut two)) => {
@@ -339,7 +346,7 @@ fn many_go<B: BoardName, R: Wait>(rt: &R, running: &Running<B, Stepping>, marks:
 }
 
 /// Whether all goes as the course says.
-pub fn goes<B: BoardName, R: Wait>(
+pub fn goes<B: HistoryName, R: Wait>(
     rt: &R,
     alloc: Global,
     running: &Running<B, Stepping>,

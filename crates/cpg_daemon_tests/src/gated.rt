@@ -1,11 +1,14 @@
 //! Clusters whose turns a gate holds.
 
 ghost use Rattle.std.specs.Prelude.{◌≡◌, ◌≤◌, IfOk};
+ghost use Rattle.cpg_history.specs.Histories.{first_world};
 
-use crate::sharing::{Told, ask, join, list_of_seven, next_told, node_of, refusal_in, settings_of};
+use crate::sharing::{
+    Told, ask, join, next_told, node_of, opened_for_seven, refusal_in, settings_of,
+};
 use cpg_board::Board;
-use cpg_cred::{AcceptList, By, Cred, NodeId, Refusal};
-use cpg_daemon::{BoardName, Cluster, Ends, Fate, Gate, Running, Session, Station};
+use cpg_cred::{By, Cred, NodeId, Refusal};
+use cpg_daemon::{Cluster, Ends, Fate, Gate, HistoryName, Member, Opened, Running, Session};
 use cpg_entry::Call;
 use cpg_record::Verdict;
 use std::alloc::Global;
@@ -80,7 +83,7 @@ impl Gate for Meeting {
 /// Whether the two nodes of the cluster meet.
 fn two_run<B, R: Threads + Wait>(rt: &R, cluster: Cluster<B, Meeting>, marks: &Marks) -> bool
 where
-    B: BoardName + Send + Sync + 'static,
+    B: HistoryName + Send + Sync + 'static,
 {
     let met = is_seen(&marks.first) && is_seen(&marks.second);
     drop(cluster.stop(rt));
@@ -92,60 +95,41 @@ fn two_start<B, R>(
     rt: R,
     alloc: Global,
     board: Board,
-    list: &AcceptList,
+    opened: Opened,
     gate: Meeting,
     marks: &Marks,
 ) -> bool
 where
-    B: BoardName + Send + Sync + 'static,
+    B: HistoryName + Send + Sync + 'static,
     R: Threads + Wait + Clock + Copy + Send + 'static,
-    requires { board ≡ B.cells }
+    requires board { board ≡ B.cells }
+    requires history { (opened.table ≡ B.table) × (first_world opened.start ≡ B.start) }
 {
-    match Cluster::<B, Meeting>::start(rt, alloc, settings_of(2), board, list, gate) {
+    match Cluster::<B, Meeting>::start(rt, alloc, board, opened, gate) {
         Ok(cluster) => two_run(&rt, cluster, marks),
         Err(_) => false,
     }
 }
 
-/// New marks, the gate that sets them, and a list of user 7.
-fn new_meeting(alloc: Global) -> Result<(Arc<Marks, Global>, Meeting, AcceptList), Refusal> {
-    let list = list_of_seven(alloc)?;
+/// New marks, and the gate that sets them.
+fn new_meeting(alloc: Global) -> Result<(Arc<Marks, Global>, Meeting), Refusal> {
     let marks = new_marks(alloc)?;
     let gate = Meeting {
         marks: Arc::try_clone(&marks)?,
     };
-    Ok((marks, gate, list))
-}
-
-/// Whether the two nodes of a cluster with that gate and list meet.
-fn two_gated<B, R>(
-    rt: R,
-    alloc: Global,
-    board: Board,
-    marks: Arc<Marks, Global>,
-    gate: Meeting,
-    list: AcceptList,
-) -> bool
-where
-    B: BoardName + Send + Sync + 'static,
-    R: Threads + Wait + Clock + Copy + Send + 'static,
-    requires { board ≡ B.cells }
-{
-    let answer = two_start::<B, R>(rt, alloc, board, &list, gate, &marks);
-    drop(list);
-    drop(marks);
-    answer
+    Ok((marks, gate))
 }
 
 /// Whether the two nodes of a cluster meet.
-fn two_meet<B, R>(rt: R, alloc: Global, board: Board) -> bool
+fn two_meet<B, R>(rt: R, alloc: Global, board: Board, opened: Opened) -> bool
 where
-    B: BoardName + Send + Sync + 'static,
+    B: HistoryName + Send + Sync + 'static,
     R: Threads + Wait + Clock + Copy + Send + 'static,
-    requires { board ≡ B.cells }
+    requires board { board ≡ B.cells }
+    requires history { (opened.table ≡ B.table) × (first_world opened.start ≡ B.start) }
 {
     match new_meeting(alloc) {
-        Ok((marks, gate, list)) => two_gated::<B, R>(rt, alloc, board, marks, gate, list),
+        Ok((marks, gate)) => two_start::<B, R>(rt, alloc, board, opened, gate, &marks),
         Err(_) => false,
     }
 }
@@ -154,7 +138,8 @@ where
 fn two_nodes_run_at_once(rt: HostRuntime) -> Result<(), Fail> {
     let board = Board::new(rt.alloc(), 10)?;
     let alloc = rt.alloc();
-    assert!(rt; two_meet::<Brand, HostRuntime>(rt, alloc, board));
+    let opened = opened_for_seven(alloc, settings_of(2))?;
+    assert!(rt; two_meet::<Brand, HostRuntime>(rt, alloc, board, opened));
     Ok(())
 }
 
@@ -175,7 +160,7 @@ impl Gate for Holding {
 }
 
 /// A session of user 7 at the node.
-fn connect<B: BoardName, R: Wait>(
+fn connect<B: HistoryName, R: Wait>(
     rt: &R,
     running: &Running<B, Holding>,
     node: NodeId,
@@ -187,14 +172,14 @@ fn connect<B: BoardName, R: Wait>(
 }
 
 /// Whether a join of `db` is put among those that wait.
-fn submits_join<B: BoardName, R: Wait>(
+fn submits_join<B: HistoryName, R: Wait>(
     rt: &R,
     alloc: Global,
     running: &Running<B, Holding>,
     session: &mut Session<B>,
 ) -> bool
     requires { session.old.who.id.node ≤ running.now.nodes }
-    ensures { session.new ≡ session.old }
+    ensures { session.new.who ≡ session.old.who }
 {
     match join(alloc) {
         Ok(call) => refusal_in(running.submit(rt, session, call)) == None,
@@ -203,7 +188,7 @@ fn submits_join<B: BoardName, R: Wait>(
 }
 
 /// Whether the session joins `db`, and then, the gate being open, is allowed at place 1.
-fn joins<B: BoardName, R: Wait>(
+fn joins<B: HistoryName, R: Wait>(
     rt: &R,
     alloc: Global,
     running: &Running<B, Holding>,
@@ -219,7 +204,7 @@ fn joins<B: BoardName, R: Wait>(
 }
 
 /// Whether that refuses all that the session asks for.
-fn is_refused<B: BoardName, R: Wait>(
+fn is_refused<B: HistoryName, R: Wait>(
     rt: &R,
     running: &Running<B, Holding>,
     session: &mut Session<B>,
@@ -234,7 +219,7 @@ fn is_refused<B: BoardName, R: Wait>(
 }
 
 /// Whether a session that was told more than its node has delivered is refused as Behind.
-fn is_behind<B: BoardName, R: Wait>(
+fn is_behind<B: HistoryName, R: Wait>(
     rt: &R,
     running: &Running<B, Holding>,
     ahead: &Session<B>,
@@ -248,7 +233,7 @@ fn is_behind<B: BoardName, R: Wait>(
 }
 
 /// Whether closing the session is answered with Stopped.
-fn closes_stopped<B: BoardName, R: Wait>(
+fn closes_stopped<B: HistoryName, R: Wait>(
     rt: &R,
     running: &Running<B, Holding>,
     session: Session<B>,
@@ -262,7 +247,7 @@ fn closes_stopped<B: BoardName, R: Wait>(
 }
 
 /// Whether all calls are answered with Stopped.
-fn is_stopped<B: BoardName, R: Wait>(
+fn is_stopped<B: HistoryName, R: Wait>(
     rt: &R,
     running: &Running<B, Holding>,
     node: NodeId,
@@ -280,7 +265,7 @@ fn is_stopped<B: BoardName, R: Wait>(
 }
 
 /// Whether the second session, behind the first, is refused, and then all are.
-fn refuses_behind<B: BoardName, R: Wait>(
+fn refuses_behind<B: HistoryName, R: Wait>(
     rt: &R,
     alloc: Global,
     running: &Running<B, Holding>,
@@ -301,7 +286,7 @@ fn refuses_behind<B: BoardName, R: Wait>(
 }
 
 /// Whether a session at the second node is refused so.
-fn refuses_second<B: BoardName, R: Wait>(
+fn refuses_second<B: HistoryName, R: Wait>(
     rt: &R,
     alloc: Global,
     running: &Running<B, Holding>,
@@ -319,7 +304,7 @@ fn refuses_second<B: BoardName, R: Wait>(
 }
 
 /// Whether a session ahead of its node is refused, and then all are.
-fn refuses<B: BoardName, R: Wait>(
+fn refuses<B: HistoryName, R: Wait>(
     rt: &R,
     alloc: Global,
     running: &Running<B, Holding>,
@@ -335,15 +320,15 @@ fn refuses<B: BoardName, R: Wait>(
 }
 
 /// The number of the node whose station it is, by its first connection.
-fn number_of<B: BoardName>(station: &Station<B>) -> Option<u8> {
-    match station.connection(1) {
+fn number_of<B: HistoryName>(member: &Member<B>) -> Option<u8> {
+    match member.station().connection(1) {
         Some(who) => Some(who.id.node.get()),
         None => None,
     }
 }
 
 /// Whether two nodes left their stations, node 1's first, and two links.
-fn are_left<B: BoardName>(ends: &Ends<B>) -> bool {
+fn are_left<B: HistoryName>(ends: &Ends<B>) -> bool {
     match ends.stations.as_slice() {
         [one, two] => number_of(one) == Some(1)
             && number_of(two) == Some(2)
@@ -353,14 +338,14 @@ fn are_left<B: BoardName>(ends: &Ends<B>) -> bool {
 }
 
 /// Whether what is left is so, which is let go.
-fn leaves_two<B: BoardName>(ends: Ends<B>) -> bool {
+fn leaves_two<B: HistoryName>(ends: Ends<B>) -> bool {
     let left = are_left(&ends);
     drop(ends);
     left
 }
 
 /// Whether the running nodes 1 and 2 do so.
-fn two_refuse<B: BoardName, R: Wait>(
+fn two_refuse<B: HistoryName, R: Wait>(
     rt: &R,
     alloc: Global,
     running: &Running<B, Holding>,
@@ -382,7 +367,7 @@ fn held_runs<B, R: Threads + Wait>(
     open: &AtomicBool,
 ) -> bool
 where
-    B: BoardName + Send + Sync + 'static,
+    B: HistoryName + Send + Sync + 'static,
     requires { 2 ≤ cluster.nodes }
 {
     let refused = two_refuse(rt, alloc, &cluster, open);
@@ -394,60 +379,43 @@ fn held_starts<B, R>(
     rt: R,
     alloc: Global,
     board: Board,
-    list: &AcceptList,
+    opened: Opened,
     gate: Holding,
     open: &AtomicBool,
 ) -> bool
 where
-    B: BoardName + Send + Sync + 'static,
+    B: HistoryName + Send + Sync + 'static,
     R: Threads + Wait + Clock + Copy + Send + 'static,
-    requires { board ≡ B.cells }
+    requires board { board ≡ B.cells }
+    requires history { (opened.table ≡ B.table) × (first_world opened.start ≡ B.start) }
+    requires nodes { opened.start.settings.nodes ≡ 2 }
 {
-    match Cluster::<B, Holding>::start(rt, alloc, settings_of(2), board, list, gate) {
+    match Cluster::<B, Holding>::start(rt, alloc, board, opened, gate) {
         Ok(cluster) => held_runs(&rt, alloc, cluster, open),
         Err(_) => false,
     }
 }
 
-/// What opens the gate, the gate, and a list of user 7.
-fn new_holding(alloc: Global) -> Result<(Arc<AtomicBool, Global>, Holding, AcceptList), Refusal> {
-    let list = list_of_seven(alloc)?;
+/// What opens the gate, and the gate.
+fn new_holding(alloc: Global) -> Result<(Arc<AtomicBool, Global>, Holding), Refusal> {
     let open = Arc::new(alloc, AtomicBool::new(false))?;
     let gate = Holding {
         open: Arc::try_clone(&open)?,
     };
-    Ok((open, gate, list))
-}
-
-/// Whether a cluster with that gate and list does so.
-fn held_gated<B, R>(
-    rt: R,
-    alloc: Global,
-    board: Board,
-    open: Arc<AtomicBool, Global>,
-    gate: Holding,
-    list: AcceptList,
-) -> bool
-where
-    B: BoardName + Send + Sync + 'static,
-    R: Threads + Wait + Clock + Copy + Send + 'static,
-    requires { board ≡ B.cells }
-{
-    let answer = held_starts::<B, R>(rt, alloc, board, &list, gate, &open);
-    drop(list);
-    drop(open);
-    answer
+    Ok((open, gate))
 }
 
 /// Whether a cluster whose node 2 is held does so.
-fn held_goes<B, R>(rt: R, alloc: Global, board: Board) -> bool
+fn held_goes<B, R>(rt: R, alloc: Global, board: Board, opened: Opened) -> bool
 where
-    B: BoardName + Send + Sync + 'static,
+    B: HistoryName + Send + Sync + 'static,
     R: Threads + Wait + Clock + Copy + Send + 'static,
-    requires { board ≡ B.cells }
+    requires board { board ≡ B.cells }
+    requires history { (opened.table ≡ B.table) × (first_world opened.start ≡ B.start) }
+    requires nodes { opened.start.settings.nodes ≡ 2 }
 {
     match new_holding(alloc) {
-        Ok((open, gate, list)) => held_gated::<B, R>(rt, alloc, board, open, gate, list),
+        Ok((open, gate)) => held_starts::<B, R>(rt, alloc, board, opened, gate, &open),
         Err(_) => false,
     }
 }
@@ -456,6 +424,7 @@ where
 fn a_held_node_is_behind(rt: HostRuntime) -> Result<(), Fail> {
     let board = Board::new(rt.alloc(), 100)?;
     let alloc = rt.alloc();
-    assert!(rt; held_goes::<Brand, HostRuntime>(rt, alloc, board));
+    let opened = opened_for_seven(alloc, settings_of(2))?;
+    assert!(rt; held_goes::<Brand, HostRuntime>(rt, alloc, board, opened));
     Ok(())
 }

@@ -1,59 +1,36 @@
 //! What a stopped cluster leaves: its stations in their order, and the frames in its links.
 
 use crate::courses::{Course, Row};
-use bytes::Bytes;
-use cpg_cred::Refusal;
-use cpg_daemon::{BoardName, Ends, LinkRx, LinkTx, Station};
-use std::alloc::Global;
+use cpg_daemon::{Ends, HistoryName, LinkRx, LinkTx, Member, Parcel};
 use std::sync::Wait;
 
-/// The first token of ring 1, but for its last place, which is 1,048,576.
-const TOKEN: [u8; 25] = [
-    0x43, 2, 2, 0, 0, 0, 1, 0, 0, 0, 0, 0, 0, 0, 0, 0, 0x10, 0, 0, 0, 0, 0, 0, 0, 0,
-];
-
-/// The last hop of a ring of 2^62 hops that is for the node.
-fn last_hop(nodes: u8, number: u8) -> u64 {
-    let most = (1u64 << 62) - 1;
-    most - (most - u64::from(number.saturating_sub(1))) % u64::from(nodes.max(1))
-}
-
-/// A token of ring 1 with that hop, whose last place is the last of the widest ring.
-fn token_with(hop: u64) -> [u8; 25] {
-    let mut bytes = TOKEN;
-    for (index, byte) in hop.to_be_bytes().iter().enumerate() {
-        bytes[7 + index] = *byte;
-    }
-    bytes
-}
-
-/// Whether the station is the node's of that number, with the settings of the widest ring: it passes the last
-/// token for that node on.
-fn is_station<B: BoardName>(station: &mut Station<B>, nodes: u8, number: u8) -> bool {
-    let is_its = match station.connection(1) {
+/// Whether it is the halted station of the node of that number.
+fn is_station<B: HistoryName>(member: &Member<B>, number: u8) -> bool {
+    let is_its = match member.station().connection(1) {
         Some(who) => who.id.node.get() == number,
         None => false,
     };
-    is_its
-        && station
-            .frame(token_with(last_hop(nodes, number)).as_slice())
-            .is_ok()
+    is_its && member.id().get() == number && member.is_halted() && !member.is_spare()
 }
 
 /// Whether these are the stations of so many nodes, in their order.
-fn are_stations<B: BoardName>(stations: &mut [Station<B>], nodes: u8) -> bool {
+fn are_stations<B: HistoryName>(stations: &[Member<B>], nodes: u8) -> bool {
     let mut number = 0u8;
-    for station in stations.iter_mut() {
+    for member in stations {
         number = number.saturating_add(1);
-        if !is_station(station, nodes, number) {
+        if !is_station(member, number) {
             return false;
         }
     }
     number == nodes
 }
 
-/// How many frames are in the link, and whether one of them is of more than 8,192 bytes.
-fn drain<R: Wait>(rt: &R, receiver: &mut LinkRx) -> (usize, bool) {
+/// How many frames are in the link, and whether one of them is of more than 8,192 bytes. The last of them is kept.
+fn drain<B: HistoryName, R: Wait>(
+    rt: &R,
+    receiver: &mut LinkRx<Parcel<B>>,
+    last: &mut Option<Parcel<B>>,
+) -> (usize, bool) {
     let mut count = 0usize;
     let mut long = false;
     for _ in 0..5_000 {
@@ -61,24 +38,10 @@ fn drain<R: Wait>(rt: &R, receiver: &mut LinkRx) -> (usize, bool) {
             break;
         };
         count = count.saturating_add(1);
-        long = long || frame.as_slice().len() > 8_192;
+        long = long || frame.bytes().len() > 8_192;
+        *last = Some(frame);
     }
     (count, long)
-}
-
-/// Whether a frame that is put comes out at the other end.
-fn carries<R: Wait>(
-    rt: &R,
-    alloc: Global,
-    sender: &mut LinkTx,
-    receiver: &mut LinkRx,
-) -> Result<bool, Refusal> {
-    let frame = Bytes::copy_from_slice(alloc, b"frame")?;
-    let put = sender.put(rt, frame).is_ok();
-    match receiver.take(rt) {
-        Some(taken) => Ok(put && taken.as_slice() == b"frame".as_slice()),
-        None => Ok(false),
-    }
 }
 
 /// How many frames the row leaves from one node to another.
@@ -91,25 +54,21 @@ fn wanted(row: Row, from: u8, to: u8) -> usize {
     }
 }
 
-/// Whether the link leaves what the row says, the long message among it, and its ends are those of one link.
-fn is_link<R: Wait>(
+/// Whether the link leaves what the row says, the long message among it.
+fn is_link<B: HistoryName, R: Wait>(
     rt: &R,
-    alloc: Global,
     row: Row,
     way: (u8, u8),
-    sender: &mut LinkTx,
-    receiver: &mut LinkRx,
+    receiver: &mut LinkRx<Parcel<B>>,
+    last: &mut Option<Parcel<B>>,
 ) -> bool {
     let count = wanted(row, way.0, way.1);
-    let is_right = match row.course {
-        Course::Free | Course::Many => {
-            drain(rt, receiver);
-            true
-        }
-        Course::Turn => drain(rt, receiver) == (count, count > 1),
-        _ => drain(rt, receiver) == (count, false),
-    };
-    is_right && carries(rt, alloc, sender, receiver) == Ok(true)
+    let drained = drain(rt, receiver, last);
+    match row.course {
+        Course::Free | Course::Many => true,
+        Course::Turn => drained == (count, count > 1),
+        _ => drained == (count, false),
+    }
 }
 
 /// The node to which the next link goes that comes from the node, after one that goes to that.
@@ -123,12 +82,17 @@ fn target_after(from: u8, to: u8) -> u8 {
 }
 
 /// Whether the links are those of the row, in the order of the nodes that they come from, and then of those that
-/// they go to.
-fn are_links<R: Wait>(rt: &R, alloc: Global, row: Row, links: &mut [(LinkTx, LinkRx)]) -> bool {
+/// they go to. They are empty then, and the last frame is kept.
+fn are_links<B: HistoryName, R: Wait>(
+    rt: &R,
+    row: Row,
+    links: &mut [(LinkTx<Parcel<B>>, LinkRx<Parcel<B>>)],
+    last: &mut Option<Parcel<B>>,
+) -> bool {
     let mut way = if row.nodes == 1 { (1, 1) } else { (1, 2) };
     let mut count = 0u8;
-    for (sender, receiver) in links.iter_mut() {
-        if !is_link(rt, alloc, row, way, sender, receiver) {
+    for (_, receiver) in links.iter_mut() {
+        if !is_link(rt, row, way, receiver, last) {
             return false;
         }
         count = count.saturating_add(1);
@@ -143,10 +107,54 @@ fn are_links<R: Wait>(rt: &R, alloc: Global, row: Row, links: &mut [(LinkTx, Lin
     u32::from(count) == u32::from(row.nodes) * u32::from(row.nodes.saturating_sub(1).max(1))
 }
 
+/// The frame, which is put into the link, as it comes out at the other end.
+fn carried<B: HistoryName, R: Wait>(
+    rt: &R,
+    sender: &mut LinkTx<Parcel<B>>,
+    receiver: &mut LinkRx<Parcel<B>>,
+    frame: Parcel<B>,
+) -> Option<Parcel<B>> {
+    match sender.put(rt, frame) {
+        Ok(()) => receiver.take(rt),
+        Err(_) => None,
+    }
+}
+
+/// Whether the two ends of each pair are those of one link: the frame goes through each of the empty links.
+fn are_paired<B: HistoryName, R: Wait>(
+    rt: &R,
+    links: &mut [(LinkTx<Parcel<B>>, LinkRx<Parcel<B>>)],
+    frame: Parcel<B>,
+) -> bool {
+    let mut on_its_way = frame;
+    for (sender, receiver) in links.iter_mut() {
+        match carried(rt, sender, receiver, on_its_way) {
+            Some(frame) => on_its_way = frame,
+            None => return false,
+        }
+    }
+    true
+}
+
+/// Whether the links are those of the row, and where one has a frame, the pairs are of one link each.
+fn are_links_of<B: HistoryName, R: Wait>(
+    rt: &R,
+    row: Row,
+    links: &mut [(LinkTx<Parcel<B>>, LinkRx<Parcel<B>>)],
+) -> bool {
+    let mut last = None;
+    let are_right = are_links(rt, row, links, &mut last);
+    are_right
+        && match last {
+            Some(frame) => are_paired(rt, links, frame),
+            None => true,
+        }
+}
+
 /// Whether that is what the row leaves, which is let go.
-pub fn are_left<B: BoardName, R: Wait>(rt: &R, alloc: Global, row: Row, mut ends: Ends<B>) -> bool {
-    let stations = are_stations(ends.stations.as_mut_slice(), row.nodes);
-    let links = are_links(rt, alloc, row, ends.links.as_mut_slice());
+pub fn are_left<B: HistoryName, R: Wait>(rt: &R, row: Row, mut ends: Ends<B>) -> bool {
+    let stations = are_stations(ends.stations.as_slice(), row.nodes);
+    let links = are_links_of(rt, row, ends.links.as_mut_slice());
     drop(ends);
     stations && links
 }

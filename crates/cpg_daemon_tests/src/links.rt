@@ -22,13 +22,18 @@ fn frame_of(alloc: Global, number: u16) -> Result<Bytes, Refusal> {
 }
 
 /// Whether the link takes the frame of that number.
-fn puts<R: Wait>(rt: &R, alloc: Global, sender: &mut LinkTx, number: u16) -> Result<bool, Refusal> {
+fn puts<R: Wait>(
+    rt: &R,
+    alloc: Global,
+    sender: &mut LinkTx<Bytes>,
+    number: u16,
+) -> Result<bool, Refusal> {
     let frame = frame_of(alloc, number)?;
     Ok(sender.put(rt, frame).is_ok())
 }
 
 /// Whether the next frame that comes out is that of the number.
-fn takes<R: Wait>(rt: &R, receiver: &mut LinkRx, number: u16) -> bool {
+fn takes<R: Wait>(rt: &R, receiver: &mut LinkRx<Bytes>, number: u16) -> bool {
     match receiver.take(rt) {
         Some(frame) => {
             frame.as_slice().len() == length_of(number)

@@ -3,7 +3,7 @@
 ghost use Rattle.std.specs.Prelude.{◌≡◌, ◌≤◌, IfOk};
 
 use cpg_cred::{AcceptList, Cred, NodeId, Refusal, Refused};
-use cpg_daemon::{BoardName, Gate, Running, Session};
+use cpg_daemon::{Beginning, Gate, HistoryName, Opened, Running, Session};
 use cpg_entry::{Call, Name};
 use cpg_node::{Event, Settings};
 use cpg_record::Verdict;
@@ -40,7 +40,7 @@ pub fn node_of(number: u8) -> Result<NodeId, Refusal>
 }
 
 /// A list of user 7.
-pub fn list_of_seven(alloc: Global) -> Result<AcceptList, Refusal> {
+fn list_of_seven(alloc: Global) -> Result<AcceptList, Refusal> {
     let mut list = AcceptList::new(alloc);
     match list.add_uid(7) {
         Ok(()) => Ok(list),
@@ -49,6 +49,22 @@ pub fn list_of_seven(alloc: Global) -> Result<AcceptList, Refusal> {
             Err(refusal)
         }
     }
+}
+
+/// A history that begins with a new world of those settings, and lets in user 0 alone.
+pub fn opened_of(alloc: Global, settings: Settings) -> Result<Opened, Refusal>
+    ensures { IfOk result (λ opened. opened.start.settings ≡ settings) }
+{
+    let list = AcceptList::new(alloc);
+    Ok(Opened::new(alloc, Beginning { settings, list })?)
+}
+
+/// A history that begins with a new world of those settings, and lets in user 7.
+pub fn opened_for_seven(alloc: Global, settings: Settings) -> Result<Opened, Refusal>
+    ensures { IfOk result (λ opened. opened.start.settings ≡ settings) }
+{
+    let list = list_of_seven(alloc)?;
+    Ok(Opened::new(alloc, Beginning { settings, list })?)
 }
 
 /// A call to join `db`.
@@ -95,7 +111,7 @@ fn told_by(event: Event) -> Told {
 }
 
 /// The session asks for its next event once.
-pub fn ask<B: BoardName, G: Gate, R: Wait>(
+pub fn ask<B: HistoryName, G: Gate, R: Wait>(
     rt: &R,
     running: &Running<B, G>,
     session: &mut Session<B>,
@@ -111,7 +127,7 @@ pub fn ask<B: BoardName, G: Gate, R: Wait>(
 }
 
 /// What the session is told next, which asks again after None or Behind.
-pub fn next_told<B: BoardName, G: Gate, R: Wait>(
+pub fn next_told<B: HistoryName, G: Gate, R: Wait>(
     rt: &R,
     running: &Running<B, G>,
     session: &mut Session<B>,

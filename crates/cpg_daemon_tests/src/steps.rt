@@ -1,14 +1,15 @@
 //! Clusters of 1 to 8 nodes, whose turns are let go one after the other: what each turn sends, and what is left.
 
 ghost use Rattle.std.specs.Prelude.{◌≡◌};
+ghost use Rattle.cpg_history.specs.Histories.{first_world};
 
 use crate::courses::{Course, Row, goes};
 use crate::left::are_left;
-use crate::sharing::list_of_seven;
+use crate::sharing::opened_for_seven;
 use crate::stepping::{Marks, Plan, Stepping, new_marks};
 use cpg_board::Board;
 use cpg_cred::Refusal;
-use cpg_daemon::{BoardName, Cluster};
+use cpg_daemon::{Cluster, HistoryName, Opened};
 use cpg_node::Settings;
 use std::alloc::Global;
 use std::marker::Brand;
@@ -29,32 +30,43 @@ fn cluster_goes<B, R: Threads + Wait>(
     row: Row,
 ) -> bool
 where
-    B: BoardName + Send + Sync + 'static,
+    B: HistoryName + Send + Sync + 'static,
 {
     let gone = goes(rt, alloc, &cluster, marks, row.course);
-    are_left(rt, alloc, row, cluster.stop(rt)) && gone
+    are_left(rt, row, cluster.stop(rt)) && gone
 }
 
-/// Whether a new cluster of the row's nodes and the widest settings does so.
-fn row_goes<B, R>(rt: R, alloc: Global, board: Board, row: Row) -> Result<bool, Refusal>
-where
-    B: BoardName + Send + Sync + 'static,
-    R: Threads + Wait + Clock + Copy + Send + 'static,
-    requires { board ≡ B.cells }
-{
+/// A history of the row's nodes with the widest settings, which lets in user 7.
+fn opened_for(alloc: Global, row: Row) -> Result<Opened, Refusal> {
     let settings = Settings {
         ring: 1,
         nodes: row.nodes,
         places: PLACES,
         hops: 1 << 62,
     };
-    let list = list_of_seven(alloc)?;
+    opened_for_seven(alloc, settings)
+}
+
+/// Whether a new cluster of that history does so.
+fn row_goes<B, R>(
+    rt: R,
+    alloc: Global,
+    board: Board,
+    opened: Opened,
+    row: Row,
+) -> Result<bool, Refusal>
+where
+    B: HistoryName + Send + Sync + 'static,
+    R: Threads + Wait + Clock + Copy + Send + 'static,
+    requires board { board ≡ B.cells }
+    requires history { (opened.table ≡ B.table) × (first_world opened.start ≡ B.start) }
+{
     let marks = new_marks(alloc)?;
     let gate = Stepping {
         plan: row.plan,
         marks: Arc::try_clone(&marks)?,
     };
-    let cluster = Cluster::<B, Stepping>::start(rt, alloc, settings, board, &list, gate)?;
+    let cluster = Cluster::<B, Stepping>::start(rt, alloc, board, opened, gate)?;
     Ok(cluster_goes(&rt, alloc, cluster, &marks, row))
 }
 
@@ -87,7 +99,8 @@ fn a_start_puts_the_first_token_alone(rt: HostRuntime) -> Result<(), Fail> {
         let board = Board::new(rt.alloc(), PLACES)?;
         let alloc = rt.alloc();
         let row = row_of(nodes, Course::Held);
-        assert!(rt; row_goes::<Brand, HostRuntime>(rt, alloc, board, row) == Ok(true));
+        let opened = opened_for(alloc, row)?;
+        assert!(rt; row_goes::<Brand, HostRuntime>(rt, alloc, board, opened, row) == Ok(true));
     }
     Ok(())
 }
@@ -98,7 +111,8 @@ fn a_turn_sends_data_to_all_and_the_token_to_the_next(rt: HostRuntime) -> Result
         let board = Board::new(rt.alloc(), PLACES)?;
         let alloc = rt.alloc();
         let row = turn_of(nodes);
-        assert!(rt; row_goes::<Brand, HostRuntime>(rt, alloc, board, row) == Ok(true));
+        let opened = opened_for(alloc, row)?;
+        assert!(rt; row_goes::<Brand, HostRuntime>(rt, alloc, board, opened, row) == Ok(true));
     }
     Ok(())
 }
@@ -109,7 +123,8 @@ fn each_node_is_served(rt: HostRuntime) -> Result<(), Fail> {
         let board = Board::new(rt.alloc(), PLACES)?;
         let alloc = rt.alloc();
         let row = row_of(nodes, Course::Free);
-        assert!(rt; row_goes::<Brand, HostRuntime>(rt, alloc, board, row) == Ok(true));
+        let opened = opened_for(alloc, row)?;
+        assert!(rt; row_goes::<Brand, HostRuntime>(rt, alloc, board, opened, row) == Ok(true));
     }
     Ok(())
 }
@@ -159,7 +174,8 @@ fn turns_obey_the_gate(rt: HostRuntime) -> Result<(), Fail> {
     for row in fated_rows() {
         let board = Board::new(rt.alloc(), PLACES)?;
         let alloc = rt.alloc();
-        assert!(rt; row_goes::<Brand, HostRuntime>(rt, alloc, board, row) == Ok(true));
+        let opened = opened_for(alloc, row)?;
+        assert!(rt; row_goes::<Brand, HostRuntime>(rt, alloc, board, opened, row) == Ok(true));
     }
     Ok(())
 }

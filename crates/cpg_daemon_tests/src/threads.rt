@@ -3,11 +3,12 @@
 ghost use Rattle.std.specs.Prelude.{◌≡◌, ◌≤◌, IfOk, vec_len};
 ghost use Rattle.std.specs.Thread.{IsSync};
 ghost use Rattle.cpg_board.specs.Seats.{IsSeatOf};
+ghost use Rattle.cpg_history.specs.Histories.{first_world};
 
-use crate::sharing::{ROOT, Told, next_told, node_of, refusal_in, settings_of};
+use crate::sharing::{ROOT, Told, next_told, opened_of, refusal_in, settings_of};
 use cpg_board::{Board, Seat};
-use cpg_cred::{AcceptList, NodeId, Refusal};
-use cpg_daemon::{BoardName, Cluster, Ends, PassAll, Running, Session, Station};
+use cpg_cred::{NodeId, Refusal};
+use cpg_daemon::{Cluster, Ends, HistoryName, Opened, PassAll, Running, Session};
 use cpg_entry::{Call, Name, Op};
 use cpg_group::verify;
 use cpg_record::{Reason, Record, Verdict};
@@ -25,7 +26,7 @@ fn remove(alloc: Global, id: u32) -> Result<Call, Refusal> {
 }
 
 /// Whether the removal is put among those that wait.
-fn submits<B: BoardName, R: Wait>(
+fn submits<B: HistoryName, R: Wait>(
     rt: &R,
     alloc: Global,
     running: &Running<B, PassAll>,
@@ -33,7 +34,7 @@ fn submits<B: BoardName, R: Wait>(
     id: u32,
 ) -> bool
     requires { session.old.who.id.node ≤ running.now.nodes }
-    ensures { session.new ≡ session.old }
+    ensures { session.new.who ≡ session.old.who }
 {
     match remove(alloc, id) {
         Ok(call) => refusal_in(running.submit(rt, session, call)) == None,
@@ -42,7 +43,7 @@ fn submits<B: BoardName, R: Wait>(
 }
 
 /// Whether ten removals are put among those that wait.
-fn submits_ten<B: BoardName, R: Wait>(
+fn submits_ten<B: HistoryName, R: Wait>(
     rt: &R,
     alloc: Global,
     running: &Running<B, PassAll>,
@@ -50,7 +51,7 @@ fn submits_ten<B: BoardName, R: Wait>(
     batch: u8,
 ) -> bool
     requires { session.old.who.id.node ≤ running.now.nodes }
-    ensures { session.new ≡ session.old }
+    ensures { session.new.who ≡ session.old.who }
 {
     for step in 0u8..10 {
         let id = u32::from(batch) * 10 + u32::from(step) + 1;
@@ -62,7 +63,7 @@ fn submits_ten<B: BoardName, R: Wait>(
 }
 
 /// Whether the session is told next that its removal is denied, since no rule has that number.
-fn takes_denial<B: BoardName, R: Wait>(
+fn takes_denial<B: HistoryName, R: Wait>(
     rt: &R,
     running: &Running<B, PassAll>,
     session: &mut Session<B>,
@@ -77,7 +78,7 @@ fn takes_denial<B: BoardName, R: Wait>(
 }
 
 /// Whether it is told so ten times.
-fn takes_ten<B: BoardName, R: Wait>(
+fn takes_ten<B: HistoryName, R: Wait>(
     rt: &R,
     running: &Running<B, PassAll>,
     session: &mut Session<B>,
@@ -94,7 +95,7 @@ fn takes_ten<B: BoardName, R: Wait>(
 }
 
 /// Whether a hundred removals are denied, ten at a time.
-fn goes<B: BoardName, R: Wait>(
+fn goes<B: HistoryName, R: Wait>(
     rt: &R,
     alloc: Global,
     running: &Running<B, PassAll>,
@@ -114,7 +115,7 @@ fn goes<B: BoardName, R: Wait>(
 }
 
 /// The session of a process of the root user at the node, once it was denied a hundred removals.
-fn serve<B: BoardName, R: Wait>(
+fn serve<B: HistoryName, R: Wait>(
     rt: &R,
     alloc: Global,
     running: &Running<B, PassAll>,
@@ -136,7 +137,7 @@ fn serve<B: BoardName, R: Wait>(
 }
 
 /// Such a session at the node of that number.
-fn client<B: BoardName, R: Wait>(
+fn client<B: HistoryName, R: Wait>(
     rt: &R,
     alloc: Global,
     running: &Running<B, PassAll>,
@@ -151,7 +152,7 @@ fn client<B: BoardName, R: Wait>(
 }
 
 /// Such sessions at nodes 2 and 3, in two threads.
-fn two_clients<B: BoardName + Send + Sync, R: Threads + Wait + Sync>(
+fn two_clients<B: HistoryName + Send + Sync, R: Threads + Wait + Sync>(
     rt: &R,
     alloc: Global,
     running: &Running<B, PassAll>,
@@ -166,7 +167,7 @@ fn two_clients<B: BoardName + Send + Sync, R: Threads + Wait + Sync>(
 }
 
 /// Such sessions at the three nodes, in three threads.
-fn three_clients<B: BoardName + Send + Sync, R: Threads + Wait + Sync>(
+fn three_clients<B: HistoryName + Send + Sync, R: Threads + Wait + Sync>(
     rt: &R,
     alloc: Global,
     running: &Running<B, PassAll>,
@@ -183,7 +184,7 @@ fn three_clients<B: BoardName + Send + Sync, R: Threads + Wait + Sync>(
 }
 
 /// The auditor's seat catches up with a session's.
-fn catch_up<B: BoardName>(
+fn catch_up<B: HistoryName>(
     running: &Running<B, PassAll>,
     seat: &mut Seat,
     session: &Session<B>,
@@ -208,7 +209,7 @@ fn copies_of(alloc: Global, board: &Board, seat: &Seat) -> Result<Vec<Record>, R
 }
 
 /// What an auditor knows that caught up with the three sessions.
-fn audited<B: BoardName>(
+fn audited<B: HistoryName>(
     alloc: Global,
     running: &Running<B, PassAll>,
     one: &Session<B>,
@@ -225,7 +226,7 @@ fn audited<B: BoardName>(
 }
 
 /// What an auditor knows that caught up with the three sessions, if all are there.
-fn audited_all<B: BoardName>(
+fn audited_all<B: HistoryName>(
     alloc: Global,
     running: &Running<B, PassAll>,
     one: &Option<Session<B>>,
@@ -239,7 +240,7 @@ fn audited_all<B: BoardName>(
 }
 
 /// What the sessions of three clients saw, once all have gone.
-fn seen_by_three<B: BoardName + Send + Sync, R: Threads + Wait + Sync>(
+fn seen_by_three<B: HistoryName + Send + Sync, R: Threads + Wait + Sync>(
     rt: &R,
     alloc: Global,
     running: &Running<B, PassAll>,
@@ -291,12 +292,12 @@ fn begins(audit: &[Record], records: &[Record]) -> bool {
 }
 
 /// Whether three stations are left, whose audits begin the records.
-fn are_left<B: BoardName>(ends: &Ends<B>, records: &[Record]) -> bool {
+fn are_left<B: HistoryName>(ends: &Ends<B>, records: &[Record]) -> bool {
     match ends.stations.as_slice() {
         [one, two, three] => {
-            begins(one.audit(), records)
-                && begins(two.audit(), records)
-                && begins(three.audit(), records)
+            begins(one.station().audit(), records)
+                && begins(two.station().audit(), records)
+                && begins(three.station().audit(), records)
                 && ends.links.len() == 6
         }
         _ => false,
@@ -304,14 +305,14 @@ fn are_left<B: BoardName>(ends: &Ends<B>, records: &[Record]) -> bool {
 }
 
 /// Whether the records are sound, and what is left, which is let go, begins them.
-fn are_right<B: BoardName>(alloc: Global, ends: Ends<B>, records: &[Record]) -> bool {
+fn are_right<B: HistoryName>(alloc: Global, ends: Ends<B>, records: &[Record]) -> bool {
     let left = are_left(&ends, records);
     drop(ends);
     left && are_sound(alloc, records)
 }
 
 /// Whether the cluster, which has stopped, was seen to serve three clients so.
-fn are_served<B: BoardName>(
+fn are_served<B: HistoryName>(
     alloc: Global,
     ends: Ends<B>,
     seen: Result<Vec<Record>, Refusal>,
@@ -329,43 +330,33 @@ fn three_run<B, R: Threads + Wait + Sync>(
     cluster: Cluster<B, PassAll>,
 ) -> bool
 where
-    B: BoardName + Send + Sync + 'static,
+    B: HistoryName + Send + Sync + 'static,
     requires { 3 ≤ cluster.nodes }
 {
     let seen = seen_by_three(rt, alloc, &cluster);
     are_served(alloc, cluster.stop(rt), seen)
 }
 
-/// Whether a cluster of three nodes serves three clients so, with that list.
-fn three_start<B, R>(rt: R, alloc: Global, board: Board, list: &AcceptList) -> bool
+/// Whether a cluster of three nodes serves three clients so.
+fn three_go<B, R>(rt: R, alloc: Global, board: Board, opened: Opened) -> bool
 where
-    B: BoardName + Send + Sync + 'static,
+    B: HistoryName + Send + Sync + 'static,
     R: Threads + Wait + Clock + Copy + Send + Sync + 'static,
-    requires { board ≡ B.cells }
+    requires board { board ≡ B.cells }
+    requires history { (opened.table ≡ B.table) × (first_world opened.start ≡ B.start) }
+    requires nodes { opened.start.settings.nodes ≡ 3 }
 {
-    match Cluster::<B, PassAll>::start(rt, alloc, settings_of(3), board, list, PassAll) {
+    match Cluster::<B, PassAll>::start(rt, alloc, board, opened, PassAll) {
         Ok(cluster) => three_run(&rt, alloc, cluster),
         Err(_) => false,
     }
-}
-
-/// Whether a cluster of three nodes serves three clients so.
-fn three_go<B, R>(rt: R, alloc: Global, board: Board) -> bool
-where
-    B: BoardName + Send + Sync + 'static,
-    R: Threads + Wait + Clock + Copy + Send + Sync + 'static,
-    requires { board ≡ B.cells }
-{
-    let list = AcceptList::new(alloc);
-    let answer = three_start::<B, R>(rt, alloc, board, &list);
-    drop(list);
-    answer
 }
 
 #[test]
 fn three_threads_are_served(rt: HostRuntime) -> Result<(), Fail> {
     let board = Board::new(rt.alloc(), 4_096)?;
     let alloc = rt.alloc();
-    assert!(rt; three_go::<Brand, HostRuntime>(rt, alloc, board));
+    let opened = opened_of(alloc, settings_of(3))?;
+    assert!(rt; three_go::<Brand, HostRuntime>(rt, alloc, board, opened));
     Ok(())
 }

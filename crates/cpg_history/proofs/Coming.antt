@@ -1,5 +1,5 @@
 -- What an event that came to the history does at its node.
-use Rattle.std.proofs.Common.{◌≡◌, ℕ, zero, suc, List, [], ◌∷◌, ◌++◌, length, set, slice_get, Some, refl, sym, ap, ◌∙◌, subst}
+use Rattle.std.proofs.Common.{◌≡◌, ℕ, zero, suc, Bool, false, true≢false, List, [], ◌∷◌, ◌++◌, length, set, slice_get, Some, refl, sym, ap, ◌∙◌, subst}
 use Rattle.std.proofs.lemmas.Option.{none-some}
 use Rattle.cpg_world_laws.specs.declared.events.WorldEvent.{WorldEvent}
 use Rattle.cpg_history.specs.declared.histories.View.{View}
@@ -8,9 +8,10 @@ use Rattle.cpg_ring.specs.States.{Frame}
 use Rattle.cpg_ring.specs.Worlds.{item, with_item}
 use Rattle.cpg_node.specs.Nodes.{NodeValue}
 use Rattle.cpg_world_laws.specs.Worlds.{WorldValue, moves, moved, node_in, runs}
+use Rattle.cpg_station.specs.Stations.{StationValue}
 use Rattle.cpg_history.specs.Histories.{Came, later}
 use Rattle.cpg_world_laws.specs.Replies.{Answer, IsReply, IsAnswerAt, IsAnswerOf}
-use Rattle.cpg_history.specs.Members.{MemberValue, IsAt, Replied, member}
+use Rattle.cpg_history.specs.Members.{MemberValue, IsAt, IsNew, IsPenOf, IsMember, Replied, Told, member}
 use Rattle.cpg_history.proofs.Runs.{runs_on}
 
 set_same : {X : Type 0} (xs : List X) (i : ℕ) (y x : X) → slice_get xs i ≡ Some x → slice_get (set xs i y) i ≡ Some y
@@ -52,31 +53,49 @@ module _ (start : WorldValue) (v : View) (e : WorldEvent) (stamp : ℕ) (value :
   replies a is = subst (λ o. IsAnswerOf w.sent e o a) (sym was_at) is
 
 -- the same, told of a member that had seen as much as the view
-abbrev pub replied : (start : WorldValue) (v : View) (also : List WorldEvent) (e : WorldEvent) (stamp id : ℕ) (x y : NodeValue) (seen more : List WorldEvent) (c : Came start v e stamp seen) (a : Answer) → node_in e ≡ id → IsAt start v.seen id x → IsPrefix also c.log → IsAnswerAt (runs start c.log).sent e x a → (moves (runs start c.log).sent e x).0 ≡ y → Replied start (member id x v.seen also) e a (member id y seen more)
-replied start v also e stamp id x y seen more c a is at begins told moved =
-    let at' : IsAt start v.seen (node_in e) x = subst (λ n. IsAt start v.seen n x) (sym is) at in
+abbrev pub replied : (start : WorldValue) (v : View) (e : WorldEvent) (stamp id : ℕ) (s t : StationValue) (spare : Bool) (seen : List WorldEvent) (c : Came start v e stamp seen) (a : Answer) → node_in e ≡ id → IsAt start v.seen id s.node → IsAnswerAt (runs start c.log).sent e s.node a → (moves (runs start c.log).sent e s.node).0 ≡ t.node → Replied start (member id s spare v.seen) e a (member id t spare seen)
+replied start v e stamp id s t spare seen c a is at told moved =
+    let at' : IsAt start v.seen (node_in e) s.node = subst (λ n. IsAt start v.seen n s.node) (sym is) at in
     record {
       log = c.log;
       begins = c.before;
-      also = begins;
-      was = subst (λ n. IsAt start c.log n x) is (was_at start v e stamp x seen c at');
-      reply = replies start v e stamp x seen c at' a told;
+      was = subst (λ n. IsAt start c.log n s.node) is (was_at start v e stamp s.node seen c at');
+      reply = replies start v e stamp s.node seen c at' a told;
       id = refl;
       seen = c.after;
-      now = subst (λ n. IsAt start seen n y) is (now_at start v e stamp x seen c at' y moved);
+      now = subst (λ n. IsAt start seen n t.node) is (now_at start v e stamp s.node seen c at' t.node moved);
     }
 
 -- a call of a member adds its event, whatever was sent
-abbrev pub called : (start : WorldValue) (pen after : View) (m : MemberValue) (event : ℕ → WorldEvent) (e : WorldEvent) (stamp id : ℕ) (x y : NodeValue) (a : Answer) → member id x pen.seen pen.also ≡ m → e ≡ event m.id → node_in (event id) ≡ id → IsAt start pen.seen id x → Came start pen e stamp after.seen → ((sent : List Frame) → IsAnswerAt sent (event id) x a) → ((sent : List Frame) → (moves sent (event id) x).0 ≡ y) → Replied start m (event m.id) a (member id y after.seen after.also)
-called start pen after m event e stamp id x y a is event_is for_node at came told moved =
+abbrev pub called : (start : WorldValue) (pen after : View) (m : MemberValue) (event : ℕ → WorldEvent) (e : WorldEvent) (stamp id : ℕ) (s t : StationValue) (spare : Bool) (a : Answer) → member id s spare pen.seen ≡ m → e ≡ event m.id → node_in (event id) ≡ id → IsAt start pen.seen id s.node → Came start pen e stamp after.seen → ((sent : List Frame) → IsAnswerAt sent (event id) s.node a) → ((sent : List Frame) → (moves sent (event id) s.node).0 ≡ t.node) → Replied start m (event m.id) a (member id t spare after.seen)
+called start pen after m event e stamp id s t spare a is event_is for_node at came told moved =
     let now : e ≡ event id = event_is ∙ ap (λ (m : MemberValue). event m.id) (sym is) in
     let c : Came start pen (event id) stamp after.seen = subst (λ (e : WorldEvent). Came start pen e stamp after.seen) now came in
-    subst (λ (m : MemberValue). Replied start m (event m.id) a (member id y after.seen after.also)) is
-    (replied start pen pen.also (event id) stamp id x y after.seen after.also c a for_node at c.also (told (runs start c.log).sent) (moved (runs start c.log).sent))
-
--- what a member's pen is for, stays
-abbrev pub IsPenOf : WorldValue → View → ℕ → NodeValue → Type 0
-IsPenOf start pen id x = (pen.from ≡ id) × (pen.to ≡ suc id) × IsAt start pen.seen id x
+    subst (λ (m : MemberValue). Replied start m (event m.id) a (member id t spare after.seen)) is
+    (replied start pen (event id) stamp id s t spare after.seen c a for_node at (told (runs start c.log).sent) (moved (runs start c.log).sent))
 
 pub stays : (start : WorldValue) (pen after : View) (id : ℕ) (x y : NodeValue) → after ≡ later pen after.seen → IsPenOf start pen id x → IsAt start after.seen id y → IsPenOf start after id y
 stays start pen after id x y is old at = (ap (λ (v : View). v.from) is ∙ old.0, ap (λ (v : View). v.to) is ∙ old.1, at)
+
+-- an event at a pen's own node
+module _ (start : WorldValue) (v : View) (e event : WorldEvent) (stamp id : ℕ) (x : NodeValue) (seen : List WorldEvent) (is : e ≡ event) (for_node : node_in event ≡ id) (p : IsPenOf start v id x) (came : Came start v e stamp seen) where
+  c : Came start v event stamp seen
+  c = subst (λ (e : WorldEvent). Came start v e stamp seen) is came
+
+  at' : IsAt start v.seen (node_in event) x
+  at' = subst (λ n. IsAt start v.seen n x) (sym for_node) p.2
+
+  pub told_after : (a : Answer) → ((sent : List Frame) → IsAnswerAt sent event x a) → Told start v.also event a seen
+  told_after a answers = record { log = c.log; begins = c.also; reply = replies start v event stamp x seen c at' a (answers (runs start c.log).sent); seen = c.after }
+
+  pub told_first : (a : Answer) → ((sent : List Frame) → IsAnswerAt sent event x a) → Told start [] event a seen
+  told_first a answers = record { log = c.log; begins = (c.log, refl); reply = replies start v event stamp x seen c at' a (answers (runs start c.log).sent); seen = c.after }
+
+  pub pen_after : (after : View) (y : NodeValue) → seen ≡ after.seen → after ≡ later v after.seen → ((sent : List Frame) → (moves sent event x).0 ≡ y) → IsPenOf start after id y
+  pen_after after y same is moved =
+      stays start v after id x y is p
+      (subst (λ l. IsAt start l id y) same (subst (λ n. IsAt start seen n y) for_node (now_at start v event stamp x seen c at' y (moved (runs start c.log).sent))))
+
+-- a station that is no spare
+pub is_member : (start : WorldValue) (id : ℕ) (s : StationValue) (spare : Bool) (pen : View) → IsNew start → spare ≡ false → IsPenOf start pen id s.node → IsMember start id s spare pen
+is_member start id s spare pen new not p = record { begins = new; halts = λ yes. absurd (true≢false (sym yes ∙ not)); holds = λ _. p }

@@ -1,5 +1,5 @@
 -- A frame that was sent is heard: how it is answered, and what it makes the node send.
-use Rattle.std.proofs.Common.{◌≡◌, ℕ, suc, ◌+◌, List, [], ◌∷◌, ◌++◌, length, All, Option, Some, None, IfSome, Ok, option_map, refl, sym, ap, ◌∙◌, subst, arith}
+use Rattle.std.proofs.Common.{◌≡◌, ℕ, suc, ◌+◌, Bool, List, [], ◌∷◌, ◌++◌, length, All, Option, Some, None, IfSome, Ok, option_map, refl, sym, ap, ◌∙◌, subst, arith}
 use Rattle.std.proofs.lemmas.List.{length-map}
 use Rattle.std.proofs.lemmas.List.Elements.{All-from_recursion}
 use Rattle.std.proofs.lemmas.Option.{none-some, same_Some}
@@ -18,15 +18,19 @@ use Rattle.cpg_world_laws.specs.Worlds.{WorldValue, NodeOutcome, unless, hears, 
 use Rattle.cpg_world_laws.specs.Replies.{or_reply, frame_answer}
 use Rattle.cpg_history.proofs.Reading.{ReadAgain}
 use Rattle.cpg_history.specs.declared.histories.View.{View}
+use Rattle.cpg_station.specs.Stations.{StationValue}
 use Rattle.cpg_history.specs.Histories.{Came, FrontValue, told, front}
 use Rattle.cpg_history.specs.Members.{MemberValue, Replied, WereSent, WasSent, IsAt, member, before_last}
 use Rattle.cpg_history.proofs.Runs.{prefix_sends}
 use Rattle.cpg_history.proofs.Coming.{called, replied, world_after}
 use Rattle.cpg_history.proofs.Sending.{all_stand, last_off}
 
-module _ (law : ReadAgain) (start : WorldValue) (v : View) (f : FrontValue) (stamp id : ℕ) (x y : NodeValue) (seen : List WorldEvent) (bytes : List ℕ) (frames : List (List ℕ))
-    (p : WasSent start f.seen f.number bytes) (c : Came start (told v (front f)) (Arrival id f.number) stamp seen) (at : IsAt start v.seen id x)
-    (none : frame_refusal x p.frame ≡ None) (are : frames ≡ spelled (answers_to x p.frame)) (made : y ≡ after_frame x p.frame) where
+module _ (law : ReadAgain) (start : WorldValue) (v : View) (f : FrontValue) (stamp id : ℕ) (s t : StationValue) (spare : Bool) (seen : List WorldEvent) (bytes : List ℕ) (frames : List (List ℕ))
+    (p : WasSent start f.seen f.number bytes) (c : Came start (told v (front f)) (Arrival id f.number) stamp seen) (at : IsAt start v.seen id s.node)
+    (none : frame_refusal s.node p.frame ≡ None) (are : frames ≡ spelled (answers_to s.node p.frame)) (made : t.node ≡ after_frame s.node p.frame) where
+  abbrev x : NodeValue
+  x = s.node
+
   abbrev w : WorldValue
   w = runs start c.log
 
@@ -36,9 +40,9 @@ module _ (law : ReadAgain) (start : WorldValue) (v : View) (f : FrontValue) (sta
   hears_is : hears (item w.sent f.number) x ≡ (after_frame x p.frame, answers_to x p.frame)
   hears_is = ap (λ o. hears o x) there ∙ ap (λ r. unless r x (after_frame x p.frame, answers_to x p.frame)) none
 
-  pub heard : (more : List WorldEvent) → Replied start (member id x v.seen []) (Arrival id f.number) (Ok (reply.Sent (length frames))) (member id y seen more)
-  heard more =
-      replied start (told v (front f)) [] (Arrival id f.number) stamp id x y seen more c (Ok (reply.Sent (length frames))) refl at (c.log, refl)
+  pub heard : Replied start (member id s spare v.seen) (Arrival id f.number) (Ok (reply.Sent (length frames))) (member id t spare seen)
+  heard =
+      replied start (told v (front f)) (Arrival id f.number) stamp id s t spare seen c (Ok (reply.Sent (length frames))) refl at
       (ap (λ m. Ok (reply.Sent m)) (ap length are ∙ length-map (answers_to x p.frame) (spelling Two)) ∙ sym (ap (frame_answer x) there ∙ ap (λ r. or_reply r (reply.Sent (length (answers_to x p.frame)))) none))
       (ap (λ (m : NodeOutcome). m.0) hears_is ∙ sym made)
 
@@ -74,6 +78,6 @@ timed law start v stamp id x seen bytes c at is range =
     zero_right : (k : ℕ) → k + 0 ≡ k
     zero_right k = omega arith
 
-pub timer_called : (start : WorldValue) (pen after : View) (m : MemberValue) (e : WorldEvent) (stamp id : ℕ) (x y : NodeValue) (sent : ℕ) → member id x pen.seen pen.also ≡ m → e ≡ Timer m.id → IsAt start pen.seen id x → Came start pen e stamp after.seen → y ≡ x → length (send_again x.ring.state x.ring.state.last_token).1 ≡ sent → Replied start m (Timer m.id) (Ok (reply.Sent sent)) (member id y after.seen after.also)
-timer_called start pen after m e stamp id x y sent is event_is at came same count =
-    called start pen after m (λ n. Timer n) e stamp id x y (Ok (reply.Sent sent)) is event_is refl at came (λ frames. ap (λ n. Ok (reply.Sent n)) (sym count)) (λ frames. sym same)
+pub timer_called : (start : WorldValue) (pen after : View) (m : MemberValue) (e : WorldEvent) (stamp id : ℕ) (s t : StationValue) (spare : Bool) (sent : ℕ) → member id s spare pen.seen ≡ m → e ≡ Timer m.id → IsAt start pen.seen id s.node → Came start pen e stamp after.seen → t ≡ s → length (send_again s.node.ring.state s.node.ring.state.last_token).1 ≡ sent → Replied start m (Timer m.id) (Ok (reply.Sent sent)) (member id t spare after.seen)
+timer_called start pen after m e stamp id s t spare sent is event_is at came same count =
+    called start pen after m (λ n. Timer n) e stamp id s t spare (Ok (reply.Sent sent)) is event_is refl at came (λ frames. ap (λ n. Ok (reply.Sent n)) (sym count)) (λ frames. sym (ap (λ (u : StationValue). u.node) same))

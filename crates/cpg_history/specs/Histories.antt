@@ -118,7 +118,7 @@ abbrev pub seen_by : List View → FrontValue
 seen_by [] = record { seen = []; number = 0 }
 seen_by (v ∷ vs) = record { seen = v.seen; number = v.number }
 
--- A history with no name: which table it is, and what it begins with.
+-- A history that has no name yet: which table it is, and what it begins with.
 pub record OpenedValue : Type 0 where
   pub table : TableId
   pub start : Beginning

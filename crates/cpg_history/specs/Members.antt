@@ -1,5 +1,5 @@
 -- Nodes that stand for the nodes of a history's worlds, and frames that were sent in them.
-use Rattle.std.specs.Prelude.{◌≡◌, ℕ, ◌+◌, List, [], ◌∷◌, ◌++◌, Option, Some, None, slice_get}
+use Rattle.std.specs.Prelude.{◌≡◌, ℕ, suc, ◌+◌, Bool, true, false, List, [], ◌∷◌, ◌++◌, Option, Some, None, slice_get}
 use mathlib.Core.List.{IsPrefix}
 use Rattle.cpg_wire.specs.Reading.{frame_of}
 use Rattle.cpg_ring.specs.States.{Frame}
@@ -8,36 +8,55 @@ use Rattle.cpg_node.specs.Nodes.{NodeValue}
 use Rattle.cpg_world_laws.specs.declared.events.WorldEvent.{WorldEvent}
 use Rattle.cpg_world_laws.specs.Worlds.{WorldValue, runs}
 use Rattle.cpg_world_laws.specs.Replies.{Answer, IsReply}
+use Rattle.cpg_station.specs.Stations.{StationValue}
+use Rattle.cpg_history.specs.declared.histories.Beginning.{Beginning}
+use Rattle.cpg_history.specs.declared.histories.View.{View}
+use Rattle.cpg_history.specs.Histories.{first_world}
 
 -- after these events the node of that number is x
 abbrev pub IsAt : WorldValue → List WorldEvent → ℕ → NodeValue → Type 0
 IsAt start seen n x = item (runs start seen).nodes n ≡ Some x
 
--- A node with its number, the beginning of the history after which it is that, and another that its next event comes after.
+-- A station with its node's number, whether it stands in for one that was taken away, and the beginning of the history that its pen has seen.
 pub record MemberValue : Type 0 where
   pub id : ℕ
-  pub node : NodeValue
+  pub station : StationValue
+  pub spare : Bool
   pub seen : List WorldEvent
-  pub also : List WorldEvent
 
-abbrev pub member : ℕ → NodeValue → List WorldEvent → List WorldEvent → MemberValue
-member id x seen also = record { id = id; node = x; seen = seen; also = also }
+abbrev pub member : ℕ → StationValue → Bool → List WorldEvent → MemberValue
+member id s spare seen = record { id = id; station = s; spare = spare; seen = seen }
 
--- the member, told of that beginning of the history
-abbrev pub told_of : List WorldEvent → MemberValue → MemberValue
-told_of also m = member m.id m.node m.seen also
+-- the pen adds the events of that node alone, which is x since all that the pen has seen
+abbrev pub IsPenOf : WorldValue → View → ℕ → NodeValue → Type 0
+IsPenOf start pen id x = (pen.from ≡ id) × (pen.to ≡ suc id) × IsAt start pen.seen id x
 
--- The event came to the history after `log`, which begins with all that the member had seen and was told of, and in which its node was what
--- it had been. The world of `log` answers it so, and the node is what it is in the world after it.
+-- it is a new world
+abbrev pub IsNew : WorldValue → Type 0
+IsNew start = (b : Beginning) × (first_world b ≡ start)
+
+-- The history begins with a new world. A spare is halted. Any other station's node is that node of the world after all that its pen has seen.
+pub record IsMember (start : WorldValue) (id : ℕ) (s : StationValue) (spare : Bool) (pen : View) : Type 0 where
+  pub begins : IsNew start
+  pub halts : spare ≡ true → s.halted ≡ true
+  pub holds : spare ≡ false → IsPenOf start pen id s.node
+
+-- The event came to the history after all that was seen. The world that this led to answers it so, and now the event has been seen too.
+pub record Told (start : WorldValue) (before : List WorldEvent) (e : WorldEvent) (a : Answer) (after : List WorldEvent) : Type 0 where
+  pub log : List WorldEvent
+  pub begins : IsPrefix before log
+  pub reply : IsReply (runs start log) e a
+  pub seen : after ≡ log ++ e ∷ []
+
+-- The same of a member, whose node was still what it had been; and it is what it is in the world after the event.
 pub record Replied (start : WorldValue) (before : MemberValue) (e : WorldEvent) (a : Answer) (after : MemberValue) : Type 0 where
   pub log : List WorldEvent
   pub begins : IsPrefix before.seen log
-  pub also : IsPrefix before.also log
-  pub was : IsAt start log before.id before.node
+  pub was : IsAt start log before.id before.station.node
   pub reply : IsReply (runs start log) e a
   pub id : after.id ≡ before.id
   pub seen : after.seen ≡ log ++ e ∷ []
-  pub now : IsAt start after.seen after.id after.node
+  pub now : IsAt start after.seen after.id after.station.node
 
 -- the bytes spell the frame of that number, from 1, of those sent by the end of these events
 pub record WasSent (start : WorldValue) (seen : List WorldEvent) (number : ℕ) (bytes : List ℕ) : Type 0 where

@@ -7,10 +7,12 @@ ghost use Rattle.std.specs.Prelude.{◌≡◌, ◌<◌, IfOk};
 ghost use mathlib.Core.List.{IsPrefix};
 ghost use Rattle.cpg_world_laws.specs.Worlds.{node_in};
 ghost use Rattle.cpg_history.specs.Histories.{Came, Owns, Sees, first_world, all_nodes, later, first_node, other_nodes, told, front as front_at};
+ghost use Rattle.cpg_history.specs.Members.{IsNew};
 
 use atomic_table::{Badge, Join, Play, Seat, Split, Table, TableRule};
 use cpg_cred::AcceptList;
 use cpg_node::Settings;
+use cpg_station::BoardName;
 use cpg_world_laws::WorldEvent;
 use std::alloc::{AllocError, Global};
 use std::collections::LinkedList;
@@ -37,8 +39,8 @@ pub struct View {
     pub number: u64,
 }
 
-/// Which history it is: its table, and the world that it begins with.
-pub trait HistoryName {
+/// Which history it is: its table, and the world that it begins with; and which board its nodes share.
+pub trait HistoryName: BoardName {
     ghost use Rattle.atomic_table.specs.Seated.{TableId};
     ghost use Rattle.cpg_world_laws.specs.Worlds.{WorldValue};
 
@@ -143,9 +145,10 @@ impl<B: HistoryName> Play<u64, View> for Look<B> {
     ghost then = { Looks B.start };
 }
 
-/// An empty history, which has no name yet.
+/// An empty history, which has no name yet, and what it begins with.
 #[derive(Drop)]
 pub struct Opened {
+    beginning: Beginning,
     line: Line,
     seat: Seat<u64, View>,
 }
@@ -156,26 +159,42 @@ impl Model for Opened {
 
     ghost Value = { OpenedValue };
 
-    ghost view = { λ o. record { table = o.line.shared.table_id; start = o.line.shared.key } };
+    ghost view = { λ o. record { table = o.line.shared.table_id; start = o.beginning } };
 
-    ghost invariant = { λ o. (o.line.shared.table_id.words ≡ 1) × (o.seat.table_id ≡ o.line.shared.table_id) × (o.seat.me ≡ first_seat) };
+    ghost invariant = { λ o. (o.line.shared.table_id.words ≡ 1) × (o.seat.table_id ≡ o.line.shared.table_id) × (o.seat.me ≡ first_seat) × (o.line.shared.key ≡ o.beginning) };
 }
 
 impl Opened {
-    /// A new history, which begins with a new world of these settings and that list.
-    pub fn new(alloc: Global, start: &Beginning) -> Result<Opened, AllocError>
-        ensures { IfOk result (λ o. o.start ≡ start.now) }
+    /// A new history, which begins with a new world of that. Refused where memory is.
+    pub fn new(alloc: Global, beginning: Beginning) -> Result<Opened, AllocError>
+        ensures { IfOk result (λ o. o.start ≡ beginning) }
     {
-        let (line, seat) = Table::of_words(alloc, &[0], start)?;
-        Ok(Opened { line, seat })
+        let (line, seat) = Table::of_words(alloc, &[0], &beginning)?;
+        Ok(Opened {
+            beginning,
+            line,
+            seat,
+        })
     }
 
-    /// The history under a name, and the pen of all nodes.
-    pub fn named<B: HistoryName>(self) -> (History<B>, Pen<B>)
-        requires { (self.table ≡ B.table) × (first_world self.start ≡ B.start) }
-        ensures { result.1 ≡ all_nodes }
+    /// What it begins with.
+    pub fn beginning(&self) -> &Beginning
+        ensures { result.now ≡ self.now.start }
     {
-        let Opened { line, seat } = self;
+        &self.beginning
+    }
+
+    /// The history under a name, the pen of all nodes, and what it begins with.
+    pub fn named<B: HistoryName>(self) -> (History<B>, Pen<B>, Beginning)
+        requires { (self.table ≡ B.table) × (first_world self.start ≡ B.start) }
+        ensures pen { result.1 ≡ all_nodes }
+        ensures beginning { result.2 ≡ self.start }
+    {
+        let Opened {
+            beginning,
+            line,
+            seat,
+        } = self;
         (
             History {
                 line,
@@ -185,6 +204,7 @@ impl Opened {
                 seat,
                 of: PhantomData,
             },
+            beginning,
         )
     }
 }
@@ -244,6 +264,13 @@ impl<B: HistoryName> Model for Front<B> {
 }
 
 impl<B: HistoryName> History<B> {
+    /// It begins with a new world. The function has nothing to do.
+    pub fn begins(&self)
+        ensures { IsNew B.start }
+    {
+        let _line = &self.line;
+    }
+
     /// Adds the event to the history, and gives its stamp: how many events came before it.
     pub fn add<E: Happens>(&self, pen: &mut Pen<B>) -> u64
         requires { Owns pen.old (node_in E.event) }
@@ -251,6 +278,20 @@ impl<B: HistoryName> History<B> {
         ensures pen { pen.new ≡ later pen.old pen.new.seen }
     {
         self.line.shared.fetch_add::<Add<B, E>>(&mut pen.seat, 0, 1)
+    }
+
+    /// Adds the event after all that the front has seen, which then has seen the event too. Gives its stamp.
+    pub fn add_for<E: Happens>(&self, pen: &mut Pen<B>, front: &mut Front<B>) -> u64
+        requires { Owns pen.old (node_in E.event) }
+        ensures came { Came B.start (told pen.old (front_at front.old)) E.event result pen.new.seen }
+        ensures pen { pen.new ≡ later pen.old pen.new.seen }
+        ensures front { front.new.seen ≡ pen.new.seen }
+    {
+        let seen = std::mem::replace(front, self.front::<Brand>(pen));
+        self.tell(pen, seen);
+        let stamp = self.add::<E>(pen);
+        *front = self.front::<Brand>(pen);
+        stamp
     }
 
     /// A front that has seen as much as the pen, with a number.

@@ -25,6 +25,35 @@ impl<B: HistoryName> Model for Parcel<B> {
     ghost invariant = { λ p. WasSent B.start p.front.seen p.front.number p.bytes };
 }
 
+impl<B: HistoryName> Parcel<B> {
+    /// Its bytes.
+    pub fn bytes(&self) -> &[u8]
+        ensures { result.now ≡ self.now.bytes }
+    {
+        self.bytes.as_slice()
+    }
+
+    /// The same frame once more. Refused where memory is.
+    pub fn again(&mut self, history: &History<B>) -> Result<Parcel<B>, AllocError>
+        ensures same { self.new ≡ self.old }
+        ensures again { IfOk result (λ p. p ≡ self.old) }
+    {
+        self.again_as::<Brand>(history)
+    }
+
+    fn again_as<N: Numbers>(&mut self, history: &History<B>) -> Result<Parcel<B>, AllocError>
+        requires { N.number ≡ self.old.number }
+        ensures same { self.new ≡ self.old }
+        ensures again { IfOk result (λ p. p ≡ self.old) }
+    {
+        let bytes = self.bytes.clone()?;
+        Ok(Parcel {
+            bytes,
+            front: history.again::<N>(&mut self.front),
+        })
+    }
+}
+
 /// What an event sends. Contracts see its frames, and the number of the first of them among the frames sent.
 #[derive(Drop)]
 pub struct Parcels<B: HistoryName> {

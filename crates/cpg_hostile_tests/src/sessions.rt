@@ -1,12 +1,13 @@
 //! Scripts of sessions over streams that fail, come in pieces or take pieces, each on a cluster of its own.
 
 ghost use Rattle.std.specs.Prelude.{◌≡◌};
+ghost use Rattle.cpg_history.specs.Histories.{first_world};
 
 use crate::streams::{Short, Slow};
 use cpg_board::Board;
 use cpg_console::{PLAIN, cluster_script};
 use cpg_cred::{AcceptList, Refusal};
-use cpg_daemon::{BoardName, Cluster, PassAll};
+use cpg_daemon::{Beginning, Cluster, HistoryName, Opened, PassAll};
 use cpg_node::Settings;
 use std::alloc::Global;
 use std::io::{Read, Write};
@@ -35,11 +36,15 @@ const SETTINGS: Settings = Settings {
     hops: 1 << 62,
 };
 
-/// A list of user 7.
-fn list_of_seven(alloc: Global) -> Result<AcceptList, Refusal> {
+/// A history that begins with two nodes, which let user 7 in.
+fn opened_for_7(alloc: Global) -> Result<Opened, Refusal> {
     let mut list = AcceptList::new(alloc);
     list.add_uid(7)?;
-    Ok(list)
+    let beginning = Beginning {
+        settings: SETTINGS,
+        list,
+    };
+    Ok(Opened::new(alloc, beginning)?)
 }
 
 /// What ends a script over a new cluster of two nodes early, if anything does.
@@ -47,18 +52,19 @@ fn refusal_of<B, H, R, W>(
     rt: H,
     alloc: Global,
     board: Board,
+    opened: Opened,
     reader: &mut R,
     writer: &mut W,
 ) -> Result<Option<Refusal>, Refusal>
 where
-    B: BoardName + Send + Sync + 'static,
+    B: HistoryName + Send + Sync + 'static,
     H: Threads + Wait + Clock + Copy + Send + 'static,
     R: Read,
     W: Write,
-    requires { board ≡ B.cells }
+    requires board { board ≡ B.cells }
+    requires history { (opened.table ≡ B.table) × (first_world opened.start ≡ B.start) }
 {
-    let list = list_of_seven(alloc)?;
-    let cluster = Cluster::<B, PassAll>::start(rt, alloc, SETTINGS, board, &list, PassAll)?;
+    let cluster = Cluster::<B, PassAll>::start(rt, alloc, board, opened, PassAll)?;
     let done = cluster_script(&rt, alloc, reader, writer, &cluster, &PLAIN);
     drop(cluster.stop(&rt));
     Ok(done.err().map(|fault| fault.refusal))
@@ -70,14 +76,16 @@ fn ended<B, H>(
     rt: H,
     alloc: Global,
     board: Board,
+    opened: Opened,
     reads: usize,
     until: usize,
     fails: bool,
 ) -> Result<(Option<Refusal>, Vec<u8>), Refusal>
 where
-    B: BoardName + Send + Sync + 'static,
+    B: HistoryName + Send + Sync + 'static,
     H: Threads + Wait + Clock + Copy + Send + 'static,
-    requires { board ≡ B.cells }
+    requires board { board ≡ B.cells }
+    requires history { (opened.table ≡ B.table) × (first_world opened.start ≡ B.start) }
 {
     let mut reader = Slow {
         rest: SESSION,
@@ -88,7 +96,14 @@ where
         until,
         fails,
     };
-    let refusal = refusal_of::<B, H, Slow<'_>, Short>(rt, alloc, board, &mut reader, &mut writer)?;
+    let refusal = refusal_of::<B, H, Slow<'_>, Short>(
+        rt,
+        alloc,
+        board,
+        opened,
+        &mut reader,
+        &mut writer,
+    )?;
     Ok((refusal, writer.got))
 }
 
@@ -97,10 +112,12 @@ fn a_session_to_writers_that_fail_after_each_byte(rt: HostRuntime) -> Result<(),
     for until in 0..SESSION_PRINT.len() {
         let board = Board::new(rt.alloc(), 16)?;
         let alloc = rt.alloc();
+        let opened = opened_for_7(alloc)?;
         let (refusal, got) = ended::<Brand, HostRuntime>(
             rt,
             alloc,
             board,
+            opened,
             ALL,
             until,
             until % 2 == 0,
@@ -122,7 +139,10 @@ fn a_session_byte_by_byte_and_from_readers_that_fail(rt: HostRuntime) -> Result<
     for (reads, fault, text) in rows {
         let board = Board::new(rt.alloc(), 16)?;
         let alloc = rt.alloc();
-        let (refusal, got) = ended::<Brand, HostRuntime>(rt, alloc, board, reads, ALL, true)?;
+        let opened = opened_for_7(alloc)?;
+        let (refusal, got) = ended::<Brand, HostRuntime>(
+            rt, alloc, board, opened, reads, ALL, true,
+        )?;
         assert_eq!(rt; refusal, fault, "at {reads}");
         assert!(rt; got.as_slice() == text, "at {reads}");
     }

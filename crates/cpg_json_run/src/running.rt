@@ -12,7 +12,7 @@ use crate::answers::{find_session, put_answer_json};
 use cpg_board::Board;
 use cpg_cluster::{Manner, Numbered, Patience, PutsAnswer, Reply, cluster_script};
 use cpg_cred::Refusal;
-use cpg_daemon::{BoardName, Running};
+use cpg_daemon::{HistoryName, Running};
 use cpg_script::Fault;
 use cpg_text::MOST_BYTES;
 use std::alloc::Global;
@@ -52,7 +52,7 @@ pub fn cluster_script_as_json<B, G, H, R, W>(
     patience: Patience,
 ) -> Result<(), Fault>
 where
-    B: BoardName,
+    B: HistoryName,
     H: Wait + Clock,
     R: Read,
     W: Write,

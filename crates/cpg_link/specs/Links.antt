@@ -9,26 +9,22 @@ use Rattle.cpg_cred.specs.declared.refusals.Refusal.TheVariants.{Memory, Range}
 use Rattle.cpg_link.specs.declared.ends.TheConstants.{MOST_FRAMES}
 use Rattle.cpg_link.specs.declared.passes.Known.{Known}
 
--- a frame is its bytes
-abbrev pub Frame : Type 0
-Frame = List ℕ
-
 -- An end of a link: which link it is, how many frames it has room for, and the frames that were put there, or taken.
-pub record LinkEnd : Type 0 where
+pub record LinkEnd (T : Type 0) : Type 0 where
   pub link : TableId
   pub room : ℕ
-  pub frames : List Frame
+  pub frames : List T
 
 -- the link of a sender's end is full: of the frames that were put, all but those that were taken stand in it, as many as it has room for
-abbrev pub IsFull : LinkEnd → Type 0
-IsFull sender = (taken : List Frame) × (standing : List Frame) × (sender.frames ≡ taken ++ standing) × (length standing ≡ sender.room)
+abbrev pub IsFull : {T : Type 0} → LinkEnd T → Type 0
+IsFull {T} sender = (taken : List T) × (standing : List T) × (sender.frames ≡ taken ++ standing) × (length standing ≡ sender.room)
 
 -- the end with one frame more
-abbrev pub with_frame : LinkEnd → Frame → LinkEnd
+abbrev pub with_frame : {T : Type 0} → LinkEnd T → T → LinkEnd T
 with_frame end frame = record { link = end.link; room = end.room; frames = end.frames ++ frame ∷ [] }
 
 -- the two are ends of one link
-abbrev pub AreEnds : LinkEnd → LinkEnd → Type 0
+abbrev pub AreEnds : {T : Type 0} → LinkEnd T → LinkEnd T → Type 0
 AreEnds sender receiver = sender.link ≡ receiver.link
 
 -- the most frames that a link may have room for
@@ -46,22 +42,22 @@ IsNoLink capacity Memory = HasLink capacity
 IsNoLink capacity _ = ⊥
 
 -- what a pass of the queue knows
-abbrev pub told : Pass Frame Known → Known
+abbrev pub told : {T : Type 0} → Pass T (Known T) → Known T
 told pass = view pass
 
 -- a pass that may put, or take, and knows that these were put and those taken
-abbrev pub known : Bool → Bool → List Frame → List Frame → Known
+abbrev pub known : {T : Type 0} → Bool → Bool → List T → List T → Known T
 known puts takes put taken = record { puts = puts; takes = takes; put = put; taken = taken }
 
 -- these stand in the queue, behind some that were taken
-abbrev pub StandBehind : Known → List Frame → Type 0
-StandBehind v items = (taken : List Frame) × (v.put ≡ taken ++ items)
+abbrev pub StandBehind : {T : Type 0} → Known T → List T → Type 0
+StandBehind {T} v items = (taken : List T) × (v.put ≡ taken ++ items)
 
 -- where the pass may put, it is the sender's and knows what was put; where it may take, it is the receiver's and knows what was taken
-abbrev pub Fits : ℕ → ℕ → List Frame → List Frame → ℕ → Known → Type 0
+abbrev pub Fits : {T : Type 0} → ℕ → ℕ → List T → List T → ℕ → Known T → Type 0
 Fits sender receiver put taken pass v = (v.puts ≡ true → (pass ≡ sender) × (v.put ≡ put)) × (v.takes ≡ true → (pass ≡ receiver) × (v.taken ≡ taken))
 
 -- What was put is what was taken, followed by what stands in the queue. One pass at most may put, and it knows what was put; one at most may take, and it knows what was taken.
-abbrev pub Carries : List Frame → List Known → Type 0
-Carries items views = (sender : ℕ) × (receiver : ℕ) × (put : List Frame) × (taken : List Frame) × (put ≡ taken ++ items)
-    × ((pass : ℕ) (v : Known) → get_elem? views pass ≡ some v → Fits sender receiver put taken pass v)
+abbrev pub Carries : {T : Type 0} → List T → List (Known T) → Type 0
+Carries {T} items views = (sender : ℕ) × (receiver : ℕ) × (put : List T) × (taken : List T) × (put ≡ taken ++ items)
+    × ((pass : ℕ) (v : Known T) → get_elem? views pass ≡ some v → Fits sender receiver put taken pass v)

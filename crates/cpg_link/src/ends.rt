@@ -6,7 +6,6 @@ ghost use Rattle.cpg_cred.specs.declared.refusals.Refusal.TheVariants.{Memory};
 ghost use Rattle.cpg_link.specs.Links.{known, most_frames, IsNoLink, AreEnds, IsFull, with_frame};
 
 use crate::passes::{Empties, Ends, InOrder, Known, Puts, Takes};
-use bytes::Bytes;
 use cpg_cred::{Refusal, Refused};
 use crossbeam_queue::{Pass, RuledArrayQueue};
 use std::alloc::Global;
@@ -21,22 +20,22 @@ pub fn limits()
     ensures { most_frames ≡ 4096 }
 {}
 
-type Line = RuledArrayQueue<Bytes, Known, InOrder>;
+type Line<T> = RuledArrayQueue<T, Known<T>, InOrder>;
 
 /// The sender's end. Contracts see the link, and the frames that were put.
 #[derive(Drop)]
-pub struct LinkTx {
-    line: Arc<Line, Global>,
-    pass: Pass<Bytes, Known>,
+pub struct LinkTx<T> {
+    line: Arc<Line<T>, Global>,
+    pass: Pass<T, Known<T>>,
 }
 
-impl Model for LinkTx {
+impl<T> Model for LinkTx<T> {
     ghost use Rattle.std.specs.Prelude.{◌≡◌, true, false, []};
     ghost use Rattle.std.specs.Arc.{arc_value};
     ghost use Rattle.crossbeam_queue.specs.Passes.{IsPassOf, ruled_capacity};
     ghost use Rattle.cpg_link.specs.Links.{LinkEnd, known, told};
 
-    ghost Value = { LinkEnd };
+    ghost Value = { LinkEnd T };
 
     ghost view = { λ end. record { link = end.pass.table_id; room = ruled_capacity (arc_value end.line); frames = (told end.pass).put } };
 
@@ -45,18 +44,18 @@ impl Model for LinkTx {
 
 /// The receiver's end. Contracts see the link, and the frames that were taken.
 #[derive(Drop)]
-pub struct LinkRx {
-    line: Arc<Line, Global>,
-    pass: Pass<Bytes, Known>,
+pub struct LinkRx<T> {
+    line: Arc<Line<T>, Global>,
+    pass: Pass<T, Known<T>>,
 }
 
-impl Model for LinkRx {
+impl<T> Model for LinkRx<T> {
     ghost use Rattle.std.specs.Prelude.{◌≡◌, true, false, []};
     ghost use Rattle.std.specs.Arc.{arc_value};
     ghost use Rattle.crossbeam_queue.specs.Passes.{IsPassOf, ruled_capacity};
     ghost use Rattle.cpg_link.specs.Links.{LinkEnd, known, told};
 
-    ghost Value = { LinkEnd };
+    ghost Value = { LinkEnd T };
 
     ghost view = { λ end. record { link = end.pass.table_id; room = ruled_capacity (arc_value end.line); frames = (told end.pass).taken } };
 
@@ -64,7 +63,7 @@ impl Model for LinkRx {
 }
 
 /// A link with room for so many frames, from 1 to 4,096. Refused with Range for another number; with Memory.
-pub fn link(alloc: Global, capacity: usize) -> Result<(LinkTx, LinkRx), Refusal>
+pub fn link<T: Drop>(alloc: Global, capacity: usize) -> Result<(LinkTx<T>, LinkRx<T>), Refusal>
     ensures ends { IfOk result (λ ends. AreEnds ends.0 ends.1) }
     ensures room { IfOk result (λ ends. (ends.0.room ≡ capacity) × (ends.1.room ≡ capacity)) }
     ensures empty { IfOk result (λ ends. (ends.0.frames ≡ []) × (ends.1.frames ≡ [])) }
@@ -73,7 +72,7 @@ pub fn link(alloc: Global, capacity: usize) -> Result<(LinkTx, LinkRx), Refusal>
     if capacity == 0 || capacity > MOST_FRAMES {
         return Err(Refusal::Range);
     }
-    let (line, mut pass) = Line::ruled(alloc, capacity)?;
+    let (line, mut pass) = Line::<T>::ruled(alloc, capacity)?;
     let other = line.another::<Ends>(&mut pass);
     let line = Arc::new(alloc, line)?;
     let theirs = Arc::try_clone(&line)?;
@@ -86,19 +85,19 @@ pub fn link(alloc: Global, capacity: usize) -> Result<(LinkTx, LinkRx), Refusal>
     ))
 }
 
-impl LinkTx {
+impl<T: Drop> LinkTx<T> {
     /// Puts a frame behind those that were put. It comes back where the link is full: where as many frames as
     /// it has room for stand in it.
-    pub fn put<R: Wait>(&mut self, rt: &R, frame: Bytes) -> Result<(), Bytes>
+    pub fn put<R: Wait>(&mut self, rt: &R, frame: T) -> Result<(), T>
         ensures { MatchResult result (λ _. self.new ≡ with_frame self.old frame) (λ back. (back ≡ frame) × (self.new ≡ self.old) × IsFull self.old) }
     {
         self.line.push_as::<Puts, R>(rt, &mut self.pass, frame)
     }
 }
 
-impl LinkRx {
+impl<T: Drop> LinkRx<T> {
     /// Takes the next frame, if there is one.
-    pub fn take<R: Wait>(&mut self, rt: &R) -> Option<Bytes>
+    pub fn take<R: Wait>(&mut self, rt: &R) -> Option<T>
         ensures { MatchOption result (self.new ≡ self.old) (λ frame. self.new ≡ with_frame self.old frame) }
     {
         self.line.pop_as::<Takes, R>(rt, &mut self.pass)
@@ -107,12 +106,12 @@ impl LinkRx {
 
 /// What was left in a link whose two ends are given up: what was put is what was taken, followed by this.
 /// Refused with Memory, which gives the ends back.
-pub fn close<R: Wait>(
+pub fn close<T: Drop, R: Wait>(
     rt: &R,
     alloc: Global,
-    sender: LinkTx,
-    receiver: LinkRx,
-) -> Result<Vec<Bytes>, Refused<(LinkTx, LinkRx)>>
+    sender: LinkTx<T>,
+    receiver: LinkRx<T>,
+) -> Result<Vec<T>, Refused<(LinkTx<T>, LinkRx<T>)>>
     requires { AreEnds sender receiver }
     ensures { MatchResult result (λ left. sender.frames ≡ receiver.frames ++ left.items) (λ refused. (refused.refusal ≡ Memory) × (refused.back ≡ (sender, receiver))) }
 {
@@ -132,12 +131,12 @@ pub fn close<R: Wait>(
 }
 
 /// All that stands in the queue, for which there is room.
-fn drain<R: Wait>(
+fn drain<T: Drop, R: Wait>(
     rt: &R,
-    line: &Line,
-    mut pass: Pass<Bytes, Known>,
-    mut left: Vec<Bytes>,
-) -> Vec<Bytes>
+    line: &Line<T>,
+    mut pass: Pass<T, Known<T>>,
+    mut left: Vec<T>,
+) -> Vec<T>
     requires pass { IsPassOf line.now pass × (view pass ≡ known true true (view pass).put (view pass).taken) }
     requires room { (left.items ≡ []) × (ruled_capacity line.now ≤ vec_capacity left) }
     ensures { (view pass).put ≡ (view pass).taken ++ result.items }

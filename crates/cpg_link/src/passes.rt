@@ -1,21 +1,20 @@
 //! The rule of a link's queue, and what its two passes know.
 
-use bytes::Bytes;
 use crossbeam_queue::protocol::{Join, Lesson, Outcome, Protocol, Split};
 use std::collections::LinkedList;
 
 /// What a pass of the queue may do, what it has put and what it has taken. No value of it is made.
-pub struct Known {
+pub struct Known<T> {
     pub puts: bool,
     pub takes: bool,
-    pub put: LinkedList<Bytes>,
-    pub taken: LinkedList<Bytes>,
+    pub put: LinkedList<T>,
+    pub taken: LinkedList<T>,
 }
 
 /// What was put is what was taken, followed by what stands in the queue.
 pub struct InOrder;
 
-impl Protocol<Bytes, Known> for InOrder {
+impl<T> Protocol<T, Known<T>> for InOrder {
     ghost use Rattle.std.specs.Prelude.{true, []};
     ghost use Rattle.cpg_link.specs.Links.{known, Carries};
 
@@ -27,7 +26,7 @@ impl Protocol<Bytes, Known> for InOrder {
 /// The one pass that may do both becomes two, or two become one.
 pub struct Ends;
 
-impl Split<Known> for Ends {
+impl<T> Split<Known<T>> for Ends {
     ghost use Rattle.std.specs.Prelude.{true, false, []};
     ghost use Rattle.cpg_link.specs.Links.{known};
 
@@ -36,7 +35,7 @@ impl Split<Known> for Ends {
     ghost right = { λ whole. known false true [] whole.taken };
 }
 
-impl Join<Known> for Ends {
+impl<T> Join<Known<T>> for Ends {
     ghost use Rattle.std.specs.Prelude.{true, false, []};
     ghost use Rattle.cpg_link.specs.Links.{known};
 
@@ -48,14 +47,14 @@ impl Join<Known> for Ends {
 /// A frame is put.
 pub struct Puts;
 
-impl Outcome<Bytes, Known> for Puts {
+impl<T> Outcome<T, Known<T>> for Puts {
     ghost use Rattle.std.specs.Prelude.{◌≡◌, ◌∷◌, ◌++◌, []};
     ghost use Rattle.cpg_link.specs.Links.{known};
 
     ghost then = { λ before frame after. after ≡ known before.puts before.takes (before.put ++ frame ∷ []) before.taken };
 }
 
-impl Lesson<Bytes, Known> for Puts {
+impl<T> Lesson<T, Known<T>> for Puts {
     ghost use Rattle.cpg_link.specs.Links.{StandBehind};
 
     ghost fact = { StandBehind };
@@ -64,14 +63,14 @@ impl Lesson<Bytes, Known> for Puts {
 /// A frame is taken.
 pub struct Takes;
 
-impl Outcome<Bytes, Known> for Takes {
+impl<T> Outcome<T, Known<T>> for Takes {
     ghost use Rattle.std.specs.Prelude.{◌≡◌, ◌∷◌, ◌++◌, []};
     ghost use Rattle.cpg_link.specs.Links.{known};
 
     ghost then = { λ before frame after. after ≡ known before.puts before.takes before.put (before.taken ++ frame ∷ []) };
 }
 
-impl Lesson<Bytes, Known> for Takes {
+impl<T> Lesson<T, Known<T>> for Takes {
     ghost use Rattle.std.specs.Prelude.{⊤};
 
     ghost fact = { λ knows items. ⊤ };
@@ -80,14 +79,14 @@ impl Lesson<Bytes, Known> for Takes {
 /// A frame is taken by the pass that may do both, which knows what stands in the queue.
 pub struct Empties;
 
-impl Outcome<Bytes, Known> for Empties {
+impl<T> Outcome<T, Known<T>> for Empties {
     ghost use Rattle.std.specs.Prelude.{◌≡◌, ◌∷◌, ◌++◌, []};
     ghost use Rattle.cpg_link.specs.Links.{known};
 
     ghost then = { λ before frame after. after ≡ known before.puts before.takes before.put (before.taken ++ frame ∷ []) };
 }
 
-impl Lesson<Bytes, Known> for Empties {
+impl<T> Lesson<T, Known<T>> for Empties {
     ghost use Rattle.std.specs.Prelude.{◌≡◌, ◌++◌};
 
     ghost fact = { λ knows items. knows.put ≡ knows.taken ++ items };

@@ -6,7 +6,7 @@ use crate::gates::Deaf;
 use crate::load::{Load, Signals, Tally};
 use crate::outbox::Outbox;
 use cpg_cred::{Cred, NodeId, Refusal};
-use cpg_daemon::{BoardName, Running, Session};
+use cpg_daemon::{HistoryName, Running, Session};
 use cpg_entry::{Call, Name};
 use cpg_record::Event;
 use std::alloc::Global;
@@ -50,14 +50,14 @@ pub fn nanos_since<R: Clock>(rt: &R, start: Instant) -> u64 {
 }
 
 /// Whether the session is at one of the nodes.
-fn is_here<B: BoardName>(running: &Running<B, Deaf>, session: &Session<B>) -> bool
+fn is_here<B: HistoryName>(running: &Running<B, Deaf>, session: &Session<B>) -> bool
     ensures { IsTrue result → session.now.who.id.node ≤ running.now.nodes }
 {
     session.connection().id.node.get() <= running.nodes()
 }
 
 /// The session's next event, if there is one.
-fn take<B: BoardName, R: Wait>(
+fn take<B: HistoryName, R: Wait>(
     rt: &R,
     running: &Running<B, Deaf>,
     session: &mut Session<B>,
@@ -69,7 +69,7 @@ fn take<B: BoardName, R: Wait>(
 }
 
 /// Submits the call. Gives it back where the queue is full.
-fn submit<B: BoardName, R: Wait>(
+fn submit<B: HistoryName, R: Wait>(
     rt: &R,
     running: &Running<B, Deaf>,
     session: &mut Session<B>,
@@ -88,7 +88,7 @@ fn submit<B: BoardName, R: Wait>(
 }
 
 /// Submits until the queue is full, or as many as may be submitted now were admitted.
-fn submit_all<B: BoardName, R: Wait>(
+fn submit_all<B: HistoryName, R: Wait>(
     rt: &R,
     running: &Running<B, Deaf>,
     session: &mut Session<B>,
@@ -108,7 +108,7 @@ fn submit_all<B: BoardName, R: Wait>(
 }
 
 /// Takes until there is no event, or so many in a row were taken.
-fn take_all<B: BoardName, R: Wait>(
+fn take_all<B: HistoryName, R: Wait>(
     rt: &R,
     running: &Running<B, Deaf>,
     session: &mut Session<B>,
@@ -124,7 +124,7 @@ fn take_all<B: BoardName, R: Wait>(
 }
 
 /// Submits, unless the load is over, and takes; where neither did anything, yields.
-fn step<B: BoardName, R: Wait>(
+fn step<B: HistoryName, R: Wait>(
     rt: &R,
     running: &Running<B, Deaf>,
     session: &mut Session<B>,
@@ -145,7 +145,7 @@ fn step<B: BoardName, R: Wait>(
 }
 
 /// Sends and takes until all is done.
-fn send_and_take<B: BoardName, R: Wait>(
+fn send_and_take<B: HistoryName, R: Wait>(
     rt: &R,
     running: &Running<B, Deaf>,
     session: &mut Session<B>,
@@ -182,7 +182,7 @@ fn place_of(event: &Event) -> u32 {
 }
 
 /// Takes events until one is of that place or a later one, and then those that are there.
-fn take_up_to<B: BoardName, R: Wait>(
+fn take_up_to<B: HistoryName, R: Wait>(
     rt: &R,
     running: &Running<B, Deaf>,
     session: &mut Session<B>,
@@ -202,7 +202,7 @@ fn take_up_to<B: BoardName, R: Wait>(
 }
 
 /// Joins the group, and waits until it was told of the join of all, and all others were.
-fn enter<B: BoardName, R: Wait>(
+fn enter<B: HistoryName, R: Wait>(
     rt: &R,
     running: &Running<B, Deaf>,
     session: &mut Session<B>,
@@ -223,7 +223,7 @@ fn enter<B: BoardName, R: Wait>(
 }
 
 /// What a client does once it has a session.
-fn serve<B: BoardName, R: Wait + Clock>(
+fn serve<B: HistoryName, R: Wait + Clock>(
     rt: &R,
     alloc: Global,
     running: &Running<B, Deaf>,
@@ -248,7 +248,7 @@ fn serve<B: BoardName, R: Wait + Clock>(
 }
 
 /// A process of the root user at the node of that index, from 0.
-fn open<B: BoardName, R: Wait>(
+fn open<B: HistoryName, R: Wait>(
     rt: &R,
     running: &Running<B, Deaf>,
     index: usize,
@@ -264,7 +264,7 @@ fn open<B: BoardName, R: Wait>(
 }
 
 /// The client at the node of that index, from 0, from its session to its end.
-pub fn run_client<B: BoardName, R: Wait + Clock>(
+pub fn run_client<B: HistoryName, R: Wait + Clock>(
     rt: &R,
     alloc: Global,
     running: &Running<B, Deaf>,

@@ -1,6 +1,7 @@
 //! A cluster under load, from its start to its end.
 
 ghost use Rattle.std.specs.Prelude.{◌≡◌};
+ghost use Rattle.cpg_history.specs.Histories.{first_world};
 
 use crate::clients::{Ended, run_client};
 use crate::gates::{Deaf, Switch, new_switch};
@@ -8,7 +9,7 @@ use crate::load::{Load, Signals};
 use crate::watching::{Course, Look, Watched, print_watched, watch};
 use cpg_board::Board;
 use cpg_cred::{AcceptList, Refusal};
-use cpg_daemon::{BoardName, Cluster, Ends, Running};
+use cpg_daemon::{Beginning, Cluster, Ends, HistoryName, MOST_FRAMES, Opened, Running};
 use cpg_node::Settings;
 use cpg_wire::FrameView;
 use std::alloc::{AllocError, Global};
@@ -38,7 +39,7 @@ fn run_all<B, R>(
     start: Instant,
 ) -> Result<Vec<Ended>, AllocError>
 where
-    B: BoardName + Send + Sync,
+    B: HistoryName + Send + Sync,
     R: Threads + Wait + Clock + Sync,
 {
     let one = |index: usize| -> Ended {
@@ -82,7 +83,7 @@ fn run_full<B, R>(
     signals: &Signals,
 ) -> io::Result<()>
 where
-    B: BoardName + Send + Sync,
+    B: HistoryName + Send + Sync,
     R: Threads + Wait + Clock + Print + Alloc + Sync,
 {
     let start = Instant::now(rt)?;
@@ -93,7 +94,7 @@ where
 }
 
 /// The client of that index, or after the last of them whoever watches them, who gives what was seen.
-fn run_part<B: BoardName, R: Wait + Clock>(
+fn run_part<B: HistoryName, R: Wait + Clock>(
     rt: &R,
     alloc: Global,
     running: &Running<B, Deaf>,
@@ -124,7 +125,7 @@ fn run_beside<B, R>(
     start: Instant,
 ) -> Result<Vec<Option<Watched>>, AllocError>
 where
-    B: BoardName + Send + Sync,
+    B: HistoryName + Send + Sync,
     R: Threads + Wait + Clock + Sync,
 {
     let one = |index: usize| -> Option<Watched> {
@@ -146,7 +147,7 @@ fn run_watched<B, R>(
     course: Course,
 ) -> io::Result<()>
 where
-    B: BoardName + Send + Sync,
+    B: HistoryName + Send + Sync,
     R: Threads + Wait + Clock + Print + Alloc + Sync,
 {
     let start = Instant::now(rt)?;
@@ -172,12 +173,15 @@ fn hop_of(frame: &[u8]) -> u64 {
     }
 }
 
-/// How often the token went round.
-fn rounds_of<B: BoardName>(mut ends: Ends<B>, nodes: u8) -> u64 {
+/// How often the token went round, by the newest one that was left in a link.
+fn rounds_of<B: HistoryName, R: Wait>(rt: &R, mut ends: Ends<B>, nodes: u8) -> u64 {
     let mut hop = 0u64;
-    for station in ends.stations.iter_mut() {
-        if let Ok(Some(token)) = station.timer() {
-            hop = hop.max(hop_of(token.as_slice()));
+    for (_, receiver) in ends.links.iter_mut() {
+        for _ in 0..MOST_FRAMES {
+            let Some(frame) = receiver.take(rt) else {
+                break;
+            };
+            hop = hop.max(hop_of(frame.bytes()));
         }
     }
     drop(ends);
@@ -201,14 +205,14 @@ fn run_plan<B, R>(
     switch: &AtomicBool,
 ) -> io::Result<()>
 where
-    B: BoardName + Send + Sync + 'static,
+    B: HistoryName + Send + Sync + 'static,
     R: Threads + Wait + Clock + Print + Alloc + Sync,
 {
     let done = match plan.course {
         None => run_full(rt, alloc, &cluster, plan, signals),
         Some(course) => run_watched(rt, alloc, &cluster, plan.load, signals, switch, course),
     };
-    let rounds = rounds_of(cluster.stop(rt), plan.load.nodes);
+    let rounds = rounds_of(rt, cluster.stop(rt), plan.load.nodes);
     done?;
     if !plan.timed {
         return Ok(());
@@ -217,19 +221,8 @@ where
     print_rounds(rt, rounds, told)
 }
 
-/// A new cluster on that board, with its gate.
-fn start<B, R>(
-    rt: R,
-    alloc: Global,
-    board: Board,
-    load: Load,
-    switch: &Switch,
-) -> Result<Cluster<B, Deaf>, Refusal>
-where
-    B: BoardName + Send + Sync + 'static,
-    R: Threads + Wait + Clock + Copy + Send + 'static,
-    requires { board ≡ B.cells }
-{
+/// A history that begins with the load's nodes, which let the root user alone in.
+pub fn opened_for(alloc: Global, load: Load) -> Result<Opened, AllocError> {
     let settings = Settings {
         ring: 1,
         nodes: load.nodes,
@@ -237,21 +230,40 @@ where
         hops: 1 << 62,
     };
     let list = AcceptList::new(alloc);
+    Opened::new(alloc, Beginning { settings, list })
+}
+
+/// A new cluster on that board, with that history and its gate.
+fn start<B, R>(
+    rt: R,
+    alloc: Global,
+    board: Board,
+    opened: Opened,
+    load: Load,
+    switch: &Switch,
+) -> Result<Cluster<B, Deaf>, Refusal>
+where
+    B: HistoryName + Send + Sync + 'static,
+    R: Threads + Wait + Clock + Copy + Send + 'static,
+    requires board { board ≡ B.cells }
+    requires history { (opened.table ≡ B.table) × (first_world opened.start ≡ B.start) }
+{
     let gate = Deaf::new(load.nodes, Arc::try_clone(switch)?);
-    Cluster::<B, Deaf>::start(rt, alloc, settings, board, &list, gate)
+    Cluster::<B, Deaf>::start(rt, alloc, board, opened, gate)
 }
 
 /// What the plan comes to, on that board.
-pub fn run<B, R>(rt: R, alloc: Global, board: Board, plan: Plan) -> io::Result<()>
+pub fn run<B, R>(rt: R, alloc: Global, board: Board, opened: Opened, plan: Plan) -> io::Result<()>
 where
-    B: BoardName + Send + Sync + 'static,
+    B: HistoryName + Send + Sync + 'static,
     R: Threads + Wait + Clock + Print + Alloc + Copy + Send + Sync + 'static,
-    requires { board ≡ B.cells }
+    requires board { board ≡ B.cells }
+    requires history { (opened.table ≡ B.table) × (first_world opened.start ≡ B.start) }
 {
     let (Ok(switch), Ok(signals)) = (new_switch(alloc), Signals::new(alloc, plan.load.nodes)) else {
         return println!(rt; "no memory");
     };
-    match start::<B, R>(rt, alloc, board, plan.load, &switch) {
+    match start::<B, R>(rt, alloc, board, opened, plan.load, &switch) {
         Ok(cluster) => run_plan(&rt, alloc, cluster, plan, &signals, &switch),
         Err(refusal) => println!(rt; "no cluster: {refusal}"),
     }

@@ -20,7 +20,7 @@ mod load;
 mod outbox;
 mod watching;
 
-use courses::{Plan, run};
+use courses::{Plan, opened_for, run};
 use cpg_board::Board;
 use load::{Load, MOST_PLACES};
 use std::marker::Brand;
@@ -124,8 +124,11 @@ fn main(rt: HostRuntime) -> io::Result<()> {
     let Some(plan) = read_plan(words.as_slice()) else {
         return println!(rt; "not such words");
     };
-    match Board::new(alloc, plan.load.places()) {
-        Ok(board) => run::<Brand, HostRuntime>(rt, alloc, board, plan),
-        Err(_) => println!(rt; "no board"),
+    match (
+        Board::new(alloc, plan.load.places()),
+        opened_for(alloc, plan.load),
+    ) {
+        (Ok(board), Ok(opened)) => run::<Brand, HostRuntime>(rt, alloc, board, opened, plan),
+        _ => println!(rt; "no board"),
     }
 }

@@ -12,7 +12,12 @@ use std::sync::Wait;
 use std::test::Fail;
 
 /// Whether the link takes a frame of that one byte.
-fn puts<R: Wait>(rt: &R, alloc: Global, sender: &mut LinkTx, byte: u8) -> Result<bool, Refusal>
+fn puts<R: Wait>(
+    rt: &R,
+    alloc: Global,
+    sender: &mut LinkTx<Bytes>,
+    byte: u8,
+) -> Result<bool, Refusal>
     ensures { sender.new.link ≡ sender.old.link }
 {
     let frame = Bytes::copy_from_slice(alloc, &[byte])?;
@@ -31,8 +36,8 @@ fn are(frames: &[Bytes], byte: u8) -> bool {
 fn leaves<R: Wait>(
     rt: &R,
     alloc: Global,
-    sender: LinkTx,
-    receiver: LinkRx,
+    sender: LinkTx<Bytes>,
+    receiver: LinkRx<Bytes>,
     byte: u8,
 ) -> Result<bool, Refusal>
     requires { AreEnds sender receiver }

@@ -2,13 +2,14 @@
 //! node makes up for by itself.
 
 ghost use Rattle.std.specs.Prelude.{◌≡◌, ◌≤◌, IfOk};
+ghost use Rattle.cpg_history.specs.Histories.{first_world};
 
 use crate::again::Stop;
 use crate::entering::{Ask, call, cred, node};
 use crate::short::{Short, event_in_short};
 use cpg_board::Board;
 use cpg_cred::{AcceptList, By, NodeId, Refusal};
-use cpg_daemon::{BoardName, Cluster, PassAll, Running, Session};
+use cpg_daemon::{Beginning, Cluster, HistoryName, Opened, PassAll, Running, Session};
 use cpg_entry::Call;
 use cpg_node::Settings;
 use cpg_record::Verdict;
@@ -38,7 +39,7 @@ const SETTINGS: Settings = Settings {
 const ALLOWED: Verdict = Verdict::Allowed(By::Default);
 
 /// A session of the process, which belongs to user 0.
-fn connected<B: BoardName, R: Wait>(
+fn connected<B: HistoryName, R: Wait>(
     rt: &R,
     running: &Running<B, PassAll>,
     id: NodeId,
@@ -58,7 +59,7 @@ fn connected<B: BoardName, R: Wait>(
 }
 
 /// Whether the call is handed in; where it meets Memory it comes back, as it was handed in.
-fn submits<B: BoardName, R: Wait>(
+fn submits<B: HistoryName, R: Wait>(
     rt: &R,
     running: &Running<B, PassAll>,
     session: &mut Session<B>,
@@ -84,7 +85,7 @@ fn submits<B: BoardName, R: Wait>(
 }
 
 /// Hands in what the process asks.
-fn submitted<B: BoardName, R: Wait>(
+fn submitted<B: HistoryName, R: Wait>(
     rt: &R,
     alloc: Global,
     running: &Running<B, PassAll>,
@@ -105,7 +106,7 @@ fn submitted<B: BoardName, R: Wait>(
 
 /// The next event in short; none where memory is refused, which takes none, or where the node, which was refused memory
 /// at its delivery, has a place yet to deliver that the session saw on the board.
-fn told_once<B: BoardName, R: Wait>(
+fn told_once<B: HistoryName, R: Wait>(
     rt: &R,
     running: &Running<B, PassAll>,
     session: &mut Session<B>,
@@ -121,7 +122,7 @@ fn told_once<B: BoardName, R: Wait>(
 }
 
 /// The next event in short, once there is one.
-fn told<B: BoardName, R: Wait>(
+fn told<B: HistoryName, R: Wait>(
     rt: &R,
     running: &Running<B, PassAll>,
     session: &mut Session<B>,
@@ -140,7 +141,7 @@ fn told<B: BoardName, R: Wait>(
 }
 
 /// The process asks that, and is told the two events.
-fn goes_on<B: BoardName, R: Wait>(
+fn goes_on<B: HistoryName, R: Wait>(
     rt: &R,
     alloc: Global,
     running: &Running<B, PassAll>,
@@ -162,7 +163,7 @@ fn goes_on<B: BoardName, R: Wait>(
 }
 
 /// How many members `db` has, as the session may list them; none where memory is refused.
-fn members_listed<B: BoardName, R: Wait>(
+fn members_listed<B: HistoryName, R: Wait>(
     rt: &R,
     running: &Running<B, PassAll>,
     session: &mut Session<B>,
@@ -178,7 +179,7 @@ fn members_listed<B: BoardName, R: Wait>(
 }
 
 /// How many groups the session may list; none where memory is refused.
-fn groups_listed<B: BoardName, R: Wait>(
+fn groups_listed<B: HistoryName, R: Wait>(
     rt: &R,
     running: &Running<B, PassAll>,
     session: &mut Session<B>,
@@ -194,7 +195,7 @@ fn groups_listed<B: BoardName, R: Wait>(
 }
 
 /// The session lists one member of one group.
-fn lists_one<B: BoardName, R: Wait>(
+fn lists_one<B: HistoryName, R: Wait>(
     rt: &R,
     running: &Running<B, PassAll>,
     session: &mut Session<B>,
@@ -215,7 +216,7 @@ fn lists_one<B: BoardName, R: Wait>(
 }
 
 /// Another session is told all that the session saw.
-fn tells_all<B: BoardName>(
+fn tells_all<B: HistoryName>(
     running: &Running<B, PassAll>,
     session: &Session<B>,
     mut other: Session<B>,
@@ -231,7 +232,7 @@ fn tells_all<B: BoardName>(
 }
 
 /// Closes the session, which comes back where memory is refused, with as many events taken.
-fn closed<B: BoardName, R: Wait>(
+fn closed<B: HistoryName, R: Wait>(
     rt: &R,
     running: &Running<B, PassAll>,
     session: Session<B>,
@@ -255,7 +256,7 @@ fn closed<B: BoardName, R: Wait>(
 }
 
 /// A process joins `db`, says `hi`, lists, and leaves; another one sees what it saw.
-fn serves<B: BoardName, R: Wait>(
+fn serves<B: HistoryName, R: Wait>(
     rt: &R,
     alloc: Global,
     running: &Running<B, PassAll>,
@@ -274,7 +275,7 @@ fn serves<B: BoardName, R: Wait>(
 }
 
 /// The row at node 1 of the cluster.
-fn serves_at_first<B: BoardName, R: Wait>(
+fn serves_at_first<B: HistoryName, R: Wait>(
     rt: &R,
     alloc: Global,
     running: &Running<B, PassAll>,
@@ -294,7 +295,7 @@ fn serves_and_stops<B, R: Threads + Wait>(
     cluster: Cluster<B, PassAll>,
 ) -> Result<(), Stop>
 where
-    B: BoardName + Send + Sync + 'static,
+    B: HistoryName + Send + Sync + 'static,
     requires { 1 ≤ cluster.nodes }
 {
     let served = serves_at_first(rt, alloc, &cluster);
@@ -302,30 +303,32 @@ where
     served
 }
 
-/// The row at a new cluster with that list.
-fn play_with<B, R>(rt: R, alloc: Global, board: Board, list: &AcceptList) -> Result<(), Stop>
+/// The row at a new cluster of that history.
+fn play_on<B, R>(rt: R, alloc: Global, board: Board, opened: Opened) -> Result<(), Stop>
 where
-    B: BoardName + Send + Sync + 'static,
+    B: HistoryName + Send + Sync + 'static,
     R: Threads + Wait + Clock + Copy + Send + 'static,
-    requires { board ≡ B.cells }
+    requires board { board ≡ B.cells }
+    requires history { (opened.table ≡ B.table) × (first_world opened.start ≡ B.start) }
+    requires nodes { opened.start.settings.nodes ≡ 1 }
 {
-    match Cluster::<B, PassAll>::start(rt, alloc, SETTINGS, board, list, PassAll) {
+    match Cluster::<B, PassAll>::start(rt, alloc, board, opened, PassAll) {
         Ok(cluster) => serves_and_stops(&rt, alloc, cluster),
         Err(refusal) => Err(Stop::from(refusal)),
     }
 }
 
-/// The row at a new cluster that lets in user 0 alone.
-fn play_on<B, R>(rt: R, alloc: Global, board: Board) -> Result<(), Stop>
-where
-    B: BoardName + Send + Sync + 'static,
-    R: Threads + Wait + Clock + Copy + Send + 'static,
-    requires { board ≡ B.cells }
+/// A board, and a history of one node, which lets in user 0 alone.
+fn begun(alloc: Global) -> Result<(Board, Opened), Refusal>
+    ensures { IfOk result (λ both. both.1.start.settings.nodes ≡ 1) }
 {
+    let board = Board::new(alloc, 100)?;
     let list = AcceptList::new(alloc);
-    let ended = play_with::<B, R>(rt, alloc, board, &list);
-    drop(list);
-    ended
+    let beginning = Beginning {
+        settings: SETTINGS,
+        list,
+    };
+    Ok((board, Opened::new(alloc, beginning)?))
 }
 
 /// How often the row is played before it is taken that memory has run out.
@@ -335,8 +338,8 @@ const ROWS: u8 = 3;
 fn a_session_goes_on(rt: HostRuntime) -> Result<(), Fail> {
     let alloc = rt.alloc();
     for _ in 0..ROWS {
-        if let Ok(board) = Board::new(alloc, 100) {
-            let ended = play_on::<Brand, HostRuntime>(rt, alloc, board);
+        if let Ok((board, opened)) = begun(alloc) {
+            let ended = play_on::<Brand, HostRuntime>(rt, alloc, board, opened);
             if ended != Err(Stop::Memory) {
                 ended?;
                 return Ok(());

@@ -7,16 +7,18 @@ ghost use Rattle.std.specs.Prelude.{◌≡◌, ◌≢◌, ◌≤◌, ◌↔◌, 
 ghost use Rattle.cpg_why.specs.Scripts.{EndsWhy};
 ghost use Rattle.cpg_cluster.specs.Scripts.{commands_of_script};
 ghost use Rattle.cpg_why_audit.specs.Sessions.{AreRun, IsTold, Leaves};
+ghost use Rattle.cpg_history.specs.Histories.{first_world};
 ghost use Rattle.cpg_program.specs.Runs.{why_as, FailsLate, TellsSessions};
 ghost use Rattle.cpg_program.specs.Words.{list_of_words};
 
 use crate::failures::Failure;
+use crate::founding::new_base;
 use crate::runs::Form;
 use crate::words::read_list;
 use cpg_board::Board;
 use cpg_cluster::Patience;
 use cpg_cred::{AcceptList, Refusal};
-use cpg_daemon::{BoardName, Cluster, PassAll, Running};
+use cpg_daemon::{Cluster, HistoryName, Opened, PassAll, Running};
 use cpg_json_why::AsJson;
 use cpg_ring::{Settings, are_settings};
 use cpg_text::MOST_BYTES;
@@ -69,18 +71,18 @@ where
     match read_list(alloc, words) {
         Err(refusal) => Err(Failure::from(refusal)),
         Ok(None) => Err(Failure::BadWord),
-        Ok(Some(list)) => explain_listed(rt, alloc, inquiry, settings, &list, reader, writer),
+        Ok(Some(list)) => explain_listed(rt, alloc, inquiry, settings, list, reader, writer),
     }
 }
 
-/// The same over a new cluster of those settings and that list. The board is made here, and named.
+/// The same over a new cluster of those settings and that list. The board and the history are made here, and named.
 #[tactic(auto, using(crate::proofs::Audited::none_of_settings, crate::proofs::Audited::none_of_memory))]
 fn explain_listed<H, R, W>(
     rt: H,
     alloc: Global,
     inquiry: &Inquiry,
     settings: Settings,
-    list: &AcceptList,
+    list: AcceptList,
     reader: &mut R,
     writer: &mut W,
 ) -> Result<(), Failure>
@@ -89,50 +91,50 @@ where
     R: Read,
     W: Write,
     ensures ok { OnOk result (IfSome (R.remaining reader.old) (λ script.
-        TellsSessions (inquiry.now).form (inquiry.now).asked settings (Some list.now) script None (W.contents writer.old) (W.contents writer.new))) }
+        TellsSessions (inquiry.now).form (inquiry.now).asked settings (Some list) script None (W.contents writer.old) (W.contents writer.new))) }
     ensures err { IfErr result (λ failure. IfSome (R.remaining reader.old) (λ script.
-        TellsSessions (inquiry.now).form (inquiry.now).asked settings (Some list.now) script (Some failure) (W.contents writer.old) (W.contents writer.new))) }
+        TellsSessions (inquiry.now).form (inquiry.now).asked settings (Some list) script (Some failure) (W.contents writer.old) (W.contents writer.new))) }
     ensures late { IfErr result (λ failure. FailsLate failure (W.contents writer.old) (W.contents writer.new)) }
     ensures word { result ≢ Err Failure.BadWord }
 {
     if !are_settings(&settings) {
         return Err(Failure::from(Refusal::Range));
     }
-    match Board::new(alloc, settings.places) {
+    match new_base(alloc, settings, list) {
         Err(_) => Err(Failure::from(Refusal::Memory)),
-        Ok(board) => explain_on::<Brand, H, R, W>(
-            rt, alloc, inquiry, settings, board, list, reader, writer,
+        Ok((board, opened)) => explain_on::<Brand, H, R, W>(
+            rt, alloc, inquiry, board, opened, reader, writer,
         ),
     }
 }
 
-/// The same over a new cluster on that board.
+/// The same over a new cluster on that board, with that history.
 #[tactic(auto, using(crate::proofs::Audited::none_of_memory, crate::proofs::Audited::all_told, crate::proofs::Audited::part_told, crate::proofs::Explained::part_late))]
 fn explain_on<B, H, R, W>(
     rt: H,
     alloc: Global,
     inquiry: &Inquiry,
-    settings: Settings,
     board: Board,
-    list: &AcceptList,
+    opened: Opened,
     reader: &mut R,
     writer: &mut W,
 ) -> Result<(), Failure>
 where
-    B: BoardName + Send + Sync + 'static,
+    B: HistoryName + Send + Sync + 'static,
     H: Threads + Wait + Clock + Copy + Send + 'static,
     R: Read,
     W: Write,
     requires named { board ≡ B.cells }
-    requires places { length B.cells ≡ settings.places }
+    requires history { (opened.table ≡ B.table) × (first_world opened.start ≡ B.start) }
+    requires places { length B.cells ≡ opened.start.settings.places }
     ensures ok { OnOk result (IfSome (R.remaining reader.old) (λ script.
-        TellsSessions (inquiry.now).form (inquiry.now).asked settings (Some list.now) script None (W.contents writer.old) (W.contents writer.new))) }
+        TellsSessions (inquiry.now).form (inquiry.now).asked opened.start.settings (Some opened.start.list) script None (W.contents writer.old) (W.contents writer.new))) }
     ensures err { IfErr result (λ failure. IfSome (R.remaining reader.old) (λ script.
-        TellsSessions (inquiry.now).form (inquiry.now).asked settings (Some list.now) script (Some failure) (W.contents writer.old) (W.contents writer.new))) }
+        TellsSessions (inquiry.now).form (inquiry.now).asked opened.start.settings (Some opened.start.list) script (Some failure) (W.contents writer.old) (W.contents writer.new))) }
     ensures late { IfErr result (λ failure. FailsLate failure (W.contents writer.old) (W.contents writer.new)) }
     ensures word { result ≢ Err Failure.BadWord }
 {
-    match Cluster::<B, PassAll>::start(rt, alloc, settings, board, list, PassAll) {
+    match Cluster::<B, PassAll>::start(rt, alloc, board, opened, PassAll) {
         Err(_) => Err(Failure::from(Refusal::Memory)),
         Ok(cluster) => match explain_over(rt, alloc, inquiry, cluster, reader, writer) {
             Err(fault) => Err(Failure::from(fault)),
@@ -151,7 +153,7 @@ fn explain_over<B, H, R, W>(
     writer: &mut W,
 ) -> Result<(), WhyFault>
 where
-    B: BoardName + Send + Sync + 'static,
+    B: HistoryName + Send + Sync + 'static,
     H: Threads + Wait + Clock + Copy,
     R: Read,
     W: Write,
@@ -177,7 +179,7 @@ fn explain<B, H, R, W>(
     running: &Running<B, PassAll>,
 ) -> Result<(), WhyFault>
 where
-    B: BoardName,
+    B: HistoryName,
     H: Wait + Clock,
     R: Read,
     W: Write,

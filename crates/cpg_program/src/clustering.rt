@@ -3,19 +3,21 @@
 //! Proved: the words of the command line come first, then the settings, then the script; and what is written.
 
 ghost use Rattle.std.specs.Prelude.{◌≡◌, ◌≢◌, ◌↔◌, Err, Some, None, map, OnOk, IfErr, IfSome};
+ghost use Rattle.cpg_history.specs.Histories.{first_world};
 ghost use Rattle.cpg_program.specs.Runs.{Clusters, ClustersAll, FailsLate};
 ghost use Rattle.cpg_program.specs.Speaking.{spoken_as};
 ghost use Rattle.cpg_program.specs.Starting.{ClusterLeaves};
 ghost use Rattle.cpg_program.specs.Words.{list_of_words};
 
 use crate::failures::Failure;
+use crate::founding::new_base;
 use crate::speaking::Spoken;
 use crate::words::read_list;
 use cpg_board::Board;
 use cpg_cluster::Manner;
 use cpg_console::cluster_script;
 use cpg_cred::{AcceptList, Refusal};
-use cpg_daemon::{BoardName, Cluster, PassAll};
+use cpg_daemon::{Cluster, HistoryName, Opened, PassAll};
 use cpg_ring::{Settings, are_settings};
 use std::alloc::Global;
 use std::io::{Read, Write};
@@ -52,18 +54,18 @@ where
     match read_list(alloc, words) {
         Err(refusal) => Err(Failure::from(refusal)),
         Ok(None) => Err(Failure::BadWord),
-        Ok(Some(list)) => run_listed(rt, alloc, manner, settings, &list, reader, writer),
+        Ok(Some(list)) => run_listed(rt, alloc, manner, settings, list, reader, writer),
     }
 }
 
-/// Runs the script over a new cluster of those settings and that list. The board is made here, and named.
+/// Runs the script over a new cluster of those settings and that list. The board and the history are made here, and named.
 #[tactic(auto, using(crate::proofs::Clustered::none_of_settings, crate::proofs::Clustered::none_of_memory))]
 fn run_listed<H, R, W>(
     rt: H,
     alloc: Global,
     manner: &Manner<Spoken>,
     settings: Settings,
-    list: &AcceptList,
+    list: AcceptList,
     reader: &mut R,
     writer: &mut W,
 ) -> Result<(), Failure>
@@ -72,49 +74,49 @@ where
     R: Read,
     W: Write,
     ensures ok { OnOk result (IfSome (R.remaining reader.old) (λ script.
-        Clusters (spoken_as (manner.now).form) settings (Some list.now) script None (W.contents writer.old) (W.contents writer.new))) }
+        Clusters (spoken_as (manner.now).form) settings (Some list) script None (W.contents writer.old) (W.contents writer.new))) }
     ensures err { IfErr result (λ failure. IfSome (R.remaining reader.old) (λ script.
-        Clusters (spoken_as (manner.now).form) settings (Some list.now) script (Some failure) (W.contents writer.old) (W.contents writer.new))) }
+        Clusters (spoken_as (manner.now).form) settings (Some list) script (Some failure) (W.contents writer.old) (W.contents writer.new))) }
     ensures late { IfErr result (λ failure. FailsLate failure (W.contents writer.old) (W.contents writer.new)) }
     ensures word { result ≢ Err Failure.BadWord }
 {
     if !are_settings(&settings) {
         return Err(Failure::from(Refusal::Range));
     }
-    match Board::new(alloc, settings.places) {
+    match new_base(alloc, settings, list) {
         Err(_) => Err(Failure::from(Refusal::Memory)),
-        Ok(board) => run_on::<Brand, H, R, W>(
-            rt, alloc, manner, settings, board, list, reader, writer,
+        Ok((board, opened)) => run_on::<Brand, H, R, W>(
+            rt, alloc, manner, board, opened, reader, writer,
         ),
     }
 }
 
-/// Runs the script over a new cluster on that board.
+/// Runs the script over a new cluster on that board, with that history.
 #[tactic(auto, using(crate::proofs::Clustered::left_clustered, crate::proofs::Clustered::none_of_memory))]
 fn run_on<B, H, R, W>(
     rt: H,
     alloc: Global,
     manner: &Manner<Spoken>,
-    settings: Settings,
     board: Board,
-    list: &AcceptList,
+    opened: Opened,
     reader: &mut R,
     writer: &mut W,
 ) -> Result<(), Failure>
 where
-    B: BoardName + Send + Sync + 'static,
+    B: HistoryName + Send + Sync + 'static,
     H: Threads + Wait + Clock + Copy + Send + 'static,
     R: Read,
     W: Write,
-    requires { board ≡ B.cells }
+    requires board { board ≡ B.cells }
+    requires history { (opened.table ≡ B.table) × (first_world opened.start ≡ B.start) }
     ensures ok { OnOk result (IfSome (R.remaining reader.old) (λ script.
-        Clusters (spoken_as (manner.now).form) settings (Some list.now) script None (W.contents writer.old) (W.contents writer.new))) }
+        Clusters (spoken_as (manner.now).form) opened.start.settings (Some opened.start.list) script None (W.contents writer.old) (W.contents writer.new))) }
     ensures err { IfErr result (λ failure. IfSome (R.remaining reader.old) (λ script.
-        Clusters (spoken_as (manner.now).form) settings (Some list.now) script (Some failure) (W.contents writer.old) (W.contents writer.new))) }
+        Clusters (spoken_as (manner.now).form) opened.start.settings (Some opened.start.list) script (Some failure) (W.contents writer.old) (W.contents writer.new))) }
     ensures late { IfErr result (λ failure. FailsLate failure (W.contents writer.old) (W.contents writer.new)) }
     ensures word { result ≢ Err Failure.BadWord }
 {
-    match Cluster::<B, PassAll>::start(rt, alloc, settings, board, list, PassAll) {
+    match Cluster::<B, PassAll>::start(rt, alloc, board, opened, PassAll) {
         Err(_) => Err(Failure::from(Refusal::Memory)),
         Ok(cluster) => run_over(rt, alloc, manner, cluster, reader, writer),
     }
@@ -131,7 +133,7 @@ fn run_over<B, H, R, W>(
     writer: &mut W,
 ) -> Result<(), Failure>
 where
-    B: BoardName + Send + Sync + 'static,
+    B: HistoryName + Send + Sync + 'static,
     H: Threads + Wait + Clock + Copy,
     R: Read,
     W: Write,

@@ -9,6 +9,7 @@ mod auditing;
 mod clustering;
 mod drawing;
 mod failures;
+mod founding;
 mod hinting;
 mod judging;
 mod pipes;

@@ -5,6 +5,7 @@
 
 ghost use Rattle.std.specs.Prelude.{◌≡◌, ◌++◌, None, Some, map, OnOk, IfErr, IfOk, IsOkUnless};
 ghost use Rattle.cpg_text.specs.Streams.{AppendsFront};
+ghost use Rattle.cpg_history.specs.Histories.{first_world};
 ghost use Rattle.cpg_program.specs.Pipes.{has_left, written};
 ghost use Rattle.cpg_program.specs.Shelling.{ShellEnds, ShellRuns, Shells, word_told};
 ghost use Rattle.cpg_program.specs.Speaking.{spoken_as};
@@ -12,6 +13,7 @@ ghost use Rattle.cpg_program.specs.Telling.{told_text};
 ghost use Rattle.cpg_program.specs.Words.{list_of_words};
 
 use crate::failures::Failure;
+use crate::founding::new_base;
 use crate::pipes::Piped;
 use crate::runs::{Ended, failure_after, hand_on, tell};
 use crate::speaking::Spoken;
@@ -20,7 +22,7 @@ use crate::words::{hint_wrong, read_list};
 use cpg_board::Board;
 use cpg_cluster::Manner;
 use cpg_cred::{AcceptList, Refusal};
-use cpg_daemon::{BoardName, Cluster, PassAll};
+use cpg_daemon::{Cluster, HistoryName, Opened, PassAll};
 use cpg_ring::{Settings, are_settings};
 use cpg_shell::shell_lines;
 use std::alloc::Global;
@@ -143,18 +145,18 @@ where
     match read_list(alloc, words) {
         Err(refusal) => Err(Failure::from(refusal)),
         Ok(None) => Err(Failure::BadWord),
-        Ok(Some(list)) => shell_listed(rt, alloc, manner, settings, &list, reader, writer, errors),
+        Ok(Some(list)) => shell_listed(rt, alloc, manner, settings, list, reader, writer, errors),
     }
 }
 
-/// Answers the lines over a new cluster of those settings and that list. The board is made here, and named.
+/// Answers the lines over a new cluster of those settings and that list. The board and the history are made here, and named.
 #[tactic(auto, using(crate::proofs::Shelled::none_of_settings, crate::proofs::Shelled::none_of_memory))]
 fn shell_listed<H, R, W, E>(
     rt: H,
     alloc: Global,
     manner: &Manner<Spoken>,
     settings: Settings,
-    list: &AcceptList,
+    list: AcceptList,
     reader: &mut R,
     writer: &mut W,
     errors: &mut E,
@@ -164,48 +166,48 @@ where
     R: Read,
     W: Write,
     E: Write,
-    ensures ok { OnOk result (Shells (spoken_as (manner.now).form) settings (Some list.now) None
+    ensures ok { OnOk result (Shells (spoken_as (manner.now).form) settings (Some list) None
         (R.remaining reader.old) (W.contents writer.old) (W.contents writer.new) (E.contents errors.old) (E.contents errors.new)) }
-    ensures err { IfErr result (λ failure. Shells (spoken_as (manner.now).form) settings (Some list.now) (Some failure)
+    ensures err { IfErr result (λ failure. Shells (spoken_as (manner.now).form) settings (Some list) (Some failure)
         (R.remaining reader.old) (W.contents writer.old) (W.contents writer.new) (E.contents errors.old) (E.contents errors.new)) }
 {
     if !are_settings(&settings) {
         return Err(Failure::from(Refusal::Range));
     }
-    match Board::new(alloc, settings.places) {
+    match new_base(alloc, settings, list) {
         Err(_) => Err(Failure::from(Refusal::Memory)),
-        Ok(board) => shell_on::<Brand, H, R, W, E>(
-            rt, alloc, manner, settings, board, list, reader, writer, errors,
+        Ok((board, opened)) => shell_on::<Brand, H, R, W, E>(
+            rt, alloc, manner, board, opened, reader, writer, errors,
         ),
     }
 }
 
-/// Answers the lines over a new cluster on that board.
+/// Answers the lines over a new cluster on that board, with that history.
 #[tactic(auto, using(crate::proofs::Shelled::none_of_memory, crate::proofs::Shelled::left_shelled))]
 fn shell_on<B, H, R, W, E>(
     rt: H,
     alloc: Global,
     manner: &Manner<Spoken>,
-    settings: Settings,
     board: Board,
-    list: &AcceptList,
+    opened: Opened,
     reader: &mut R,
     writer: &mut W,
     errors: &mut E,
 ) -> Result<(), Failure>
 where
-    B: BoardName + Send + Sync + 'static,
+    B: HistoryName + Send + Sync + 'static,
     H: Threads + Wait + Clock + Copy + Send + 'static,
     R: Read,
     W: Write,
     E: Write,
-    requires { board ≡ B.cells }
-    ensures ok { OnOk result (Shells (spoken_as (manner.now).form) settings (Some list.now) None
+    requires board { board ≡ B.cells }
+    requires history { (opened.table ≡ B.table) × (first_world opened.start ≡ B.start) }
+    ensures ok { OnOk result (Shells (spoken_as (manner.now).form) opened.start.settings (Some opened.start.list) None
         (R.remaining reader.old) (W.contents writer.old) (W.contents writer.new) (E.contents errors.old) (E.contents errors.new)) }
-    ensures err { IfErr result (λ failure. Shells (spoken_as (manner.now).form) settings (Some list.now) (Some failure)
+    ensures err { IfErr result (λ failure. Shells (spoken_as (manner.now).form) opened.start.settings (Some opened.start.list) (Some failure)
         (R.remaining reader.old) (W.contents writer.old) (W.contents writer.new) (E.contents errors.old) (E.contents errors.new)) }
 {
-    match Cluster::<B, PassAll>::start(rt, alloc, settings, board, list, PassAll) {
+    match Cluster::<B, PassAll>::start(rt, alloc, board, opened, PassAll) {
         Err(_) => Err(Failure::from(Refusal::Memory)),
         Ok(cluster) => shell_over(rt, alloc, manner, cluster, reader, writer, errors),
     }
@@ -222,7 +224,7 @@ fn shell_over<B, H, R, W, E>(
     errors: &mut E,
 ) -> Result<(), Failure>
 where
-    B: BoardName + Send + Sync + 'static,
+    B: HistoryName + Send + Sync + 'static,
     H: Threads + Wait + Clock + Copy,
     R: Read,
     W: Write,

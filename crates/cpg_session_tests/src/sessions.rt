@@ -1,6 +1,7 @@
 //! Worked rows through `cluster_script`, on clusters with their threads; bad lines, and refusals that are printed.
 
-ghost use Rattle.std.specs.Prelude.{◌≡◌, ◌≤◌};
+ghost use Rattle.std.specs.Prelude.{◌≡◌, ◌≤◌, IfOk};
+ghost use Rattle.cpg_history.specs.Histories.{first_world};
 
 use crate::marked::Marked;
 use cpg_board::Board;
@@ -9,7 +10,7 @@ use cpg_cluster::{
     cluster_script,
 };
 use cpg_cred::{AcceptList, NodeId, Refusal};
-use cpg_daemon::{BoardName, Cluster, Fate, Gate, PassAll, Running};
+use cpg_daemon::{Beginning, Cluster, Fate, Gate, HistoryName, Opened, PassAll, Running};
 use cpg_node::Settings;
 use cpg_script::put;
 use std::alloc::Global;
@@ -48,8 +49,19 @@ fn list_of_two(alloc: Global) -> Result<AcceptList, Refusal> {
     Ok(list)
 }
 
+/// A history that begins with so many nodes and that list.
+fn opened_of(alloc: Global, nodes: u8) -> Result<Opened, Refusal>
+    ensures { IfOk result (λ opened. opened.start.settings.nodes ≡ nodes) }
+{
+    let beginning = Beginning {
+        settings: settings_of(nodes),
+        list: list_of_two(alloc)?,
+    };
+    Ok(Opened::new(alloc, beginning)?)
+}
+
 /// Whether the script ends so over the running nodes, and prints so.
-fn goes<B: BoardName, G, H: Wait + Clock>(
+fn goes<B: HistoryName, G, H: Wait + Clock>(
     rt: &H,
     alloc: Global,
     running: &Running<B, G>,
@@ -71,18 +83,19 @@ fn prints<B, G, R>(
     rt: R,
     alloc: Global,
     board: Board,
+    opened: Opened,
     gate: G,
     script: &[u8],
     answer: &[u8],
 ) -> Result<bool, Refusal>
 where
-    B: BoardName + Send + Sync + 'static,
+    B: HistoryName + Send + Sync + 'static,
     G: Gate + Send + Sync + Drop + 'static,
     R: Threads + Wait + Clock + Copy + Send + 'static,
-    requires { board ≡ B.cells }
+    requires board { board ≡ B.cells }
+    requires history { (opened.table ≡ B.table) × (first_world opened.start ≡ B.start) }
 {
-    let list = list_of_two(alloc)?;
-    let cluster = Cluster::<B, G>::start(rt, alloc, settings_of(2), board, &list, gate)?;
+    let cluster = Cluster::<B, G>::start(rt, alloc, board, opened, gate)?;
     let printed = goes(&rt, alloc, &cluster, script, None, answer);
     drop(cluster.stop(&rt));
     Ok(printed)
@@ -93,9 +106,17 @@ where
 fn cluster_sessions(rt: HostRuntime) -> Result<(), Fail> {
     let board = Board::new(rt.alloc(), 4_096)?;
     let alloc = rt.alloc();
+    let opened = opened_of(alloc, 2)?;
     assert!(rt;
-        prints::<Brand, PassAll, HostRuntime>(rt, alloc, board, PassAll, SESSIONS, SESSIONS_PRINT)
-            == Ok(true)
+        prints::<Brand, PassAll, HostRuntime>(
+            rt,
+            alloc,
+            board,
+            opened,
+            PassAll,
+            SESSIONS,
+            SESSIONS_PRINT
+        ) == Ok(true)
     );
     Ok(())
 }
@@ -119,9 +140,17 @@ impl Gate for Lossy {
 fn lossy_links(rt: HostRuntime) -> Result<(), Fail> {
     let board = Board::new(rt.alloc(), 4_096)?;
     let alloc = rt.alloc();
+    let opened = opened_of(alloc, 2)?;
     assert!(rt;
-        prints::<Brand, Lossy, HostRuntime>(rt, alloc, board, Lossy, SESSIONS, SESSIONS_PRINT)
-            == Ok(true)
+        prints::<Brand, Lossy, HostRuntime>(
+            rt,
+            alloc,
+            board,
+            opened,
+            Lossy,
+            SESSIONS,
+            SESSIONS_PRINT
+        ) == Ok(true)
     );
     Ok(())
 }
@@ -135,14 +164,16 @@ fn numbers_without_a_session(rt: HostRuntime) -> Result<(), Fail> {
         b"refused 3 NoConnection\nsafe 0\nrefused 2 Access\nsession 1\nmembers -\nrefused 3 NoConnection\nrefused 3 NoConnection\nclosed\nrefused 3 NoConnection\nrefused 3 NoConnection\nsession 2\nrefused 3 NoConnection\ngroups\n";
     let board = Board::new(rt.alloc(), 4_096)?;
     let alloc = rt.alloc();
+    let opened = opened_of(alloc, 2)?;
     assert!(rt;
-        prints::<Brand, PassAll, HostRuntime>(rt, alloc, board, PassAll, script, answer) == Ok(true)
+        prints::<Brand, PassAll, HostRuntime>(rt, alloc, board, opened, PassAll, script, answer)
+            == Ok(true)
     );
     Ok(())
 }
 
 /// Whether the script ends with that bad line, with nothing written.
-fn is_bad<B: BoardName, G, H: Wait + Clock>(
+fn is_bad<B: HistoryName, G, H: Wait + Clock>(
     rt: &H,
     alloc: Global,
     running: &Running<B, G>,
@@ -160,7 +191,7 @@ fn is_bad<B: BoardName, G, H: Wait + Clock>(
 }
 
 /// Whether bad lines end scripts before they begin.
-fn refuses_bad_lines<B: BoardName, G, H: Wait + Clock>(
+fn refuses_bad_lines<B: HistoryName, G, H: Wait + Clock>(
     rt: &H,
     alloc: Global,
     running: &Running<B, G>,
@@ -193,7 +224,7 @@ fn long_calls(alloc: Global) -> Result<Vec<u8>, Refusal> {
 }
 
 /// Whether a halted cluster refuses a connection in print.
-fn refuses_halted<B: BoardName, G, H: Wait + Clock>(
+fn refuses_halted<B: HistoryName, G, H: Wait + Clock>(
     rt: &H,
     alloc: Global,
     running: &Running<B, G>,
@@ -210,15 +241,15 @@ fn refuses_halted<B: BoardName, G, H: Wait + Clock>(
 }
 
 /// Whether a new cluster of two nodes refuses bad lines, long calls and, once it is halted, connections.
-fn refuses<B, R>(rt: R, alloc: Global, board: Board) -> Result<bool, Refusal>
+fn refuses<B, R>(rt: R, alloc: Global, board: Board, opened: Opened) -> Result<bool, Refusal>
 where
-    B: BoardName + Send + Sync + 'static,
+    B: HistoryName + Send + Sync + 'static,
     R: Threads + Wait + Clock + Copy + Send + 'static,
-    requires { board ≡ B.cells }
+    requires board { board ≡ B.cells }
+    requires history { (opened.table ≡ B.table) × (first_world opened.start ≡ B.start) }
 {
     let calls = long_calls(alloc)?;
-    let list = list_of_two(alloc)?;
-    let cluster = Cluster::<B, PassAll>::start(rt, alloc, settings_of(2), board, &list, PassAll)?;
+    let cluster = Cluster::<B, PassAll>::start(rt, alloc, board, opened, PassAll)?;
     let bad = refuses_bad_lines(&rt, alloc, &cluster);
     let long = goes(
         &rt,
@@ -238,7 +269,8 @@ where
 fn refusals(rt: HostRuntime) -> Result<(), Fail> {
     let board = Board::new(rt.alloc(), 4_096)?;
     let alloc = rt.alloc();
-    assert!(rt; refuses::<Brand, HostRuntime>(rt, alloc, board) == Ok(true));
+    let opened = opened_of(alloc, 2)?;
+    assert!(rt; refuses::<Brand, HostRuntime>(rt, alloc, board, opened) == Ok(true));
     Ok(())
 }
 
@@ -251,7 +283,7 @@ const LEAVES_PRINT: &[u8] =
     b"safe 0\nsession 1\nsession 2\nadmitted\nevent 1 verdict denied closed\n1 1.2 50 0 0 leave -> denied closed\nrecords 1\n";
 
 /// Whether the safe mark of node 1 gets to place 1.
-fn gets_safe<B: BoardName, H: Wait>(rt: &H, running: &Running<B, PassAll>) -> bool
+fn gets_safe<B: HistoryName, H: Wait>(rt: &H, running: &Running<B, PassAll>) -> bool
     requires { 1 ≤ running.now.nodes }
 {
     let Some(node) = NodeId::new(1) else {
@@ -267,14 +299,15 @@ fn gets_safe<B: BoardName, H: Wait>(rt: &H, running: &Running<B, PassAll>) -> bo
 }
 
 /// Whether a new cluster of one node prints its safe mark, before the place is held by all and once it is.
-fn prints_safe<B, R>(rt: R, alloc: Global, board: Board) -> Result<bool, Refusal>
+fn prints_safe<B, R>(rt: R, alloc: Global, board: Board, opened: Opened) -> Result<bool, Refusal>
 where
-    B: BoardName + Send + Sync + 'static,
+    B: HistoryName + Send + Sync + 'static,
     R: Threads + Wait + Clock + Copy + Send + 'static,
-    requires { board ≡ B.cells }
+    requires board { board ≡ B.cells }
+    requires history { (opened.table ≡ B.table) × (first_world opened.start ≡ B.start) }
+    requires nodes { opened.start.settings.nodes ≡ 1 }
 {
-    let list = list_of_two(alloc)?;
-    let cluster = Cluster::<B, PassAll>::start(rt, alloc, settings_of(1), board, &list, PassAll)?;
+    let cluster = Cluster::<B, PassAll>::start(rt, alloc, board, opened, PassAll)?;
     let left = goes(&rt, alloc, &cluster, LEAVES, None, LEAVES_PRINT);
     let safe = gets_safe(&rt, &cluster)
         && goes(&rt, alloc, &cluster, b"safe 1\n", None, b"safe 1\n");
@@ -287,7 +320,8 @@ where
 fn one_node_is_safe(rt: HostRuntime) -> Result<(), Fail> {
     let board = Board::new(rt.alloc(), 4_096)?;
     let alloc = rt.alloc();
-    assert!(rt; prints_safe::<Brand, HostRuntime>(rt, alloc, board) == Ok(true));
+    let opened = opened_of(alloc, 1)?;
+    assert!(rt; prints_safe::<Brand, HostRuntime>(rt, alloc, board, opened) == Ok(true));
     Ok(())
 }
 
@@ -301,7 +335,7 @@ const ECHOED_PRINT: &[u8] =
 
 /// Whether the script prints so in that manner, with a bar where what was printed is handed on; a writer that `fails`
 /// fails there. The script ends with `Write` exactly where it does.
-fn prints_marked<B: BoardName, G, H: Wait + Clock, P: PutsAnswer>(
+fn prints_marked<B: HistoryName, G, H: Wait + Clock, P: PutsAnswer>(
     rt: &H,
     alloc: Global,
     running: &Running<B, G>,
@@ -327,7 +361,7 @@ fn prints_marked<B: BoardName, G, H: Wait + Clock, P: PutsAnswer>(
 const WAITS: &[u8] = b"connect 1 40 0 0\ncall 1 leave\nwait 1\nwait 1\nclose 1\n";
 
 /// Whether waits hand on what was printed, and end in their time.
-fn waits_well<B: BoardName, G, H: Wait + Clock>(
+fn waits_well<B: HistoryName, G, H: Wait + Clock>(
     rt: &H,
     alloc: Global,
     running: &Running<B, G>,
@@ -368,14 +402,14 @@ fn waits_well<B: BoardName, G, H: Wait + Clock>(
 }
 
 /// Whether a new cluster of one node does.
-fn waits_on_one<B, R>(rt: R, alloc: Global, board: Board) -> Result<bool, Refusal>
+fn waits_on_one<B, R>(rt: R, alloc: Global, board: Board, opened: Opened) -> Result<bool, Refusal>
 where
-    B: BoardName + Send + Sync + 'static,
+    B: HistoryName + Send + Sync + 'static,
     R: Threads + Wait + Clock + Copy + Send + 'static,
-    requires { board ≡ B.cells }
+    requires board { board ≡ B.cells }
+    requires history { (opened.table ≡ B.table) × (first_world opened.start ≡ B.start) }
 {
-    let list = list_of_two(alloc)?;
-    let cluster = Cluster::<B, PassAll>::start(rt, alloc, settings_of(1), board, &list, PassAll)?;
+    let cluster = Cluster::<B, PassAll>::start(rt, alloc, board, opened, PassAll)?;
     let waits = waits_well(&rt, alloc, &cluster);
     drop(cluster.stop(&rt));
     Ok(waits)
@@ -386,19 +420,20 @@ where
 fn waits(rt: HostRuntime) -> Result<(), Fail> {
     let board = Board::new(rt.alloc(), 4_096)?;
     let alloc = rt.alloc();
-    assert!(rt; waits_on_one::<Brand, HostRuntime>(rt, alloc, board) == Ok(true));
+    let opened = opened_of(alloc, 1)?;
+    assert!(rt; waits_on_one::<Brand, HostRuntime>(rt, alloc, board, opened) == Ok(true));
     Ok(())
 }
 
 /// Whether the echoed script prints so on a new cluster of two nodes.
-fn echoes_on_two<B, R>(rt: R, alloc: Global, board: Board) -> Result<bool, Refusal>
+fn echoes_on_two<B, R>(rt: R, alloc: Global, board: Board, opened: Opened) -> Result<bool, Refusal>
 where
-    B: BoardName + Send + Sync + 'static,
+    B: HistoryName + Send + Sync + 'static,
     R: Threads + Wait + Clock + Copy + Send + 'static,
-    requires { board ≡ B.cells }
+    requires board { board ≡ B.cells }
+    requires history { (opened.table ≡ B.table) × (first_world opened.start ≡ B.start) }
 {
-    let list = list_of_two(alloc)?;
-    let cluster = Cluster::<B, PassAll>::start(rt, alloc, settings_of(2), board, &list, PassAll)?;
+    let cluster = Cluster::<B, PassAll>::start(rt, alloc, board, opened, PassAll)?;
     let echoed = Manner {
         patience: Patience::Looks,
         form: Shown::Echoed,
@@ -415,7 +450,8 @@ where
 fn echoes(rt: HostRuntime) -> Result<(), Fail> {
     let board = Board::new(rt.alloc(), 4_096)?;
     let alloc = rt.alloc();
-    assert!(rt; echoes_on_two::<Brand, HostRuntime>(rt, alloc, board) == Ok(true));
+    let opened = opened_of(alloc, 2)?;
+    assert!(rt; echoes_on_two::<Brand, HostRuntime>(rt, alloc, board, opened) == Ok(true));
     Ok(())
 }
 

@@ -1,12 +1,13 @@
 //! Lines that are typed into a shell over a cluster of one node: help, bad lines, long lines, and streams that fail.
 
 ghost use Rattle.std.specs.Prelude.{◌≡◌};
+ghost use Rattle.cpg_history.specs.Histories.{first_world};
 
 use crate::marked::Marked;
 use cpg_board::Board;
 use cpg_cluster::PLAIN;
 use cpg_cred::{AcceptList, Refusal};
-use cpg_daemon::{BoardName, Cluster, PassAll, Running};
+use cpg_daemon::{Beginning, Cluster, HistoryName, Opened, PassAll, Running};
 use cpg_node::Settings;
 use cpg_script::put;
 use cpg_shell::shell_lines;
@@ -57,7 +58,7 @@ impl Read for Keys<'_> {
 }
 
 /// Whether what is typed ends so, and prints and tells so, with a bar where that is handed on.
-fn answers<B: BoardName, G, H: Wait + Clock>(
+fn answers<B: HistoryName, G, H: Wait + Clock>(
     rt: &H,
     alloc: Global,
     running: &Running<B, G>,
@@ -107,7 +108,7 @@ fn spaced(alloc: Global, spaces: usize) -> Result<Vec<u8>, Refusal> {
 
 /// Whether lines are answered on the node, one of 1 MiB too, and a longer one is bad. The safe mark is 0 as long as no
 /// session closed.
-fn answers_all<B: BoardName, G, H: Wait + Clock>(
+fn answers_all<B: HistoryName, G, H: Wait + Clock>(
     rt: &H,
     alloc: Global,
     running: &Running<B, G>,
@@ -149,18 +150,28 @@ fn answers_all<B: BoardName, G, H: Wait + Clock>(
 }
 
 /// Whether a new cluster of one node does.
-fn answers_on_one<B, R>(rt: R, alloc: Global, board: Board) -> Result<bool, Refusal>
+fn answers_on_one<B, R>(rt: R, alloc: Global, board: Board, opened: Opened) -> Result<bool, Refusal>
 where
-    B: BoardName + Send + Sync + 'static,
+    B: HistoryName + Send + Sync + 'static,
     R: Threads + Wait + Clock + Copy + Send + 'static,
-    requires { board ≡ B.cells }
+    requires board { board ≡ B.cells }
+    requires history { (opened.table ≡ B.table) × (first_world opened.start ≡ B.start) }
 {
-    let mut list = AcceptList::new(alloc);
-    list.add_uid(7)?;
-    let cluster = Cluster::<B, PassAll>::start(rt, alloc, SETTINGS, board, &list, PassAll)?;
+    let cluster = Cluster::<B, PassAll>::start(rt, alloc, board, opened, PassAll)?;
     let answered = answers_all(&rt, alloc, &cluster);
     drop(cluster.stop(&rt));
     answered
+}
+
+/// A history that begins with one node, which lets user 7 in.
+fn opened_for_7(alloc: Global) -> Result<Opened, Refusal> {
+    let mut list = AcceptList::new(alloc);
+    list.add_uid(7)?;
+    let beginning = Beginning {
+        settings: SETTINGS,
+        list,
+    };
+    Ok(Opened::new(alloc, beginning)?)
 }
 
 /// Each line is answered at once; a bad one is told and skipped; a read that fails leaves what was answered.
@@ -168,6 +179,7 @@ where
 fn typed_lines(rt: HostRuntime) -> Result<(), Fail> {
     let board = Board::new(rt.alloc(), 16)?;
     let alloc = rt.alloc();
-    assert!(rt; answers_on_one::<Brand, HostRuntime>(rt, alloc, board) == Ok(true));
+    let opened = opened_for_7(alloc)?;
+    assert!(rt; answers_on_one::<Brand, HostRuntime>(rt, alloc, board, opened) == Ok(true));
     Ok(())
 }

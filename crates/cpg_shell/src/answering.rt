@@ -13,7 +13,7 @@ use crate::help::HELP;
 use crate::typed::{Typed, read_typed};
 use cpg_cluster::{Manner, Numbered, PutsAnswer, do_command, hand_on};
 use cpg_cred::Refusal;
-use cpg_daemon::{BoardName, Running, Session};
+use cpg_daemon::{HistoryName, Running, Session};
 use cpg_script::{Fault, put, put_fault};
 use cpg_text::write_whole;
 use std::alloc::Global;
@@ -50,7 +50,7 @@ fn put_bad(alloc: Global, text: &mut Vec<u8>, number: u32) -> Result<(), Refusal
 }
 
 /// Answers what a line of that number says.
-fn answer_typed<B: BoardName, G, H: Wait + Clock, P: PutsAnswer>(
+fn answer_typed<B: HistoryName, G, H: Wait + Clock, P: PutsAnswer>(
     rt: &H,
     alloc: Global,
     running: &Running<B, G>,
@@ -80,7 +80,7 @@ fn answer_typed<B: BoardName, G, H: Wait + Clock, P: PutsAnswer>(
 }
 
 /// Answers a line of that number.
-pub fn answer_line<B: BoardName, G, H: Wait + Clock, P: PutsAnswer>(
+pub fn answer_line<B: HistoryName, G, H: Wait + Clock, P: PutsAnswer>(
     rt: &H,
     alloc: Global,
     running: &Running<B, G>,

@@ -9,7 +9,7 @@ use crate::answering::{answer_line, write_answered};
 use crate::lines::read_line;
 use cpg_cluster::{Manner, PutsAnswer};
 use cpg_cred::Refusal;
-use cpg_daemon::{BoardName, Running};
+use cpg_daemon::{HistoryName, Running};
 use cpg_script::Fault;
 use std::alloc::Global;
 use std::io::{Read, Write};
@@ -36,7 +36,7 @@ pub fn shell_lines<B, G, H, R, W, E, P>(
     manner: &Manner<P>,
 ) -> Result<(), Fault>
 where
-    B: BoardName,
+    B: HistoryName,
     H: Wait + Clock,
     R: Read,
     W: Write,
@@ -65,7 +65,7 @@ fn answer_lines<B, G, H, R, W, E, P>(
     manner: &Manner<P>,
 ) -> Result<(), Refusal>
 where
-    B: BoardName,
+    B: HistoryName,
     H: Wait + Clock,
     R: Read,
     W: Write,

@@ -7,7 +7,7 @@ use crate::draws::Draws;
 use crate::gates::Chance;
 use crate::text::Told;
 use cpg_cred::{Cred, NodeId, Refusal};
-use cpg_daemon::{BoardName, Running, Session};
+use cpg_daemon::{HistoryName, Running, Session};
 use cpg_entry::{Call, Entry, Op};
 use cpg_print::{put_groups_line, put_members_line, put_refused_line};
 use cpg_script::{put, put_bytes};
@@ -15,14 +15,14 @@ use std::alloc::Global;
 use std::sync::Wait;
 
 /// Whether the session is at one of the nodes.
-pub fn is_here<B: BoardName>(running: &Running<B, Chance>, session: &Session<B>) -> bool
+pub fn is_here<B: HistoryName>(running: &Running<B, Chance>, session: &Session<B>) -> bool
     ensures { IsTrue result → session.now.who.id.node ≤ running.now.nodes }
 {
     session.connection().id.node.get() <= running.nodes()
 }
 
 /// A process of those credentials asks the node to let it in.
-fn open_at<B: BoardName, R: Wait>(
+fn open_at<B: HistoryName, R: Wait>(
     rt: &R,
     running: &Running<B, Chance>,
     slot: &mut Option<Session<B>>,
@@ -46,7 +46,7 @@ fn open_at<B: BoardName, R: Wait>(
 }
 
 /// A process that is drawn asks a node to let it in.
-pub fn open<B: BoardName, R: Wait>(
+pub fn open<B: HistoryName, R: Wait>(
     rt: &R,
     running: &Running<B, Chance>,
     slot: &mut Option<Session<B>>,
@@ -63,7 +63,7 @@ pub fn open<B: BoardName, R: Wait>(
 }
 
 /// The session's process submits the call.
-fn submit<B: BoardName, R: Wait>(
+fn submit<B: HistoryName, R: Wait>(
     rt: &R,
     running: &Running<B, Chance>,
     session: &mut Session<B>,
@@ -86,7 +86,7 @@ fn submit<B: BoardName, R: Wait>(
 }
 
 /// The session's process submits a call that is drawn, whose line is told first.
-fn call<B: BoardName, R: Wait>(
+fn call<B: HistoryName, R: Wait>(
     rt: &R,
     alloc: Global,
     running: &Running<B, Chance>,
@@ -110,7 +110,7 @@ fn call<B: BoardName, R: Wait>(
 }
 
 /// The session takes its next event. Whether there was one.
-pub fn take<B: BoardName, R: Wait>(
+pub fn take<B: HistoryName, R: Wait>(
     rt: &R,
     running: &Running<B, Chance>,
     session: &mut Session<B>,
@@ -130,7 +130,7 @@ pub fn take<B: BoardName, R: Wait>(
 }
 
 /// The session takes up to so many events.
-fn take_some<B: BoardName, R: Wait>(
+fn take_some<B: HistoryName, R: Wait>(
     rt: &R,
     running: &Running<B, Chance>,
     session: &mut Session<B>,
@@ -146,7 +146,7 @@ fn take_some<B: BoardName, R: Wait>(
 }
 
 /// The session asks for the members of a group.
-fn list<B: BoardName, R: Wait>(
+fn list<B: HistoryName, R: Wait>(
     rt: &R,
     alloc: Global,
     running: &Running<B, Chance>,
@@ -170,7 +170,7 @@ fn list<B: BoardName, R: Wait>(
 }
 
 /// The session asks for the names of groups.
-fn groups<B: BoardName, R: Wait>(
+fn groups<B: HistoryName, R: Wait>(
     rt: &R,
     running: &Running<B, Chance>,
     session: &mut Session<B>,
@@ -186,7 +186,7 @@ fn groups<B: BoardName, R: Wait>(
 }
 
 /// The session ends.
-fn close<B: BoardName, R: Wait>(
+fn close<B: HistoryName, R: Wait>(
     rt: &R,
     running: &Running<B, Chance>,
     slot: &mut Option<Session<B>>,
@@ -209,7 +209,7 @@ fn close<B: BoardName, R: Wait>(
 }
 
 /// What an open session does.
-fn act<B: BoardName, R: Wait>(
+fn act<B: HistoryName, R: Wait>(
     rt: &R,
     alloc: Global,
     running: &Running<B, Chance>,
@@ -226,7 +226,7 @@ fn act<B: BoardName, R: Wait>(
 }
 
 /// One step: of that slot's session, or of a process that comes.
-pub fn step<B: BoardName, R: Wait>(
+pub fn step<B: HistoryName, R: Wait>(
     rt: &R,
     alloc: Global,
     running: &Running<B, Chance>,

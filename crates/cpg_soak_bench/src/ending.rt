@@ -7,7 +7,7 @@ use crate::gates::Chance;
 use crate::text::Told;
 use cpg_board::{Board, Seat};
 use cpg_cred::{Cred, NodeId, Refusal};
-use cpg_daemon::{BoardName, Running, Session};
+use cpg_daemon::{HistoryName, Running, Session};
 use cpg_script::put;
 use std::sync::Wait;
 use std::thread;
@@ -55,7 +55,7 @@ pub fn comes_to_know<H: Clock>(
 }
 
 /// The session takes all that it is told, its node having delivered what it has seen. Whether that came to pass.
-fn take_all<B: BoardName, R: Wait + Clock>(
+fn take_all<B: HistoryName, R: Wait + Clock>(
     rt: &R,
     running: &Running<B, Chance>,
     session: &mut Session<B>,
@@ -77,7 +77,7 @@ fn take_all<B: BoardName, R: Wait + Clock>(
 }
 
 /// The session is told what the seat knows, and takes all; its end is told.
-pub fn finish<B: BoardName, R: Wait + Clock>(
+pub fn finish<B: HistoryName, R: Wait + Clock>(
     rt: &R,
     running: &Running<B, Chance>,
     session: &mut Session<B>,
@@ -96,7 +96,7 @@ pub fn finish<B: BoardName, R: Wait + Clock>(
 
 /// A session of the root user that comes to the node and takes all: there is nothing for it to take, once the
 /// node has delivered what the seat knows.
-fn visit_at<B: BoardName, R: Wait + Clock>(
+fn visit_at<B: HistoryName, R: Wait + Clock>(
     rt: &R,
     running: &Running<B, Chance>,
     node: NodeId,
@@ -115,7 +115,7 @@ fn visit_at<B: BoardName, R: Wait + Clock>(
 }
 
 /// Such sessions at all nodes.
-pub fn visit_all<B: BoardName, R: Wait + Clock>(
+pub fn visit_all<B: HistoryName, R: Wait + Clock>(
     rt: &R,
     running: &Running<B, Chance>,
     seat: &Seat,

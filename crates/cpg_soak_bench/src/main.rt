@@ -7,8 +7,6 @@
 //! line is read.
 #![tactic(auto)]
 
-ghost use Rattle.std.specs.Prelude.{◌≡◌};
-
 mod calls;
 mod clients;
 mod draws;
@@ -20,7 +18,7 @@ mod text;
 use cpg_board::Board;
 use cpg_cred::Refusal;
 use cpg_text::{Words, read_number, write_whole};
-use rounds::{Plan, go};
+use rounds::{Plan, go, opened_for};
 use std::alloc::Global;
 use std::io;
 use std::marker::Brand;
@@ -56,7 +54,8 @@ fn round<R: Threads + Wait + Clock + Copy + Send + 'static>(
     plan: Plan,
 ) -> Result<Vec<u8>, Refusal> {
     let board = Board::new(alloc, PLACES)?;
-    go::<Brand, R>(rt, alloc, board, plan)
+    let opened = opened_for(alloc, plan)?;
+    go::<Brand, R>(rt, alloc, board, opened, plan)
 }
 
 fn main(rt: HostRuntime) -> io::Result<()> {

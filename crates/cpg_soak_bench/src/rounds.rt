@@ -1,6 +1,7 @@
 //! A round: a cluster, its sessions, and what is left of it.
 
 ghost use Rattle.std.specs.Prelude.{◌≡◌};
+ghost use Rattle.cpg_history.specs.Histories.{first_world};
 ghost use Rattle.cpg_board.specs.Seats.{IsSeatOf};
 
 use crate::PLACES;
@@ -11,7 +12,7 @@ use crate::gates::{Chance, Notes, new_notes};
 use crate::text::Told;
 use cpg_board::{Board, Seat};
 use cpg_cred::{AcceptList, Refusal};
-use cpg_daemon::{BoardName, Cluster, Ends, Running, Session};
+use cpg_daemon::{Beginning, Cluster, Ends, HistoryName, Opened, Running, Session};
 use cpg_node::Settings;
 use cpg_script::put;
 use std::alloc::Global;
@@ -39,7 +40,7 @@ fn new_list(alloc: Global) -> Result<AcceptList, Refusal> {
 }
 
 /// Places for sessions, in which there are none.
-fn new_slots<B: BoardName>(alloc: Global) -> Result<Vec<Option<Session<B>>>, Refusal> {
+fn new_slots<B: HistoryName>(alloc: Global) -> Result<Vec<Option<Session<B>>>, Refusal> {
     let mut slots = Vec::new(alloc);
     for _ in 0..SLOTS {
         slots.push(None)?;
@@ -48,7 +49,7 @@ fn new_slots<B: BoardName>(alloc: Global) -> Result<Vec<Option<Session<B>>>, Ref
 }
 
 /// So many steps, each of a slot that is drawn. Now and then a rest lets the nodes go on.
-fn step_all<B: BoardName, R: Wait + Clock>(
+fn step_all<B: HistoryName, R: Wait + Clock>(
     rt: &R,
     alloc: Global,
     running: &Running<B, Chance>,
@@ -70,7 +71,7 @@ fn step_all<B: BoardName, R: Wait + Clock>(
 }
 
 /// Every open session takes all.
-fn finish_all<B: BoardName, R: Wait + Clock>(
+fn finish_all<B: HistoryName, R: Wait + Clock>(
     rt: &R,
     running: &Running<B, Chance>,
     slots: &mut [Option<Session<B>>],
@@ -88,7 +89,7 @@ fn finish_all<B: BoardName, R: Wait + Clock>(
 }
 
 /// All places are settled, and all sessions and nodes told.
-fn end_all<B: BoardName, R: Wait + Clock>(
+fn end_all<B: HistoryName, R: Wait + Clock>(
     rt: &R,
     running: &Running<B, Chance>,
     slots: &mut [Option<Session<B>>],
@@ -103,7 +104,7 @@ fn end_all<B: BoardName, R: Wait + Clock>(
 }
 
 /// The round over running nodes.
-fn go_over<B: BoardName, R: Wait + Clock>(
+fn go_over<B: HistoryName, R: Wait + Clock>(
     rt: &R,
     alloc: Global,
     running: &Running<B, Chance>,
@@ -116,9 +117,13 @@ fn go_over<B: BoardName, R: Wait + Clock>(
 }
 
 /// The audits of what is left, and what the gate did.
-fn tell_left<B: BoardName>(ends: &Ends<B>, notes: &Notes, told: &mut Told) -> Result<(), Refusal> {
+fn tell_left<B: HistoryName>(
+    ends: &Ends<B>,
+    notes: &Notes,
+    told: &mut Told,
+) -> Result<(), Refusal> {
     for station in ends.stations.iter() {
-        told.audit(station.audit())?;
+        told.audit(station.station().audit())?;
     }
     told.notes(notes)
 }
@@ -133,7 +138,7 @@ fn go_on<B, R: Threads + Wait + Clock>(
     told: &mut Told,
 ) -> Result<(), Refusal>
 where
-    B: BoardName + Send + Sync + 'static,
+    B: HistoryName + Send + Sync + 'static,
 {
     let gone = go_over(rt, alloc, &cluster, plan, told);
     let ends = cluster.stop(rt);
@@ -143,13 +148,8 @@ where
     left
 }
 
-/// What a round of that plan prints, on that board.
-pub fn go<B, R>(rt: R, alloc: Global, board: Board, plan: Plan) -> Result<Vec<u8>, Refusal>
-where
-    B: BoardName + Send + Sync + 'static,
-    R: Threads + Wait + Clock + Copy + Send + 'static,
-    requires { board ≡ B.cells }
-{
+/// A history that begins with the plan's nodes, which let in whom its rounds ask for.
+pub fn opened_for(alloc: Global, plan: Plan) -> Result<Opened, Refusal> {
     let settings = Settings {
         ring: 1,
         nodes: plan.nodes,
@@ -157,9 +157,26 @@ where
         hops: 1 << 62,
     };
     let list = new_list(alloc)?;
+    Ok(Opened::new(alloc, Beginning { settings, list })?)
+}
+
+/// What a round of that plan prints, on that board.
+pub fn go<B, R>(
+    rt: R,
+    alloc: Global,
+    board: Board,
+    opened: Opened,
+    plan: Plan,
+) -> Result<Vec<u8>, Refusal>
+where
+    B: HistoryName + Send + Sync + 'static,
+    R: Threads + Wait + Clock + Copy + Send + 'static,
+    requires board { board ≡ B.cells }
+    requires history { (opened.table ≡ B.table) × (first_world opened.start ≡ B.start) }
+{
     let notes = new_notes(alloc)?;
     let gate = Chance::of(plan.seed, Arc::try_clone(&notes)?);
-    let cluster = Cluster::<B, Chance>::start(rt, alloc, settings, board, &list, gate)?;
+    let cluster = Cluster::<B, Chance>::start(rt, alloc, board, opened, gate)?;
     let mut told = Told::none(alloc);
     go_on(&rt, alloc, cluster, &notes, plan, &mut told)?;
     Ok(told.text)

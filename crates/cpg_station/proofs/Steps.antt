@@ -10,7 +10,7 @@ use Rattle.cpg_ring.specs.States.{Entry, NodeState}
 use Rattle.cpg_ring.specs.Worlds.{RingOutcome}
 use Rattle.cpg_ring.specs.Moves.{next_entry, after_delivery}
 use Rattle.cpg_node.specs.Nodes.{NodeValue, delivered_entries}
-use Rattle.cpg_node.specs.Calls.{next_record, delivered}
+use Rattle.cpg_node.specs.Calls.{next_record, place_to_deliver, delivered}
 use Rattle.cpg_node.proofs.Keeping.{delivered_more}
 use Rattle.cpg_board.specs.Seats.{SeatValue, records_of}
 use Rattle.cpg_board.proofs.Known.{take_next}
@@ -77,3 +77,18 @@ kept_on x y seat keeps same = subst (λ audit. Keeps audit seat) (sym same) keep
 
 pub kept_same : (x y : NodeValue) (seat : SeatValue) → Keeps (audit_of x) seat → y ≡ x → Keeps (audit_of y) seat
 kept_same x y seat keeps same = kept_on x y seat keeps (ap audit_of same)
+
+-- the number of the place that the node delivers next, if it holds it
+pub next_place : (x : NodeValue) (r : Record) (place : ℕ) → next_record x ≡ Some r → place ≡ suc x.ring.state.delivered → Some place ≡ place_to_deliver x
+next_place x r place is number = by_entry (next_entry x.ring.state) is
+  where
+    by_entry : (o : Option Entry) → option_map (record_of (audit_of x)) o ≡ Some r → Some place ≡ option_map (λ e. suc x.ring.state.delivered) o
+    by_entry None made = absurd (none-some r made)
+    by_entry (Some e) made = ap (λ (n : ℕ). Some n) number
+
+pub no_place : (x : NodeValue) → next_record x ≡ None → None ≡ place_to_deliver x
+no_place x is = by_entry (next_entry x.ring.state) is
+  where
+    by_entry : (o : Option Entry) → option_map (record_of (audit_of x)) o ≡ None → None ≡ option_map (λ e. suc x.ring.state.delivered) o
+    by_entry None made = refl
+    by_entry (Some e) made = absurd (none-some (record_of (audit_of x) e) (sym made))

@@ -1,5 +1,5 @@
 -- What a station is to the sessions at its node. A session knows its connection, and has a seat of its own.
-use Rattle.std.specs.Prelude.{ℕ, suc, ◌≡◌, ◌<◌, ◌≤◌, true, false, List, length, Option, Some, None, Result, Ok, Err}
+use Rattle.std.specs.Prelude.{ℕ, suc, ◌≡◌, ◌⊎◌, ◌<◌, ◌≤◌, true, false, List, length, Option, Some, None, Result, Ok, Err}
 use Rattle.std.specs.List.{slice_get}
 use Rattle.cpg_cred.specs.declared.refusals.Refusal.{Refusal}
 use Rattle.cpg_cred.specs.declared.refusals.Refusal.TheVariants.{Memory, BadName, TooLong, QueueFull, Behind, Stopped, Denied}
@@ -43,6 +43,10 @@ IsKnown node who = connection_of node who.id.conn ≡ Some who
 -- the halted station
 abbrev pub halted_of : StationValue → StationValue
 halted_of s = record { node = s.node; seat = s.seat; halted = true }
+
+-- the station is as it was, or halted
+abbrev pub StaysOrHalts : StationValue → StationValue → Type 0
+StaysOrHalts old new = (new ≡ old) ⊎ (new ≡ halted_of old)
 
 -- A station that finds the connection other than the session knows it is halted, and else as it was.
 pub record KeepsWatch (old : StationValue) (who : Connection) (new : StationValue) : Type 0 where

@@ -38,6 +38,7 @@ pub(crate) fn stand(
     requires kept { Keeps (audit_of node.now) seat.old }
     ensures seat { IsSeatOf board.now seat.new × Begins seat.old seat.new }
     ensures kept { Keeps (audit_of node.now) seat.new }
+    ensures number { IfOk result (λ place. place ≡ suc node.now.ring.state.delivered) }
     ensures ok { IfOk result (λ place. (place ≡ suc (length (audit_of node.now))) × (record_at (records_of seat.new) place ≡ Some wanted.now)) }
     ensures err { IfErr result (λ why. StandsNot board.now seat.old (suc (length (audit_of node.now))) wanted.now why seat.new) }
 {

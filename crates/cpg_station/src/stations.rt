@@ -10,7 +10,7 @@ ghost use Rattle.cpg_wire.specs.declared.codes.Version.TheVariants.{Two};
 ghost use Rattle.cpg_wire.specs.Reading.{frame_of};
 ghost use Rattle.cpg_wire.specs.Spelling.{spelling};
 ghost use Rattle.cpg_node.specs.Answers.{CanBeSpelled, IsFrameAnswer, IsListAnswer, IsGroupsAnswer, IsTakeAnswer, connection_of};
-ghost use Rattle.cpg_node.specs.Calls.{connect_refusal, connected, submit_refusal, submitted, closed_refusal, disconnected, answers_to, next_record, took};
+ghost use Rattle.cpg_node.specs.Calls.{connect_refusal, connected, submit_refusal, submitted, closed_refusal, disconnected, answers_to, next_record, place_to_deliver, took};
 ghost use Rattle.cpg_node.specs.Nodes.{open_client};
 ghost use Rattle.cpg_board.specs.Seats.{IsSeatOf, Begins, records_of};
 ghost use Rattle.cpg_station.specs.Delivering.{Delivers, DeliverRefuses};
@@ -140,10 +140,11 @@ impl<B: BoardName> Station<B> {
     /// Judges the next place, if it is held, has the judgement stand on the board, and takes the place as
     /// delivered; gives the place. Refused with Memory at the judging; BoardFull; Memory; Differs, which
     /// halts the station; Memory at the end, where the judgement stands and the next call takes it up.
-    #[tactic(auto, using(crate::proofs::Steps::kept_delivered))]
+    #[tactic(auto, using(crate::proofs::Steps::kept_delivered, crate::proofs::Steps::no_place))]
     pub fn deliver(&mut self, board: &Board) -> Result<Option<u32>, Refusal>
         requires { board.now ≡ B.cells }
         ensures some { IfOk result (λ place. IfSome place (λ place. Delivers place self.old self.new)) }
+        ensures place { IfOk result (λ place. place ≡ place_to_deliver self.old.node) }
         ensures none { IfOk result (λ place. IfNone place ((next_record self.old.node ≡ None) × (self.new ≡ self.old))) }
         ensures nothing { next_record self.old.node ≡ None → result ≡ Ok None }
         ensures err { IfErr result (λ why. DeliverRefuses B.cells self.old why self.new) }

@@ -11,7 +11,12 @@ use std::sync::Wait;
 use std::test::Fail;
 
 /// Puts a frame of that one byte. Gives the byte that came back, if the frame did.
-fn put<R: Wait>(rt: &R, alloc: Global, sender: &mut LinkTx, byte: u8) -> Result<Option<u8>, Refusal>
+fn put<R: Wait>(
+    rt: &R,
+    alloc: Global,
+    sender: &mut LinkTx<Bytes>,
+    byte: u8,
+) -> Result<Option<u8>, Refusal>
     ensures { sender.new.link ≡ sender.old.link }
 {
     let frame = Bytes::copy_from_slice(alloc, &[byte])?;
@@ -30,7 +35,7 @@ fn byte_of(frame: &Bytes) -> Option<u8> {
 }
 
 /// Whether the next frame taken is of that byte.
-fn takes<R: Wait>(rt: &R, receiver: &mut LinkRx, byte: u8) -> bool
+fn takes<R: Wait>(rt: &R, receiver: &mut LinkRx<Bytes>, byte: u8) -> bool
     ensures { receiver.new.link ≡ receiver.old.link }
 {
     match receiver.take(rt) {
@@ -40,7 +45,13 @@ fn takes<R: Wait>(rt: &R, receiver: &mut LinkRx, byte: u8) -> bool
 }
 
 /// Whether the link leaves one frame, of that byte.
-fn leaves<R: Wait>(rt: &R, alloc: Global, sender: LinkTx, receiver: LinkRx, byte: u8) -> bool
+fn leaves<R: Wait>(
+    rt: &R,
+    alloc: Global,
+    sender: LinkTx<Bytes>,
+    receiver: LinkRx<Bytes>,
+    byte: u8,
+) -> bool
     requires { AreEnds sender receiver }
 {
     match close(rt, alloc, sender, receiver) {
@@ -86,7 +97,7 @@ fn a_lossy_link(rt: HostRuntime) -> Result<(), Fail> {
 
 /// What refuses a link with room for so many frames, if anything does.
 fn refusal_of(alloc: Global, capacity: usize) -> Option<Refusal> {
-    link(alloc, capacity).err()
+    link::<Bytes>(alloc, capacity).err()
 }
 
 #[test]
@@ -100,7 +111,7 @@ fn capacities(rt: HostRuntime) -> Result<(), Fail> {
 }
 
 /// Whether the link takes so many frames of that byte.
-fn fills<R: Wait>(rt: &R, alloc: Global, sender: &mut LinkTx, size: usize) -> bool {
+fn fills<R: Wait>(rt: &R, alloc: Global, sender: &mut LinkTx<Bytes>, size: usize) -> bool {
     for _ in 0..size {
         if put(rt, alloc, sender, b'x') != Ok(None) {
             return false;
@@ -110,7 +121,7 @@ fn fills<R: Wait>(rt: &R, alloc: Global, sender: &mut LinkTx, size: usize) -> bo
 }
 
 /// Whether so many frames of that byte are taken.
-fn empties<R: Wait>(rt: &R, receiver: &mut LinkRx, size: usize) -> bool {
+fn empties<R: Wait>(rt: &R, receiver: &mut LinkRx<Bytes>, size: usize) -> bool {
     for _ in 0..size {
         if !takes(rt, receiver, b'x') {
             return false;

@@ -12,7 +12,7 @@ ghost use Rattle.cpg_why_audit.specs.Sessions.{AreRun, AreStopped, IsTold, IsTol
 use crate::boards::why_of_board;
 use crate::forms::Unprinted;
 use cpg_cluster::{Fault, Manner, Patience, cluster_script};
-use cpg_daemon::{BoardName, Running};
+use cpg_daemon::{HistoryName, Running};
 use cpg_text::MOST_BYTES;
 use cpg_why::{Asked, Tells, WhyFault};
 use std::alloc::Global;
@@ -22,7 +22,7 @@ use std::time::Clock;
 
 /// Runs the commands of a script over running nodes; nothing is printed of what they are answered.
 #[tactic(auto, using(crate::proofs::Afterwards::all_run, crate::proofs::Afterwards::are_stopped, crate::proofs::Afterwards::ends_by))]
-fn run_unprinted<B: BoardName, G, H: Wait + Clock, R: Read>(
+fn run_unprinted<B: HistoryName, G, H: Wait + Clock, R: Read>(
     rt: &H,
     alloc: Global,
     reader: &mut R,
@@ -46,7 +46,7 @@ fn run_unprinted<B: BoardName, G, H: Wait + Clock, R: Read>(
 
 /// Lets a seat that knows nothing read what stands on the board, and writes what is asked of that.
 #[tactic(auto, using(crate::proofs::Afterwards::told, crate::proofs::Afterwards::told_in_part, crate::proofs::Afterwards::told_ends))]
-fn tell_board<F: Tells, B: BoardName, G, W: Write>(
+fn tell_board<F: Tells, B: HistoryName, G, W: Write>(
     alloc: Global,
     writer: &mut W,
     running: &Running<B, G>,
@@ -78,7 +78,7 @@ pub fn why_of_sessions<F, B, G, H, R, W>(
 ) -> Result<(), WhyFault>
 where
     F: Tells,
-    B: BoardName,
+    B: HistoryName,
     H: Wait + Clock,
     R: Read,
     W: Write,

@@ -10,55 +10,68 @@ use Rattle.cpg_world_laws.specs.declared.replies.Reply.TheVariants as reply
 use Rattle.cpg_world_laws.specs.Replies.{Answer}
 use Rattle.cpg_history.specs.declared.histories.View.{View}
 use Rattle.cpg_history.specs.Histories.{Came, FrontValue, told, front}
-use Rattle.cpg_history.specs.Members.{MemberValue, ParcelValue, Replied, WereSent, IsAt, member, told_of}
+use Rattle.cpg_history.specs.Members.{MemberValue, ParcelValue, Replied, WereSent, IsAt, IsMember, IsPenOf, member}
+use Rattle.cpg_history.proofs.Coming.{is_member}
 use Rattle.cpg_history.proofs.Hearing.{heard, parcelled}
 use Rattle.cpg_history.proofs.members.Member.frame_as.Goals as goal
 
 pub invariant_of-result : goal.invariant_of-result
 invariant_of-result g c =
     let start = g.B.HistoryName.start in
-    let x = c.self.inside.node in
+    let s = c.self.inside.station in
+    let x = s.node in
+    let t = c.frame.new.self in
+    let spare = c.self.inside.spare in
     let f = c.parcel.inside.front in
     let event = Arrival c.self.inside.id f.number in
     let is : g.E.Happens.event ≡ event = c.requires ∙ (ap (λ (m : MemberValue). Arrival m.id c.args.parcel.number) (sym c.self.view_is) ∙ ap (λ (p : ParcelValue). Arrival c.self.inside.id p.number) (sym c.parcel.view_is)) in
     let came : Came start (told c.self.inside.pen (front f)) event c.add.result c.add.new.pen.seen = subst (λ (v : View). Came start v event c.add.result c.add.new.pen.seen) c.tell.ensures (subst (λ (e : WorldEvent). Came start c.tell.new.pen e c.add.result c.add.new.pen.seen) is c.add.ensures.came) in
     let p = c.parcel.invariant in
+    let i = c.self.invariant.holds c.if-self.false in
     let read : frame_of c.as_slice.result.now ≡ Some p.frame = ap frame_of c.as_slice.ensures ∙ p.reads in
-    let a = subst (λ (o : Option Frame). IsFrameAnswer (λ (list : Vec (Bytes Global) Global). list.items) x o (Ok c.in-Ok.frames) c.frame.new.self) read c.in-Ok.ensures.answer in
+    let a = subst (λ (o : Option Frame). IsFrameAnswer (λ (list : Vec (Bytes Global) Global). list.items) x o (Ok c.in-Ok.frames) t.node) read c.in-Ok.ensures.answer in
     let range = subst (λ (o : Option Frame). IfSome o (λ fr. All CanBeSpelled (answers_to x fr))) read c.in-Ok.ensures.range in
-    let stand = parcelled c.reads_what_is_spelled.ensures.again start c.self.inside.pen f c.add.result c.self.inside.id x c.frame.new.self c.add.new.pen.seen c.parcel.inside.bytes c.in-Ok.frames.items p came c.self.invariant.2 a.0 a.1 a.2 range in
+    let stand = parcelled c.reads_what_is_spelled.ensures.again start c.self.inside.pen f c.add.result c.self.inside.id s t spare c.add.new.pen.seen c.parcel.inside.bytes c.in-Ok.frames.items p came i.2 a.0 a.1 a.2 range in
     subst (λ (f : FrontValue). WereSent start f.seen f.number c.in-Ok.frames.items) (sym c.front-front.ensures.front) stand
 
 pub invariant_of-self : goal.invariant_of-self
 invariant_of-self g c =
     let start = g.B.HistoryName.start in
-    let x = c.self.inside.node in
+    let s = c.self.inside.station in
+    let x = s.node in
+    let t = c.frame.new.self in
+    let spare = c.self.inside.spare in
     let f = c.parcel.inside.front in
     let event = Arrival c.self.inside.id f.number in
     let is : g.E.Happens.event ≡ event = c.requires ∙ (ap (λ (m : MemberValue). Arrival m.id c.args.parcel.number) (sym c.self.view_is) ∙ ap (λ (p : ParcelValue). Arrival c.self.inside.id p.number) (sym c.parcel.view_is)) in
     let came : Came start (told c.self.inside.pen (front f)) event c.add.result c.add.new.pen.seen = subst (λ (v : View). Came start v event c.add.result c.add.new.pen.seen) c.tell.ensures (subst (λ (e : WorldEvent). Came start c.tell.new.pen e c.add.result c.add.new.pen.seen) is c.add.ensures.came) in
     let p = c.parcel.invariant in
+    let i = c.self.invariant.holds c.if-self.false in
     let read : frame_of c.as_slice.result.now ≡ Some p.frame = ap frame_of c.as_slice.ensures ∙ p.reads in
-    let a = subst (λ (o : Option Frame). IsFrameAnswer (λ (list : Vec (Bytes Global) Global). list.items) x o (Ok c.in-Ok.frames) c.frame.new.self) read c.in-Ok.ensures.answer in
-    let answer = heard c.reads_what_is_spelled.ensures.again start c.self.inside.pen f c.add.result c.self.inside.id x c.frame.new.self c.add.new.pen.seen c.parcel.inside.bytes c.in-Ok.frames.items p came c.self.invariant.2 a.0 a.1 a.2 c.add.new.pen.also in
+    let a = subst (λ (o : Option Frame). IsFrameAnswer (λ (list : Vec (Bytes Global) Global). list.items) x o (Ok c.in-Ok.frames) t.node) read c.in-Ok.ensures.answer in
+    let answer = heard c.reads_what_is_spelled.ensures.again start c.self.inside.pen f c.add.result c.self.inside.id s t spare c.add.new.pen.seen c.parcel.inside.bytes c.in-Ok.frames.items p came i.2 a.0 a.1 a.2 in
     let q = c.front-front.ensures.pen ∙ c.add.ensures.pen in
-    let i = c.self.invariant in
-    (ap (λ (v : View). v.from) q ∙ (ap (λ (v : View). v.from) c.tell.ensures ∙ i.0), ap (λ (v : View). v.to) q ∙ (ap (λ (v : View). v.to) c.tell.ensures ∙ i.1), subst (λ (v : View). IsAt start v.seen c.self.inside.id c.frame.new.self) (sym c.front-front.ensures.pen) answer.now)
+    let pen : IsPenOf start c.front-front.new.pen c.self.inside.id t.node = (ap (λ (v : View). v.from) q ∙ (ap (λ (v : View). v.from) c.tell.ensures ∙ i.0), ap (λ (v : View). v.to) q ∙ (ap (λ (v : View). v.to) c.tell.ensures ∙ i.1), subst (λ (v : View). IsAt start v.seen c.self.inside.id t.node) (sym c.front-front.ensures.pen) answer.now) in
+    is_member start c.self.inside.id t spare c.front-front.new.pen c.self.invariant.begins c.if-self.false pen
 
 pub returns-in-Ok-clause-ok : goal.returns-in-Ok-clause-ok
 returns-in-Ok-clause-ok g c =
     let start = g.B.HistoryName.start in
-    let x = c.self.inside.node in
+    let s = c.self.inside.station in
+    let x = s.node in
+    let t = c.frame.new.self in
+    let spare = c.self.inside.spare in
     let f = c.parcel.inside.front in
     let event = Arrival c.self.inside.id f.number in
     let is : g.E.Happens.event ≡ event = c.requires ∙ (ap (λ (m : MemberValue). Arrival m.id c.args.parcel.number) (sym c.self.view_is) ∙ ap (λ (p : ParcelValue). Arrival c.self.inside.id p.number) (sym c.parcel.view_is)) in
     let came : Came start (told c.self.inside.pen (front f)) event c.add.result c.add.new.pen.seen = subst (λ (v : View). Came start v event c.add.result c.add.new.pen.seen) c.tell.ensures (subst (λ (e : WorldEvent). Came start c.tell.new.pen e c.add.result c.add.new.pen.seen) is c.add.ensures.came) in
     let p = c.parcel.invariant in
+    let i = c.self.invariant.holds c.if-self.false in
     let read : frame_of c.as_slice.result.now ≡ Some p.frame = ap frame_of c.as_slice.ensures ∙ p.reads in
-    let a = subst (λ (o : Option Frame). IsFrameAnswer (λ (list : Vec (Bytes Global) Global). list.items) x o (Ok c.in-Ok.frames) c.frame.new.self) read c.in-Ok.ensures.answer in
-    let answer = heard c.reads_what_is_spelled.ensures.again start c.self.inside.pen f c.add.result c.self.inside.id x c.frame.new.self c.add.new.pen.seen c.parcel.inside.bytes c.in-Ok.frames.items p came c.self.invariant.2 a.0 a.1 a.2 c.add.new.pen.also in
+    let a = subst (λ (o : Option Frame). IsFrameAnswer (λ (list : Vec (Bytes Global) Global). list.items) x o (Ok c.in-Ok.frames) t.node) read c.in-Ok.ensures.answer in
+    let answer = heard c.reads_what_is_spelled.ensures.again start c.self.inside.pen f c.add.result c.self.inside.id s t spare c.add.new.pen.seen c.parcel.inside.bytes c.in-Ok.frames.items p came i.2 a.0 a.1 a.2 in
     let reply : Answer = Ok (reply.Sent (length c.in-Ok.frames.items)) in
-    let after : View → MemberValue = λ v. member c.self.inside.id c.frame.new.self v.seen v.also in
-    subst (λ (v : View). Replied start (told_of [] c.args.self.now) (Arrival c.args.self.now.id c.args.parcel.number) reply (after v)) (sym c.front-front.ensures.pen)
-    (subst (λ (p : ParcelValue). Replied start (told_of [] c.args.self.now) (Arrival c.args.self.now.id p.number) reply (after c.add.new.pen)) c.parcel.view_is
-    (subst (λ (m : MemberValue). Replied start (told_of [] m) (Arrival m.id f.number) reply (after c.add.new.pen)) c.self.view_is answer))
+    let after : View → MemberValue = λ v. member c.self.inside.id t spare v.seen in
+    subst (λ (v : View). Replied start c.args.self.now (Arrival c.args.self.now.id c.args.parcel.number) reply (after v)) (sym c.front-front.ensures.pen)
+    (subst (λ (p : ParcelValue). Replied start c.args.self.now (Arrival c.args.self.now.id p.number) reply (after c.add.new.pen)) c.parcel.view_is
+    (subst (λ (m : MemberValue). Replied start m (Arrival m.id f.number) reply (after c.add.new.pen)) c.self.view_is answer))

@@ -5,5 +5,5 @@ use Rattle.cpg_link.proofs.ends.LinkTx.put.Goals as goal
 
 pub push_as-requires-clause-rule : goal.push_as-requires-clause-rule
 push_as-requires-clause-rule g c =
-    let may = ap (λ (v : Known). v.puts) c.self.invariant.1 in
+    let may = ap (λ (v : Known g.row.T.Denot). v.puts) c.self.invariant.1 in
     (sends _ _ _ _ may, behind _ _ may)

@@ -1,0 +1,97 @@
+-- A session is heard by its own node alone, which is no spare.
+use Rattle.std.proofs.Common.{◌≡◌, ◌≢◌, is_some, ℕ, Bool, true, false, true≢false, Option, Some, None, refl, sym, ap, ◌∙◌, option_map, ⊎_elim, inl, inr, subst, arith}
+use Rattle.std.proofs.lemmas.Option.{none-some, same_Some}
+use Rattle.cpg_cred.specs.Admission.{via_of}
+use Rattle.cpg_cred.specs.Listed.{Listed}
+use Rattle.cpg_cred.specs.declared.credentials.Cred.{Cred}
+use Rattle.cpg_cred.specs.declared.refusals.Refusal.{Refusal}
+use Rattle.cpg_cred.specs.declared.refusals.Refusal.TheVariants as refusal
+use Rattle.cpg_node.specs.declared.connections.Client.{Client}
+use Rattle.cpg_node.specs.declared.connections.Connection.{Connection}
+use Rattle.cpg_node.specs.Nodes.{NodeValue, open_client, conn_id}
+use Rattle.cpg_node.specs.Calls.{closed_refusal}
+use Rattle.cpg_world_laws.specs.declared.events.WorldEvent.{WorldEvent}
+use Rattle.cpg_world_laws.specs.Worlds.{WorldValue, node_in}
+use Rattle.cpg_station.specs.Stations.{StationValue}
+use Rattle.cpg_station.specs.Serving.{IsHeard, IsKnown, StaysOrHalts, halted_of}
+use Rattle.cpg_station.specs.Admitting.{AdmitsNot, StopsAt, IsOther, taken_in}
+use Rattle.cpg_history.specs.declared.histories.View.{View}
+use Rattle.cpg_history.specs.Histories.{Owns}
+use Rattle.cpg_history.specs.Members.{IsMember, IsPenOf}
+use Rattle.cpg_history.proofs.Agreeing.{stands_at}
+
+pub known_number : (x : NodeValue) (who : Connection) → IsKnown x who → who.id.node ≡ x.ring.node
+known_number x who known = by_client (open_client x who.id.conn) known
+  where
+    by_client : (o : Option Client) → option_map (λ (c : Client). record { id = conn_id x who.id.conn; pid = c.pid; cred = c.cred; taken = c.taken }) o ≡ Some who → who.id.node ≡ x.ring.node
+    by_client None same = absurd (none-some who same)
+    by_client (Some c) same = ap (λ (w : Connection). w.id.node) (sym (same_Some _ who same))
+
+pub known_closes : (x : NodeValue) (who : Connection) → IsKnown x who → closed_refusal (open_client x who.id.conn) ≡ None
+known_closes x who known = by_client (open_client x who.id.conn) known
+  where
+    by_client : (o : Option Client) → option_map (λ (c : Client). record { id = conn_id x who.id.conn; pid = c.pid; cred = c.cred; taken = c.taken }) o ≡ Some who → closed_refusal o ≡ None
+    by_client None same = absurd (none-some who same)
+    by_client (Some c) same = refl
+
+pub owns_own : (pen : View) (n id : ℕ) (x : NodeValue) (start : WorldValue) → n ≡ id → IsPenOf start pen id x → Owns pen n
+owns_own pen n id x start is p = let a = p.0 in let b = p.1 in (omega (arith, is, a), omega (arith, is, b))
+
+-- what runs is no spare
+pub no_spare : (start : WorldValue) (id : ℕ) (s : StationValue) (spare : Bool) (pen : View) → IsMember start id s spare pen → s.halted ≡ false → spare ≡ false
+no_spare start id s spare pen m runs = by_flag spare refl
+  where
+    by_flag : (f : Bool) → spare ≡ f → spare ≡ false
+    by_flag false p = p
+    by_flag true p = absurd (true≢false (sym (m.halts p) ∙ runs))
+
+module _ (start : WorldValue) (id : ℕ) (s : StationValue) (spare : Bool) (pen : View) (m : IsMember start id s spare pen) (who : Connection) (heard : IsHeard s who) where
+  pub serves : spare ≡ false
+  serves = no_spare start id s spare pen m heard.0
+
+  pub serves_by : IsPenOf start pen id s.node
+  serves_by = m.holds serves
+
+  pub serves_own : who.id.node ≡ id
+  serves_own = known_number s.node who heard.1 ∙ (stands_at start pen.seen id s.node m.begins serves_by.2).0
+
+-- a member that is as it was, or halted
+pub member_stays : (start : WorldValue) (id : ℕ) (s t : StationValue) (spare : Bool) (pen : View) → IsMember start id s spare pen → StaysOrHalts s t → IsMember start id t spare pen
+member_stays start id s t spare pen m is =
+    ⊎_elim (λ same. subst (λ (u : StationValue). IsMember start id u spare pen) (sym same) m)
+    (λ halts. subst (λ (u : StationValue). IsMember start id u spare pen) (sym halts) (record { begins = m.begins; halts = λ _. refl; holds = m.holds }))
+    is
+
+-- a member of another node that is halted
+pub other_stops : (start : WorldValue) (id : ℕ) (s : StationValue) (spare : Bool) (pen : View) → IsMember start id s spare pen → (list : Listed) (node pid : ℕ) (cred : Cred) (new : StationValue) → id ≢ node → new ≡ halted_of s → StopsAt list node pid cred s new
+other_stops start id s spare pen m list node pid cred new apart is = by_flag spare refl
+  where
+    by_flag : (f : Bool) → spare ≡ f → StopsAt list node pid cred s new
+    by_flag true spared = inl (m.halts spared, is ∙ ap (λ h. let t : StationValue = record { node = s.node; seat = s.seat; halted = h } in t) (sym (m.halts spared)))
+    by_flag false not = inr (inr (λ same. apart (sym (stands_at start pen.seen id s.node m.begins (m.holds not).2).0 ∙ same)), inl is)
+
+-- a member that doesn't take a process in is still one
+pub refused_stays : (start : WorldValue) (id : ℕ) (s : StationValue) (spare : Bool) (pen : View) → IsMember start id s spare pen → (list : Listed) (node pid : ℕ) (cred : Cred) (why : Refusal) (new : StationValue) → list ≡ start.list → id ≡ node → AdmitsNot list node pid cred s why new → IsMember start id new spare pen
+refused_stays start id s spare pen m list node pid cred why new listed own not = by_why why not
+  where
+    same : new ≡ s → IsMember start id new spare pen
+    same is = subst (λ (u : StationValue). IsMember start id u spare pen) (sym is) m
+
+    by_flag : (f : Bool) → spare ≡ f → IsOther list node cred s → new.halted ≡ true → IsMember start id new spare pen
+    by_flag true spared other halts = record { begins = m.begins; halts = λ _. halts; holds = λ not. absurd (true≢false (sym spared ∙ not)) }
+    by_flag false not other halts =
+        let stands = stands_at start pen.seen id s.node m.begins (m.holds not).2 in
+        ⊎_elim (λ unlike. absurd (unlike (ap (λ l. is_some (via_of l cred)) (listed ∙ sym stands.1)))) (λ apart. absurd (apart (stands.0 ∙ own))) other
+
+    by_stop : StopsAt list node pid cred s new → IsMember start id new spare pen
+    by_stop stop =
+        ⊎_elim (λ was. same was.1)
+        (λ other. by_flag spare refl other.0 (⊎_elim (λ is. ap (λ (u : StationValue). u.halted) is) (λ is. ap (λ (u : StationValue). u.halted) is) other.1))
+        stop
+
+    by_why : (w : Refusal) → AdmitsNot list node pid cred s w new → IsMember start id new spare pen
+    by_why refusal.Stopped not = by_stop not
+    by_why refusal.Access not = same not.1
+    by_why refusal.ConnectionsFull not = same not.2
+    by_why refusal.Memory not = same not.2
+    by_why w not = absurd not

@@ -1,0 +1,29 @@
+//! What a new cluster stands on.
+
+ghost use Rattle.std.specs.Prelude.{◌≡◌, length, IfOk, IsOkUnless};
+ghost use Rattle.cpg_cred.specs.declared.refusals.Refusal.TheVariants.{Memory};
+ghost use Rattle.cpg_ring.specs.States.{IsSettings};
+
+use cpg_board::Board;
+use cpg_cred::{AcceptList, Refusal};
+use cpg_daemon::{Beginning, Opened};
+use cpg_ring::Settings;
+use std::alloc::Global;
+
+/// An empty board of those settings' places, and an empty history that begins with their new world and that list.
+pub(crate) fn new_base(
+    alloc: Global,
+    settings: Settings,
+    list: AcceptList,
+) -> Result<(Board, Opened), Refusal>
+    requires { IsSettings settings }
+    ensures board { IfOk result (λ base. length base.0 ≡ settings.places) }
+    ensures history { IfOk result (λ base. base.1.start ≡ record { settings = settings; list = list }) }
+    ensures memory { IsOkUnless result Memory }
+{
+    let Ok(board) = Board::new(alloc, settings.places) else {
+        return Err(Refusal::Memory);
+    };
+    let opened = Opened::new(alloc, Beginning { settings, list })?;
+    Ok((board, opened))
+}
