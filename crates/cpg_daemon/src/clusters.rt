@@ -3,6 +3,7 @@
 ghost use Rattle.std.specs.Prelude.{◌≡◌, ◌≤◌, ◌*◌, All, IfOk, IfErr, IsOkUnless, vec_len};
 ghost use Rattle.std.specs.Arc.{arc_value};
 ghost use Rattle.cpg_history.specs.Histories.{first_world};
+ghost use Rattle.cpg_history.specs.Members.{Began};
 ghost use Rattle.cpg_daemon.specs.Clusters.{IsUnstarted};
 ghost use Rattle.cpg_daemon.specs.Links.{peers_of, links_of};
 
@@ -14,7 +15,7 @@ use crate::running::Running;
 use crate::stopping::{Begun, Room, gather, pair, take_out};
 use cpg_board::Board;
 use cpg_cred::{AcceptList, Refusal};
-use cpg_history::{Beginning, History, HistoryName, Member, Opened, Parcel};
+use cpg_history::{Beginning, Front, History, HistoryName, Member, Opened, Parcel};
 use cpg_link::{LinkRx, LinkTx};
 use cpg_ring::are_settings;
 use std::alloc::Global;
@@ -57,10 +58,12 @@ impl<B: HistoryName, G> Deref for Cluster<B, G> {
     }
 }
 
-/// What a stopped cluster leaves: each node's station with its pen, in their order, and the two ends of each link.
+/// What a stopped cluster leaves: each node's station with its pen, in their order; a front of the history, which what each
+/// of them has seen begins; and the two ends of each link.
 #[derive(Drop)]
 pub struct Ends<B: HistoryName> {
     pub stations: Vec<Member<B>>,
+    pub front: Front<B>,
     pub links: Vec<(LinkTx<Parcel<B>>, LinkRx<Parcel<B>>)>,
 }
 
@@ -107,18 +110,29 @@ fn leave<B: HistoryName, G, R: Threads + Wait>(
     requires few { vec_len threads.threads ≤ running.now.nodes }
     requires threads { All (λ thread. thread.promise.0 ≡ peers_of room.nodes) threads.threads.items }
     ensures stations { vec_len result.stations ≡ running.now.nodes }
+    ensures front { Began result.stations.items result.front.seen }
     ensures links { vec_len result.links ≡ vec_len threads.threads * peers_of running.now.nodes }
 {
     let Room {
         nodes,
+        pens,
         spares,
         stations,
         ends,
         links,
     } = room;
     let ends = gather(rt, threads, ends, usize::from(peers(nodes)));
+    let (stations, front) = take_out(
+        rt,
+        &running.history,
+        &running.stations,
+        pens,
+        spares,
+        stations,
+    );
     Ends {
-        stations: take_out(rt, &running.stations, spares, stations),
+        stations,
+        front,
         links: pair(ends, links),
     }
 }
@@ -198,7 +212,7 @@ where
         let nodes = settings.nodes;
         let locks = new_locks(alloc, &board, &beginning, &history, &mut pens)?;
         let spares = new_spares(alloc, settings, &board, &history, &mut pens)?;
-        let room = new_room(alloc, nodes, spares)?;
+        let room = new_room(alloc, nodes, pens, spares)?;
         let mut lines = new_links(alloc, nodes, peers(nodes))?;
         let token = first_token(&rt, &history, &locks)?;
         put_first(&rt, nodes, token, lines.outgoing.as_mut_slice());
@@ -210,6 +224,7 @@ where
     /// Halts the nodes, waits for their threads to end, and gives what they leave. It takes no memory.
     pub fn stop<R: Threads + Wait>(self, rt: &R) -> Ends<B>
         ensures stations { vec_len result.stations ≡ self.nodes }
+        ensures front { Began result.stations.items result.front.seen }
         ensures links { vec_len result.links ≡ links_of self.nodes }
     {
         self.halt(rt);

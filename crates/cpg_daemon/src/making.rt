@@ -236,10 +236,11 @@ pub(crate) fn put_first<B: HistoryName, R: Wait>(
     }
 }
 
-/// Room for what a cluster of so many nodes leaves, with those spares.
+/// Room for what a cluster of so many nodes leaves, with that pen and those spares.
 pub(crate) fn new_room<B: HistoryName>(
     alloc: Global,
     nodes: u8,
+    pens: Pen<B>,
     spares: Vec<Member<B>>,
 ) -> Result<Room<B>, Refusal>
     requires nodes { (1 ≤ nodes) × (nodes ≤ 8) }
@@ -250,6 +251,7 @@ pub(crate) fn new_room<B: HistoryName>(
     let ends = usize::from(nodes) * usize::from(peers(nodes));
     Ok(Room {
         nodes,
+        pens,
         spares,
         stations: Vec::with_capacity(alloc, usize::from(nodes))?,
         ends: Lines {

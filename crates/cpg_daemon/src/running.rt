@@ -2,6 +2,7 @@
 
 ghost use Rattle.std.specs.Prelude.{◌≡◌, ◌≤◌, []};
 ghost use Rattle.cpg_board.specs.Seats.{IsSeatOf};
+ghost use Rattle.cpg_history.specs.Members.{IsSafeAt};
 ghost use Rattle.cpg_daemon.specs.Links.{next_of};
 
 use cpg_board::{Board, Seat};
@@ -67,8 +68,9 @@ impl<B: HistoryName, G> Running<B, G> {
     /// nodes are halted, too.
     pub fn safe<R: Wait>(&self, rt: &R, node: NodeId) -> u32
         requires { node ≤ self.now.nodes }
+        ensures { IsSafeAt B.start node result }
     {
-        self.station(node).lock(rt).safe()
+        self.station(node).lock(rt).safe_at(node)
     }
 
     /// Halts all nodes: later calls of sessions are answered with Stopped.

@@ -5,7 +5,7 @@ ghost use Rattle.cpg_cred.specs.declared.refusals.Refusal.TheVariants.{Memory, S
 ghost use Rattle.cpg_board.specs.Seats.{IsSeatOf, Begins, IsLonger};
 ghost use Rattle.cpg_station.specs.Serving.{SubmitRefuses, moved_on};
 ghost use Rattle.cpg_daemon.specs.Sessions.{IsNew, ConnectRefuses, IsTaken, IsListed, AreNamed, IsClosed, IsEndRefusal};
-ghost use Rattle.cpg_history.specs.Members.{Told};
+ghost use Rattle.cpg_history.specs.Members.{Told, RefusalTold};
 ghost use mathlib.Core.List.{IsPrefix};
 ghost use Rattle.cpg_world_laws.specs.declared.events.WorldEvent.TheVariants as events;
 ghost use Rattle.cpg_world_laws.specs.declared.replies.Reply.TheVariants as reply;
@@ -133,7 +133,7 @@ impl<B: HistoryName, G> Running<B, G> {
         requires { session.old.who.id.node ≤ self.now.nodes }
         ensures answer { IsListed session.old group.now session.new.seat result }
         ensures history { IfOk result (λ list. Told B.start session.old.seen (events.List session.old.who.id.node session.old.who.id.conn group.now) (Ok (reply.Members list)) session.new.seen) }
-        ensures err { OnErr result (session.new.seen ≡ session.old.seen) }
+        ensures err { IfErr result (λ why. RefusalTold B.start session.old.seen (events.List session.old.who.id.node session.old.who.id.conn group.now) why session.new.seen) }
         ensures who { session.new.who ≡ session.old.who }
         ensures seat { Begins session.old.seat session.new.seat }
     {

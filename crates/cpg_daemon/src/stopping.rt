@@ -1,12 +1,15 @@
 //! What a cluster leaves once its threads have ended.
 
 ghost use Rattle.std.specs.Prelude.{◌≡◌, ◌≤◌, ◌+◌, ◌*◌, ◌<◌, All, IfOk, IfSome, MatchOption, vec_len, vec_capacity};
+ghost use mathlib.Core.List.{IsPrefix};
+ghost use Rattle.cpg_history.specs.Members.{Began};
 ghost use Rattle.cpg_daemon.specs.Links.{links_of, peers_of};
 
 use crate::lines::{Incoming, Lines, Outgoing};
-use cpg_history::{HistoryName, Member, Parcel};
+use cpg_history::{Front, History, HistoryName, Member, Parcel, Pen};
 use cpg_link::{LinkRx, LinkTx};
 use std::alloc::{AllocError, Global};
+use std::marker::Brand;
 use std::sync::{Mutex, Wait};
 use std::thread::{Promise, PromisedHandle, Threads};
 
@@ -50,10 +53,11 @@ impl<B: HistoryName> Begun<B> {
     }
 }
 
-/// Room for what a cluster of so many nodes leaves, and a station to leave in each lock.
+/// Room for what a cluster of so many nodes leaves, a station to leave in each lock, and a pen of no node of these.
 #[derive(Drop)]
 pub(crate) struct Room<B: HistoryName> {
     pub nodes: u8,
+    pub pens: Pen<B>,
     pub spares: Vec<Member<B>>,
     pub stations: Vec<Member<B>>,
     pub ends: Lines<B>,
@@ -158,22 +162,69 @@ pub(crate) fn pair<B: HistoryName>(
     links
 }
 
-/// Takes the station out of each lock, and leaves a spare one there.
+/// The station. The pen has seen then all that it had seen and all that the station's has.
+fn meet<B: HistoryName>(
+    history: &History<B>,
+    pens: &mut Pen<B>,
+    mut station: Member<B>,
+) -> Member<B>
+    ensures station { IsPrefix result.seen pens.new.seen }
+    ensures pens { IsPrefix pens.old.seen pens.new.seen }
+{
+    let front = station.front(history);
+    history.tell(pens, front);
+    history.observe(pens);
+    station
+}
+
+/// Takes the station out of the lock, leaves a spare one there, and puts the station behind the others.
+fn take_one<B: HistoryName, R: Wait>(
+    rt: &R,
+    history: &History<B>,
+    lock: &Mutex<Member<B>>,
+    pens: &mut Pen<B>,
+    spares: &mut Vec<Member<B>>,
+    stations: &mut Vec<Member<B>>,
+)
+    requires spares { 1 ≤ vec_len spares.old }
+    requires room { vec_len stations.old < vec_capacity stations.old }
+    requires front { Began stations.old.items pens.old.seen }
+    ensures spares { vec_len spares.old ≡ vec_len spares.new + 1 }
+    ensures stations { (vec_len stations.new ≡ vec_len stations.old + 1) × (vec_capacity stations.new ≡ vec_capacity stations.old) }
+    ensures front { Began stations.new.items pens.new.seen }
+{
+    let Some(spare) = spares.pop() else {
+        return;
+    };
+    let mut guard = lock.lock(rt);
+    let station = std::mem::replace(&mut *guard, spare);
+    stations.push_reserved(meet(history, pens, station));
+}
+
+/// Takes the station out of each lock, and leaves a spare one there. Gives them with a front of the history: what each of
+/// them has seen begins it.
 pub(crate) fn take_out<B: HistoryName, R: Wait>(
     rt: &R,
+    history: &History<B>,
     locks: &Vec<Mutex<Member<B>>>,
+    mut pens: Pen<B>,
     mut spares: Vec<Member<B>>,
     mut stations: Vec<Member<B>>,
-) -> Vec<Member<B>>
+) -> (Vec<Member<B>>, Front<B>)
     requires count { vec_len locks.now ≡ vec_len spares }
     requires room { (vec_len stations ≡ 0) × (vec_len spares ≤ vec_capacity stations) }
-    ensures { vec_len result ≡ vec_len spares }
+    ensures count { vec_len result.0 ≡ vec_len spares }
+    ensures front { Began result.0.items result.1.seen }
 {
     for node in 0..locks.len() {
-        if let Some(spare) = spares.pop() {
-            let mut guard = locks[node].lock(rt);
-            stations.push_reserved(std::mem::replace(&mut *guard, spare));
-        }
+        take_one(
+            rt,
+            history,
+            &locks[node],
+            &mut pens,
+            &mut spares,
+            &mut stations,
+        );
     }
-    stations
+    (stations, history.front::<Brand>(&mut pens))
 }

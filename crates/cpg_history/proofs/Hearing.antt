@@ -20,7 +20,9 @@ use Rattle.cpg_history.proofs.Reading.{ReadAgain}
 use Rattle.cpg_history.specs.declared.histories.View.{View}
 use Rattle.cpg_station.specs.Stations.{StationValue}
 use Rattle.cpg_history.specs.Histories.{Came, FrontValue, told, front}
-use Rattle.cpg_history.specs.Members.{MemberValue, Replied, WereSent, WasSent, IsAt, member, before_last}
+use Rattle.cpg_history.specs.Members.{how_many, MemberValue, Replied, WereSent, WasSent, IsAt, member, before_last}
+use Rattle.cpg_history.specs.Traces.{HasNumber, WasRecorded, recorded_of}
+use Rattle.cpg_history.proofs.Noting.{number_on, recorded}
 use Rattle.cpg_history.proofs.Runs.{prefix_sends}
 use Rattle.cpg_history.proofs.Coming.{called, replied, world_after}
 use Rattle.cpg_history.proofs.Sending.{all_stand, last_off}
@@ -52,6 +54,12 @@ module _ (law : ReadAgain) (start : WorldValue) (v : View) (f : FrontValue) (sta
       let sent : (runs start seen).sent ≡ w.sent ++ answers_to x p.frame = ap (λ (u : WorldValue). u.sent) (world_after start (told v (front f)) (Arrival id f.number) stamp x seen c at) ∙ ap (λ (m : NodeOutcome). w.sent ++ m.1) hears_is in
       subst (λ l. WereSent start seen (suc (length (runs start l).sent)) frames) (sym before) (all_stand law start c.log seen (answers_to x p.frame) frames sent are range)
 
+  pub frame_recorded : (source index : ℕ) → HasNumber start f.seen source index f.number → WasRecorded start seen (recorded_of stamp (length frames) source (Arrival id index))
+  frame_recorded source index number =
+      recorded start (told v (front f)) (Arrival id f.number) stamp x seen c at (length frames) source (Arrival id index)
+      (ap (λ (m : NodeOutcome). length m.1) hears_is ∙ sym (ap length are ∙ length-map (answers_to x p.frame) (spelling Two)))
+      (f.number, number_on start f.seen c.log c.also source index f.number number, refl)
+
 -- the last token is sent again, if there is one
 token_again : (r : NodeState) (o : Option Token) (bytes : List ℕ) → Some bytes ≡ option_map (λ t. spelling Two (frame.Token t)) o → IfSome o (λ t. CanBeSpelled (frame.Token t)) → (bytes ∷ [] ≡ spelled (send_again r o).1) × All CanBeSpelled (send_again r o).1
 token_again r None bytes is range = absurd (none-some bytes (sym is))
@@ -64,6 +72,10 @@ one_token r (Some t) bytes is = refl
 pub no_token : (r : NodeState) (o : Option Token) → None ≡ option_map (λ t. spelling Two (frame.Token t)) o → length (send_again r o).1 ≡ 0
 no_token r None is = refl
 no_token r (Some t) is = absurd (none-some (spelling Two (frame.Token t)) is)
+
+pub token_count : (r : NodeState) (o : Option Token) (token : Option (List ℕ)) (sent : ℕ) → token ≡ option_map (λ t. spelling Two (frame.Token t)) o → sent ≡ how_many token → length (send_again r o).1 ≡ sent
+token_count r None token sent is count = sym (count ∙ ap (λ (t : Option (List ℕ)). how_many t) is)
+token_count r (Some t) token sent is count = sym (count ∙ ap (λ (t : Option (List ℕ)). how_many t) is)
 
 pub timed : ReadAgain → (start : WorldValue) (v : View) (stamp id : ℕ) (x : NodeValue) (seen : List WorldEvent) (bytes : List ℕ) → Came start v (Timer id) stamp seen → IsAt start v.seen id x → Some bytes ≡ option_map (λ t. spelling Two (frame.Token t)) x.ring.state.last_token → IfSome x.ring.state.last_token (λ t. CanBeSpelled (frame.Token t)) → WasSent start seen (suc (length (runs start (before_last seen)).sent)) bytes
 timed law start v stamp id x seen bytes c at is range =

@@ -3,6 +3,7 @@ pub mod Runs
 pub mod Moves
 pub mod Coming
 pub mod Sending
+pub mod Noting
 pub mod Serving
 pub mod Hearing
 pub mod Agreeing

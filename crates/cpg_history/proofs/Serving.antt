@@ -10,11 +10,10 @@ use Rattle.cpg_node.specs.declared.connections.Client.{Client}
 use Rattle.cpg_node.specs.declared.connections.Connection.{Connection}
 use Rattle.cpg_node.specs.Nodes.{NodeValue, open_client, conn_id}
 use Rattle.cpg_node.specs.Calls.{closed_refusal}
-use Rattle.cpg_world_laws.specs.declared.events.WorldEvent.{WorldEvent}
-use Rattle.cpg_world_laws.specs.Worlds.{WorldValue, node_in}
+use Rattle.cpg_world_laws.specs.Worlds.{WorldValue}
 use Rattle.cpg_station.specs.Stations.{StationValue}
 use Rattle.cpg_station.specs.Serving.{IsHeard, IsKnown, StaysOrHalts, halted_of}
-use Rattle.cpg_station.specs.Admitting.{AdmitsNot, StopsAt, IsOther, taken_in}
+use Rattle.cpg_station.specs.Admitting.{AdmitsNot, StopsAt, IsOther}
 use Rattle.cpg_history.specs.declared.histories.View.{View}
 use Rattle.cpg_history.specs.Histories.{Owns}
 use Rattle.cpg_history.specs.Members.{IsMember, IsPenOf}

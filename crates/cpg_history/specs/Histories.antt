@@ -1,5 +1,5 @@
 -- One history of all events, which exists in proofs alone, and what threads know of it.
-use Rattle.std.specs.Prelude.{◌≡◌, ℕ, suc, ◌<◌, ◌≤◌, ◌%◌, ◌^◌, List, [], ◌∷◌, ◌++◌, length}
+use Rattle.std.specs.Prelude.{◌≡◌, Bool, ℕ, suc, ◌<◌, ◌≤◌, ◌%◌, ◌^◌, List, [], ◌∷◌, ◌++◌, length}
 use mathlib.Core.Option.{some}
 use mathlib.Core.List.{IsPrefix}
 use lib.ListN.{get_elem?}
@@ -118,7 +118,8 @@ abbrev pub seen_by : List View → FrontValue
 seen_by [] = record { seen = []; number = 0 }
 seen_by (v ∷ vs) = record { seen = v.seen; number = v.number }
 
--- A history that has no name yet: which table it is, and what it begins with.
+-- A history that has no name yet: which table it is, what it begins with, and whether its pens record what they add.
 pub record OpenedValue : Type 0 where
   pub table : TableId
   pub start : Beginning
+  pub traced : Bool

@@ -1,8 +1,11 @@
 -- Nodes that stand for the nodes of a history's worlds, and frames that were sent in them.
-use Rattle.std.specs.Prelude.{◌≡◌, ℕ, suc, ◌+◌, Bool, true, false, List, [], ◌∷◌, ◌++◌, Option, Some, None, slice_get}
+use Rattle.std.specs.Prelude.{◌≡◌, ◌⊎◌, ℕ, suc, ◌+◌, Bool, true, false, List, [], ◌∷◌, ◌++◌, Option, Some, None, Result, Ok, Err, slice_get}
+use Rattle.std.specs.List.{AllByRecursion}
 use mathlib.Core.List.{IsPrefix}
+use Rattle.cpg_cred.specs.declared.refusals.Refusal.{Refusal}
+use Rattle.cpg_cred.specs.declared.refusals.Refusal.TheVariants.{Denied}
 use Rattle.cpg_wire.specs.Reading.{frame_of}
-use Rattle.cpg_ring.specs.States.{Frame}
+use Rattle.cpg_ring.specs.States.{Frame, safe_mark}
 use Rattle.cpg_ring.specs.Worlds.{item}
 use Rattle.cpg_node.specs.Nodes.{NodeValue}
 use Rattle.cpg_world_laws.specs.declared.events.WorldEvent.{WorldEvent}
@@ -27,6 +30,10 @@ pub record MemberValue : Type 0 where
 abbrev pub member : ℕ → StationValue → Bool → List WorldEvent → MemberValue
 member id s spare seen = record { id = id; station = s; spare = spare; seen = seen }
 
+-- what each of these members has seen begins that
+abbrev pub Began : List MemberValue → List WorldEvent → Type 0
+Began members front = AllByRecursion (λ (m : MemberValue). IsPrefix m.seen front) members
+
 -- the pen adds the events of that node alone, which is x since all that the pen has seen
 abbrev pub IsPenOf : WorldValue → View → ℕ → NodeValue → Type 0
 IsPenOf start pen id x = (pen.from ≡ id) × (pen.to ≡ suc id) × IsAt start pen.seen id x
@@ -48,6 +55,17 @@ pub record Told (start : WorldValue) (before : List WorldEvent) (e : WorldEvent)
   pub reply : IsReply (runs start log) e a
   pub seen : after ≡ log ++ e ∷ []
 
+-- a node answers with a listing, or with its denial
+abbrev pub is_answer : Result (List (ℕ × ℕ)) Refusal → Bool
+is_answer (Ok list) = true
+is_answer (Err (Denied by)) = true
+is_answer (Err why) = false
+
+-- what a refused listing leaves seen: a denial is answered in the history as any other answer is, and any other refusal adds nothing
+abbrev pub RefusalTold : WorldValue → List WorldEvent → WorldEvent → Refusal → List WorldEvent → Type 0
+RefusalTold start before e (Denied by) after = Told start before e (Err (Denied by)) after
+RefusalTold start before e why after = after ≡ before
+
 -- The same of a member, whose node was still what it had been; and it is what it is in the world after the event.
 pub record Replied (start : WorldValue) (before : MemberValue) (e : WorldEvent) (a : Answer) (after : MemberValue) : Type 0 where
   pub log : List WorldEvent
@@ -57,6 +75,10 @@ pub record Replied (start : WorldValue) (before : MemberValue) (e : WorldEvent) 
   pub id : after.id ≡ before.id
   pub seen : after.seen ≡ log ++ e ∷ []
   pub now : IsAt start after.seen after.id after.station.node
+
+-- the place is 0; or the node is there after a beginning of the history, and it is the node's safe mark then
+abbrev pub IsSafeAt : WorldValue → ℕ → ℕ → Type 0
+IsSafeAt start id place = (place ≡ 0) ⊎ ((seen : List WorldEvent) × (x : NodeValue) × IsAt start seen id x × (place ≡ safe_mark x.ring.state.arus))
 
 -- the bytes spell the frame of that number, from 1, of those sent by the end of these events
 pub record WasSent (start : WorldValue) (seen : List WorldEvent) (number : ℕ) (bytes : List ℕ) : Type 0 where
@@ -78,10 +100,10 @@ pub record ParcelsValue : Type 0 where
   pub frames : List (List ℕ)
   pub number : ℕ
 
--- how many parcels there are
-abbrev pub parcels_in : Option ParcelValue → ℕ
-parcels_in None = 0
-parcels_in (Some p) = 1
+-- how many there are, none or one
+abbrev pub how_many : {X : Type 0} → Option X → ℕ
+how_many None = 0
+how_many (Some x) = 1
 
 -- the list without its last item
 abbrev pub before_last : {X : Type 0} → List X → List X

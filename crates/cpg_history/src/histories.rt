@@ -3,12 +3,14 @@
 //! The form is our own: the rule of an `atomic_table` says that every view fits the one history, and who has a view of
 //! nodes may add their events.
 
-ghost use Rattle.std.specs.Prelude.{◌≡◌, ◌<◌, IfOk};
+ghost use Rattle.std.specs.Prelude.{◌≡◌, ◌<◌, true, false, IfOk, IfSome};
 ghost use mathlib.Core.List.{IsPrefix};
 ghost use Rattle.cpg_world_laws.specs.Worlds.{node_in};
 ghost use Rattle.cpg_history.specs.Histories.{Came, Owns, Sees, first_world, all_nodes, later, first_node, other_nodes, told, front as front_at};
 ghost use Rattle.cpg_history.specs.Members.{IsNew};
+ghost use Rattle.cpg_history.specs.Traces.{WasRecorded, AreRecorded, recorded_of};
 
+use crate::traces::Trace;
 use atomic_table::{Badge, Join, Play, Seat, Split, Table, TableRule};
 use cpg_cred::AcceptList;
 use cpg_node::Settings;
@@ -148,9 +150,11 @@ impl<B: HistoryName> Play<u64, View> for Look<B> {
 /// An empty history, which has no name yet, and what it begins with.
 #[derive(Drop)]
 pub struct Opened {
+    alloc: Global,
     beginning: Beginning,
     line: Line,
     seat: Seat<u64, View>,
+    traced: bool,
 }
 
 impl Model for Opened {
@@ -159,7 +163,7 @@ impl Model for Opened {
 
     ghost Value = { OpenedValue };
 
-    ghost view = { λ o. record { table = o.line.shared.table_id; start = o.beginning } };
+    ghost view = { λ o. record { table = o.line.shared.table_id; start = o.beginning; traced = o.traced } };
 
     ghost invariant = { λ o. (o.line.shared.table_id.words ≡ 1) × (o.seat.table_id ≡ o.line.shared.table_id) × (o.seat.me ≡ first_seat) × (o.line.shared.key ≡ o.beginning) };
 }
@@ -167,14 +171,24 @@ impl Model for Opened {
 impl Opened {
     /// A new history, which begins with a new world of that. Refused where memory is.
     pub fn new(alloc: Global, beginning: Beginning) -> Result<Opened, AllocError>
-        ensures { IfOk result (λ o. o.start ≡ beginning) }
+        ensures { IfOk result (λ o. (o.start ≡ beginning) × (o.traced ≡ false)) }
     {
         let (line, seat) = Table::of_words(alloc, &[0], &beginning)?;
         Ok(Opened {
+            alloc,
             beginning,
             line,
             seat,
+            traced: false,
         })
+    }
+
+    /// The same, whose pens record what they add.
+    pub fn traced(mut self) -> Opened
+        ensures { result ≡ record { table = self.table; start = self.start; traced = true } }
+    {
+        self.traced = true;
+        self
     }
 
     /// What it begins with.
@@ -191,17 +205,21 @@ impl Opened {
         ensures beginning { result.2 ≡ self.start }
     {
         let Opened {
+            alloc,
             beginning,
             line,
             seat,
+            traced,
         } = self;
         (
             History {
+                alloc,
                 line,
                 of: PhantomData,
             },
             Pen {
                 seat,
+                trace: Trace::new(alloc, traced),
                 of: PhantomData,
             },
             beginning,
@@ -212,6 +230,7 @@ impl Opened {
 /// A history: the word that all threads share, and its rule. The word counts the events.
 #[derive(Drop)]
 pub struct History<B: HistoryName> {
+    alloc: Global,
     line: Line,
     of: PhantomData<B>,
 }
@@ -227,22 +246,25 @@ impl<B: HistoryName> Model for History<B> {
     ghost invariant = { λ h. (h.line.shared.table_id ≡ B.table) × (h.line.shared.table_id.words ≡ 1) × (first_world h.line.shared.key ≡ B.start) };
 }
 
-/// What adds the events of some nodes, which no other pen can. Contracts see which nodes these are, and what it has seen.
+/// What adds the events of some nodes, which no other pen can, and records them where it was asked to. Contracts see which
+/// nodes these are, and what it has seen.
 #[derive(Drop)]
 pub struct Pen<B: HistoryName> {
     seat: Seat<u64, View>,
+    trace: Trace,
     of: PhantomData<B>,
 }
 
 impl<B: HistoryName> Model for Pen<B> {
     ghost use Rattle.std.specs.Prelude.{◌≡◌, []};
+    ghost use Rattle.cpg_history.specs.Traces.{AreRecorded};
     ghost use Rattle.cpg_history.specs.declared.histories.View.{View};
 
     ghost Value = { View };
 
     ghost view = { λ pen. pen.seat.me.0 };
 
-    ghost invariant = { λ pen. (pen.seat.table_id ≡ B.table) × (pen.seat.me.1 ≡ []) };
+    ghost invariant = { λ pen. (pen.seat.table_id ≡ B.table) × (pen.seat.me.1 ≡ []) × AreRecorded B.start pen.seat.me.0.seen pen.trace.entries.items };
 }
 
 /// A beginning of the history that was seen, and a number that goes with it. It adds nothing.
@@ -261,6 +283,32 @@ impl<B: HistoryName> Model for Front<B> {
     ghost view = { λ f. seen_by f.badge.views };
 
     ghost invariant = { λ f. (f.badge.table_id ≡ B.table) × (f.badge.views ≡ front (seen_by f.badge.views) ∷ []) };
+}
+
+impl<B: HistoryName> Pen<B> {
+    /// What it recorded: events of the history, each with its stamp.
+    pub fn trace(&self) -> &Trace
+        ensures { AreRecorded B.start self.now.seen (result.now).entries.items }
+    {
+        &self.trace
+    }
+
+    /// What it recorded, when it adds no more.
+    pub(crate) fn into_trace(self) -> Trace
+        ensures { AreRecorded B.start self.seen result.entries.items }
+    {
+        let Pen { seat, trace, of: _ } = self;
+        drop(seat);
+        trace
+    }
+
+    /// Records the event that was added with that stamp, if it is there.
+    pub(crate) fn note(&mut self, stamp: u64, sent: usize, source: u64, event: Option<WorldEvent>)
+        requires { IfSome event (λ e. WasRecorded B.start self.old.seen (recorded_of stamp sent source e)) }
+        ensures { self.new ≡ self.old }
+    {
+        self.trace.note(stamp, sent, source, event);
+    }
 }
 
 impl<B: HistoryName> History<B> {
@@ -315,6 +363,7 @@ impl<B: HistoryName> History<B> {
         let seat = self.line.shared.split_seat::<Next>(&mut pen.seat);
         Pen {
             seat,
+            trace: Trace::new(self.alloc, pen.trace.records()),
             of: PhantomData,
         }
     }
@@ -343,6 +392,7 @@ impl<B: HistoryName> History<B> {
         let Front { badge, of } = one;
         let mut pen: Pen<B> = Pen {
             seat: badge.into_seat(),
+            trace: Trace::new(self.alloc, false),
             of,
         };
         self.tell(&mut pen, two);

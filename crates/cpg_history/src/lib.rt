@@ -5,7 +5,9 @@ mod histories;
 pub mod laws;
 mod members;
 mod parcels;
+mod traces;
 
 pub use histories::{Beginning, Front, Happens, History, HistoryName, Numbers, Opened, Pen, View};
 pub use members::Member;
 pub use parcels::{Parcel, Parcels};
+pub use traces::{Recorded, Trace};

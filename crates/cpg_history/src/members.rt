@@ -1,7 +1,8 @@
 //! Stations with their nodes' pens of the history, as they lie under locks.
 //!
 //! Each call that changes a node, and each look at it, is one event of the history, and its answer is the reply of the
-//! definitions to that event in the world that it came to. A call that is refused adds nothing.
+//! definitions to that event in the world that it came to. A denied listing is one, too. A call that is refused otherwise
+//! adds nothing.
 
 ghost use Rattle.std.specs.Prelude.{◌≡◌, true, false, length, None, Ok, Err, IfOk, IfSome, OnErr, IfErr};
 ghost use Rattle.cpg_cred.specs.declared.refusals.Refusal.TheVariants as refusals;
@@ -11,14 +12,18 @@ ghost use Rattle.cpg_world_laws.specs.declared.events.WorldEvent.TheVariants as 
 ghost use Rattle.cpg_world_laws.specs.declared.replies.Reply.TheVariants as reply;
 ghost use Rattle.cpg_station.specs.Delivering.{Delivers, DeliverRefuses};
 ghost use Rattle.cpg_station.specs.Serving.{halted_of};
-ghost use Rattle.cpg_history.specs.Members.{IsAt, IsNew, IsPenOf, Replied, parcels_in};
+ghost use Rattle.cpg_history.specs.Members.{IsAt, IsNew, IsPenOf, IsSafeAt, Replied, how_many};
+ghost use Rattle.cpg_history.specs.Traces.{AreRecorded};
 
-use crate::histories::{Happens, History, HistoryName, Pen};
+use crate::histories::{Front, Happens, History, HistoryName, Pen};
 use crate::parcels::{Parcel, Parcels};
+use crate::traces::Trace;
+use bytes::Bytes;
 use cpg_board::Board;
 use cpg_cred::{NodeId, Refusal};
 use cpg_station::Station;
 use cpg_wire::reads_what_is_spelled;
+use cpg_world_laws::WorldEvent;
 use std::marker::{Brand, Model};
 
 mod serving;
@@ -46,6 +51,16 @@ impl<B: HistoryName> Model for Member<B> {
     ghost view = { λ m. record { id = m.id; station = m.station; spare = m.spare; seen = m.pen.seen } };
 
     ghost invariant = { λ m. IsMember B.start m.id m.station m.spare m.pen };
+}
+
+/// How many frames there are, none or one.
+fn how_many(frame: &Option<Bytes>) -> usize
+    ensures { result ≡ how_many frame.now }
+{
+    match frame {
+        None => 0,
+        Some(_) => 1,
+    }
 }
 
 impl<B: HistoryName> Member<B> {
@@ -107,6 +122,27 @@ impl<B: HistoryName> Member<B> {
         let _pen = &self.pen;
     }
 
+    /// What its pen recorded of its node's events, each with its stamp.
+    pub fn trace(&self) -> &Trace
+        ensures { AreRecorded B.start self.now.seen (result.now).entries.items }
+    {
+        self.pen.trace()
+    }
+
+    /// What its pen recorded, when it adds no more.
+    pub fn into_trace(self) -> Trace
+        ensures { AreRecorded B.start self.seen result.entries.items }
+    {
+        let Member {
+            id: _,
+            station,
+            spare: _,
+            pen,
+        } = self;
+        drop(station);
+        pen.into_trace()
+    }
+
     /// Whether it is halted.
     pub fn is_halted(&self) -> bool
         ensures { result ≡ self.now.station.halted }
@@ -119,6 +155,28 @@ impl<B: HistoryName> Member<B> {
         ensures { result ≡ safe_mark self.now.station.node.ring.state.arus }
     {
         self.station.safe()
+    }
+
+    /// The place up to which that node knows that every node holds all places; 0 where it is another's station, or a spare.
+    pub fn safe_at(&self, node: NodeId) -> u32
+        ensures { IsSafeAt B.start node result }
+    {
+        if self.spare {
+            return 0;
+        }
+        if self.id.get() == node.get() {
+            self.station.safe()
+        } else {
+            0
+        }
+    }
+
+    /// A front that has seen as much as its pen.
+    pub fn front(&mut self, history: &History<B>) -> Front<B>
+        ensures front { result.seen ≡ self.old.seen }
+        ensures same { self.new ≡ self.old }
+    {
+        history.front::<Brand>(&mut self.pen)
     }
 
     /// Halts it.
@@ -149,13 +207,24 @@ impl<B: HistoryName> Member<B> {
         if self.spare {
             return Err(Refusal::Stopped);
         }
-        let Parcel { bytes, front } = parcel;
+        let Parcel {
+            bytes,
+            source,
+            index,
+            front,
+        } = parcel;
         match self.station.frame(bytes.as_slice()) {
             Ok(frames) => {
                 history.tell(&mut self.pen, front);
-                history.add::<E>(&mut self.pen);
+                let stamp = history.add::<E>(&mut self.pen);
                 let front = history.front::<Brand>(&mut self.pen);
-                Ok(Parcels { frames, front })
+                let event = WorldEvent::Frame(self.id, index);
+                self.pen.note(stamp, frames.len(), source, Some(event));
+                Ok(Parcels {
+                    frames,
+                    source: stamp,
+                    front,
+                })
             }
             Err(refusal) => Err(refusal),
         }
@@ -163,7 +232,7 @@ impl<B: HistoryName> Member<B> {
 
     /// Sends the last token again, if there is one. A spare answers Stopped.
     pub fn timer(&mut self, history: &History<B>) -> Result<Option<Parcel<B>>, Refusal>
-        ensures ok { IfOk result (λ sent. Replied B.start self.old (events.Timer self.old.id) (Ok (reply.Sent (parcels_in sent))) self.new) }
+        ensures ok { IfOk result (λ sent. Replied B.start self.old (events.Timer self.old.id) (Ok (reply.Sent (how_many sent))) self.new) }
         ensures err { OnErr result (self.new ≡ self.old) }
     {
         self.timer_as::<Brand>(history)
@@ -171,7 +240,7 @@ impl<B: HistoryName> Member<B> {
 
     fn timer_as<E: Happens>(&mut self, history: &History<B>) -> Result<Option<Parcel<B>>, Refusal>
         requires { E.event ≡ events.Timer self.old.id }
-        ensures ok { IfOk result (λ sent. Replied B.start self.old (events.Timer self.old.id) (Ok (reply.Sent (parcels_in sent))) self.new) }
+        ensures ok { IfOk result (λ sent. Replied B.start self.old (events.Timer self.old.id) (Ok (reply.Sent (how_many sent))) self.new) }
         ensures err { OnErr result (self.new ≡ self.old) }
     {
         reads_what_is_spelled();
@@ -180,11 +249,19 @@ impl<B: HistoryName> Member<B> {
         }
         match self.station.timer() {
             Ok(token) => {
-                history.add::<E>(&mut self.pen);
+                let stamp = history.add::<E>(&mut self.pen);
                 let front = history.front::<Brand>(&mut self.pen);
+                let sent = how_many(&token);
+                self.pen
+                    .note(stamp, sent, stamp, Some(WorldEvent::Timer(self.id)));
                 Ok(match token {
                     None => None,
-                    Some(bytes) => Some(Parcel { bytes, front }),
+                    Some(bytes) => Some(Parcel {
+                        bytes,
+                        source: stamp,
+                        index: 0,
+                        front,
+                    }),
                 })
             }
             Err(refusal) => Err(refusal),
@@ -220,7 +297,9 @@ impl<B: HistoryName> Member<B> {
         }
         match self.station.deliver(board) {
             Ok(Some(place)) => {
-                history.add::<E>(&mut self.pen);
+                let stamp = history.add::<E>(&mut self.pen);
+                let event = WorldEvent::Deliver(self.id);
+                self.pen.note(stamp, 0, stamp, Some(event));
                 Ok(Some(place))
             }
             Ok(None) => Ok(None),

@@ -8,21 +8,24 @@ use std::alloc::AllocError;
 use std::marker::{Brand, Model};
 
 /// A frame on its way: it was sent in a world of the history. Contracts see its bytes, and its number among the frames
-/// sent.
+/// sent. What it is recorded by goes with it: the stamp of the event that sent it, and its index among what that sent.
 #[derive(Drop)]
 pub struct Parcel<B: HistoryName> {
     pub(crate) bytes: Bytes,
+    pub(crate) source: u64,
+    pub(crate) index: usize,
     pub(crate) front: Front<B>,
 }
 
 impl<B: HistoryName> Model for Parcel<B> {
     ghost use Rattle.cpg_history.specs.Members.{ParcelValue, WasSent};
+    ghost use Rattle.cpg_history.specs.Traces.{HasNumber};
 
     ghost Value = { ParcelValue };
 
     ghost view = { λ p. record { bytes = p.bytes; number = p.front.number } };
 
-    ghost invariant = { λ p. WasSent B.start p.front.seen p.front.number p.bytes };
+    ghost invariant = { λ p. WasSent B.start p.front.seen p.front.number p.bytes × HasNumber B.start p.front.seen p.source p.index p.front.number };
 }
 
 impl<B: HistoryName> Parcel<B> {
@@ -49,26 +52,31 @@ impl<B: HistoryName> Parcel<B> {
         let bytes = self.bytes.clone()?;
         Ok(Parcel {
             bytes,
+            source: self.source,
+            index: self.index,
             front: history.again::<N>(&mut self.front),
         })
     }
 }
 
-/// What an event sends. Contracts see its frames, and the number of the first of them among the frames sent.
+/// What an event sends. Contracts see its frames, and the number of the first of them among the frames sent. The event's
+/// stamp goes with them.
 #[derive(Drop)]
 pub struct Parcels<B: HistoryName> {
     pub(crate) frames: Vec<Bytes>,
+    pub(crate) source: u64,
     pub(crate) front: Front<B>,
 }
 
 impl<B: HistoryName> Model for Parcels<B> {
     ghost use Rattle.cpg_history.specs.Members.{ParcelsValue, WereSent};
+    ghost use Rattle.cpg_history.specs.Traces.{HasNumber};
 
     ghost Value = { ParcelsValue };
 
     ghost view = { λ m. record { frames = m.frames.items; number = m.front.number } };
 
-    ghost invariant = { λ m. WereSent B.start m.front.seen m.front.number m.frames.items };
+    ghost invariant = { λ m. WereSent B.start m.front.seen m.front.number m.frames.items × HasNumber B.start m.front.seen m.source 0 m.front.number };
 }
 
 impl<B: HistoryName> Parcels<B> {
@@ -103,6 +111,8 @@ impl<B: HistoryName> Parcels<B> {
         let bytes = self.frames[index].clone()?;
         Ok(Parcel {
             bytes,
+            source: self.source,
+            index,
             front: history.again::<N>(&mut self.front),
         })
     }

@@ -17,14 +17,14 @@ use Rattle.cpg_text.specs.Lines.{words_of}
 use Rattle.cpg_text.specs.Percent.{encoded, encoded_byte, escape, is_plain, text_of}
 use Rattle.cpg_text.proofs.Round.{message_of_text_of}
 use Rattle.cpg_print.specs.Rules.{effect_text, right_text, who_text, rule_text}
-use Rattle.cpg_print.specs.Calls.{SendsBytes, call_text, op_text, op_of, is_within_limits}
+use Rattle.cpg_print.specs.Calls.{SendsBytes, call_text, op_text, call_of, op_of, is_within_limits}
 use Rattle.cpg_print.specs.Entries.{enterable_op}
 use Rattle.cpg_print.proofs.Numerals.{decimal_word, number_back}
 use Rattle.cpg_print.proofs.RuleWords.{rule_back, rule_words}
 use Rattle.cpg_print.proofs.Spacing.{HasFirst, is_word, two_spaced, word_of_bytes, words_first, words_last, words_spaced}
 
 -- a group's name is a word
-name_word : (name : List ℕ) → IsName name → is_word name ≡ true
+pub name_word : (name : List ℕ) → IsName name → is_word name ≡ true
 name_word name h = let test = name_passes name h in grind (arith, nat_tests)
 
 glyph_printed : (digit : ℕ) → digit < 16 → is_name_byte (digit_glyph true digit) ≡ true
@@ -100,6 +100,17 @@ call_back Leave fits bytes = refl
 call_back (Send message) fits bytes = rw (message_of_text_of message bytes) refl
 call_back (Insert g index rule) fits bytes = rw (number_back 0 255 index (omega (arith, fits.0.1)) fits.0, rule_back rule fits.1) refl
 call_back (Remove g id) fits bytes = rw (number_back 0 4294967295 id (omega (arith, fits.1)) fits) refl
+
+-- a call that is printed is read as that call
+pub call_again : (call : Call) → IsCall call → CallFits call → SendsBytes (Act call) → call_of (words_of (call_text call)) ≡ Some call
+call_again call is fits bytes = ap call_of (call_spaced call is fits bytes) ∙ by_call call fits bytes
+  where
+    by_call : (c : Call) → CallFits c → SendsBytes (Act c) → call_of (call_words c) ≡ Some c
+    by_call (Join g) fits bytes = refl
+    by_call Leave fits bytes = refl
+    by_call (Send message) fits bytes = rw (message_of_text_of message bytes) refl
+    by_call (Insert g index rule) fits bytes = rw (number_back 0 255 index (omega (arith, fits.0.1)) fits.0, rule_back rule fits.1) refl
+    by_call (Remove g id) fits bytes = rw (number_back 0 4294967295 id (omega (arith, fits.1)) fits) refl
 
 -- a call that keeps the rules is within the limits
 call_enters : (call : Call) → IsCall call → is_within_limits call ≡ true

@@ -27,7 +27,8 @@ pub fn put_op(line: &mut Vec<u8>, op: &Op) -> Result<(), Refusal>
     }
 }
 
-fn put_call(line: &mut Vec<u8>, call: &Call) -> Result<(), Refusal>
+/// Puts a space and CALL at the line's end.
+pub fn put_call(line: &mut Vec<u8>, call: &Call) -> Result<(), Refusal>
     ensures ok { OnOk result (line.new.items ≡ line.old.items ++ codes " " ++ call_text call.now) }
     ensures memory { IsOkUnless result Refusal.Memory }
 {

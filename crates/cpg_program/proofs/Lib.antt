@@ -9,3 +9,4 @@ pub mod Started
 pub mod Worded
 pub mod Shelled
 pub mod Explained
+pub mod Traced

@@ -8,3 +8,4 @@ pub mod Speaking
 pub mod Starting
 pub mod Telling
 pub mod Words
+pub mod Tracing

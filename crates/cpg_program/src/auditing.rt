@@ -100,7 +100,7 @@ where
     if !are_settings(&settings) {
         return Err(Failure::from(Refusal::Range));
     }
-    match new_base(alloc, settings, list) {
+    match new_base(alloc, settings, list, false) {
         Err(_) => Err(Failure::from(Refusal::Memory)),
         Ok((board, opened)) => explain_on::<Brand, H, R, W>(
             rt, alloc, inquiry, board, opened, reader, writer,

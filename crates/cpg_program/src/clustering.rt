@@ -12,6 +12,7 @@ ghost use Rattle.cpg_program.specs.Words.{list_of_words};
 use crate::failures::Failure;
 use crate::founding::new_base;
 use crate::speaking::Spoken;
+use crate::tracing::KeepsEnds;
 use crate::words::read_list;
 use cpg_board::Board;
 use cpg_cluster::Manner;
@@ -27,11 +28,11 @@ use std::thread::Threads;
 use std::time::Clock;
 
 /// Runs the script over a new cluster of those settings, whose nodes let in whom the words let in, and stops
-/// the cluster.
+/// the cluster. What that leaves is the keeper's.
 ///
 /// A wrong word comes first, then settings out of their ranges, then the faults of the script.
 #[tactic(auto, using(crate::proofs::Clustered::none_of_words, crate::proofs::Clustered::none_of_memory))]
-pub fn run_cluster<H, R, W>(
+pub fn run_cluster<H, R, W, K>(
     rt: H,
     alloc: Global,
     manner: &Manner<Spoken>,
@@ -39,11 +40,13 @@ pub fn run_cluster<H, R, W>(
     words: &[&str],
     reader: &mut R,
     writer: &mut W,
+    keeper: &mut K,
 ) -> Result<(), Failure>
 where
     H: Threads + Wait + Clock + Copy + Send + 'static,
     R: Read,
     W: Write,
+    K: KeepsEnds,
     ensures ok { OnOk result (IfSome (R.remaining reader.old) (λ script.
         Clusters (spoken_as (manner.now).form) settings (list_of_words (map (λ word. word.now) words.now)) script None (W.contents writer.old) (W.contents writer.new))) }
     ensures err { IfErr result (λ failure. IfSome (R.remaining reader.old) (λ script.
@@ -54,13 +57,13 @@ where
     match read_list(alloc, words) {
         Err(refusal) => Err(Failure::from(refusal)),
         Ok(None) => Err(Failure::BadWord),
-        Ok(Some(list)) => run_listed(rt, alloc, manner, settings, list, reader, writer),
+        Ok(Some(list)) => { run_listed(rt, alloc, manner, settings, list, reader, writer, keeper) },
     }
 }
 
 /// Runs the script over a new cluster of those settings and that list. The board and the history are made here, and named.
 #[tactic(auto, using(crate::proofs::Clustered::none_of_settings, crate::proofs::Clustered::none_of_memory))]
-fn run_listed<H, R, W>(
+fn run_listed<H, R, W, K>(
     rt: H,
     alloc: Global,
     manner: &Manner<Spoken>,
@@ -68,11 +71,13 @@ fn run_listed<H, R, W>(
     list: AcceptList,
     reader: &mut R,
     writer: &mut W,
+    keeper: &mut K,
 ) -> Result<(), Failure>
 where
     H: Threads + Wait + Clock + Copy + Send + 'static,
     R: Read,
     W: Write,
+    K: KeepsEnds,
     ensures ok { OnOk result (IfSome (R.remaining reader.old) (λ script.
         Clusters (spoken_as (manner.now).form) settings (Some list) script None (W.contents writer.old) (W.contents writer.new))) }
     ensures err { IfErr result (λ failure. IfSome (R.remaining reader.old) (λ script.
@@ -83,17 +88,17 @@ where
     if !are_settings(&settings) {
         return Err(Failure::from(Refusal::Range));
     }
-    match new_base(alloc, settings, list) {
+    match new_base(alloc, settings, list, keeper.is_asked()) {
         Err(_) => Err(Failure::from(Refusal::Memory)),
-        Ok((board, opened)) => run_on::<Brand, H, R, W>(
-            rt, alloc, manner, board, opened, reader, writer,
+        Ok((board, opened)) => run_on::<Brand, H, R, W, K>(
+            rt, alloc, manner, board, opened, reader, writer, keeper,
         ),
     }
 }
 
 /// Runs the script over a new cluster on that board, with that history.
 #[tactic(auto, using(crate::proofs::Clustered::left_clustered, crate::proofs::Clustered::none_of_memory))]
-fn run_on<B, H, R, W>(
+fn run_on<B, H, R, W, K>(
     rt: H,
     alloc: Global,
     manner: &Manner<Spoken>,
@@ -101,12 +106,14 @@ fn run_on<B, H, R, W>(
     opened: Opened,
     reader: &mut R,
     writer: &mut W,
+    keeper: &mut K,
 ) -> Result<(), Failure>
 where
     B: HistoryName + Send + Sync + 'static,
     H: Threads + Wait + Clock + Copy + Send + 'static,
     R: Read,
     W: Write,
+    K: KeepsEnds,
     requires board { board ≡ B.cells }
     requires history { (opened.table ≡ B.table) × (first_world opened.start ≡ B.start) }
     ensures ok { OnOk result (IfSome (R.remaining reader.old) (λ script.
@@ -118,25 +125,27 @@ where
 {
     match Cluster::<B, PassAll>::start(rt, alloc, board, opened, PassAll) {
         Err(_) => Err(Failure::from(Refusal::Memory)),
-        Ok(cluster) => run_over(rt, alloc, manner, cluster, reader, writer),
+        Ok(cluster) => run_over(rt, alloc, manner, cluster, reader, writer, keeper),
     }
 }
 
 /// Runs the script over the cluster, and stops it.
 #[tactic(auto, using(crate::proofs::Clustered::part_late))]
-fn run_over<B, H, R, W>(
+fn run_over<B, H, R, W, K>(
     rt: H,
     alloc: Global,
     manner: &Manner<Spoken>,
     cluster: Cluster<B, PassAll>,
     reader: &mut R,
     writer: &mut W,
+    keeper: &mut K,
 ) -> Result<(), Failure>
 where
     B: HistoryName + Send + Sync + 'static,
     H: Threads + Wait + Clock + Copy,
     R: Read,
     W: Write,
+    K: KeepsEnds,
     ensures ok { OnOk result (IfSome (R.remaining reader.old) (λ script.
         ClustersAll (spoken_as (manner.now).form) cluster.nodes cluster.list script (W.contents writer.old) (W.contents writer.new))) }
     ensures err { IfErr result (λ failure. IfSome (R.remaining reader.old) (λ script.
@@ -145,7 +154,7 @@ where
     ensures word { result ≢ Err Failure.BadWord }
 {
     let done = cluster_script(&rt, alloc, reader, writer, &cluster, manner);
-    drop(cluster.stop(&rt));
+    keeper.keep(alloc, cluster.stop(&rt));
     match done {
         Ok(()) => Ok(()),
         Err(fault) => Err(Failure::from(fault)),

@@ -10,20 +10,26 @@ use cpg_daemon::{Beginning, Opened};
 use cpg_ring::Settings;
 use std::alloc::Global;
 
-/// An empty board of those settings' places, and an empty history that begins with their new world and that list.
+/// An empty board of those settings' places, and an empty history that begins with their new world and that list, and is
+/// recorded if that is asked for.
 pub(crate) fn new_base(
     alloc: Global,
     settings: Settings,
     list: AcceptList,
+    traced: bool,
 ) -> Result<(Board, Opened), Refusal>
     requires { IsSettings settings }
     ensures board { IfOk result (λ base. length base.0 ≡ settings.places) }
-    ensures history { IfOk result (λ base. base.1.start ≡ record { settings = settings; list = list }) }
+    ensures history { IfOk result (λ base. (base.1.start ≡ record { settings = settings; list = list }) × (base.1.traced ≡ traced)) }
     ensures memory { IsOkUnless result Memory }
 {
     let Ok(board) = Board::new(alloc, settings.places) else {
         return Err(Refusal::Memory);
     };
     let opened = Opened::new(alloc, Beginning { settings, list })?;
-    Ok((board, opened))
+    if traced {
+        Ok((board, opened.traced()))
+    } else {
+        Ok((board, opened))
+    }
 }

@@ -18,6 +18,7 @@ use crate::failures::Failure;
 use crate::pipes::Piped;
 use crate::runs::{Ended, Run, hand_on, perform, tell};
 use crate::telling::write_front;
+use crate::tracing::KeepsEnds;
 use crate::words::{has_wrong, hint_wrong};
 use cpg_cred::Refusal;
 use cpg_hint::{Kind, hint_of};
@@ -79,19 +80,21 @@ fn hint_words(alloc: Global, run: &Run<'_>) -> Result<Vec<u8>, Refusal>
 /// Runs the subcommand over the streams as `perform` does, and tells a hint behind the line of a script's fault.
 ///
 /// The script is read whole before anything else is done; where it can't be read, that is the fault, but for a wrong word.
-pub fn perform_with_hint<H, R, W, E>(
+pub fn perform_with_hint<H, R, W, E, K>(
     rt: H,
     alloc: Global,
     run: &Run<'_>,
     reader: &mut R,
     writer: &mut BufWriter<Piped<W>>,
     errors: &mut E,
+    keeper: &mut K,
 ) -> Ended
 where
     H: Threads + Wait + Clock + Copy + Send + 'static,
     R: Read,
     W: Write + Drop,
     E: Write,
+    K: KeepsEnds,
     ensures output { IfSome (R.remaining reader.old) (λ script.
         Runs run.now script result.flushed result.failure (written W.contents writer.old) (written W.contents writer.new)
         ⊎ (IsSomeAnd result.failure EndsUnread × Keeps (written W.contents writer.old) (written W.contents writer.new))) }
@@ -105,25 +108,27 @@ where
     ensures untold { IfSome (R.remaining reader.old) (λ script. AppendsFront (E.contents errors.old) (E.contents errors.new) (told_text (has_left writer.new) result.failure ++ hint_told run.now script result.failure)) }
 {
     match read_whole(alloc, reader) {
-        Ok(script) => run_read(rt, alloc, run, script.as_slice(), writer, errors),
+        Ok(script) => run_read(rt, alloc, run, script.as_slice(), writer, errors, keeper),
         Err(refusal) => end_unread(alloc, run, refusal, writer, errors),
     }
 }
 
 /// Runs the subcommand over the script that was read, and tells a hint behind the line of its fault.
 #[tactic(auto, using(crate::proofs::Fronts::then_all, crate::proofs::Fronts::then_front, crate::proofs::Fronts::front_more))]
-fn run_read<H, W, E>(
+fn run_read<H, W, E, K>(
     rt: H,
     alloc: Global,
     run: &Run<'_>,
     script: &[u8],
     writer: &mut BufWriter<Piped<W>>,
     errors: &mut E,
+    keeper: &mut K,
 ) -> Ended
 where
     H: Threads + Wait + Clock + Copy + Send + 'static,
     W: Write + Drop,
     E: Write,
+    K: KeepsEnds,
     ensures output { Runs run.now script.now result.flushed result.failure (written W.contents writer.old) (written W.contents writer.new) }
     ensures late { IfSome result.failure (λ failure. FailsLate failure (written W.contents writer.old) (written W.contents writer.new)) }
     ensures word { (result.failure ≡ Some Failure.BadWord) ↔ HasWrongWord run.now }
@@ -133,7 +138,7 @@ where
     ensures untold { AppendsFront (E.contents errors.old) (E.contents errors.new) (told_text (has_left writer.new) result.failure ++ hint_told run.now script.now result.failure) }
 {
     let mut reader = script;
-    let ended = perform(rt, alloc, run, &mut reader, writer, errors);
+    let ended = perform(rt, alloc, run, &mut reader, writer, errors, keeper);
     if !ended.told {
         return ended;
     }

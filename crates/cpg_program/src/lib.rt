@@ -19,6 +19,7 @@ mod shelling;
 mod speaking;
 mod stepping;
 mod telling;
+mod tracing;
 mod words;
 
 pub use admitting::{Admission, NamedText, perform_admit, write_text};
@@ -34,4 +35,5 @@ pub use runs::{Ended, Form, Picture, Run, perform};
 pub use shelling::perform_shell;
 pub use speaking::Spoken;
 pub use telling::{tell_failure, tell_fault};
+pub use tracing::{KeepsEnds, Tracer, Untraced, trace_heading, trace_words};
 pub use words::read_list;

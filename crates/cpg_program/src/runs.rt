@@ -21,6 +21,7 @@ use crate::pipes::Piped;
 use crate::speaking::Spoken;
 use crate::stepping::{explain_over_world, step_over_world};
 use crate::telling::tell_failure;
+use crate::tracing::KeepsEnds;
 use cpg_cluster::Manner;
 use cpg_cred::Refusal;
 use cpg_filter::{Filter, judge_filtered};
@@ -105,24 +106,26 @@ impl Ended {
     }
 }
 
-/// Runs the subcommand over the streams.
+/// Runs the subcommand over the streams. What a stopped cluster leaves is the keeper's.
 ///
 /// What was gathered is handed on also after a fault; where that fails, the fault is `Write`. Why a run ended
 /// early is told on standard error, as far as the stream allows; where there is nothing to tell, or the reader of
 /// standard output has left, nothing is.
-pub fn perform<H, R, W, E>(
+pub fn perform<H, R, W, E, K>(
     rt: H,
     alloc: Global,
     run: &Run<'_>,
     reader: &mut R,
     writer: &mut BufWriter<Piped<W>>,
     errors: &mut E,
+    keeper: &mut K,
 ) -> Ended
 where
     H: Threads + Wait + Clock + Copy + Send + 'static,
     R: Read,
     W: Write + Drop,
     E: Write,
+    K: KeepsEnds,
     ensures output { IfSome (R.remaining reader.old) (λ script.
         Runs run.now script result.flushed result.failure (written W.contents writer.old) (written W.contents writer.new)) }
 
@@ -142,7 +145,7 @@ where
     ensures told { IsTrue result.told → Appends (E.contents errors.old) (E.contents errors.new) (told_text (has_left writer.new) result.failure) }
     ensures untold { AppendsFront (E.contents errors.old) (E.contents errors.new) (told_text (has_left writer.new) result.failure) }
 {
-    let (failure, flushed) = run_flushed(rt, alloc, run, reader, writer);
+    let (failure, flushed) = run_flushed(rt, alloc, run, reader, writer, keeper);
     let told = tell(errors, writer.get_ref().has_left(), &failure);
     Ended {
         failure,
@@ -176,17 +179,19 @@ pub(crate) fn hand_on<W: Write + Drop>(writer: &mut BufWriter<W>) -> bool
 
 /// Runs the subcommand and flushes. The failure, and whether all that was written is handed on.
 #[tactic(auto, using(crate::proofs::Flushed::word_told))]
-fn run_flushed<H, R, W>(
+fn run_flushed<H, R, W, K>(
     rt: H,
     alloc: Global,
     run: &Run<'_>,
     reader: &mut R,
     writer: &mut BufWriter<W>,
+    keeper: &mut K,
 ) -> (Option<Failure>, bool)
 where
     H: Threads + Wait + Clock + Copy + Send + 'static,
     R: Read,
     W: Write + Drop,
+    K: KeepsEnds,
     ensures output { IfSome (R.remaining reader.old) (λ script.
         Runs run.now script result.1 result.0 (writer_contents W.contents writer.old) (writer_contents W.contents writer.new)) }
     ensures late { IfSome result.0 (λ failure. FailsLate failure (writer_contents W.contents writer.old) (writer_contents W.contents writer.new)) }
@@ -194,7 +199,7 @@ where
     ensures flushed { IsTrue result.1 → writer_buffer writer.new ≡ [] }
     ensures unflushed { result.1 ≡ false → (result.0 ≡ Some (Failure.Fault (whole_fault Refusal.Write))) ⊎ IsSomeAnd result.0 IsOfWords }
 {
-    let done = run_script(rt, alloc, run, reader, writer);
+    let done = run_script(rt, alloc, run, reader, writer, keeper);
     let flushed = hand_on(writer);
     (failure_after(done, flushed), flushed)
 }
@@ -213,17 +218,19 @@ pub(crate) fn failure_after(done: Result<(), Failure>, flushed: bool) -> Option<
 }
 
 /// Runs the script by the subcommand's rule.
-fn run_script<H, R, W>(
+fn run_script<H, R, W, K>(
     rt: H,
     alloc: Global,
     run: &Run<'_>,
     reader: &mut R,
     writer: &mut W,
+    keeper: &mut K,
 ) -> Result<(), Failure>
 where
     H: Threads + Wait + Clock + Copy + Send + 'static,
     R: Read,
     W: Write,
+    K: KeepsEnds,
     ensures ok { OnOk result (IfSome (R.remaining reader.old) (λ script.
         Prints run.now script None (W.contents writer.old) (W.contents writer.new))) }
     ensures err { IfErr result (λ failure. IfSome (R.remaining reader.old) (λ script.
@@ -250,7 +257,7 @@ where
             draw_over_world(alloc, picture, *settings, words, reader, writer)?;
         }
         Run::Cluster(manner, settings, words) => {
-            run_cluster(rt, alloc, manner, *settings, words, reader, writer)?;
+            run_cluster(rt, alloc, manner, *settings, words, reader, writer, keeper)?;
         }
         Run::ClusterWhy(inquiry, settings, words) => {
             explain_over_cluster(rt, alloc, inquiry, *settings, words, reader, writer)?;

@@ -18,6 +18,7 @@ use crate::pipes::Piped;
 use crate::runs::{Ended, failure_after, hand_on, tell};
 use crate::speaking::Spoken;
 use crate::telling::write_front;
+use crate::tracing::KeepsEnds;
 use crate::words::{hint_wrong, read_list};
 use cpg_board::Board;
 use cpg_cluster::Manner;
@@ -36,7 +37,7 @@ use std::time::Clock;
 /// the cluster, and tells why that ended early, if it did.
 ///
 /// A wrong word comes first, then settings out of their ranges, then the faults of the shell.
-pub fn perform_shell<H, R, W, E>(
+pub fn perform_shell<H, R, W, E, K>(
     rt: H,
     alloc: Global,
     manner: &Manner<Spoken>,
@@ -45,17 +46,21 @@ pub fn perform_shell<H, R, W, E>(
     reader: &mut R,
     writer: &mut BufWriter<Piped<W>>,
     errors: &mut E,
+    keeper: &mut K,
 ) -> Ended
 where
     H: Threads + Wait + Clock + Copy + Send + 'static,
     R: Read,
     W: Write + Drop,
     E: Write,
+    K: KeepsEnds,
     ensures { ShellRuns (spoken_as (manner.now).form) settings (list_of_words (map (λ word. word.now) words.now)) (has_left writer.new) result.flushed result.failure
         (word_told (manner.now).form words.now result.failure)
         (R.remaining reader.old) (written W.contents writer.old) (written W.contents writer.new) (E.contents errors.old) (E.contents errors.new) }
 {
-    let done = run_shell(rt, alloc, manner, settings, words, reader, writer, errors);
+    let done = run_shell(
+        rt, alloc, manner, settings, words, reader, writer, errors, keeper,
+    );
     let flushed = hand_on(writer);
     let failure = failure_after(done, flushed);
     let left = writer.get_ref().has_left();
@@ -122,7 +127,7 @@ fn word_hint(
 
 /// Answers the lines over a new cluster, and stops it.
 #[tactic(auto, using(crate::proofs::Shelled::none_of_words, crate::proofs::Shelled::none_of_memory))]
-fn run_shell<H, R, W, E>(
+fn run_shell<H, R, W, E, K>(
     rt: H,
     alloc: Global,
     manner: &Manner<Spoken>,
@@ -131,12 +136,14 @@ fn run_shell<H, R, W, E>(
     reader: &mut R,
     writer: &mut W,
     errors: &mut E,
+    keeper: &mut K,
 ) -> Result<(), Failure>
 where
     H: Threads + Wait + Clock + Copy + Send + 'static,
     R: Read,
     W: Write,
     E: Write,
+    K: KeepsEnds,
     ensures ok { OnOk result (Shells (spoken_as (manner.now).form) settings (list_of_words (map (λ word. word.now) words.now)) None
         (R.remaining reader.old) (W.contents writer.old) (W.contents writer.new) (E.contents errors.old) (E.contents errors.new)) }
     ensures err { IfErr result (λ failure. Shells (spoken_as (manner.now).form) settings (list_of_words (map (λ word. word.now) words.now)) (Some failure)
@@ -145,13 +152,15 @@ where
     match read_list(alloc, words) {
         Err(refusal) => Err(Failure::from(refusal)),
         Ok(None) => Err(Failure::BadWord),
-        Ok(Some(list)) => shell_listed(rt, alloc, manner, settings, list, reader, writer, errors),
+        Ok(Some(list)) => shell_listed(
+            rt, alloc, manner, settings, list, reader, writer, errors, keeper,
+        ),
     }
 }
 
 /// Answers the lines over a new cluster of those settings and that list. The board and the history are made here, and named.
 #[tactic(auto, using(crate::proofs::Shelled::none_of_settings, crate::proofs::Shelled::none_of_memory))]
-fn shell_listed<H, R, W, E>(
+fn shell_listed<H, R, W, E, K>(
     rt: H,
     alloc: Global,
     manner: &Manner<Spoken>,
@@ -160,12 +169,14 @@ fn shell_listed<H, R, W, E>(
     reader: &mut R,
     writer: &mut W,
     errors: &mut E,
+    keeper: &mut K,
 ) -> Result<(), Failure>
 where
     H: Threads + Wait + Clock + Copy + Send + 'static,
     R: Read,
     W: Write,
     E: Write,
+    K: KeepsEnds,
     ensures ok { OnOk result (Shells (spoken_as (manner.now).form) settings (Some list) None
         (R.remaining reader.old) (W.contents writer.old) (W.contents writer.new) (E.contents errors.old) (E.contents errors.new)) }
     ensures err { IfErr result (λ failure. Shells (spoken_as (manner.now).form) settings (Some list) (Some failure)
@@ -174,17 +185,17 @@ where
     if !are_settings(&settings) {
         return Err(Failure::from(Refusal::Range));
     }
-    match new_base(alloc, settings, list) {
+    match new_base(alloc, settings, list, keeper.is_asked()) {
         Err(_) => Err(Failure::from(Refusal::Memory)),
-        Ok((board, opened)) => shell_on::<Brand, H, R, W, E>(
-            rt, alloc, manner, board, opened, reader, writer, errors,
+        Ok((board, opened)) => shell_on::<Brand, H, R, W, E, K>(
+            rt, alloc, manner, board, opened, reader, writer, errors, keeper,
         ),
     }
 }
 
 /// Answers the lines over a new cluster on that board, with that history.
 #[tactic(auto, using(crate::proofs::Shelled::none_of_memory, crate::proofs::Shelled::left_shelled))]
-fn shell_on<B, H, R, W, E>(
+fn shell_on<B, H, R, W, E, K>(
     rt: H,
     alloc: Global,
     manner: &Manner<Spoken>,
@@ -193,6 +204,7 @@ fn shell_on<B, H, R, W, E>(
     reader: &mut R,
     writer: &mut W,
     errors: &mut E,
+    keeper: &mut K,
 ) -> Result<(), Failure>
 where
     B: HistoryName + Send + Sync + 'static,
@@ -200,6 +212,7 @@ where
     R: Read,
     W: Write,
     E: Write,
+    K: KeepsEnds,
     requires board { board ≡ B.cells }
     requires history { (opened.table ≡ B.table) × (first_world opened.start ≡ B.start) }
     ensures ok { OnOk result (Shells (spoken_as (manner.now).form) opened.start.settings (Some opened.start.list) None
@@ -209,12 +222,12 @@ where
 {
     match Cluster::<B, PassAll>::start(rt, alloc, board, opened, PassAll) {
         Err(_) => Err(Failure::from(Refusal::Memory)),
-        Ok(cluster) => shell_over(rt, alloc, manner, cluster, reader, writer, errors),
+        Ok(cluster) => { shell_over(rt, alloc, manner, cluster, reader, writer, errors, keeper) },
     }
 }
 
 /// Answers the lines over the cluster, and stops it.
-fn shell_over<B, H, R, W, E>(
+fn shell_over<B, H, R, W, E, K>(
     rt: H,
     alloc: Global,
     manner: &Manner<Spoken>,
@@ -222,6 +235,7 @@ fn shell_over<B, H, R, W, E>(
     reader: &mut R,
     writer: &mut W,
     errors: &mut E,
+    keeper: &mut K,
 ) -> Result<(), Failure>
 where
     B: HistoryName + Send + Sync + 'static,
@@ -229,13 +243,14 @@ where
     R: Read,
     W: Write,
     E: Write,
+    K: KeepsEnds,
     ensures ok { OnOk result (ShellEnds (spoken_as (manner.now).form) cluster.list cluster.nodes None
         (R.remaining reader.old) (W.contents writer.old) (W.contents writer.new) (E.contents errors.old) (E.contents errors.new)) }
     ensures err { IfErr result (λ failure. ShellEnds (spoken_as (manner.now).form) cluster.list cluster.nodes (Some failure)
         (R.remaining reader.old) (W.contents writer.old) (W.contents writer.new) (E.contents errors.old) (E.contents errors.new)) }
 {
     let done = shell_lines(&rt, alloc, reader, writer, errors, &cluster, manner);
-    drop(cluster.stop(&rt));
+    keeper.keep(alloc, cluster.stop(&rt));
     match done {
         Ok(()) => Ok(()),
         Err(fault) => Err(Failure::from(fault)),

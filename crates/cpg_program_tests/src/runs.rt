@@ -2,7 +2,7 @@
 
 use cpg_filter::{Filter, Only};
 use cpg_program::{
-    Asked, Form, Inquiry, Manner, Patience, Picture, Piped, Run, Shown, Spoken, perform,
+    Asked, Form, Inquiry, Manner, Patience, Picture, Piped, Run, Shown, Spoken, Untraced, perform,
 };
 use cpg_ring::Settings;
 use std::alloc::Global;
@@ -59,7 +59,15 @@ fn expect<H: Abort + Threads + Wait + Clock + Copy + Send + 'static>(
         room: 31,
     };
     let mut reader = script.as_bytes();
-    let ended = perform(rt, alloc, run, &mut reader, &mut writer, &mut errors);
+    let ended = perform(
+        rt,
+        alloc,
+        run,
+        &mut reader,
+        &mut writer,
+        &mut errors,
+        &mut Untraced,
+    );
     assert!(&rt; writer.get_ref().stream().got.as_slice() == printed.as_bytes());
     assert!(&rt; errors.got.as_slice() == told.as_bytes());
     assert_eq!(&rt; ended.status(), status);
@@ -231,7 +239,15 @@ fn expect_silence<H: Abort + Threads + Wait + Clock + Copy + Send + 'static>(
     let mut writer = BufWriter::new(alloc, Piped::new(Broken))?;
     let mut errors = Vec::new(alloc);
     let mut reader = script.as_bytes();
-    let ended = perform(rt, alloc, run, &mut reader, &mut writer, &mut errors);
+    let ended = perform(
+        rt,
+        alloc,
+        run,
+        &mut reader,
+        &mut writer,
+        &mut errors,
+        &mut Untraced,
+    );
     assert!(&rt; errors.is_empty());
     assert_eq!(&rt; ended.status(), 1);
     Ok(())

@@ -3,8 +3,8 @@
 //!
 //! Each line that is read is `NODES SEED STEPS`: a new cluster of so many nodes is started, so many steps drawn from
 //! the seed are done, all sessions are told all, and the cluster is stopped. What was done and told is printed then,
-//! and a line `done` after it, so that whoever reads can look at a process that rests. Nothing is printed where no
-//! line is read.
+//! and a line `done` after it, so that whoever reads can look at a process that rests. Behind a line that ends with
+//! `trace` all that happened is printed, too, as a script of `cpgring step`. Nothing is printed where no line is read.
 #![tactic(auto)]
 
 mod calls;
@@ -44,6 +44,7 @@ fn plan_of(line: &[u8]) -> Option<Plan> {
         nodes: u8::try_from(nodes).ok()?,
         seed,
         steps: u32::try_from(steps).ok()?,
+        traced: words.next() == Some(b"trace".as_slice()),
     })
 }
 

@@ -2,6 +2,7 @@
 
 ghost use Rattle.std.specs.Prelude.{◌≡◌};
 ghost use Rattle.cpg_history.specs.Histories.{first_world};
+ghost use Rattle.cpg_history.specs.Members.{Began};
 ghost use Rattle.cpg_board.specs.Seats.{IsSeatOf};
 
 use crate::PLACES;
@@ -15,6 +16,7 @@ use cpg_cred::{AcceptList, Refusal};
 use cpg_daemon::{Beginning, Cluster, Ends, HistoryName, Opened, Running, Session};
 use cpg_node::Settings;
 use cpg_script::put;
+use cpg_trace::{recorded_by, write_trace};
 use std::alloc::Global;
 use std::sync::{Arc, Wait};
 use std::thread::{self, Threads};
@@ -29,6 +31,8 @@ pub struct Plan {
     pub nodes: u8,
     pub seed: u64,
     pub steps: u32,
+    /// Whether all that happened is printed, too.
+    pub traced: bool,
 }
 
 /// A list of users 7 and 8.
@@ -128,6 +132,30 @@ fn tell_left<B: HistoryName>(
     told.notes(notes)
 }
 
+/// All that happened, as a script, where the plan asks for it.
+fn tell_trace<B: HistoryName>(
+    alloc: Global,
+    ends: Ends<B>,
+    plan: Plan,
+    told: &mut Told,
+) -> Result<(), Refusal>
+    requires { Began ends.stations.items ends.front.seen }
+{
+    let Ends {
+        stations,
+        front,
+        links,
+    } = ends;
+    drop(links);
+    if !plan.traced {
+        return Ok(());
+    }
+    let recording = recorded_by(alloc, stations, &front)?;
+    put(&mut told.text, "trace\n")?;
+    write_trace(alloc, &mut told.text, &[], &recording)?;
+    put(&mut told.text, "traced\n")
+}
+
 /// The round over a cluster, which is stopped.
 fn go_on<B, R: Threads + Wait + Clock>(
     rt: &R,
@@ -143,9 +171,10 @@ where
     let gone = go_over(rt, alloc, &cluster, plan, told);
     let ends = cluster.stop(rt);
     let left = tell_left(&ends, notes, told);
-    drop(ends);
+    let traced = tell_trace(alloc, ends, plan, told);
     gone?;
-    left
+    left?;
+    traced
 }
 
 /// A history that begins with the plan's nodes, which let in whom its rounds ask for.
@@ -157,7 +186,8 @@ pub fn opened_for(alloc: Global, plan: Plan) -> Result<Opened, Refusal> {
         hops: 1 << 62,
     };
     let list = new_list(alloc)?;
-    Ok(Opened::new(alloc, Beginning { settings, list })?)
+    let opened = Opened::new(alloc, Beginning { settings, list })?;
+    Ok(if plan.traced { opened.traced() } else { opened })
 }
 
 /// What a round of that plan prints, on that board.

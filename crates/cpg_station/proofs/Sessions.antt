@@ -24,7 +24,7 @@ use Rattle.cpg_node.specs.Answers.{IsTakeAnswer, IsListAnswer, IsGroupsAnswer, c
 use Rattle.cpg_node.specs.Calls.{submit_refusal, submit_refusal_by, closed_refusal, call_refusal, first_of, took, node_after_take, counted, next_event}
 use Rattle.cpg_node.specs.Nodes.{NodeValue, open_client, if_open, conn_id, asker_by}
 use Rattle.cpg_board.specs.Seats.{SeatValue}
-use Rattle.cpg_station.specs.Serving.{BringsUp, StaysDown, GivesNot, IsKnown, asker_of, OverFront, IsTakeFor, IsListFor, IsGroupsFor, SubmitRefuses, KeepsWatch, moved_on}
+use Rattle.cpg_station.specs.Serving.{BringsUp, StaysDown, GivesNot, IsKnown, asker_of, OverFront, IsTakeFor, IsListFor, IsGroupsFor, SubmitRefuses, KeepsWatch, WhereDenied, moved_on}
 use Rattle.cpg_station.specs.Stations.{StationValue, audit_of}
 
 -- the node's own client behind the session's connection
@@ -57,6 +57,16 @@ down_groups who before after s why down = gives_not s before why down
 pub down_list : (who : Connection) (g : List ℕ) (before after : SeatValue) (s : StationValue) (why : Refusal) → StaysDown s before why → IsListFor who g before s after (Err why)
 down_list who g before after s (refusal.Denied by) down = absurd down
 down_list who g before after s why down = gives_not s before why down
+
+-- what keeps a seat down is no denial
+pub down_denied : (It : Type 0) (s : StationValue) (before : SeatValue) (why : Refusal) → StaysDown s before why → WhereDenied It why
+down_denied It s before (refusal.Denied by) down = absurd down
+down_denied It s before why down = tt
+
+pub where_denied : {A : Type 0} (It : Type 0) (r : Result A Refusal) → It → IfErr r (WhereDenied It)
+where_denied It (Ok a) it = tt
+where_denied It (Err (refusal.Denied by)) it = it
+where_denied It (Err why) it = tt
 
 -- the station has no more records than it had, and is not halted
 stays_up : (s now : StationValue) (before after : SeatValue) → BringsUp s before after → now.halted ≡ s.halted → audit_of now.node ≡ audit_of s.node → GivesNot now before refusal.Memory

@@ -98,6 +98,11 @@ IsListFor who g before s after (Ok list) = OverFront before after (λ front. lis
 IsListFor who g before s after (Err (Denied by)) = OverFront before after (λ front. listing front (asker_of who) g ≡ Err by)
 IsListFor who g before s after (Err why) = GivesNot s before why
 
+-- it is so where the refusal is a denial
+abbrev pub WhereDenied : Type 0 → Refusal → Type 0
+WhereDenied It (Denied by) = It
+WhereDenied It _ = Unit {0}
+
 -- What `groups_for` answers: the names.
 abbrev pub IsGroupsFor : Connection → SeatValue → StationValue → SeatValue → Result (List (List ℕ)) Refusal → Type 0
 IsGroupsFor who before s after (Ok names) = OverFront before after (λ front. AreGroups front (asker_of who) names)

@@ -48,6 +48,8 @@ cause_text unread.Missing = codes "no such file"
 cause_text unread.Forbidden = codes "permission denied"
 cause_text unread.Directory = codes "is a directory"
 cause_text unread.Other = codes "cannot be read"
+cause_text unread.Unwritten = codes "cannot be written"
+cause_text unread.Cut = codes "is not whole"
 
 -- the line that is told of a file that can't be read
 abbrev pub unread_line : List ℕ → Unread → List ℕ

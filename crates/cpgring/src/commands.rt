@@ -66,6 +66,9 @@ const HINTS_AND_NOTES: &str =
 /// The option that asks why, of what a script's commands made.
 pub const WHY: &str = "why";
 
+/// The option that asks for what happened, as a script that plays it again.
+pub const TRACE: &str = "trace";
+
 /// The option that says how long a wait looks.
 pub const WAIT: &str = "wait";
 
@@ -268,13 +271,16 @@ fn run_command<'a>(alloc: Global) -> Result<Command<'a>, AllocError> {
     with_words(
         alloc,
         with_manner(alloc, with_ring(alloc, command)?)?
-            .arg(word(
-                alloc,
-                WHY,
-                "PLACE",
-                "Explain in place of that, once all is done, the entry at the place; NODE.CONN:EVENT: the one that told it; all: each denial; NODE.CONN: a connection's way",
-            )
-            .conflicts_with(ECHO)?)?
+            .arg(
+                word(
+                    alloc,
+                    WHY,
+                    "PLACE",
+                    "Explain in place of that, once all is done, the entry at the place; NODE.CONN:EVENT: the one that told it; all: each denial; NODE.CONN: a connection's way",
+                )
+                .conflicts_with(ECHO)?
+                .conflicts_with(TRACE)?,
+            )?
             .arg(verbose(alloc, HINTS_AND_NOTES))?,
         "FILE|ACCEPT",
         FILE_AND_ACCEPT,
@@ -313,7 +319,13 @@ fn with_manner<'a>(alloc: Global, command: Command<'a>) -> Result<Command<'a>, A
             ECHO,
             "Print before each line the number of its script line and its session",
         )
-        .conflicts_with(JSON)?)
+        .conflicts_with(JSON)?)?
+        .arg(word(
+            alloc,
+            TRACE,
+            "FILE",
+            "Once the nodes have stopped, write all that happened to FILE, as a script for `cpgring step`, and its words to FILE.words",
+        ))
 }
 
 /// The subcommand `completions`.

@@ -20,8 +20,8 @@ _cpgring() {
             admit) words='--conf --names --passwd --group --json' ;;
             step) words="$ring --json --numbers --why -v --verbose" ;;
             draw) words="$ring --text -v --verbose" ;;
-            run) words="$ring --json --wait --echo --why -v --verbose" ;;
-            shell) words="$ring --json --wait --echo -v --verbose" ;;
+            run) words="$ring --json --wait --echo --trace --why -v --verbose" ;;
+            shell) words="$ring --json --wait --echo --trace -v --verbose" ;;
             completions) words='bash zsh fish' ;;
         esac
         words="$words --help"
@@ -57,8 +57,8 @@ _cpgring() {
             '--json' '--help' ;;
         step) _arguments $ring '--json' '--numbers' '--why=:place' $more ;;
         draw) _arguments $ring '--text' $more ;;
-        run) _arguments $ring '--json' '--wait=:milliseconds' '--echo' '--why=:place' $more ;;
-        shell) _arguments $ring '--json' '--wait=:milliseconds' '--echo' '-v' '--verbose' '--help' ;;
+        run) _arguments $ring '--json' '--wait=:milliseconds' '--echo' '--trace=:file:_files' '--why=:place' $more ;;
+        shell) _arguments $ring '--json' '--wait=:milliseconds' '--echo' '--trace=:file:_files' '-v' '--verbose' '--help' ;;
         completions) compadd bash zsh fish ;;
     esac
 }
@@ -89,6 +89,7 @@ complete -c cpgring -n '__fish_seen_subcommand_from draw' -l text
 complete -c cpgring -n '__fish_seen_subcommand_from step run' -l why -x
 complete -c cpgring -n '__fish_seen_subcommand_from run shell' -l wait -x
 complete -c cpgring -n '__fish_seen_subcommand_from run shell' -l echo
+complete -c cpgring -n '__fish_seen_subcommand_from run shell' -l trace -r
 complete -c cpgring -n '__fish_seen_subcommand_from completions' -f -a 'bash zsh fish'
 "#;
 

@@ -415,8 +415,10 @@ and at least once; with --echo each line stands behind the number of its script 
 at that place was answered as it was, as `cpgring why` tells it; --why=NODE.CONN:EVENT tells it of the entry that
 told the connection that event, --why=all of each denied entry, --why=NODE.CONN the way of a connection: a session
 is named by its connection, which its audit shows. All entries that the nodes have judged by then are told of, so
-wait for a call's verdict before the script ends. A command that is refused prints the refusal, and the script goes
-on:
+wait for a call's verdict before the script ends. With --trace=FILE all that happened in the nodes, each frame,
+delivery and answer in the order in which it came, is written to FILE once the nodes have stopped, as a script that
+`cpgring step $(cat FILE.words) < FILE` plays again and `cpgring draw` draws; FILE.words has the words for that. A
+command that is refused prints the refusal, and the script goes on:
 
   2 Access           nobody lets the credentials in
   3 NoConnection     no open session has the number

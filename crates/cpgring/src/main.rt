@@ -13,16 +13,20 @@ mod help;
 mod loading;
 mod questions;
 mod sources;
+mod tracing;
 mod versions;
 
 use admitting::{files_of, read_asks};
-use asking::{explain, form_of, is_verbose, match_words, read_asked, read_shell, read_words};
+use asking::{
+    AskedShell, explain, form_of, is_verbose, match_words, read_asked, read_shell, read_words,
+};
 use clap::error::ErrorKind;
 use clap::{ArgMatches, Error};
 use commands::{SHELL, build_command};
 use completions::completion_of;
 use cpg_program::{
-    Counted, Piped, Run, perform, perform_admit, perform_shell, perform_with_hint, write_text,
+    Counted, Ended, KeepsEnds, Piped, Run, Tracer, Untraced, perform, perform_admit, perform_shell,
+    perform_with_hint, write_text,
 };
 use loading::{Loaded, NotLoaded, wrong_ask};
 use sources::{Source, greet, greet_shell, open_file, tell_unread};
@@ -33,6 +37,7 @@ use std::rt::Stderr;
 use std::sync::Wait;
 use std::thread::Threads;
 use std::time::Clock;
+use tracing::{NoTrace, end_trace, open_trace, trace_of, traced_world};
 use versions::said_commit;
 
 fn main(rt: HostRuntime) -> ExitCode {
@@ -61,8 +66,9 @@ fn start<H: Threads + Wait + Clock + Copy + Send + 'static>(
         Some(("admit", given)) => admit(rt, given),
         Some(("completions", given)) => complete(rt, given),
         Some(("shell", given)) => shell(rt, threads, given),
-        Some((_, given)) => run(rt, threads, &matches, is_verbose(given)),
-        None => run(rt, threads, &matches, false),
+        Some(("run", given)) => { run(rt, threads, &matches, is_verbose(given), trace_of(given)) }
+        Some((_, given)) => run(rt, threads, &matches, is_verbose(given), None),
+        None => run(rt, threads, &matches, false, None),
     }
 }
 
@@ -72,27 +78,29 @@ fn run<H: Threads + Wait + Clock + Copy + Send + 'static>(
     threads: H,
     matches: &ArgMatches<'_>,
     verbose: bool,
+    trace: Option<&str>,
 ) -> Result<u8, Error> {
     let alloc = rt.alloc();
     let asked = read_asked(alloc, matches)?;
     match asked.source {
         Source::Input => {
             greet(&mut rt.stderr(), rt.stdin().is_terminal());
-            run_over(rt, threads, &asked.run, verbose, &mut rt.stdin())
+            run_over(rt, threads, &asked.run, verbose, trace, &mut rt.stdin())
         }
         Source::File(path) => match open_file(rt, path) {
-            Ok(mut file) => run_over(rt, threads, &asked.run, verbose, &mut file),
+            Ok(mut file) => run_over(rt, threads, &asked.run, verbose, trace, &mut file),
             Err(why) => Ok(tell_unread(alloc, &mut rt.stderr(), path, why)),
         },
     }
 }
 
-/// The exit status of the run of a script.
+/// The exit status of the run of a script, which is traced where that is asked for.
 fn run_over<H, R>(
     rt: &HostRuntime,
     threads: H,
     run: &Run<'_>,
     verbose: bool,
+    trace: Option<&str>,
     reader: &mut R,
 ) -> Result<u8, Error>
 where
@@ -100,15 +108,59 @@ where
     R: Read,
 {
     let alloc = rt.alloc();
+    let (Some(path), Some((settings, words))) = (trace, traced_world(run)) else {
+        return Ok(run_kept(rt, threads, run, verbose, reader, &mut Untraced)?.status());
+    };
+    match open_trace(rt, alloc, path, &settings, words) {
+        Ok((heading, writer)) => {
+            let mut tracer = Tracer::new(heading.as_slice(), writer);
+            let ended = run_kept(rt, threads, run, verbose, reader, &mut tracer)?;
+            Ok(end_trace(alloc, &mut rt.stderr(), path, &tracer, ended.status()))
+        }
+        Err(NoTrace::Memory) => Err(Error::from(AllocError)),
+        Err(NoTrace::Unwritten(why)) => Ok(tell_unread(alloc, &mut rt.stderr(), path, why)),
+    }
+}
+
+/// The run of a script over the process's streams. What a stopped cluster leaves is the keeper's.
+fn run_kept<H, R, K>(
+    rt: &HostRuntime,
+    threads: H,
+    run: &Run<'_>,
+    verbose: bool,
+    reader: &mut R,
+    keeper: &mut K,
+) -> Result<Ended, Error>
+where
+    H: Threads + Wait + Clock + Copy + Send + 'static,
+    R: Read,
+    K: KeepsEnds,
+{
+    let alloc = rt.alloc();
     let stream = Counted::new(rt.stdout(), progress_of(rt, run), threads);
     let mut writer = BufWriter::new(alloc, Piped::new(stream)).map_err(|_| AllocError)?;
     let mut errors = rt.stderr();
-    let ended = if verbose {
-        perform_with_hint(threads, alloc, run, reader, &mut writer, &mut errors)
+    Ok(if verbose {
+        perform_with_hint(
+            threads,
+            alloc,
+            run,
+            reader,
+            &mut writer,
+            &mut errors,
+            keeper,
+        )
     } else {
-        perform(threads, alloc, run, reader, &mut writer, &mut errors)
-    };
-    Ok(ended.status())
+        perform(
+            threads,
+            alloc,
+            run,
+            reader,
+            &mut writer,
+            &mut errors,
+            keeper,
+        )
+    })
 }
 
 /// Where the progress of a judgement is told: on standard error, where that is a terminal and standard output is none.
@@ -147,9 +199,35 @@ where
 {
     let alloc = rt.alloc();
     let asked = read_shell(alloc, given)?;
+    let Some(path) = trace_of(given) else {
+        return Ok(shell_kept(rt, threads, &asked, &mut Untraced)?.status());
+    };
+    match open_trace(rt, alloc, path, &asked.settings, asked.words) {
+        Ok((heading, writer)) => {
+            let mut tracer = Tracer::new(heading.as_slice(), writer);
+            let ended = shell_kept(rt, threads, &asked, &mut tracer)?;
+            Ok(end_trace(alloc, &mut rt.stderr(), path, &tracer, ended.status()))
+        }
+        Err(NoTrace::Memory) => Err(Error::from(AllocError)),
+        Err(NoTrace::Unwritten(why)) => Ok(tell_unread(alloc, &mut rt.stderr(), path, why)),
+    }
+}
+
+/// The shell over the process's streams. What the stopped cluster leaves is the keeper's.
+fn shell_kept<H, K>(
+    rt: &HostRuntime,
+    threads: H,
+    asked: &AskedShell<'_>,
+    keeper: &mut K,
+) -> Result<Ended, Error>
+where
+    H: Threads + Wait + Clock + Copy + Send + 'static,
+    K: KeepsEnds,
+{
+    let alloc = rt.alloc();
     greet_shell(&mut rt.stderr(), rt.stdin().is_terminal());
     let mut writer = BufWriter::new(alloc, Piped::new(rt.stdout())).map_err(|_| AllocError)?;
-    let ended = perform_shell(
+    Ok(perform_shell(
         threads,
         alloc,
         &asked.manner,
@@ -158,8 +236,8 @@ where
         &mut rt.stdin(),
         &mut writer,
         &mut rt.stderr(),
-    );
-    Ok(ended.status())
+        keeper,
+    ))
 }
 
 /// The exit status of `completions`: the text of the shell is printed.

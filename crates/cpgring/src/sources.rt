@@ -24,7 +24,7 @@ pub enum Source<'a> {
     File(&'a str),
 }
 
-/// Why a file can't be read.
+/// Why a file can't be read, or was not written.
 #[derive(Clone, Copy)]
 pub enum Unread {
     /// There is none of that path.
@@ -35,6 +35,10 @@ pub enum Unread {
     Directory,
     /// Another error of the system.
     Other,
+    /// It can't be written.
+    Unwritten,
+    /// Not all is in it that was to be written.
+    Cut,
 }
 
 /// The source that a path names: `-` is standard input, as no path is.
@@ -88,7 +92,7 @@ pub fn split_words<'a>(words: &'a [&'a str]) -> (Source<'a>, &'a [&'a str])
 }
 
 /// Why a file can't be read, by the error of the system.
-fn why_unread(kind: ErrorKind) -> Unread
+pub fn why_unread(kind: ErrorKind) -> Unread
     ensures missing { kind ≡ ErrorKind.NotFound → result ≡ Unread.Missing }
     ensures forbidden { kind ≡ ErrorKind.PermissionDenied → result ≡ Unread.Forbidden }
     ensures directory { kind ≡ ErrorKind.IsADirectory → result ≡ Unread.Directory }
@@ -128,6 +132,8 @@ fn cause_of(why: Unread) -> &'static str
         Unread::Forbidden => "permission denied",
         Unread::Directory => "is a directory",
         Unread::Other => "cannot be read",
+        Unread::Unwritten => "cannot be written",
+        Unread::Cut => "is not whole",
     }
 }
 

@@ -1,4 +1,5 @@
-//! What a member is to the sessions at its node: their calls, each one event of the history.
+//! What a member is to the sessions at its node: their calls, each one event of the history, and so is a listing that is
+//! denied.
 
 ghost use Rattle.std.specs.Prelude.{◌≡◌, [], false, None, Ok, Err, IfOk, OnOk, OnErr, IfErr};
 ghost use Rattle.cpg_cred.specs.declared.refusals.Refusal.TheVariants.{Stopped};
@@ -9,7 +10,7 @@ ghost use Rattle.cpg_world_laws.specs.declared.replies.Reply.TheVariants as repl
 ghost use Rattle.cpg_board.specs.Seats.{IsSeatOf, Begins};
 ghost use Rattle.cpg_station.specs.Admitting.{IsAdmitted, AdmitsNot, taken_in};
 ghost use Rattle.cpg_station.specs.Serving.{IsKnown, IsHeard, IsTakeFor, IsListFor, IsGroupsFor, KeepsWatch, SubmitRefuses, taken_from, moved_on, halted_of, with_node};
-ghost use Rattle.cpg_history.specs.Members.{Told};
+ghost use Rattle.cpg_history.specs.Members.{Told, RefusalTold, is_answer};
 
 use super::Member;
 use crate::histories::{Front, Happens, History, HistoryName};
@@ -17,7 +18,15 @@ use cpg_board::{Board, Seat};
 use cpg_cred::{AcceptList, Cred, NodeId, Refusal, Refused};
 use cpg_entry::Call;
 use cpg_node::{Connection, Event, Names, Processes};
+use cpg_world_laws::WorldEvent;
 use std::marker::Brand;
+
+/// Whether the node answered: with the listing, or with the denial.
+fn is_answer(listed: &Result<Processes, Refusal>) -> bool
+    ensures { result ≡ is_answer listed.now }
+{
+    matches!(listed, Ok(_) | Err(Refusal::Denied(_)))
+}
 
 impl<B: HistoryName> Member<B> {
     /// Takes a connection of that process in, where it is the node that is asked for; and gives a front that has seen it.
@@ -60,8 +69,11 @@ impl<B: HistoryName> Member<B> {
         }
         match self.station.admit(list, node, pid, cred) {
             Ok(who) => {
-                history.add::<E>(&mut self.pen);
-                Ok((who, history.front::<Brand>(&mut self.pen)))
+                let stamp = history.add::<E>(&mut self.pen);
+                let front = history.front::<Brand>(&mut self.pen);
+                let event = WorldEvent::Connect(node, pid, cred);
+                self.pen.note(stamp, 0, stamp, Some(event));
+                Ok((who, front))
             }
             Err(refusal) => Err(refusal),
         }
@@ -99,12 +111,17 @@ impl<B: HistoryName> Member<B> {
         ensures unheard { ¬ IsHeard self.old.station who.now → (answer_of result ≡ Err Stopped) × (self.new.station ≡ halted_of self.old.station) }
         ensures front { OnErr result (front.new ≡ front.old) }
     {
+        let event = self.pen.trace().submit(who.id.node, who.id.conn, &call);
         match self.station.submit_for(who, call) {
             Ok(()) => {
-                history.add_for::<E>(&mut self.pen, front);
+                let stamp = history.add_for::<E>(&mut self.pen, front);
+                self.pen.note(stamp, 0, stamp, event);
                 Ok(())
             }
-            Err(refused) => Err(refused),
+            Err(refused) => {
+                drop(event);
+                Err(refused)
+            }
         }
     }
 
@@ -136,7 +153,9 @@ impl<B: HistoryName> Member<B> {
         ensures unheard { ¬ IsHeard self.old.station who.now → (result ≡ Err Stopped) × (self.new.station ≡ halted_of self.old.station) }
     {
         self.station.close_for(who)?;
-        history.add_for::<E>(&mut self.pen, front);
+        let stamp = history.add_for::<E>(&mut self.pen, front);
+        let event = WorldEvent::Disconnect(who.id.node, who.id.conn);
+        self.pen.note(stamp, 0, stamp, Some(event));
         Ok(())
     }
 
@@ -180,9 +199,12 @@ impl<B: HistoryName> Member<B> {
         ensures history { IfOk result (λ event. Told B.start front.old.seen (events.Take who.old.id.node who.old.id.conn) (Ok (reply.Took event)) front.new.seen) }
         ensures err { OnErr result (KeepsWatch self.old.station who.old self.new.station × (who.new ≡ who.old) × (front.new ≡ front.old)) }
     {
-        let event = self.station.take_for(board, who, seat)?;
-        history.add_for::<E>(&mut self.pen, front);
-        Ok(event)
+        let (node, conn) = (who.id.node, who.id.conn);
+        let taken = self.station.take_for(board, who, seat)?;
+        let stamp = history.add_for::<E>(&mut self.pen, front);
+        let event = WorldEvent::Take(node, conn);
+        self.pen.note(stamp, 0, stamp, Some(event));
+        Ok(taken)
     }
 
     /// The members of a group, where the session may list it. Refused as a station's `list_for` is.
@@ -201,7 +223,7 @@ impl<B: HistoryName> Member<B> {
         ensures answer { IsListFor who.now group.now seat.old self.new.station seat.new result }
         ensures history { IfOk result (λ list. Told B.start front.old.seen (events.List who.now.id.node who.now.id.conn group.now) (Ok (reply.Members list)) front.new.seen) }
         ensures station { KeepsWatch self.old.station who.now self.new.station }
-        ensures front { OnErr result (front.new ≡ front.old) }
+        ensures err { IfErr result (λ why. RefusalTold B.start front.old.seen (events.List who.now.id.node who.now.id.conn group.now) why front.new.seen) }
     {
         self.list_for_as::<Brand>(history, front, board, who, seat, group)
     }
@@ -222,11 +244,17 @@ impl<B: HistoryName> Member<B> {
         ensures answer { IsListFor who.now group.now seat.old self.new.station seat.new result }
         ensures history { IfOk result (λ list. Told B.start front.old.seen (events.List who.now.id.node who.now.id.conn group.now) (Ok (reply.Members list)) front.new.seen) }
         ensures station { KeepsWatch self.old.station who.now self.new.station }
-        ensures front { OnErr result (front.new ≡ front.old) }
+        ensures err { IfErr result (λ why. RefusalTold B.start front.old.seen (events.List who.now.id.node who.now.id.conn group.now) why front.new.seen) }
     {
-        let list = self.station.list_for(board, who, seat, group)?;
-        history.add_for::<E>(&mut self.pen, front);
-        Ok(list)
+        let event = self.pen.trace().list(who.id.node, who.id.conn, group);
+        let listed = self.station.list_for(board, who, seat, group);
+        if !is_answer(&listed) {
+            drop(event);
+            return listed;
+        }
+        let stamp = history.add_for::<E>(&mut self.pen, front);
+        self.pen.note(stamp, 0, stamp, event);
+        listed
     }
 
     /// The names of the groups with members that the session may list. Refused as a station's `groups_for` is.
@@ -267,7 +295,9 @@ impl<B: HistoryName> Member<B> {
         ensures front { OnErr result (front.new ≡ front.old) }
     {
         let names = self.station.groups_for(board, who, seat)?;
-        history.add_for::<E>(&mut self.pen, front);
+        let stamp = history.add_for::<E>(&mut self.pen, front);
+        let event = WorldEvent::Groups(who.id.node, who.id.conn);
+        self.pen.note(stamp, 0, stamp, Some(event));
         Ok(names)
     }
 }

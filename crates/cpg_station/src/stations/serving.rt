@@ -8,7 +8,7 @@ ghost use Rattle.cpg_node.specs.Calls.{connect_refusal, submit_refusal, submitte
 ghost use Rattle.cpg_node.specs.Nodes.{open_client};
 ghost use Rattle.cpg_ring.specs.Answers.{IsAnswer, answer_of};
 ghost use Rattle.cpg_station.specs.Admitting.{IsAdmitted, AdmitsNot, is_shut, taken_in};
-ghost use Rattle.cpg_station.specs.Serving.{IsKnown, IsHeard, BringsUp, StaysDown, IsTakeFor, IsListFor, IsGroupsFor, KeepsWatch, StaysOrHalts, SubmitRefuses, taken_from, moved_on, halted_of, with_node};
+ghost use Rattle.cpg_station.specs.Serving.{IsKnown, IsHeard, BringsUp, StaysDown, IsTakeFor, IsListFor, IsGroupsFor, KeepsWatch, StaysOrHalts, SubmitRefuses, WhereDenied, taken_from, moved_on, halted_of, with_node};
 
 use super::Station;
 use crate::naming::BoardName;
@@ -195,7 +195,7 @@ impl<B: BoardName> Station<B> {
 
     /// The members of a group, where the session may list it. Refused as `serve` is, and then with Denied or
     /// Memory.
-    #[tactic(auto, using(crate::proofs::Sessions::said_list, crate::proofs::Sessions::down_list))]
+    #[tactic(auto, using(crate::proofs::Sessions::said_list, crate::proofs::Sessions::down_list, crate::proofs::Sessions::down_denied, crate::proofs::Sessions::where_denied))]
     pub fn list_for(
         &mut self,
         board: &Board,
@@ -208,6 +208,7 @@ impl<B: BoardName> Station<B> {
         ensures seat { IsSeatOf B.cells seat.new × Begins seat.old seat.new }
         ensures answer { IsListFor who.now group.now seat.old self.new seat.new result }
         ensures ok { OnOk result (IsHeard self.old who.now × (self.new ≡ self.old) × IsListAnswer self.old.node group.now (open_client self.old.node who.now.id.conn) result) }
+        ensures denied { IfErr result (WhereDenied (IsHeard self.old who.now × (self.new ≡ self.old) × IsListAnswer self.old.node group.now (open_client self.old.node who.now.id.conn) result)) }
         ensures station { KeepsWatch self.old who.now self.new × StaysOrHalts self.old self.new }
     {
         self.serve(board, who, seat)?;

@@ -1,4 +1,4 @@
-use Rattle.std.proofs.Common.{◌≡◌, length}
+use Rattle.std.proofs.Common.{◌≡◌}
 use Rattle.cpg_daemon.proofs.running.Running.send_all.Given as goal
 
 abbrev pub invariant-loop-index : goal.invariant-loop-index

@@ -1,0 +1,38 @@
+-- what is written of what a cluster recorded
+use Rattle.std.specs.Prelude.{ℕ, List, [], ◌∷◌, ◌++◌, Bool, Option, codes, decimal}
+use Rattle.std.specs.List.{flat_map}
+use Rattle.std.specs.Io.KnownBytes.{Appends}
+use Rattle.cpg_ring.specs.declared.settings.Settings.{Settings}
+use Rattle.cpg_world_laws.specs.declared.events.WorldEvent.{WorldEvent}
+use Rattle.cpg_world_laws.specs.Worlds.{WorldValue}
+use Rattle.cpg_history.specs.declared.traces.Recorded.{Recorded}
+use Rattle.cpg_trace.specs.Scripts.{IsRecording, trace_text}
+
+-- a word between two texts
+abbrev pub between : List ℕ → List ℕ → List ℕ → List ℕ
+between before after word = before ++ word ++ after
+
+-- each word between two texts
+abbrev pub each_between : List ℕ → List ℕ → List (List ℕ) → List ℕ
+each_between before after words = flat_map (between before after) words
+
+-- an option with a number
+abbrev pub option_word : List ℕ → ℕ → List ℕ
+option_word name number = name ++ decimal number
+
+-- the words by which `step` plays a world of those settings, whose nodes let in whom the words let in
+abbrev pub step_words : Settings → List (List ℕ) → List (List ℕ)
+step_words s words =
+    option_word (codes "--ring=") s.ring ∷ option_word (codes "--nodes=") s.nodes ∷ option_word (codes "--places=") s.places ∷ option_word (codes "--hops=") s.hops ∷ words
+
+-- the first line of a trace: the command line that plays it
+abbrev pub heading_text : Settings → List (List ℕ) → List ℕ
+heading_text s words = codes "# cpgring step" ++ each_between (codes " ") [] (step_words s words) ++ codes "\n"
+
+-- these words, one a line
+abbrev pub words_text : Settings → List (List ℕ) → List ℕ
+words_text s words = each_between [] (codes "\n") (step_words s words)
+
+-- behind the heading is written what was recorded of the history that leads to what was seen
+abbrev pub IsTraced : WorldValue → List WorldEvent → List ℕ → Option (List ℕ) → Option (List ℕ) → Type 0
+IsTraced start seen heading old new = (script : List Recorded) × (cut : Bool) × IsRecording start seen script × Appends old new (trace_text heading script cut)

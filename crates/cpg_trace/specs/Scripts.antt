@@ -1,0 +1,71 @@
+-- what was recorded, as a script of `step`
+use Rattle.std.specs.Prelude.{Bool, true, false, codes, ℕ, ◌≡◌, ◌+◌, ◌%◌, ◌^◌, ◌==◌, ◌<◌, ◌≤◌, List, [], ◌∷◌, ◌++◌, take, length, map, slice_get, Some, suc, if◌then◌else◌}
+use Rattle.std.specs.List.Sorted.{IsPermutation, IsNonDecreasingBy}
+use Rattle.cpg_world_laws.specs.declared.events.WorldEvent.{WorldEvent}
+use Rattle.cpg_world_laws.specs.declared.events.WorldEvent.TheVariants.{Frame}
+use Rattle.cpg_world_laws.specs.Worlds.{WorldValue}
+use Rattle.cpg_history.specs.declared.traces.Recorded.{Recorded}
+use Rattle.cpg_history.specs.Traces.{AreRecorded}
+use Rattle.cpg_trace.specs.Lines.{event_line}
+
+-- the entries from that stamp on, as long as each has the next
+abbrev pub counted : ℕ → List Recorded → List Recorded
+counted stamp [] = []
+counted stamp (r ∷ rs) = if r.stamp == stamp then r ∷ counted (suc stamp) rs else []
+
+-- The script of entries: they are put in the order of their stamps, and end before the first stamp that none has.
+pub record IsScript (entries script : List Recorded) : Type 0 where
+  pub ordered : List Recorded
+  pub same : IsPermutation entries ordered
+  pub ascend : IsNonDecreasingBy (λ (r : Recorded). r.stamp) ordered
+  pub front : script ≡ counted 0 ordered
+
+-- how many frames they sent
+abbrev pub sent_by : List Recorded → ℕ
+sent_by [] = 0
+sent_by (r ∷ rs) = r.sent + sent_by rs
+
+-- The number of the first frame that the event with that stamp sent, in 64 bits: a new world has sent the first token, and each event before it what it
+-- did.
+abbrev pub first_number : List Recorded → ℕ → ℕ
+first_number script stamp = (2 + sent_by (take stamp script)) % 2 ^ 64
+
+-- the event of an entry: a frame has its number among all that were sent
+abbrev pub numbered : List Recorded → ℕ → WorldEvent → WorldEvent
+numbered script source (Frame node index) = Frame node ((first_number script source + index) % 2 ^ 64)
+numbered script source event = event
+
+-- a frame's number, from that of the first that its source sent, is among 64 bits as it is written
+abbrev pub IsNumbered : WorldEvent → Type 0
+IsNumbered (Frame node number) = number < 2 ^ 64
+IsNumbered event = Unit {0}
+
+-- the numbers of the first frames that the entries sent, and that of the next behind them
+abbrev pub AreFirstNumbers : List Recorded → List ℕ → Type 0
+AreFirstNumbers script numbers = (length numbers ≡ suc (length script)) × ((k : ℕ) → k ≤ length script → slice_get numbers k ≡ Some (first_number script k))
+
+-- the events of a script
+abbrev pub events_of : List Recorded → List WorldEvent
+events_of script = map (λ (r : Recorded). numbered script r.source r.event) script
+
+-- the lines of entries of a script
+abbrev pub lines_of : List Recorded → List Recorded → List ℕ
+lines_of script [] = []
+lines_of script (r ∷ rs) = event_line (numbered script r.source r.event) ++ lines_of script rs
+
+-- the lines of a script
+abbrev pub script_text : List Recorded → List ℕ
+script_text script = lines_of script script
+
+-- the last line of a script that is not whole
+abbrev pub end_text : Bool → List ℕ
+end_text true = codes "# what came behind these is not here: memory was refused for it\n"
+end_text false = []
+
+-- what is written of a recording: a heading, the commands, and where it is cut a line that says so
+abbrev pub trace_text : List ℕ → List Recorded → Bool → List ℕ
+trace_text heading script cut = heading ++ script_text script ++ end_text cut
+
+-- the script is that of what pens recorded of the history that leads to what was seen
+abbrev pub IsRecording : WorldValue → List WorldEvent → List Recorded → Type 0
+IsRecording start seen script = (entries : List Recorded) × AreRecorded start seen entries × IsScript entries script
