@@ -3,7 +3,7 @@
 ghost use Rattle.std.specs.Prelude.{◌≡◌, ◌≤◌, ◌*◌, All, IfOk, IfErr, IsOkUnless, vec_len};
 ghost use Rattle.std.specs.Arc.{arc_value};
 ghost use Rattle.cpg_history.specs.Histories.{first_world};
-ghost use Rattle.cpg_history.specs.Members.{Began};
+ghost use Rattle.cpg_history.specs.Members.{HaveSeen};
 ghost use Rattle.cpg_daemon.specs.Clusters.{IsUnstarted};
 ghost use Rattle.cpg_daemon.specs.Links.{peers_of, links_of};
 
@@ -58,8 +58,8 @@ impl<B: HistoryName, G> Deref for Cluster<B, G> {
     }
 }
 
-/// What a stopped cluster leaves: each node's station with its pen, in their order; a front of the history, which what each
-/// of them has seen begins; and the two ends of each link.
+/// What a stopped cluster leaves: each node's station with its pen, in their order; a front of the history, which each of
+/// them has seen, so that its node is that node of the world after the front; and the two ends of each link.
 #[derive(Drop)]
 pub struct Ends<B: HistoryName> {
     pub stations: Vec<Member<B>>,
@@ -110,7 +110,7 @@ fn leave<B: HistoryName, G, R: Threads + Wait>(
     requires few { vec_len threads.threads ≤ running.now.nodes }
     requires threads { All (λ thread. thread.promise.0 ≡ peers_of room.nodes) threads.threads.items }
     ensures stations { vec_len result.stations ≡ running.now.nodes }
-    ensures front { Began result.stations.items result.front.seen }
+    ensures front { HaveSeen result.stations.items result.front.seen }
     ensures links { vec_len result.links ≡ vec_len threads.threads * peers_of running.now.nodes }
 {
     let Room {
@@ -207,10 +207,11 @@ where
         if !are_settings(&opened.beginning().settings) {
             return Err(Refusal::Range);
         }
+        let traced = opened.is_traced();
         let (history, mut pens, beginning) = opened.named::<B>();
         let settings = beginning.settings;
         let nodes = settings.nodes;
-        let locks = new_locks(alloc, &board, &beginning, &history, &mut pens)?;
+        let locks = new_locks(alloc, &board, &beginning, traced, &history, &mut pens)?;
         let spares = new_spares(alloc, settings, &board, &history, &mut pens)?;
         let room = new_room(alloc, nodes, pens, spares)?;
         let mut lines = new_links(alloc, nodes, peers(nodes))?;
@@ -224,7 +225,7 @@ where
     /// Halts the nodes, waits for their threads to end, and gives what they leave. It takes no memory.
     pub fn stop<R: Threads + Wait>(self, rt: &R) -> Ends<B>
         ensures stations { vec_len result.stations ≡ self.nodes }
-        ensures front { Began result.stations.items result.front.seen }
+        ensures front { HaveSeen result.stations.items result.front.seen }
         ensures links { vec_len result.links ≡ links_of self.nodes }
     {
         self.halt(rt);

@@ -4,6 +4,7 @@ ghost use Rattle.std.specs.Prelude.{◌≡◌, ◌≤◌, ◌<◌, ◌+◌, ◌*
 ghost use Rattle.cpg_ring.specs.States.{IsSettings};
 ghost use Rattle.cpg_node.specs.Nodes.{new_value};
 ghost use Rattle.cpg_history.specs.Histories.{first_world, all_nodes};
+ghost use Rattle.cpg_history.specs.Traces.{new_trace};
 ghost use Rattle.cpg_daemon.specs.Links.{peers_of, peer_of};
 
 use crate::lines::{Incoming, Lines, Outgoing, ROOM};
@@ -60,17 +61,18 @@ pub(crate) fn new_spares<B: HistoryName>(
             return Err(Refusal::Range);
         };
         let station = new_station(alloc, settings, id, board, &none)?;
-        spares.push(Member::spare(id, station, history.next(pens)))?;
+        spares.push(Member::spare(alloc, id, station, history.next(pens)))?;
     }
     Ok(spares)
 }
 
-/// The next node's new station, with its pen.
+/// The next node's new station, with its pen. Its events are recorded where that is asked for.
 fn new_member<B: HistoryName>(
     alloc: Global,
     id: NodeId,
     board: &Board,
     beginning: &Beginning,
+    traced: bool,
     history: &History<B>,
     pens: &mut Pen<B>,
 ) -> Result<Member<B>, Refusal>
@@ -79,21 +81,24 @@ fn new_member<B: HistoryName>(
     requires begins { first_world beginning.now ≡ B.start }
     requires board { board.now ≡ B.cells }
     requires pens { (pens.old.from ≡ id) × (id < pens.old.to) × (pens.old.seen ≡ []) }
-    ensures ok { IfOk result (λ member. member ≡ record { id = id; station = record { node = new_value beginning.now.settings id beginning.now.list; seat = []; halted = false }; spare = false; seen = [] }) }
+    ensures ok { IfOk result (λ member. member ≡ record { id = id; station = record { node = new_value beginning.now.settings id beginning.now.list; seat = []; halted = false }; spare = false; seen = []; trace = new_trace traced }) }
     ensures rest { OnOk result ((pens.new.from ≡ suc id) × (pens.new.to ≡ pens.old.to) × (pens.new.seen ≡ [])) }
     ensures memory { IsOkUnless result Refusal.Memory }
 {
     first_nodes();
     history.begins();
     let station = new_station(alloc, beginning.settings, id, board, &beginning.list)?;
-    Ok(Member::new(id, station, history.next(pens)))
+    let pen = history.next(pens);
+    Ok(Member::new(alloc, id, station, pen, traced))
 }
 
-/// A lock for each node, in their order, with a new station in it and the node's pen.
+/// A lock for each node, in their order, with a new station in it and the node's pen. What happens is recorded where that
+/// is asked for.
 pub(crate) fn new_locks<B: HistoryName>(
     alloc: Global,
     board: &Board,
     beginning: &Beginning,
+    traced: bool,
     history: &History<B>,
     pens: &mut Pen<B>,
 ) -> Result<Vec<Mutex<Member<B>>>, Refusal>
@@ -110,7 +115,7 @@ pub(crate) fn new_locks<B: HistoryName>(
         let Some(id) = NodeId::new(before + 1) else {
             return Err(Refusal::Range);
         };
-        let member = new_member(alloc, id, board, beginning, history, pens)?;
+        let member = new_member(alloc, id, board, beginning, traced, history, pens)?;
         locks.push(Mutex::new(member))?;
     }
     Ok(locks)

@@ -2,7 +2,7 @@
 
 ghost use Rattle.std.specs.Prelude.{◌≡◌, ◌≤◌, ◌+◌, ◌*◌, ◌<◌, All, IfOk, IfSome, MatchOption, vec_len, vec_capacity};
 ghost use mathlib.Core.List.{IsPrefix};
-ghost use Rattle.cpg_history.specs.Members.{Began};
+ghost use Rattle.cpg_history.specs.Members.{Began, HaveSeen};
 ghost use Rattle.cpg_daemon.specs.Links.{links_of, peers_of};
 
 use crate::lines::{Incoming, Lines, Outgoing};
@@ -201,8 +201,23 @@ fn take_one<B: HistoryName, R: Wait>(
     stations.push_reserved(meet(history, pens, station));
 }
 
-/// Takes the station out of each lock, and leaves a spare one there. Gives them with a front of the history: what each of
-/// them has seen begins it.
+/// Each of the stations has seen just what the front has, which begins with all that they had seen.
+fn catch_up<B: HistoryName>(
+    history: &History<B>,
+    stations: &mut [Member<B>],
+    front: &mut Front<B>,
+)
+    requires { Began stations.old front.old.seen }
+    ensures stations { HaveSeen stations.new front.old.seen }
+    ensures front { front.new ≡ front.old }
+{
+    for station in stations.iter_mut() {
+        station.catch_up(history, history.again::<Brand>(front));
+    }
+}
+
+/// Takes the station out of each lock, and leaves a spare one there. Gives them with a front of the history, which each of
+/// them has seen.
 pub(crate) fn take_out<B: HistoryName, R: Wait>(
     rt: &R,
     history: &History<B>,
@@ -214,7 +229,7 @@ pub(crate) fn take_out<B: HistoryName, R: Wait>(
     requires count { vec_len locks.now ≡ vec_len spares }
     requires room { (vec_len stations ≡ 0) × (vec_len spares ≤ vec_capacity stations) }
     ensures count { vec_len result.0 ≡ vec_len spares }
-    ensures front { Began result.0.items result.1.seen }
+    ensures front { HaveSeen result.0.items result.1.seen }
 {
     for node in 0..locks.len() {
         take_one(
@@ -226,5 +241,7 @@ pub(crate) fn take_out<B: HistoryName, R: Wait>(
             &mut stations,
         );
     }
-    (stations, history.front::<Brand>(&mut pens))
+    let mut front = history.front::<Brand>(&mut pens);
+    catch_up(history, stations.as_mut_slice(), &mut front);
+    (stations, front)
 }

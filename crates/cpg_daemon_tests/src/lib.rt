@@ -14,6 +14,8 @@ mod left;
 #[cfg(test)]
 mod links;
 #[cfg(test)]
+mod replaying;
+#[cfg(test)]
 mod sharing;
 #[cfg(test)]
 mod stepping;

@@ -1,10 +1,12 @@
-//! Three client threads at a cluster of three nodes.
+//! Three client threads at a cluster of three nodes, and what happened in it, played again.
 
 ghost use Rattle.std.specs.Prelude.{◌≡◌, ◌≤◌, IfOk, vec_len};
 ghost use Rattle.std.specs.Thread.{IsSync};
 ghost use Rattle.cpg_board.specs.Seats.{IsSeatOf};
 ghost use Rattle.cpg_history.specs.Histories.{first_world};
+ghost use Rattle.cpg_history.specs.Members.{HaveSeen};
 
+use crate::replaying::{begins, plays_again};
 use crate::sharing::{ROOT, Told, next_told, opened_of, refusal_in, settings_of};
 use cpg_board::{Board, Seat};
 use cpg_cred::{NodeId, Refusal};
@@ -282,15 +284,6 @@ fn are_sound(alloc: Global, records: &[Record]) -> bool {
         && verify(alloc, records) == Ok(true)
 }
 
-/// Whether the audit begins the records.
-fn begins(audit: &[Record], records: &[Record]) -> bool {
-    audit.len() <= records.len()
-        && audit
-            .iter()
-            .zip(records.iter())
-            .all(|(mine, theirs)| mine.equals(theirs))
-}
-
 /// Whether three stations are left, whose audits begin the records.
 fn are_left<B: HistoryName>(ends: &Ends<B>, records: &[Record]) -> bool {
     match ends.stations.as_slice() {
@@ -304,11 +297,14 @@ fn are_left<B: HistoryName>(ends: &Ends<B>, records: &[Record]) -> bool {
     }
 }
 
-/// Whether the records are sound, and what is left, which is let go, begins them.
-fn are_right<B: HistoryName>(alloc: Global, ends: Ends<B>, records: &[Record]) -> bool {
+/// Whether the records are sound, what is left begins them, and so does what is judged where all that was recorded is
+/// played.
+fn are_right<B: HistoryName>(alloc: Global, ends: Ends<B>, records: &[Record]) -> bool
+    requires { HaveSeen ends.stations.items ends.front.seen }
+{
     let left = are_left(&ends, records);
-    drop(ends);
-    left && are_sound(alloc, records)
+    let played = plays_again(alloc, ends, records);
+    left && played && are_sound(alloc, records)
 }
 
 /// Whether the cluster, which has stopped, was seen to serve three clients so.
@@ -316,7 +312,9 @@ fn are_served<B: HistoryName>(
     alloc: Global,
     ends: Ends<B>,
     seen: Result<Vec<Record>, Refusal>,
-) -> bool {
+) -> bool
+    requires { HaveSeen ends.stations.items ends.front.seen }
+{
     match seen {
         Ok(records) => are_right(alloc, ends, records.as_slice()),
         Err(_) => false,
@@ -356,7 +354,7 @@ where
 fn three_threads_are_served(rt: HostRuntime) -> Result<(), Fail> {
     let board = Board::new(rt.alloc(), 4_096)?;
     let alloc = rt.alloc();
-    let opened = opened_of(alloc, settings_of(3))?;
+    let opened = opened_of(alloc, settings_of(3))?.traced();
     assert!(rt; three_go::<Brand, HostRuntime>(rt, alloc, board, opened));
     Ok(())
 }

@@ -21,14 +21,14 @@ use Rattle.cpg_history.specs.declared.histories.View.{View}
 use Rattle.cpg_station.specs.Stations.{StationValue}
 use Rattle.cpg_history.specs.Histories.{Came, FrontValue, told, front}
 use Rattle.cpg_history.specs.Members.{how_many, MemberValue, Replied, WereSent, WasSent, IsAt, member, before_last}
-use Rattle.cpg_history.specs.Traces.{HasNumber, WasRecorded, recorded_of}
+use Rattle.cpg_history.specs.Traces.{HasNumber, TraceValue, WasRecorded, recorded_of}
 use Rattle.cpg_history.proofs.Noting.{number_on, recorded}
 use Rattle.cpg_history.proofs.Runs.{prefix_sends}
 use Rattle.cpg_history.proofs.Coming.{called, replied, world_after}
 use Rattle.cpg_history.proofs.Sending.{all_stand, last_off}
 
 module _ (law : ReadAgain) (start : WorldValue) (v : View) (f : FrontValue) (stamp id : ℕ) (s t : StationValue) (spare : Bool) (seen : List WorldEvent) (bytes : List ℕ) (frames : List (List ℕ))
-    (p : WasSent start f.seen f.number bytes) (c : Came start (told v (front f)) (Arrival id f.number) stamp seen) (at : IsAt start v.seen id s.node)
+    (p : WasSent start f.seen f.number bytes) (c : Came (told v (front f)) (Arrival id f.number) stamp seen) (at : IsAt start v.seen id s.node)
     (none : frame_refusal s.node p.frame ≡ None) (are : frames ≡ spelled (answers_to s.node p.frame)) (made : t.node ≡ after_frame s.node p.frame) where
   abbrev x : NodeValue
   x = s.node
@@ -42,9 +42,9 @@ module _ (law : ReadAgain) (start : WorldValue) (v : View) (f : FrontValue) (sta
   hears_is : hears (item w.sent f.number) x ≡ (after_frame x p.frame, answers_to x p.frame)
   hears_is = ap (λ o. hears o x) there ∙ ap (λ r. unless r x (after_frame x p.frame, answers_to x p.frame)) none
 
-  pub heard : Replied start (member id s spare v.seen) (Arrival id f.number) (Ok (reply.Sent (length frames))) (member id t spare seen)
-  heard =
-      replied start (told v (front f)) (Arrival id f.number) stamp id s t spare seen c (Ok (reply.Sent (length frames))) refl at
+  pub heard : (old new : TraceValue) → Replied start (member id s spare v.seen old) (Arrival id f.number) (Ok (reply.Sent (length frames))) (member id t spare seen new)
+  heard old new =
+      replied start (told v (front f)) (Arrival id f.number) stamp id s t spare old new seen c (Ok (reply.Sent (length frames))) refl at
       (ap (λ m. Ok (reply.Sent m)) (ap length are ∙ length-map (answers_to x p.frame) (spelling Two)) ∙ sym (ap (frame_answer x) there ∙ ap (λ r. or_reply r (reply.Sent (length (answers_to x p.frame)))) none))
       (ap (λ (m : NodeOutcome). m.0) hears_is ∙ sym made)
 
@@ -77,7 +77,7 @@ pub token_count : (r : NodeState) (o : Option Token) (token : Option (List ℕ))
 token_count r None token sent is count = sym (count ∙ ap (λ (t : Option (List ℕ)). how_many t) is)
 token_count r (Some t) token sent is count = sym (count ∙ ap (λ (t : Option (List ℕ)). how_many t) is)
 
-pub timed : ReadAgain → (start : WorldValue) (v : View) (stamp id : ℕ) (x : NodeValue) (seen : List WorldEvent) (bytes : List ℕ) → Came start v (Timer id) stamp seen → IsAt start v.seen id x → Some bytes ≡ option_map (λ t. spelling Two (frame.Token t)) x.ring.state.last_token → IfSome x.ring.state.last_token (λ t. CanBeSpelled (frame.Token t)) → WasSent start seen (suc (length (runs start (before_last seen)).sent)) bytes
+pub timed : ReadAgain → (start : WorldValue) (v : View) (stamp id : ℕ) (x : NodeValue) (seen : List WorldEvent) (bytes : List ℕ) → Came v (Timer id) stamp seen → IsAt start v.seen id x → Some bytes ≡ option_map (λ t. spelling Two (frame.Token t)) x.ring.state.last_token → IfSome x.ring.state.last_token (λ t. CanBeSpelled (frame.Token t)) → WasSent start seen (suc (length (runs start (before_last seen)).sent)) bytes
 timed law start v stamp id x seen bytes c at is range =
     let tokens = (send_again x.ring.state x.ring.state.last_token).1 in
     let before : before_last seen ≡ c.log = ap (λ l. before_last l) c.after ∙ last_off c.log (Timer id) in
@@ -90,6 +90,6 @@ timed law start v stamp id x seen bytes c at is range =
     zero_right : (k : ℕ) → k + 0 ≡ k
     zero_right k = omega arith
 
-pub timer_called : (start : WorldValue) (pen after : View) (m : MemberValue) (e : WorldEvent) (stamp id : ℕ) (s t : StationValue) (spare : Bool) (sent : ℕ) → member id s spare pen.seen ≡ m → e ≡ Timer m.id → IsAt start pen.seen id s.node → Came start pen e stamp after.seen → t ≡ s → length (send_again s.node.ring.state s.node.ring.state.last_token).1 ≡ sent → Replied start m (Timer m.id) (Ok (reply.Sent sent)) (member id t spare after.seen)
-timer_called start pen after m e stamp id s t spare sent is event_is at came same count =
-    called start pen after m (λ n. Timer n) e stamp id s t spare (Ok (reply.Sent sent)) is event_is refl at came (λ frames. ap (λ n. Ok (reply.Sent n)) (sym count)) (λ frames. sym (ap (λ (u : StationValue). u.node) same))
+pub timer_called : (start : WorldValue) (pen after : View) (m : MemberValue) (e : WorldEvent) (stamp id : ℕ) (s t : StationValue) (spare : Bool) (old new : TraceValue) (sent : ℕ) → member id s spare pen.seen old ≡ m → e ≡ Timer m.id → IsAt start pen.seen id s.node → Came pen e stamp after.seen → t ≡ s → length (send_again s.node.ring.state s.node.ring.state.last_token).1 ≡ sent → Replied start m (Timer m.id) (Ok (reply.Sent sent)) (member id t spare after.seen new)
+timer_called start pen after m e stamp id s t spare old new sent is event_is at came same count =
+    called start pen after m (λ n. Timer n) e stamp id s t spare old new (Ok (reply.Sent sent)) is event_is refl at came (λ frames. ap (λ n. Ok (reply.Sent n)) (sym count)) (λ frames. sym (ap (λ (u : StationValue). u.node) same))

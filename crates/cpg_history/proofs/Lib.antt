@@ -1,5 +1,6 @@
 pub mod Reading
 pub mod Runs
+pub mod Resting
 pub mod Moves
 pub mod Coming
 pub mod Sending
@@ -8,3 +9,4 @@ pub mod Serving
 pub mod Hearing
 pub mod Agreeing
 pub mod Answering
+pub mod Called

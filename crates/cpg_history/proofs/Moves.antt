@@ -10,14 +10,13 @@ use Rattle.atomic_table.specs.Table.{State, keeps, Me, Step, Allows, Splits, Joi
 use Rattle.atomic_table.proofs.Lists.{at_set, set_again}
 use Rattle.cpg_world_laws.specs.declared.events.WorldEvent.{WorldEvent}
 use Rattle.cpg_history.specs.declared.histories.View.{View}
-use Rattle.cpg_ring.specs.Worlds.{item}
-use Rattle.cpg_history.specs.declared.histories.Beginning.{Beginning}
-use Rattle.cpg_world_laws.specs.Worlds.{WorldValue, node_in, runs}
-use Rattle.cpg_history.specs.Histories.{view, Owns, Fits, Kept, Adds, Looks, first_node, other_nodes, front_of, told, nobody, all_nodes, first_world}
-use Rattle.cpg_history.proofs.Runs.{runs_on, happens_other, prefix_self, prefix_on}
+use Rattle.cpg_world_laws.specs.Worlds.{node_in}
+use Rattle.cpg_history.specs.Histories.{view, Owns, Fits, Kept, Adds, Looks, first_node, other_nodes, front_of, told, nobody, all_nodes, CatchesUp}
+use Rattle.cpg_history.proofs.Runs.{prefix_self, prefix_on}
+use Rattle.cpg_history.proofs.Resting.{rests_self, rests_on, rests_before, rests_behind}
 
-abbrev Rule : WorldValue → State ℕ View → Type 0
-Rule start s = Kept start s.words s.views
+abbrev Rule : State ℕ View → Type 0
+Rule s = Kept s.words s.views
 
 -- it is so of each pass
 abbrev Each : List View → (ℕ → View → Type 0) → Type 0
@@ -35,18 +34,18 @@ last_of (x ∷ xs) more v zero at = inl at
 last_of (x ∷ xs) more v (suc j) at = ⊎_elim (λ front. inl front) (λ (end : (j ≡ length xs) × (more ≡ v)). inr (ap suc end.0, end.1)) (last_of xs more v j at)
 
 -- whoever has no node of its own fits where it has seen a beginning
-idle : (start : WorldValue) (log : List WorldEvent) (seat : ℕ → ℕ) (by : ℕ) (seen also : List WorldEvent) (number : ℕ) → IsPrefix seen log → IsPrefix also log → Fits start log seat by (view 0 0 seen also number)
-idle start log seat by seen also number one other = record { seen = one; also = other; own = λ n owns. absurd (omega (arith, owns.1)) }
+idle : (log : List WorldEvent) (seat : ℕ → ℕ) (by : ℕ) (seen also : List WorldEvent) (number : ℕ) → IsPrefix seen log → IsPrefix also log → Fits log seat by (view 0 0 seen also number)
+idle log seat by seen also number one other = record { seen = one; also = other; own = λ n owns. absurd (omega (arith, owns.1)) }
 
 -- another pass still fits, once an event was added at a node that is not its own
-other_fits : (start : WorldValue) (log : List WorldEvent) (e : WorldEvent) (seat : ℕ → ℕ) (by j : ℕ) (u : View) → seat (node_in e) ≡ by → j ≢ by → Fits start log seat j u → Fits start (log ++ e ∷ []) seat j u
-other_fits start log e seat by j u mine apart fits = record {
+other_fits : (log : List WorldEvent) (e : WorldEvent) (seat : ℕ → ℕ) (by j : ℕ) (u : View) → seat (node_in e) ≡ by → j ≢ by → Fits log seat j u → Fits (log ++ e ∷ []) seat j u
+other_fits log e seat by j u mine apart fits = record {
   seen = prefix_on u.seen log (e ∷ []) fits.seen;
   also = prefix_on u.also log (e ∷ []) fits.also;
   own = λ n owns.
       let was = fits.own n owns in
-      let else_where : n ≢ node_in e = λ same. apart (sym was.0 ∙ (ap seat same ∙ mine)) in
-      (was.0, ap (λ (w : WorldValue). item w.nodes n) (runs_on start log (e ∷ [])) ∙ (happens_other (runs start log) e n else_where ∙ was.1));
+      let else_where : node_in e ≢ n = λ same. apart (sym was.0 ∙ (ap seat (sym same) ∙ mine)) in
+      (was.0, rests_on n u.seen log e was.1 else_where);
 }
 
 counts : (words : List ℕ) (log : List WorldEvent) (e : WorldEvent) → words ≡ length log % 2 ^ 64 ∷ [] → slice_set words 0 ((slice_index words 0 + 1) % 2 ^ 64) ≡ length (log ++ e ∷ []) % 2 ^ 64 ∷ []
@@ -54,8 +53,8 @@ counts words log e count =
     ap (λ ws. slice_set ws 0 ((slice_index ws 0 + 1) % 2 ^ 64)) count
     ∙ ap (λ n. n ∷ []) (mod-add-mod (length log) (2 ^ 64) 1 ∙ ap (λ n. n % 2 ^ 64) (sym (length-append log (e ∷ []))))
 
-pub adds : (start : WorldValue) (e : WorldEvent) (slots id : ℕ) (me : Me ℕ View) (st : Step ℕ) → Owns me.0 (node_in e) → Allows (Rule start) slots id me 0 (λ n. (n + 1) % 2 ^ 64) (Adds start e st me)
-adds start e slots id me st owns s h len at small =
+pub adds : (e : WorldEvent) (slots id : ℕ) (me : Me ℕ View) (st : Step ℕ) → Owns me.0 (node_in e) → Allows Rule slots id me 0 (λ n. (n + 1) % 2 ^ 64) (Adds e st me)
+adds e slots id me st owns s h len at small =
     let v = me.0 in
     let log = h.log ++ e ∷ [] in
     let w = view v.from v.to log [] 0 in
@@ -68,15 +67,15 @@ adds start e slots id me st owns s h len at small =
         log = log;
         seat = h.seat;
         count = counts s.words h.log e h.count;
-        each = each_after s.views (Fits start h.log h.seat) (Fits start log h.seat) id w h.each
-            (record { seen = prefix_self log; also = (log, refl); own = λ n mine'. ((mine.own n mine').0, refl) })
-            (λ j u apart was. other_fits start h.log e h.seat id j u here.0 apart was);
+        each = each_after s.views (Fits h.log h.seat) (Fits log h.seat) id w h.each
+            (record { seen = prefix_self log; also = (log, refl); own = λ n owns. ((mine.own n owns).0, rests_self n log) })
+            (λ j u apart was. other_fits h.log e h.seat id j u here.0 apart was);
       },
       (record { log = h.log; stamped = ap (λ ws. slice_index ws 0) h.count; before = mine.seen; also = mine.also; rests = here.1; after = refl }, refl, refl),
     )
 
-pub fronts : (start : WorldValue) (id number : ℕ) (v : View) → Splits (Rule start) id v v (front_of number v)
-fronts start id number v s h at =
+pub fronts : (id number : ℕ) (v : View) → Splits Rule id v v (front_of number v)
+fronts id number v s h at =
     let mine = h.each id v at in
     record {
       log = h.log;
@@ -84,22 +83,22 @@ fronts start id number v s h at =
       count = h.count;
       each = λ j u now. ⊎_elim
           (λ was. h.each j u (subst (λ l. get_elem? l j ≡ some u) (set_again s.views id v at) was))
-          (λ (new : (j ≡ length (set s.views id v)) × (front_of number v ≡ u)). subst (Fits start h.log h.seat j) new.1 (idle start h.log h.seat j v.seen [] number mine.seen (h.log, refl)))
+          (λ (new : (j ≡ length (set s.views id v)) × (front_of number v ≡ u)). subst (Fits h.log h.seat j) new.1 (idle h.log h.seat j v.seen [] number mine.seen (h.log, refl)))
           (last_of (set s.views id v) (front_of number v) u j now);
     }
 
-pub tells : (start : WorldValue) (id : ℕ) (v : View) (other : ℕ) (w : View) → Joins (Rule start) id v other w (told v w) nobody
-tells start id v other w s h at apart there =
+pub tells : (id : ℕ) (v : View) (other : ℕ) (w : View) → Joins Rule id v other w (told v w) nobody
+tells id v other w s h at apart there =
     let mine = h.each id v at in
     let theirs = ⊎_elim (λ (t : (other ≡ id) × (told v w ≡ w)). absurd (apart t.0)) (λ (t : (other ≢ id) × (get_elem? s.views other ≡ some w)). h.each other w t.1) (at_set s.views id other (told v w) w there) in
-    let Is = Fits start h.log h.seat in
+    let Is = Fits h.log h.seat in
     record {
       log = h.log;
       seat = h.seat;
       count = h.count;
       each = each_after (set s.views id (told v w)) Is Is other nobody
           (each_after s.views Is Is id (told v w) h.each (record { seen = mine.seen; also = theirs.seen; own = mine.own }) (λ j u not was. was))
-          (idle start h.log h.seat other [] [] 0 (h.log, refl) (h.log, refl))
+          (idle h.log h.seat other [] [] 0 (h.log, refl) (h.log, refl))
           (λ j u not was. was);
     }
 
@@ -113,8 +112,8 @@ given_here seat k new n is = ap (λ b. either b new (seat n)) (eq-eqb n k is)
 given_else : (seat : ℕ → ℕ) (k new n : ℕ) → n ≢ k → given seat k new n ≡ seat n
 given_else seat k new n not = ap (λ b. either b new (seat n)) (ne_eqb n k not)
 
-pub next : (start : WorldValue) (id : ℕ) (v : View) → v.from < v.to → Splits (Rule start) id v (other_nodes v) (first_node v)
-next start id v some_left s h at =
+pub next : (id : ℕ) (v : View) → v.from < v.to → Splits Rule id v (other_nodes v) (first_node v)
+next id v some_left s h at =
     let mine = h.each id v at in
     let first = mine.own v.from (omega arith, some_left) in
     let rest = set s.views id (other_nodes v) in
@@ -125,7 +124,7 @@ next start id v some_left s h at =
       seat = seat;
       count = h.count;
       each = λ j u now. ⊎_elim
-          (λ was. each_after s.views (Fits start h.log h.seat) (Fits start h.log seat) id (other_nodes v) h.each
+          (λ was. each_after s.views (Fits h.log h.seat) (Fits h.log seat) id (other_nodes v) h.each
           (record {
             seen = mine.seen;
             also = mine.also;
@@ -137,7 +136,7 @@ next start id v some_left s h at =
             own = λ n owns. let had = fits.own n owns in (given_else h.seat v.from new n (λ is. apart (sym had.0 ∙ (ap h.seat is ∙ first.0))) ∙ had.0, had.1);
           })
           j u was)
-          (λ (last : (j ≡ new) × (first_node v ≡ u)). subst (Fits start h.log seat j) last.1 (record {
+          (λ (last : (j ≡ new) × (first_node v ≡ u)). subst (Fits h.log seat j) last.1 (record {
             seen = mine.seen;
             also = (h.log, refl);
             own = λ n owns. let is : n ≡ v.from = omega (arith, owns.0, owns.1) in (given_here h.seat v.from new n is ∙ sym last.0, (mine.own n (omega (arith, is), omega (arith, is, some_left))).1);
@@ -146,18 +145,18 @@ next start id v some_left s h at =
     }
 
 -- a new history
-pub begins : (start : WorldValue) → Rule start record { words = 0 ∷ []; homes = []; views = all_nodes ∷ [] }
-begins start = record { log = []; seat = λ n. 0; count = refl; each = first }
+pub begins : Rule record { words = 0 ∷ []; homes = []; views = all_nodes ∷ [] }
+begins = record { log = []; seat = λ n. 0; count = refl; each = first }
   where
     v : View
     v = all_nodes
 
-    first : Each (v ∷ []) (Fits start [] (λ n. 0))
-    first zero u at = subst (Fits start [] (λ n. 0) 0) (some-injective v u at) (record { seen = ([], refl); also = ([], refl); own = λ n owns. (refl, refl) })
+    first : Each (v ∷ []) (Fits [] (λ n. 0))
+    first zero u at = subst (Fits [] (λ n. 0) 0) (some-injective v u at) (record { seen = ([], refl); also = ([], refl); own = λ n owns. (refl, rests_self n []) })
     first (suc j) u at = absurd (some-ne-none u (sym at))
 
-pub looks : (start : WorldValue) (slots id : ℕ) (me : Me ℕ View) (st : Step ℕ) → Allows (Rule start) slots id me 0 (λ n. n) (Looks start st me)
-looks start slots id me st s h len at small =
+pub looks : (slots id : ℕ) (me : Me ℕ View) (st : Step ℕ) → Allows Rule slots id me 0 (λ n. n) (Looks st me)
+looks slots id me st s h len at small =
     let v = me.0 in
     let w = view v.from v.to h.log [] 0 in
     let mine = h.each id v at in (
@@ -168,16 +167,29 @@ looks start slots id me st s h len at small =
         log = h.log;
         seat = h.seat;
         count = ap (λ ws. slice_set ws 0 (slice_index ws 0)) h.count;
-        each = each_after s.views (Fits start h.log h.seat) (Fits start h.log h.seat) id w h.each
-            (record { seen = prefix_self h.log; also = (h.log, refl); own = λ n owns. ((mine.own n owns).0, refl) })
+        each = each_after s.views (Fits h.log h.seat) (Fits h.log h.seat) id w h.each
+            (record { seen = prefix_self h.log; also = (h.log, refl); own = λ n owns. ((mine.own n owns).0, rests_self n h.log) })
             (λ j u apart was. was);
       },
       (record { before = mine.seen; also = mine.also; rests = λ n owns. (mine.own n owns).1; same = refl }, refl),
     )
 
--- the same, told of a world that is the one that the history began with
-pub adds_as : (b : Beginning) (start : WorldValue) (e : WorldEvent) (slots id : ℕ) (me : Me ℕ View) (st : Step ℕ) → first_world b ≡ start → Owns me.0 (node_in e) → Allows (Rule (first_world b)) slots id me 0 (λ n. (n + 1) % 2 ^ 64) (Adds start e st me)
-adds_as b start e slots id me st is owns = subst (λ (u : WorldValue). Allows (Rule (first_world b)) slots id me 0 (λ n. (n + 1) % 2 ^ 64) (Adds u e st me)) is (adds (first_world b) e slots id me st owns)
-
-pub looks_as : (b : Beginning) (start : WorldValue) (slots id : ℕ) (me : Me ℕ View) (st : Step ℕ) → first_world b ≡ start → Allows (Rule (first_world b)) slots id me 0 (λ n. n) (Looks start st me)
-looks_as b start slots id me st is = subst (λ (u : WorldValue). Allows (Rule (first_world b)) slots id me 0 (λ n. n) (Looks u st me)) is (looks (first_world b) slots id me st)
+-- a pass that has seen just what it was told still fits
+pub catches : (slots id : ℕ) (me : Me ℕ View) (st : Step ℕ) → IsPrefix me.0.seen me.0.also → Allows Rule slots id me 0 (λ n. n) (CatchesUp st me)
+catches slots id me st on s h len at small =
+    let v = me.0 in
+    let w = view v.from v.to v.also [] 0 in
+    let mine = h.each id v at in (
+      w,
+      keeps,
+      tt,
+      record {
+        log = h.log;
+        seat = h.seat;
+        count = ap (λ ws. slice_set ws 0 (slice_index ws 0)) h.count;
+        each = each_after s.views (Fits h.log h.seat) (Fits h.log h.seat) id w h.each
+            (record { seen = mine.also; also = (h.log, refl); own = λ n owns. let had = mine.own n owns in (had.0, rests_behind n v.seen v.also h.log on mine.also had.1) })
+            (λ j u apart was. was);
+      },
+      (record { rests = λ n owns. rests_before n v.seen v.also h.log on mine.also (mine.own n owns).1; same = refl }, refl),
+    )

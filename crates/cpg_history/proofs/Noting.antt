@@ -1,5 +1,7 @@
--- What a pen has recorded, is so of the history for good.
-use Rattle.std.proofs.Common.{◌≡◌, ⊎_elim, ℕ, suc, ◌+◌, List, [], ◌∷◌, ◌++◌, length, Option, Some, None, IfSome, refl, sym, ap, ◌∙◌, subst, append_assoc, length-append, arith}
+-- What was recorded, is so of the history for good.
+use Rattle.std.proofs.Common.{◌≡◌, ⊎_elim, ℕ, suc, ◌+◌, Bool, true, false, true≢false, List, [], ◌∷◌, ◌++◌, length, Option, Some, None, IfSome, refl, sym, ap, ◌∙◌, subst, length-append, arith}
+use Rattle.std.proofs.lemmas.List.{append-nil, map-append}
+use Rattle.std.proofs.lemmas.Option.{none-some}
 use mathlib.Core.List.{IsPrefix}
 use Rattle.cpg_cred.specs.declared.refusals.Refusal.{Refusal}
 use Rattle.cpg_ring.specs.States.{Frame}
@@ -8,20 +10,17 @@ use Rattle.cpg_world_laws.specs.declared.events.WorldEvent.{WorldEvent}
 use Rattle.cpg_world_laws.specs.Worlds.{WorldValue, unless, moves, node_in, runs}
 use Rattle.cpg_history.specs.declared.histories.View.{View}
 use Rattle.cpg_history.specs.declared.traces.Recorded.{Recorded}
-use Rattle.cpg_history.specs.declared.traces.Trace.{Trace}
-use Rattle.cpg_history.specs.Histories.{Came}
-use Rattle.cpg_history.specs.Members.{IsAt, IsPenOf, before_last}
-use Rattle.cpg_history.specs.Traces.{WasAdded, HasNumber, IsWritten, WasRecorded, AreRecorded, IsBehind, IsLostAt, NotesOf, NotesAfter, Notes, recorded_of}
+use Rattle.cpg_history.specs.Histories.{Came, Rests}
+use Rattle.cpg_history.specs.Members.{HasTrace, IsAt, IsPenOf, before_last}
+use Rattle.cpg_history.specs.Traces.{TraceValue, WasAdded, HasNumber, IsWritten, WasRecorded, AreRecorded, IsTraceOf, NotesOf, NotesAfter, Notes, new_trace, recorded_of, recorded_stamps, stamps_of}
 use Rattle.cpg_history.proofs.Runs.{prefix_self}
 use Rattle.cpg_history.proofs.Coming.{world_after}
 use Rattle.cpg_history.proofs.Sending.{last_off}
-
-pub prefix_then : {A : Type 0} (xs ys zs : List A) → IsPrefix xs ys → IsPrefix ys zs → IsPrefix xs zs
-prefix_then xs ys zs p q = (p.0 ++ q.0, sym (append_assoc xs p.0 q.0) ∙ (ap (λ l. l ++ q.0) p.1 ∙ q.1))
+use Rattle.cpg_history.proofs.Resting.{prefix_then, stamps_next, stamps_rest}
 
 -- what came is seen from then on
-pub came_on : (start : WorldValue) (v : View) (e : WorldEvent) (stamp : ℕ) (seen : List WorldEvent) → Came start v e stamp seen → IsPrefix v.seen seen
-came_on start v e stamp seen c = prefix_then v.seen c.log seen c.before (e ∷ [], sym c.after)
+came_on : (v : View) (e : WorldEvent) (stamp : ℕ) (seen : List WorldEvent) → Came v e stamp seen → IsPrefix v.seen seen
+came_on v e stamp seen c = prefix_then v.seen c.log seen c.before (e ∷ [], sym c.after)
 
 module _ (start : WorldValue) (xs ys : List WorldEvent) (on : IsPrefix xs ys) where
   pub number_on : (stamp index number : ℕ) → HasNumber start xs stamp index number → HasNumber start ys stamp index number
@@ -42,26 +41,77 @@ one_more : (start : WorldValue) (seen : List WorldEvent) (rs : List Recorded) (r
 one_more start seen [] r all one = (one, tt)
 one_more start seen (x ∷ rs) r all one = (all.0, one_more start seen rs r all.1 one)
 
--- what a trace has after a note
-pub noted : (start : WorldValue) (seen : List WorldEvent) (old new : Trace) (stamp sent source : ℕ) (event : Option WorldEvent) → AreRecorded start seen old.entries.items → IfSome event (λ e. WasRecorded start seen (recorded_of stamp sent source e)) → Notes old stamp sent source event new → AreRecorded start seen new.entries.items
-noted start seen old new stamp sent source event all one notes = by_lost old.lost notes
-  where
-    as_was : new.entries.items ≡ old.entries.items → AreRecorded start seen new.entries.items
-    as_was same = subst (AreRecorded start seen) (sym same) all
+-- a node's trace after a note of an event that came to it
+module _ (start : WorldValue) (v : View) (e : WorldEvent) (stamp n : ℕ) (seen : List WorldEvent) (own : node_in e ≡ n) (c : Came v e stamp seen) (old : TraceValue) (was : IsTraceOf start n v.seen old) where
+  on : IsPrefix v.seen seen
+  on = came_on v e stamp seen c
 
-    by_event : (o : Option WorldEvent) → IfSome o (λ e. WasRecorded start seen (recorded_of stamp sent source e)) → NotesOf old stamp sent source o new → AreRecorded start seen new.entries.items
-    by_event None one lost = as_was lost.0
-    by_event (Some e) one is =
-        ⊎_elim
-        (λ (behind : IsBehind old (recorded_of stamp sent source e) new). subst (AreRecorded start seen) (sym behind.0) (one_more start seen old.entries.items (recorded_of stamp sent source e) all one))
-        (λ (lost : IsLostAt old stamp new). as_was lost.0) is
+  stamps : stamps_of n 0 seen ≡ stamps_of n 0 v.seen ++ stamp ∷ []
+  stamps = ap (stamps_of n 0) c.after ∙ (stamps_next n v.seen c.log e (subst (λ m. Rests m v.seen c.log) own c.rests) own ∙ ap (λ m. stamps_of n 0 v.seen ++ m ∷ []) (sym c.stamped))
 
-    by_lost : (o : Option ℕ) → NotesAfter o old stamp sent source event new → AreRecorded start seen new.entries.items
-    by_lost None is = by_event event one is
-    by_lost (Some at) is = as_was (ap (λ (t : Trace). t.entries.items) is)
+  longer : IsPrefix (recorded_stamps old) (stamps_of n 0 seen)
+  longer = prefix_then (recorded_stamps old) (stamps_of n 0 v.seen) (stamps_of n 0 seen) was.first (stamp ∷ [], sym stamps)
+
+  -- where the event is not recorded
+  lost : (at : ℕ) → IsTraceOf start n seen (record { entries = old.entries; lost = Some at })
+  lost at = record { recorded = all_on start v.seen seen on old.entries was.recorded; first = longer; whole = λ none. absurd (none-some at (sym none)) }
+
+  stays : (at : ℕ) → old.lost ≡ Some at → IsTraceOf start n seen old
+  stays at is = record { recorded = all_on start v.seen seen on old.entries was.recorded; first = longer; whole = λ none. absurd (none-some at (sym none ∙ is)) }
+
+  -- where it is
+  behind : (r : Recorded) → r.stamp ≡ stamp → WasRecorded start seen r → old.lost ≡ None → IsTraceOf start n seen (record { entries = old.entries ++ r ∷ []; lost = None })
+  behind r at one none =
+      let same : recorded_stamps (record { entries = old.entries ++ r ∷ []; lost = None }) ≡ stamps_of n 0 seen =
+      map-append (λ (x : Recorded). x.stamp) old.entries (r ∷ []) ∙ (ap (λ l. l ++ r.stamp ∷ []) (was.whole none) ∙ (ap (λ m. stamps_of n 0 v.seen ++ m ∷ []) at ∙ sym stamps)) in
+      record {
+        recorded = one_more start seen old.entries r (all_on start v.seen seen on old.entries was.recorded) one;
+        first = ([], append-nil (recorded_stamps (record { entries = old.entries ++ r ∷ []; lost = None })) ∙ same);
+        whole = λ _. same;
+      }
+
+  pub noted : (sent source : ℕ) (event : Option WorldEvent) (new : TraceValue) → IfSome event (λ written. WasRecorded start seen (recorded_of stamp sent source written)) → Notes old stamp sent source event new → IsTraceOf start n seen new
+  noted sent source event new one notes = by_lost old.lost refl notes
+    where
+      by_event : (o : Option WorldEvent) → IfSome o (λ written. WasRecorded start seen (recorded_of stamp sent source written)) → old.lost ≡ None → NotesOf old stamp sent source o new → IsTraceOf start n seen new
+      by_event None one none is = subst (IsTraceOf start n seen) (sym is) (lost stamp)
+      by_event (Some written) one none is =
+          ⊎_elim
+          (λ here. subst (IsTraceOf start n seen) (sym here) (behind (recorded_of stamp sent source written) refl one none))
+          (λ gone. subst (IsTraceOf start n seen) (sym gone) (lost stamp)) is
+
+      by_lost : (o : Option ℕ) → old.lost ≡ o → NotesAfter o old stamp sent source event new → IsTraceOf start n seen new
+      by_lost None none is = by_event event one none is
+      by_lost (Some at) gone is = subst (IsTraceOf start n seen) (sym is) (stays at gone)
+
+-- the same of a member that is no spare
+pub has_noted : (start : WorldValue) (v : View) (e event : WorldEvent) (stamp id : ℕ) (spare : Bool) (seen : List WorldEvent) (old new : TraceValue) (sent source : ℕ) (o : Option WorldEvent) → HasTrace start id spare v.seen old → spare ≡ false → e ≡ event → node_in event ≡ id → Came v e stamp seen → IfSome o (λ written. WasRecorded start seen (recorded_of stamp sent source written)) → Notes old stamp sent source o new → HasTrace start id spare seen new
+has_noted start v e event stamp id spare seen old new sent source o has not is own c one notes = record {
+  spared = λ yes. absurd (true≢false (sym yes ∙ not));
+  follows = noted start v e stamp id seen (ap node_in is ∙ own) c old has.follows sent source o new one notes;
+}
+
+-- what was recorded of a node at which nothing happened since
+pub trace_rests : (start : WorldValue) (n : ℕ) (xs ys : List WorldEvent) (t : TraceValue) → Rests n xs ys → IsTraceOf start n xs t → IsTraceOf start n ys t
+trace_rests start n xs ys t r was =
+    let same = stamps_rest n xs ys r in
+    record {
+      recorded = all_on start xs ys (r.0, r.1) t.entries was.recorded;
+      first = subst (IsPrefix (recorded_stamps t)) (sym same) was.first;
+      whole = λ none. was.whole none ∙ sym same;
+    }
+
+-- nothing was recorded yet
+pub trace_begins : (start : WorldValue) (n : ℕ) (traced : Bool) → IsTraceOf start n [] (new_trace traced)
+trace_begins start n true = record { recorded = tt; first = ([], refl); whole = λ _. refl }
+trace_begins start n false = record { recorded = tt; first = ([], refl); whole = λ _. refl }
+
+-- what records nothing
+pub trace_nothing : (start : WorldValue) (n : ℕ) (seen : List WorldEvent) → IsTraceOf start n seen (new_trace false)
+trace_nothing start n seen = record { recorded = tt; first = (stamps_of n 0 seen, refl); whole = λ none. absurd (none-some 0 (sym none)) }
 
 -- an event that came has been added
-module _ (start : WorldValue) (v : View) (e : WorldEvent) (stamp : ℕ) (x : NodeValue) (seen : List WorldEvent) (c : Came start v e stamp seen) (at : IsAt start v.seen (node_in e) x) where
+module _ (start : WorldValue) (v : View) (e : WorldEvent) (stamp : ℕ) (x : NodeValue) (seen : List WorldEvent) (c : Came v e stamp seen) (at : IsAt start v.seen (node_in e) x) where
   abbrev added : (sent : ℕ) → length (moves (runs start c.log).sent e x).1 ≡ sent → WasAdded start seen stamp sent e
   added sent is = record {
     log = c.log;
@@ -88,10 +138,10 @@ unless_quiet None x y = refl
 unless_quiet (Some why) x y = refl
 
 -- an event at a pen's own node that sends nothing
-module _ (start : WorldValue) (v : View) (e event : WorldEvent) (stamp id : ℕ) (x : NodeValue) (seen : List WorldEvent) (is : e ≡ event) (for_node : node_in event ≡ id) (p : IsPenOf start v id x) (came : Came start v e stamp seen) where
+module _ (start : WorldValue) (v : View) (e event : WorldEvent) (stamp id : ℕ) (x : NodeValue) (seen : List WorldEvent) (is : e ≡ event) (for_node : node_in event ≡ id) (p : IsPenOf start v id x) (came : Came v e stamp seen) where
   pub recorded_quiet : ((frames : List Frame) → length (moves frames event x).1 ≡ 0) → ((log : List WorldEvent) → IsWritten start log stamp event event) → WasRecorded start seen (recorded_of stamp 0 stamp event)
   recorded_quiet quiet same =
-      let c : Came start v event stamp seen = subst (λ (e : WorldEvent). Came start v e stamp seen) is came in
+      let c : Came v event stamp seen = subst (λ (e : WorldEvent). Came v e stamp seen) is came in
       let at : IsAt start v.seen (node_in event) x = subst (λ n. IsAt start v.seen n x) (sym for_node) p.2 in
       recorded start v event stamp x seen c at 0 stamp event (quiet (runs start c.log).sent) (same c.log)
 

@@ -1,13 +1,13 @@
 -- One history of all events, which exists in proofs alone, and what threads know of it.
-use Rattle.std.specs.Prelude.{◌≡◌, Bool, ℕ, suc, ◌<◌, ◌≤◌, ◌%◌, ◌^◌, List, [], ◌∷◌, ◌++◌, length}
+use Rattle.std.specs.Prelude.{◌≡◌, ◌≢◌, Bool, ℕ, suc, ◌<◌, ◌≤◌, ◌%◌, ◌^◌, List, [], ◌∷◌, ◌++◌, length}
+use Rattle.std.specs.List.{AllByRecursion}
 use mathlib.Core.Option.{some}
 use mathlib.Core.List.{IsPrefix}
 use lib.ListN.{get_elem?}
 use Rattle.atomic_table.specs.Table.{Me, Step}
 use Rattle.atomic_table.specs.Seated.{TableId}
-use Rattle.cpg_ring.specs.Worlds.{item}
 use Rattle.cpg_world_laws.specs.declared.events.WorldEvent.{WorldEvent}
-use Rattle.cpg_world_laws.specs.Worlds.{WorldValue, node_in, runs, new_world}
+use Rattle.cpg_world_laws.specs.Worlds.{WorldValue, node_in, new_world}
 use Rattle.cpg_history.specs.declared.histories.Beginning.{Beginning}
 use Rattle.cpg_history.specs.declared.histories.View.{View}
 
@@ -31,32 +31,32 @@ view from to seen also number = record { from = from; to = to; seen = seen; also
 abbrev pub Owns : View → ℕ → Type 0
 Owns v n = (v.from ≤ n) × (n < v.to)
 
--- the node is the same after both lists of events
-abbrev pub Rests : WorldValue → ℕ → List WorldEvent → List WorldEvent → Type 0
-Rests start n xs ys = item (runs start ys).nodes n ≡ item (runs start xs).nodes n
+-- nothing happened at the node between the two: the longer list is the shorter one with events of other nodes behind it
+abbrev pub Rests : ℕ → List WorldEvent → List WorldEvent → Type 0
+Rests n xs ys = (more : List WorldEvent) × (xs ++ more ≡ ys) × AllByRecursion (λ e. node_in e ≢ n) more
 
 -- A view fits a history where node n is owned by the view of number `seat n`: both lists that it has seen begin the history; and nothing
 -- has happened since at the nodes that it owns.
-pub record Fits (start : WorldValue) (log : List WorldEvent) (seat : ℕ → ℕ) (by : ℕ) (v : View) : Type 0 where
+pub record Fits (log : List WorldEvent) (seat : ℕ → ℕ) (by : ℕ) (v : View) : Type 0 where
   pub seen : IsPrefix v.seen log
   pub also : IsPrefix v.also log
-  pub own : (n : ℕ) → Owns v n → (seat n ≡ by) × Rests start n v.seen log
+  pub own : (n : ℕ) → Owns v n → (seat n ≡ by) × Rests n v.seen log
 
 -- There is one history; the word that threads share is its length, and each view fits it.
-pub record Kept (start : WorldValue) (words : List ℕ) (views : List View) : Type 0 where
+pub record Kept (words : List ℕ) (views : List View) : Type 0 where
   pub log : List WorldEvent
   pub seat : ℕ → ℕ
   pub count : words ≡ length log % 2 ^ 64 ∷ []
-  pub each : (by : ℕ) (v : View) → get_elem? views by ≡ some v → Fits start log seat by v
+  pub each : (by : ℕ) (v : View) → get_elem? views by ≡ some v → Fits log seat by v
 
 -- The event came after `log`, which begins with all that the view had seen, and in which nothing had happened at the node since. Its stamp
 -- is how many came before it.
-pub record Came (start : WorldValue) (v : View) (e : WorldEvent) (stamp : ℕ) (seen : List WorldEvent) : Type 0 where
+pub record Came (v : View) (e : WorldEvent) (stamp : ℕ) (seen : List WorldEvent) : Type 0 where
   pub log : List WorldEvent
   pub stamped : stamp ≡ length log % 2 ^ 64
   pub before : IsPrefix v.seen log
   pub also : IsPrefix v.also log
-  pub rests : Rests start (node_in e) v.seen log
+  pub rests : Rests (node_in e) v.seen log
   pub after : seen ≡ log ++ e ∷ []
 
 -- the view, with a longer beginning seen
@@ -64,19 +64,28 @@ abbrev pub later : View → List WorldEvent → View
 later v seen = view v.from v.to seen [] 0
 
 -- what a step that adds the event tells
-abbrev pub Adds : WorldValue → WorldEvent → Step ℕ → Me ℕ View → ℕ → Me ℕ View → Type 0
-Adds start e s v found w = Came start v.0 e found w.0.seen × (w.0 ≡ later v.0 w.0.seen) × (w.1 ≡ v.1)
+abbrev pub Adds : WorldEvent → Step ℕ → Me ℕ View → ℕ → Me ℕ View → Type 0
+Adds e s v found w = Came v.0 e found w.0.seen × (w.0 ≡ later v.0 w.0.seen) × (w.1 ≡ v.1)
 
 -- the view has seen all the history, in which nothing had happened at its nodes since
-pub record Sees (start : WorldValue) (v w : View) : Type 0 where
+pub record Sees (v w : View) : Type 0 where
   pub before : IsPrefix v.seen w.seen
   pub also : IsPrefix v.also w.seen
-  pub rests : (n : ℕ) → Owns v n → Rests start n v.seen w.seen
+  pub rests : (n : ℕ) → Owns v n → Rests n v.seen w.seen
   pub same : w ≡ later v w.seen
 
 -- what a step that sees the history tells
-abbrev pub Looks : WorldValue → Step ℕ → Me ℕ View → ℕ → Me ℕ View → Type 0
-Looks start s v found w = Sees start v.0 w.0 × (w.1 ≡ v.1)
+abbrev pub Looks : Step ℕ → Me ℕ View → ℕ → Me ℕ View → Type 0
+Looks s v found w = Sees v.0 w.0 × (w.1 ≡ v.1)
+
+-- the view has seen what it was told, in which nothing had happened at its nodes since
+pub record Catches (v w : View) : Type 0 where
+  pub rests : (n : ℕ) → Owns v n → Rests n v.seen v.also
+  pub same : w ≡ later v v.also
+
+-- what a step tells by which a view sees just what it was told
+abbrev pub CatchesUp : Step ℕ → Me ℕ View → ℕ → Me ℕ View → Type 0
+CatchesUp s v found w = Catches v.0 w.0 × (w.1 ≡ v.1)
 
 -- the view of the first node alone, and of the others
 abbrev pub first_node : View → View

@@ -15,24 +15,31 @@ use Rattle.cpg_station.specs.Stations.{StationValue}
 use Rattle.cpg_history.specs.declared.histories.Beginning.{Beginning}
 use Rattle.cpg_history.specs.declared.histories.View.{View}
 use Rattle.cpg_history.specs.Histories.{first_world}
+use Rattle.cpg_history.specs.Traces.{TraceValue, IsTraceOf, new_trace}
 
 -- after these events the node of that number is x
 abbrev pub IsAt : WorldValue → List WorldEvent → ℕ → NodeValue → Type 0
 IsAt start seen n x = item (runs start seen).nodes n ≡ Some x
 
--- A station with its node's number, whether it stands in for one that was taken away, and the beginning of the history that its pen has seen.
+-- A station with its node's number, whether it stands in for one that was taken away, the beginning of the history that its pen has seen, and
+-- what was recorded of its node's events.
 pub record MemberValue : Type 0 where
   pub id : ℕ
   pub station : StationValue
   pub spare : Bool
   pub seen : List WorldEvent
+  pub trace : TraceValue
 
-abbrev pub member : ℕ → StationValue → Bool → List WorldEvent → MemberValue
-member id s spare seen = record { id = id; station = s; spare = spare; seen = seen }
+abbrev pub member : ℕ → StationValue → Bool → List WorldEvent → TraceValue → MemberValue
+member id s spare seen trace = record { id = id; station = s; spare = spare; seen = seen; trace = trace }
 
 -- what each of these members has seen begins that
 abbrev pub Began : List MemberValue → List WorldEvent → Type 0
 Began members front = AllByRecursion (λ (m : MemberValue). IsPrefix m.seen front) members
+
+-- each of these members has seen just that: its node is that node of the world after it, and it has recorded its node's events of it
+abbrev pub HaveSeen : List MemberValue → List WorldEvent → Type 0
+HaveSeen members front = AllByRecursion (λ (m : MemberValue). m.seen ≡ front) members
 
 -- the pen adds the events of that node alone, which is x since all that the pen has seen
 abbrev pub IsPenOf : WorldValue → View → ℕ → NodeValue → Type 0
@@ -47,6 +54,11 @@ pub record IsMember (start : WorldValue) (id : ℕ) (s : StationValue) (spare : 
   pub begins : IsNew start
   pub halts : spare ≡ true → s.halted ≡ true
   pub holds : spare ≡ false → IsPenOf start pen id s.node
+
+-- A spare records nothing, and belongs to no node. Of any other station's node its events are recorded.
+pub record HasTrace (start : WorldValue) (id : ℕ) (spare : Bool) (seen : List WorldEvent) (trace : TraceValue) : Type 0 where
+  pub spared : spare ≡ true → trace ≡ new_trace false
+  pub follows : IsTraceOf start id seen trace
 
 -- The event came to the history after all that was seen. The world that this led to answers it so, and now the event has been seen too.
 pub record Told (start : WorldValue) (before : List WorldEvent) (e : WorldEvent) (a : Answer) (after : List WorldEvent) : Type 0 where

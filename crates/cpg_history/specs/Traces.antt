@@ -1,12 +1,11 @@
 -- What is recorded of a history's events.
-use Rattle.std.specs.Prelude.{◌≡◌, ◌⊎◌, ℕ, suc, ◌+◌, ◌%◌, ◌^◌, List, [], ◌∷◌, ◌++◌, length, Option, Some, None}
+use Rattle.std.specs.Prelude.{◌≡◌, ◌⊎◌, ◌==◌, if◌then◌else◌, Bool, true, false, ℕ, suc, ◌+◌, ◌%◌, ◌^◌, List, [], ◌∷◌, ◌++◌, length, map, Option, Some, None}
 use Rattle.std.specs.List.{AllByRecursion}
 use mathlib.Core.List.{IsPrefix}
 use Rattle.cpg_world_laws.specs.declared.events.WorldEvent.{WorldEvent}
 use Rattle.cpg_world_laws.specs.declared.events.WorldEvent.TheVariants.{Frame}
-use Rattle.cpg_world_laws.specs.Worlds.{WorldValue, runs}
+use Rattle.cpg_world_laws.specs.Worlds.{WorldValue, node_in, runs}
 use Rattle.cpg_history.specs.declared.traces.Recorded.{Recorded}
-use Rattle.cpg_history.specs.declared.traces.Trace.{Trace}
 
 -- The event with that stamp came after `log`, and sent so many frames.
 pub record WasAdded (start : WorldValue) (seen : List WorldEvent) (stamp sent : ℕ) (e : WorldEvent) : Type 0 where
@@ -40,23 +39,42 @@ AreRecorded start seen rs = AllByRecursion (WasRecorded start seen) rs
 abbrev pub recorded_of : ℕ → ℕ → ℕ → WorldEvent → Recorded
 recorded_of stamp sent source event = record { stamp = stamp; sent = sent; source = source; event = event }
 
--- the event is recorded behind the others
-abbrev pub IsBehind : Trace → Recorded → Trace → Type 0
-IsBehind old r new = (new.entries.items ≡ old.entries.items ++ r ∷ []) × (new.lost ≡ None)
+-- What was recorded, and the stamp of the first event that could not be, if there is one.
+pub record TraceValue : Type 0 where
+  pub entries : List Recorded
+  pub lost : Option ℕ
 
--- the trace has what it had, and is lost from that stamp on
-abbrev pub IsLostAt : Trace → ℕ → Trace → Type 0
-IsLostAt old stamp new = (new.entries.items ≡ old.entries.items) × (new.lost ≡ Some stamp)
+-- a trace that has recorded nothing yet, and does so where it was asked to
+abbrev pub new_trace : Bool → TraceValue
+new_trace true = record { entries = []; lost = None }
+new_trace false = record { entries = []; lost = Some 0 }
 
--- what becomes of a trace that records
-abbrev pub NotesOf : Trace → ℕ → ℕ → ℕ → Option WorldEvent → Trace → Type 0
-NotesOf old stamp sent source None new = IsLostAt old stamp new
-NotesOf old stamp sent source (Some event) new = IsBehind old (recorded_of stamp sent source event) new ⊎ IsLostAt old stamp new
+-- what becomes of a trace that records, where an event with that stamp was added: it is recorded behind the others, or the trace is lost from it on
+abbrev pub NotesOf : TraceValue → ℕ → ℕ → ℕ → Option WorldEvent → TraceValue → Type 0
+NotesOf old stamp sent source None new = new ≡ record { entries = old.entries; lost = Some stamp }
+NotesOf old stamp sent source (Some event) new =
+    (new ≡ record { entries = old.entries ++ recorded_of stamp sent source event ∷ []; lost = None }) ⊎ (new ≡ record { entries = old.entries; lost = Some stamp })
 
 -- the same by what was lost before: from there on a trace stays
-abbrev pub NotesAfter : Option ℕ → Trace → ℕ → ℕ → ℕ → Option WorldEvent → Trace → Type 0
+abbrev pub NotesAfter : Option ℕ → TraceValue → ℕ → ℕ → ℕ → Option WorldEvent → TraceValue → Type 0
 NotesAfter None old stamp sent source event new = NotesOf old stamp sent source event new
 NotesAfter (Some at) old stamp sent source event new = new ≡ old
 
-abbrev pub Notes : Trace → ℕ → ℕ → ℕ → Option WorldEvent → Trace → Type 0
+abbrev pub Notes : TraceValue → ℕ → ℕ → ℕ → Option WorldEvent → TraceValue → Type 0
 Notes old stamp sent source event new = NotesAfter old.lost old stamp sent source event new
+
+-- the stamps of a node's events among these, of which the first comes after so many others
+abbrev pub stamps_of : ℕ → ℕ → List WorldEvent → List ℕ
+stamps_of n before [] = []
+stamps_of n before (e ∷ es) = if node_in e == n then before % 2 ^ 64 ∷ stamps_of n (suc before) es else stamps_of n (suc before) es
+
+-- the stamps of what was recorded
+abbrev pub recorded_stamps : TraceValue → List ℕ
+recorded_stamps t = map (λ (r : Recorded). r.stamp) t.entries
+
+-- What was recorded of the node's events among those that were seen: each is an event of the history; they are the first of the node's; and all
+-- of them, where none was lost.
+pub record IsTraceOf (start : WorldValue) (n : ℕ) (seen : List WorldEvent) (t : TraceValue) : Type 0 where
+  pub recorded : AreRecorded start seen t.entries
+  pub first : IsPrefix (recorded_stamps t) (stamps_of n 0 seen)
+  pub whole : t.lost ≡ None → recorded_stamps t ≡ stamps_of n 0 seen

@@ -3,14 +3,12 @@
 //! The form is our own: the rule of an `atomic_table` says that every view fits the one history, and who has a view of
 //! nodes may add their events.
 
-ghost use Rattle.std.specs.Prelude.{◌≡◌, ◌<◌, true, false, IfOk, IfSome};
+ghost use Rattle.std.specs.Prelude.{◌≡◌, ◌<◌, true, false, IfOk};
 ghost use mathlib.Core.List.{IsPrefix};
 ghost use Rattle.cpg_world_laws.specs.Worlds.{node_in};
-ghost use Rattle.cpg_history.specs.Histories.{Came, Owns, Sees, first_world, all_nodes, later, first_node, other_nodes, told, front as front_at};
+ghost use Rattle.cpg_history.specs.Histories.{Came, Catches, Owns, Sees, first_world, all_nodes, later, first_node, other_nodes, told, front as front_at};
 ghost use Rattle.cpg_history.specs.Members.{IsNew};
-ghost use Rattle.cpg_history.specs.Traces.{WasRecorded, AreRecorded, recorded_of};
 
-use crate::traces::Trace;
 use atomic_table::{Badge, Join, Play, Seat, Split, Table, TableRule};
 use cpg_cred::AcceptList;
 use cpg_node::Settings;
@@ -76,20 +74,20 @@ impl Happens for Brand {
 struct OneHistory;
 
 impl TableRule<u64, View, Beginning> for OneHistory {
-    ghost use Rattle.cpg_history.specs.Histories.{Kept, all_nodes, first_world};
+    ghost use Rattle.cpg_history.specs.Histories.{Kept, all_nodes};
 
-    ghost holds = { λ beginning s. Kept (first_world beginning) s.words s.views };
+    ghost holds = { λ beginning s. Kept s.words s.views };
 
     ghost first = { λ beginning. all_nodes };
 }
 
 /// A step that adds an event.
-struct Add<B, E>(PhantomData<(B, E)>);
+struct Add<E>(PhantomData<E>);
 
-impl<B: HistoryName, E: Happens> Play<u64, View> for Add<B, E> {
+impl<E: Happens> Play<u64, View> for Add<E> {
     ghost use Rattle.cpg_history.specs.Histories.{Adds};
 
-    ghost then = { Adds B.start E.event };
+    ghost then = { Adds E.event };
 }
 
 /// The view of the next node, out of that of the nodes from there on.
@@ -139,18 +137,26 @@ impl Join<View> for Learns {
 type Line = Table<u64, View, Beginning, OneHistory, Global>;
 
 /// A step that sees the history as it is.
-struct Look<B>(PhantomData<B>);
+struct Look;
 
-impl<B: HistoryName> Play<u64, View> for Look<B> {
+impl Play<u64, View> for Look {
     ghost use Rattle.cpg_history.specs.Histories.{Looks};
 
-    ghost then = { Looks B.start };
+    ghost then = { Looks };
+}
+
+/// A step after which a view has seen just what it was told.
+struct CatchUp;
+
+impl Play<u64, View> for CatchUp {
+    ghost use Rattle.cpg_history.specs.Histories.{CatchesUp};
+
+    ghost then = { CatchesUp };
 }
 
 /// An empty history, which has no name yet, and what it begins with.
 #[derive(Drop)]
 pub struct Opened {
-    alloc: Global,
     beginning: Beginning,
     line: Line,
     seat: Seat<u64, View>,
@@ -175,7 +181,6 @@ impl Opened {
     {
         let (line, seat) = Table::of_words(alloc, &[0], &beginning)?;
         Ok(Opened {
-            alloc,
             beginning,
             line,
             seat,
@@ -183,12 +188,19 @@ impl Opened {
         })
     }
 
-    /// The same, whose pens record what they add.
+    /// The same, of which what happens at each node is recorded.
     pub fn traced(mut self) -> Opened
         ensures { result ≡ record { table = self.table; start = self.start; traced = true } }
     {
         self.traced = true;
         self
+    }
+
+    /// Whether what happens is recorded.
+    pub fn is_traced(&self) -> bool
+        ensures { result ≡ self.now.traced }
+    {
+        self.traced
     }
 
     /// What it begins with.
@@ -205,32 +217,26 @@ impl Opened {
         ensures beginning { result.2 ≡ self.start }
     {
         let Opened {
-            alloc,
             beginning,
             line,
             seat,
-            traced,
+            traced: _,
         } = self;
-        (
-            History {
-                alloc,
-                line,
-                of: PhantomData,
-            },
-            Pen {
-                seat,
-                trace: Trace::new(alloc, traced),
-                of: PhantomData,
-            },
-            beginning,
-        )
+        let history = History {
+            line,
+            of: PhantomData,
+        };
+        let pens = Pen {
+            seat,
+            of: PhantomData,
+        };
+        (history, pens, beginning)
     }
 }
 
 /// A history: the word that all threads share, and its rule. The word counts the events.
 #[derive(Drop)]
 pub struct History<B: HistoryName> {
-    alloc: Global,
     line: Line,
     of: PhantomData<B>,
 }
@@ -246,25 +252,22 @@ impl<B: HistoryName> Model for History<B> {
     ghost invariant = { λ h. (h.line.shared.table_id ≡ B.table) × (h.line.shared.table_id.words ≡ 1) × (first_world h.line.shared.key ≡ B.start) };
 }
 
-/// What adds the events of some nodes, which no other pen can, and records them where it was asked to. Contracts see which
-/// nodes these are, and what it has seen.
+/// What adds the events of some nodes, which no other pen can. Contracts see which nodes these are, and what it has seen.
 #[derive(Drop)]
 pub struct Pen<B: HistoryName> {
     seat: Seat<u64, View>,
-    trace: Trace,
     of: PhantomData<B>,
 }
 
 impl<B: HistoryName> Model for Pen<B> {
     ghost use Rattle.std.specs.Prelude.{◌≡◌, []};
-    ghost use Rattle.cpg_history.specs.Traces.{AreRecorded};
     ghost use Rattle.cpg_history.specs.declared.histories.View.{View};
 
     ghost Value = { View };
 
     ghost view = { λ pen. pen.seat.me.0 };
 
-    ghost invariant = { λ pen. (pen.seat.table_id ≡ B.table) × (pen.seat.me.1 ≡ []) × AreRecorded B.start pen.seat.me.0.seen pen.trace.entries.items };
+    ghost invariant = { λ pen. (pen.seat.table_id ≡ B.table) × (pen.seat.me.1 ≡ []) };
 }
 
 /// A beginning of the history that was seen, and a number that goes with it. It adds nothing.
@@ -285,32 +288,6 @@ impl<B: HistoryName> Model for Front<B> {
     ghost invariant = { λ f. (f.badge.table_id ≡ B.table) × (f.badge.views ≡ front (seen_by f.badge.views) ∷ []) };
 }
 
-impl<B: HistoryName> Pen<B> {
-    /// What it recorded: events of the history, each with its stamp.
-    pub fn trace(&self) -> &Trace
-        ensures { AreRecorded B.start self.now.seen (result.now).entries.items }
-    {
-        &self.trace
-    }
-
-    /// What it recorded, when it adds no more.
-    pub(crate) fn into_trace(self) -> Trace
-        ensures { AreRecorded B.start self.seen result.entries.items }
-    {
-        let Pen { seat, trace, of: _ } = self;
-        drop(seat);
-        trace
-    }
-
-    /// Records the event that was added with that stamp, if it is there.
-    pub(crate) fn note(&mut self, stamp: u64, sent: usize, source: u64, event: Option<WorldEvent>)
-        requires { IfSome event (λ e. WasRecorded B.start self.old.seen (recorded_of stamp sent source e)) }
-        ensures { self.new ≡ self.old }
-    {
-        self.trace.note(stamp, sent, source, event);
-    }
-}
-
 impl<B: HistoryName> History<B> {
     /// It begins with a new world. The function has nothing to do.
     pub fn begins(&self)
@@ -322,16 +299,16 @@ impl<B: HistoryName> History<B> {
     /// Adds the event to the history, and gives its stamp: how many events came before it.
     pub fn add<E: Happens>(&self, pen: &mut Pen<B>) -> u64
         requires { Owns pen.old (node_in E.event) }
-        ensures came { Came B.start pen.old E.event result pen.new.seen }
+        ensures came { Came pen.old E.event result pen.new.seen }
         ensures pen { pen.new ≡ later pen.old pen.new.seen }
     {
-        self.line.shared.fetch_add::<Add<B, E>>(&mut pen.seat, 0, 1)
+        self.line.shared.fetch_add::<Add<E>>(&mut pen.seat, 0, 1)
     }
 
     /// Adds the event after all that the front has seen, which then has seen the event too. Gives its stamp.
     pub fn add_for<E: Happens>(&self, pen: &mut Pen<B>, front: &mut Front<B>) -> u64
         requires { Owns pen.old (node_in E.event) }
-        ensures came { Came B.start (told pen.old (front_at front.old)) E.event result pen.new.seen }
+        ensures came { Came (told pen.old (front_at front.old)) E.event result pen.new.seen }
         ensures pen { pen.new ≡ later pen.old pen.new.seen }
         ensures front { front.new.seen ≡ pen.new.seen }
     {
@@ -363,7 +340,6 @@ impl<B: HistoryName> History<B> {
         let seat = self.line.shared.split_seat::<Next>(&mut pen.seat);
         Pen {
             seat,
-            trace: Trace::new(self.alloc, pen.trace.records()),
             of: PhantomData,
         }
     }
@@ -379,9 +355,26 @@ impl<B: HistoryName> History<B> {
 
     /// The pen sees all of the history.
     pub fn observe(&self, pen: &mut Pen<B>)
-        ensures { Sees B.start pen.old pen.new }
+        ensures { Sees pen.old pen.new }
     {
-        self.line.shared.load::<Look<B>>(&mut pen.seat, 0);
+        self.line.shared.load::<Look>(&mut pen.seat, 0);
+    }
+
+    /// The pen has seen just what the front has, and its next event comes after that.
+    pub fn catch_up(&self, pen: &mut Pen<B>, front: Front<B>)
+        requires { IsPrefix pen.old.seen front.seen }
+        ensures { Catches (told pen.old (front_at front)) pen.new }
+    {
+        self.tell(pen, front);
+        self.catch(pen);
+    }
+
+    /// The pen has seen just what it was told.
+    fn catch(&self, pen: &mut Pen<B>)
+        requires { IsPrefix pen.old.seen pen.old.also }
+        ensures { Catches pen.old pen.new }
+    {
+        self.line.shared.load::<CatchUp>(&mut pen.seat, 0);
     }
 
     /// A front that both begin: all of the history.
@@ -392,7 +385,6 @@ impl<B: HistoryName> History<B> {
         let Front { badge, of } = one;
         let mut pen: Pen<B> = Pen {
             seat: badge.into_seat(),
-            trace: Trace::new(self.alloc, false),
             of,
         };
         self.tell(&mut pen, two);

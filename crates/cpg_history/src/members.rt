@@ -4,8 +4,9 @@
 //! definitions to that event in the world that it came to. A denied listing is one, too. A call that is refused otherwise
 //! adds nothing.
 
-ghost use Rattle.std.specs.Prelude.{◌≡◌, true, false, length, None, Ok, Err, IfOk, IfSome, OnErr, IfErr};
+ghost use Rattle.std.specs.Prelude.{◌≡◌, [], true, false, length, None, Ok, Err, IfOk, IfSome, OnErr, IfErr};
 ghost use Rattle.cpg_cred.specs.declared.refusals.Refusal.TheVariants as refusals;
+ghost use mathlib.Core.List.{IsPrefix};
 ghost use Rattle.cpg_ring.specs.States.{safe_mark};
 ghost use Rattle.cpg_node.specs.Calls.{next_record};
 ghost use Rattle.cpg_world_laws.specs.declared.events.WorldEvent.TheVariants as events;
@@ -13,7 +14,7 @@ ghost use Rattle.cpg_world_laws.specs.declared.replies.Reply.TheVariants as repl
 ghost use Rattle.cpg_station.specs.Delivering.{Delivers, DeliverRefuses};
 ghost use Rattle.cpg_station.specs.Serving.{halted_of};
 ghost use Rattle.cpg_history.specs.Members.{IsAt, IsNew, IsPenOf, IsSafeAt, Replied, how_many};
-ghost use Rattle.cpg_history.specs.Traces.{AreRecorded};
+ghost use Rattle.cpg_history.specs.Traces.{IsTraceOf, new_trace};
 
 use crate::histories::{Front, Happens, History, HistoryName, Pen};
 use crate::parcels::{Parcel, Parcels};
@@ -24,33 +25,35 @@ use cpg_cred::{NodeId, Refusal};
 use cpg_station::Station;
 use cpg_wire::reads_what_is_spelled;
 use cpg_world_laws::WorldEvent;
+use std::alloc::Global;
 use std::marker::{Brand, Model};
 
 mod serving;
 
 /// A station with its node's pen of the history; or a spare one, which was put in the place of one that was taken away,
-/// is halted, and belongs to no node. Contracts see its number, the station, whether it is a spare, and what its pen has
-/// seen: the beginning of the history after which its node is that.
+/// is halted, and belongs to no node. Contracts see its number, the station, whether it is a spare, what its pen has seen:
+/// the beginning of the history after which its node is that; and what was recorded of its node's events.
 #[derive(Drop)]
 pub struct Member<B: HistoryName> {
     id: NodeId,
     station: Station<B>,
     spare: bool,
     pen: Pen<B>,
+    trace: Trace,
 }
 
 impl<B: HistoryName> Model for Member<B> {
     ghost use Rattle.std.specs.Coded.{codes};
     ghost use Rattle.cpg_ring.specs.Kept.{held_code};
-    ghost use Rattle.cpg_history.specs.Members.{MemberValue, IsMember};
+    ghost use Rattle.cpg_history.specs.Members.{MemberValue, IsMember, HasTrace};
 
     ghost Value = { MemberValue };
 
     ghost coded = { Prim.hlevel (codes, held_code) };
 
-    ghost view = { λ m. record { id = m.id; station = m.station; spare = m.spare; seen = m.pen.seen } };
+    ghost view = { λ m. record { id = m.id; station = m.station; spare = m.spare; seen = m.pen.seen; trace = m.trace } };
 
-    ghost invariant = { λ m. IsMember B.start m.id m.station m.spare m.pen };
+    ghost invariant = { λ m. IsMember B.start m.id m.station m.spare m.pen × HasTrace B.start m.id m.spare m.pen.seen m.trace };
 }
 
 /// How many frames there are, none or one.
@@ -64,24 +67,33 @@ fn how_many(frame: &Option<Bytes>) -> usize
 }
 
 impl<B: HistoryName> Member<B> {
-    /// The station of that node, with the node's pen, where the node is what it is after all that the pen has seen.
-    pub fn new(id: NodeId, station: Station<B>, pen: Pen<B>) -> Member<B>
+    /// The station of that node, with the node's pen, which has seen nothing, where the node is new. Its events are recorded
+    /// where that is asked for.
+    pub fn new(
+        alloc: Global,
+        id: NodeId,
+        station: Station<B>,
+        pen: Pen<B>,
+        traced: bool,
+    ) -> Member<B>
         requires begins { IsNew B.start }
         requires pen { IsPenOf B.start pen id station.node }
-        ensures { result ≡ record { id = id; station = station; spare = false; seen = pen.seen } }
+        requires seen { pen.seen ≡ [] }
+        ensures { result ≡ record { id = id; station = station; spare = false; seen = []; trace = new_trace traced } }
     {
         Member {
             id,
             station,
             spare: false,
             pen,
+            trace: Trace::new(alloc, traced),
         }
     }
 
     /// A spare, which is halted.
-    pub fn spare(id: NodeId, mut station: Station<B>, pen: Pen<B>) -> Member<B>
+    pub fn spare(alloc: Global, id: NodeId, mut station: Station<B>, pen: Pen<B>) -> Member<B>
         requires { IsNew B.start }
-        ensures { result ≡ record { id = id; station = halted_of station; spare = true; seen = pen.seen } }
+        ensures { result ≡ record { id = id; station = halted_of station; spare = true; seen = pen.seen; trace = new_trace false } }
     {
         station.halt();
         Member {
@@ -89,6 +101,7 @@ impl<B: HistoryName> Member<B> {
             station,
             spare: true,
             pen,
+            trace: Trace::new(alloc, false),
         }
     }
 
@@ -113,34 +126,46 @@ impl<B: HistoryName> Member<B> {
         &self.station
     }
 
-    /// The history begins with a new world; and where this is no spare, its node is that node of the world after all that its
-    /// pen has seen. The function has nothing to do.
+    /// The history begins with a new world; where this is no spare, its node is that node of the world after all that its pen
+    /// has seen; and of that all of the node's events are recorded, or the first of them. The function has nothing to do.
     pub fn stands(&self)
         ensures begins { IsNew B.start }
         ensures node { self.now.spare ≡ false → IsAt B.start self.now.seen self.now.id self.now.station.node }
+        ensures trace { IsTraceOf B.start self.now.id self.now.seen self.now.trace }
     {
         let _pen = &self.pen;
     }
 
-    /// What its pen recorded of its node's events, each with its stamp.
+    /// What was recorded of its node's events, each with its stamp.
     pub fn trace(&self) -> &Trace
-        ensures { AreRecorded B.start self.now.seen (result.now).entries.items }
+        ensures { result.now ≡ self.now.trace }
     {
-        self.pen.trace()
+        &self.trace
     }
 
-    /// What its pen recorded, when it adds no more.
+    /// What was recorded, when it adds no more.
     pub fn into_trace(self) -> Trace
-        ensures { AreRecorded B.start self.seen result.entries.items }
+        ensures { result ≡ self.trace }
     {
         let Member {
             id: _,
             station,
             spare: _,
             pen,
+            trace,
         } = self;
         drop(station);
-        pen.into_trace()
+        drop(pen);
+        trace
+    }
+
+    /// It has seen just what the front has, which begins with all that it had seen: its node is that node of the world after
+    /// it, too.
+    pub fn catch_up(&mut self, history: &History<B>, front: Front<B>)
+        requires { IsPrefix self.old.seen front.seen }
+        ensures { self.new ≡ record { id = self.old.id; station = self.old.station; spare = self.old.spare; seen = front.seen; trace = self.old.trace } }
+    {
+        history.catch_up(&mut self.pen, front);
     }
 
     /// Whether it is halted.
@@ -150,16 +175,10 @@ impl<B: HistoryName> Member<B> {
         self.station.is_halted()
     }
 
-    /// The place up to which every node holds all places, as its node knows it.
-    pub fn safe(&self) -> u32
-        ensures { result ≡ safe_mark self.now.station.node.ring.state.arus }
-    {
-        self.station.safe()
-    }
-
     /// The place up to which that node knows that every node holds all places; 0 where it is another's station, or a spare.
     pub fn safe_at(&self, node: NodeId) -> u32
-        ensures { IsSafeAt B.start node result }
+        ensures own { self.now.spare ≡ false → self.now.id ≡ node → result ≡ safe_mark self.now.station.node.ring.state.arus }
+        ensures at { IsSafeAt B.start node result }
     {
         if self.spare {
             return 0;
@@ -181,7 +200,7 @@ impl<B: HistoryName> Member<B> {
 
     /// Halts it.
     pub fn halt(&mut self)
-        ensures { self.new ≡ record { id = self.old.id; station = halted_of self.old.station; spare = self.old.spare; seen = self.old.seen } }
+        ensures { self.new ≡ record { id = self.old.id; station = halted_of self.old.station; spare = self.old.spare; seen = self.old.seen; trace = self.old.trace } }
     {
         self.station.halt();
     }
@@ -219,7 +238,7 @@ impl<B: HistoryName> Member<B> {
                 let stamp = history.add::<E>(&mut self.pen);
                 let front = history.front::<Brand>(&mut self.pen);
                 let event = WorldEvent::Frame(self.id, index);
-                self.pen.note(stamp, frames.len(), source, Some(event));
+                self.trace.note(stamp, frames.len(), source, Some(event));
                 Ok(Parcels {
                     frames,
                     source: stamp,
@@ -252,7 +271,7 @@ impl<B: HistoryName> Member<B> {
                 let stamp = history.add::<E>(&mut self.pen);
                 let front = history.front::<Brand>(&mut self.pen);
                 let sent = how_many(&token);
-                self.pen
+                self.trace
                     .note(stamp, sent, stamp, Some(WorldEvent::Timer(self.id)));
                 Ok(match token {
                     None => None,
@@ -299,7 +318,7 @@ impl<B: HistoryName> Member<B> {
             Ok(Some(place)) => {
                 let stamp = history.add::<E>(&mut self.pen);
                 let event = WorldEvent::Deliver(self.id);
-                self.pen.note(stamp, 0, stamp, Some(event));
+                self.trace.note(stamp, 0, stamp, Some(event));
                 Ok(Some(place))
             }
             Ok(None) => Ok(None),

@@ -1,17 +1,18 @@
-//! What pens record of the events that they add, so that a run can be played again.
+//! What is recorded of the events that are added, so that a run can be played again.
 //!
-//! The form is our own. An event is recorded with its stamp, so that what the pens of a history recorded can be put into
+//! The form is our own. An event is recorded with its stamp, so that what the stations of a history recorded can be put into
 //! one order. A frame that arrives is told by the event that sent it, since how many frames were sent in the whole world
 //! before that event no node knows: it follows from how many each event sent.
 
-ghost use Rattle.std.specs.Prelude.{◌≡◌, [], None, Some, IfSome, is_none, if◌then◌else◌};
+ghost use Rattle.std.specs.Prelude.{◌≡◌, IfSome, is_none};
 ghost use Rattle.cpg_world_laws.specs.declared.events.WorldEvent.TheVariants.{Submit, List};
-ghost use Rattle.cpg_history.specs.Traces.{Notes};
+ghost use Rattle.cpg_history.specs.Traces.{Notes, new_trace};
 
 use cpg_cred::NodeId;
 use cpg_entry::{Call, Name};
 use cpg_world_laws::WorldEvent;
 use std::alloc::Global;
+use std::marker::Model;
 
 /// An event as it was recorded.
 #[derive(Debug, Drop)]
@@ -26,8 +27,8 @@ pub struct Recorded {
     pub event: WorldEvent,
 }
 
-/// What a pen recorded of the events that it added, in their order. From the first that it could not record on, or from
-/// the beginning where it was not asked to, it records none.
+/// What was recorded of a node's events, in their order. From the first that could not be recorded on, or from the
+/// beginning where it was not asked to, it records none. Contracts see what it recorded, and the stamp of that first one.
 #[derive(Drop)]
 pub struct Trace {
     alloc: Global,
@@ -35,11 +36,18 @@ pub struct Trace {
     lost: Option<u64>,
 }
 
+impl Model for Trace {
+    ghost use Rattle.cpg_history.specs.Traces.{TraceValue};
+
+    ghost Value = { TraceValue };
+
+    ghost view = { λ t. record { entries = t.entries.items; lost = t.lost } };
+}
+
 impl Trace {
     /// A trace that has recorded nothing, and does so if it is asked to.
     pub(crate) fn new(alloc: Global, asked: bool) -> Trace
-        ensures entries { result.entries.items ≡ [] }
-        ensures lost { result.lost ≡ if asked then None else Some 0 }
+        ensures { result ≡ new_trace asked }
     {
         Trace {
             alloc,
@@ -50,21 +58,21 @@ impl Trace {
 
     /// Whether it records.
     pub(crate) fn records(&self) -> bool
-        ensures { result ≡ is_none (self.now).lost }
+        ensures { result ≡ is_none self.now.lost }
     {
         self.lost.is_none()
     }
 
     /// What it recorded.
     pub fn entries(&self) -> &[Recorded]
-        ensures { result.now ≡ (self.now).entries.items }
+        ensures { result.now ≡ self.now.entries }
     {
         self.entries.as_slice()
     }
 
     /// What it recorded, as a list of its own.
     pub fn into_entries(self) -> Vec<Recorded>
-        ensures { result.items ≡ self.entries.items }
+        ensures { result.items ≡ self.entries }
     {
         let Trace {
             alloc: _,
@@ -77,7 +85,7 @@ impl Trace {
     /// The stamp of the first event that it could not record, if there is one: then it has none from there on. It is 0
     /// where the trace was not asked to record.
     pub fn lost(&self) -> Option<u64>
-        ensures { result ≡ (self.now).lost }
+        ensures { result ≡ self.now.lost }
     {
         self.lost
     }

@@ -2,7 +2,7 @@
 
 ghost use Rattle.std.specs.Prelude.{◌≡◌};
 ghost use Rattle.cpg_history.specs.Histories.{first_world};
-ghost use Rattle.cpg_history.specs.Members.{Began};
+ghost use Rattle.cpg_history.specs.Members.{HaveSeen};
 ghost use Rattle.cpg_board.specs.Seats.{IsSeatOf};
 
 use crate::PLACES;
@@ -139,7 +139,7 @@ fn tell_trace<B: HistoryName>(
     plan: Plan,
     told: &mut Told,
 ) -> Result<(), Refusal>
-    requires { Began ends.stations.items ends.front.seen }
+    requires { HaveSeen ends.stations.items ends.front.seen }
 {
     let Ends {
         stations,

@@ -1,17 +1,19 @@
 -- the script of what pens of one history recorded
-use Rattle.std.proofs.Common.{◌≡◌, ℕ, ◌<◌, ◌≤◌, ◌^◌, List, [], ◌∷◌, ◌++◌, length, slice_get, Some, sym, subst, ap, ◌∙◌, arith}
+use Rattle.std.proofs.Common.{◌≡◌, ℕ, ◌<◌, ◌≤◌, ◌^◌, Bool, true, false, ◌||◌, is_some, List, [], ◌∷◌, ◌++◌, length, slice_get, Some, refl, sym, subst, ap, ◌∙◌, arith, append_assoc, append-nil}
+use Rattle.std.proofs.lemmas.Grind.{flat_map-append}
+use Rattle.std.proofs.lemmas.List.Folds.{list_any-append}
+use Rattle.std.specs.List.Sorted.{IsPermutation}
 use Rattle.std.specs.List.{AllByRecursion}
 use Rattle.std.proofs.lemmas.List.Elements.{All-from_recursion, recursion_from_All}
-use Rattle.std.proofs.lemmas.List.Sorted.{All-permutation}
-use mathlib.Core.List.{IsPrefix}
+use Rattle.std.proofs.lemmas.List.Sorted.{All-permutation, IsPermutation-append_comm, IsPermutation-append_right}
 use Rattle.cpg_world_laws.specs.declared.events.WorldEvent.{WorldEvent}
 use Rattle.cpg_world_laws.specs.Worlds.{WorldValue}
-use Rattle.cpg_history.specs.Members.{MemberValue, Began}
+use Rattle.cpg_history.specs.Members.{MemberValue, HaveSeen}
 use Rattle.cpg_history.specs.declared.histories.Beginning.{Beginning}
 use Rattle.cpg_history.specs.declared.traces.Recorded.{Recorded}
 use Rattle.cpg_history.specs.Histories.{first_world}
 use Rattle.cpg_history.specs.Traces.{AreRecorded, WasRecorded}
-use Rattle.cpg_trace.specs.Scripts.{IsNumbered, IsScript, events_of}
+use Rattle.cpg_trace.specs.Scripts.{IsNumbered, IsScript, entries_of, events_of, is_cut}
 use Rattle.cpg_trace.proofs.Ordered.{all_counted, stamp_at}
 use Rattle.cpg_trace.proofs.Played.{plays, no_longer}
 
@@ -20,10 +22,28 @@ pub recorded_both : (start : WorldValue) (seen : List WorldEvent) (xs ys : List 
 recorded_both start seen [] ys one two = two
 recorded_both start seen (x ∷ xs) ys one two = (one.0, recorded_both start seen xs ys one.1 two)
 
--- members that have begun a front, without the last of them, and the last
-pub began_last : (ms : List MemberValue) (m : MemberValue) (front : List WorldEvent) → Began (ms ++ m ∷ []) front → Began ms front × IsPrefix m.seen front
-began_last [] m front all = (tt, all.0)
-began_last (x ∷ ms) m front all = let rest = began_last ms m front all.1 in ((all.0, rest.0), rest.1)
+-- members that have seen a front, without the last of them, and the last
+pub seen_last : (ms : List MemberValue) (m : MemberValue) (front : List WorldEvent) → HaveSeen (ms ++ m ∷ []) front → HaveSeen ms front × (m.seen ≡ front)
+seen_last [] m front all = (tt, all.0)
+seen_last (x ∷ ms) m front all = let rest = seen_last ms m front all.1 in ((all.0, rest.0), rest.1)
+
+-- what the last of them recorded goes behind the others
+pub gathered : (ms : List MemberValue) (m : MemberValue) (script : List Recorded) → IsPermutation (entries_of (ms ++ m ∷ []) ++ script) (entries_of ms ++ (script ++ m.trace.entries))
+gathered ms m script =
+    let both : entries_of (ms ++ m ∷ []) ++ script ≡ entries_of ms ++ (m.trace.entries ++ script) =
+    ap (λ l. l ++ script) (flat_map-append (λ (m : MemberValue). m.trace.entries) ms (m ∷ []) ∙ ap (λ l. entries_of ms ++ l) (append-nil m.trace.entries)) ∙ append_assoc (entries_of ms) m.trace.entries script in
+    subst (λ l. IsPermutation l (entries_of ms ++ (script ++ m.trace.entries))) (sym both)
+    (IsPermutation-append_right (entries_of ms) (m.trace.entries ++ script) (script ++ m.trace.entries) (IsPermutation-append_comm m.trace.entries script))
+
+pub cut_last : (ms : List MemberValue) (m : MemberValue) (cut : Bool) → (is_cut ms || (cut || is_some m.trace.lost)) ≡ (is_cut (ms ++ m ∷ []) || cut)
+cut_last ms m cut = by_cases (is_cut ms) (is_some m.trace.lost) cut ∙ ap (λ b. b || cut) (sym (list_any-append (λ (m : MemberValue). is_some m.trace.lost) ms (m ∷ [])))
+  where
+    by_cases : (a b c : Bool) → (a || (c || b)) ≡ ((a || (b || false)) || c)
+    by_cases true b c = refl
+    by_cases false true true = refl
+    by_cases false true false = refl
+    by_cases false false true = refl
+    by_cases false false false = refl
 
 module _ (b : Beginning) (seen : List WorldEvent) (entries script : List Recorded) (short : length seen < 2 ^ 64) (all : AreRecorded (first_world b) seen entries) (is : IsScript entries script) where
   still : AreRecorded (first_world b) seen script

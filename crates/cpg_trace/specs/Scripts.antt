@@ -1,10 +1,12 @@
 -- what was recorded, as a script of `step`
-use Rattle.std.specs.Prelude.{Bool, true, false, codes, ℕ, ◌≡◌, ◌+◌, ◌%◌, ◌^◌, ◌==◌, ◌<◌, ◌≤◌, List, [], ◌∷◌, ◌++◌, take, length, map, slice_get, Some, suc, if◌then◌else◌}
+use Rattle.std.specs.Prelude.{Bool, true, false, codes, ℕ, ◌≡◌, ◌+◌, ◌%◌, ◌^◌, ◌==◌, ◌<◌, ◌≤◌, List, [], ◌∷◌, ◌++◌, take, length, map, slice_get, is_some, Some, suc, if◌then◌else◌}
+use Rattle.std.specs.List.{flat_map, list_any}
 use Rattle.std.specs.List.Sorted.{IsPermutation, IsNonDecreasingBy}
 use Rattle.cpg_world_laws.specs.declared.events.WorldEvent.{WorldEvent}
 use Rattle.cpg_world_laws.specs.declared.events.WorldEvent.TheVariants.{Frame}
 use Rattle.cpg_world_laws.specs.Worlds.{WorldValue}
 use Rattle.cpg_history.specs.declared.traces.Recorded.{Recorded}
+use Rattle.cpg_history.specs.Members.{MemberValue}
 use Rattle.cpg_history.specs.Traces.{AreRecorded}
 use Rattle.cpg_trace.specs.Lines.{event_line}
 
@@ -66,6 +68,16 @@ end_text false = []
 abbrev pub trace_text : List ℕ → List Recorded → Bool → List ℕ
 trace_text heading script cut = heading ++ script_text script ++ end_text cut
 
--- the script is that of what pens recorded of the history that leads to what was seen
-abbrev pub IsRecording : WorldValue → List WorldEvent → List Recorded → Type 0
-IsRecording start seen script = (entries : List Recorded) × AreRecorded start seen entries × IsScript entries script
+-- what these stations recorded, one after the other
+abbrev pub entries_of : List MemberValue → List Recorded
+entries_of members = flat_map (λ (m : MemberValue). m.trace.entries) members
+
+-- whether one of them could not record all events of its node
+abbrev pub is_cut : List MemberValue → Bool
+is_cut members = list_any (λ (m : MemberValue). is_some m.trace.lost) members
+
+-- What stations recorded that had seen this of the history: the script of all their entries, and whether it may end before the last event.
+pub record IsRecording (start : WorldValue) (seen : List WorldEvent) (members : List MemberValue) (script : List Recorded) (cut : Bool) : Type 0 where
+  pub recorded : AreRecorded start seen (entries_of members)
+  pub script_is : IsScript (entries_of members) script
+  pub cut_is : cut ≡ is_cut members

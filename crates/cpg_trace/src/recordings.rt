@@ -1,9 +1,10 @@
 //! What the stations of a stopped cluster recorded.
 
-ghost use Rattle.std.specs.Prelude.{◌≡◌, IfOk, OnOk, IsOkUnless};
-ghost use Rattle.cpg_history.specs.Members.{Began};
+ghost use Rattle.std.specs.Prelude.{◌≡◌, ◌≤◌, ◌+◌, ◌++◌, ◌||◌, IfOk, OnOk, IsOkUnless, length};
+ghost use Rattle.std.specs.List.Sorted.{IsPermutation};
+ghost use Rattle.cpg_history.specs.Members.{HaveSeen};
 ghost use Rattle.cpg_history.specs.Traces.{AreRecorded};
-ghost use Rattle.cpg_trace.specs.Scripts.{IsRecording};
+ghost use Rattle.cpg_trace.specs.Scripts.{IsRecording, entries_of, events_of, is_cut};
 
 use crate::ordering::{gather, order};
 use cpg_cred::Refusal;
@@ -19,34 +20,39 @@ pub struct Recording {
     pub cut: bool,
 }
 
-/// Takes the last of the stations, if there is one, and puts what it recorded behind the others.
+/// Takes the last of the stations, and puts what it recorded behind the others.
 fn gather_last<B: HistoryName>(
     stations: &mut Vec<Member<B>>,
     recording: &mut Recording,
     front: &Front<B>,
 ) -> Result<(), Refusal>
-    requires began { Began stations.old.items front.now.seen }
+    requires some { 1 ≤ length stations.old.items }
+    requires seen { HaveSeen stations.old.items front.now.seen }
     requires recorded { AreRecorded B.start front.now.seen (recording.old).script.items }
-    ensures began { Began stations.new.items front.now.seen }
+    ensures fewer { length stations.new.items + 1 ≡ length stations.old.items }
+    ensures seen { HaveSeen stations.new.items front.now.seen }
     ensures recorded { OnOk result (AreRecorded B.start front.now.seen (recording.new).script.items) }
+    ensures entries { OnOk result (IsPermutation (entries_of stations.old.items ++ (recording.old).script.items) (entries_of stations.new.items ++ (recording.new).script.items)) }
+    ensures cut { OnOk result ((is_cut stations.new.items || (recording.new).cut) ≡ (is_cut stations.old.items || (recording.old).cut)) }
     ensures memory { IsOkUnless result Refusal.Memory }
 {
     let Some(station) = stations.pop() else {
         return Ok(());
     };
+    station.stands();
     let trace = station.into_trace();
     recording.cut = recording.cut || trace.lost().is_some();
     gather(&mut recording.script, trace.into_entries())
 }
 
-/// What these stations recorded: what each of them has seen begins the front. Refused with Memory.
+/// What these stations recorded, which have seen just what the front has. Refused with Memory.
 pub fn recorded_by<B: HistoryName>(
     alloc: Global,
     mut stations: Vec<Member<B>>,
     front: &Front<B>,
 ) -> Result<Recording, Refusal>
-    requires { Began stations.items front.now.seen }
-    ensures ok { IfOk result (λ r. IsRecording B.start front.now.seen r.script.items) }
+    requires { HaveSeen stations.items front.now.seen }
+    ensures ok { IfOk result (λ r. IsRecording B.start front.now.seen stations.items r.script.items r.cut) }
     ensures memory { IsOkUnless result Refusal.Memory }
 {
     let mut recording = Recording {

@@ -72,7 +72,7 @@ impl<B: HistoryName> Member<B> {
                 let stamp = history.add::<E>(&mut self.pen);
                 let front = history.front::<Brand>(&mut self.pen);
                 let event = WorldEvent::Connect(node, pid, cred);
-                self.pen.note(stamp, 0, stamp, Some(event));
+                self.trace.note(stamp, 0, stamp, Some(event));
                 Ok((who, front))
             }
             Err(refusal) => Err(refusal),
@@ -111,11 +111,11 @@ impl<B: HistoryName> Member<B> {
         ensures unheard { ¬ IsHeard self.old.station who.now → (answer_of result ≡ Err Stopped) × (self.new.station ≡ halted_of self.old.station) }
         ensures front { OnErr result (front.new ≡ front.old) }
     {
-        let event = self.pen.trace().submit(who.id.node, who.id.conn, &call);
+        let event = self.trace.submit(who.id.node, who.id.conn, &call);
         match self.station.submit_for(who, call) {
             Ok(()) => {
                 let stamp = history.add_for::<E>(&mut self.pen, front);
-                self.pen.note(stamp, 0, stamp, event);
+                self.trace.note(stamp, 0, stamp, event);
                 Ok(())
             }
             Err(refused) => {
@@ -155,7 +155,7 @@ impl<B: HistoryName> Member<B> {
         self.station.close_for(who)?;
         let stamp = history.add_for::<E>(&mut self.pen, front);
         let event = WorldEvent::Disconnect(who.id.node, who.id.conn);
-        self.pen.note(stamp, 0, stamp, Some(event));
+        self.trace.note(stamp, 0, stamp, Some(event));
         Ok(())
     }
 
@@ -203,7 +203,7 @@ impl<B: HistoryName> Member<B> {
         let taken = self.station.take_for(board, who, seat)?;
         let stamp = history.add_for::<E>(&mut self.pen, front);
         let event = WorldEvent::Take(node, conn);
-        self.pen.note(stamp, 0, stamp, Some(event));
+        self.trace.note(stamp, 0, stamp, Some(event));
         Ok(taken)
     }
 
@@ -246,14 +246,14 @@ impl<B: HistoryName> Member<B> {
         ensures station { KeepsWatch self.old.station who.now self.new.station }
         ensures err { IfErr result (λ why. RefusalTold B.start front.old.seen (events.List who.now.id.node who.now.id.conn group.now) why front.new.seen) }
     {
-        let event = self.pen.trace().list(who.id.node, who.id.conn, group);
+        let event = self.trace.list(who.id.node, who.id.conn, group);
         let listed = self.station.list_for(board, who, seat, group);
         if !is_answer(&listed) {
             drop(event);
             return listed;
         }
         let stamp = history.add_for::<E>(&mut self.pen, front);
-        self.pen.note(stamp, 0, stamp, event);
+        self.trace.note(stamp, 0, stamp, event);
         listed
     }
 
@@ -297,7 +297,7 @@ impl<B: HistoryName> Member<B> {
         let names = self.station.groups_for(board, who, seat)?;
         let stamp = history.add_for::<E>(&mut self.pen, front);
         let event = WorldEvent::Groups(who.id.node, who.id.conn);
-        self.pen.note(stamp, 0, stamp, Some(event));
+        self.trace.note(stamp, 0, stamp, Some(event));
         Ok(names)
     }
 }

@@ -1,5 +1,4 @@
 use Rattle.std.proofs.Common.{◌∙◌, sym, arith}
-use Rattle.cpg_history.specs.Histories.{first_world}
 use Rattle.cpg_history.proofs.Moves.{fronts}
 use Rattle.cpg_history.proofs.histories.History.front.Goals as goal
 
@@ -7,4 +6,4 @@ pub split_seat-seat-requires : goal.split_seat-seat-requires
 split_seat-seat-requires g c =
     let h = c.self.invariant in
     let p = c.pen.invariant in
-    (p.0 ∙ sym h.0, omega (arith, h.1), fronts (first_world c.self.inside.line.shared.key) _ g.N.Numbers.number _)
+    (p.0 ∙ sym h.0, omega (arith, h.1), fronts _ g.N.Numbers.number _)

@@ -1,6 +1,5 @@
 use Rattle.std.proofs.Common.{◌<◌, ◌∙◌, sym, subst, arith}
 use Rattle.cpg_history.specs.declared.histories.View.{View}
-use Rattle.cpg_history.specs.Histories.{first_world}
 use Rattle.cpg_history.proofs.Moves.{next}
 use Rattle.cpg_history.proofs.histories.History.next.Goals as goal
 
@@ -8,4 +7,4 @@ pub split_seat-seat-requires : goal.split_seat-seat-requires
 split_seat-seat-requires g c =
     let h = c.self.invariant in
     let p = c.pen.invariant in
-    (p.0 ∙ sym h.0, omega (arith, h.1), next (first_world c.self.inside.line.shared.key) _ _ (subst (λ (v : View). v.from < v.to) (sym c.pen.view_is) c.requires))
+    (p.0 ∙ sym h.0, omega (arith, h.1), next _ _ (subst (λ (v : View). v.from < v.to) (sym c.pen.view_is) c.requires))

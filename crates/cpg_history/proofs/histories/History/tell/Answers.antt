@@ -1,5 +1,4 @@
 use Rattle.std.proofs.Common.{◌∙◌, sym, arith}
-use Rattle.cpg_history.specs.Histories.{first_world}
 use Rattle.cpg_history.proofs.Moves.{tells}
 use Rattle.cpg_history.proofs.histories.History.tell.Goals as goal
 
@@ -9,4 +8,4 @@ join_seat-requires g c =
     let p = c.pen.invariant in
     let f = c.front.invariant in
     let s = c.into_seat-seat.ensures in
-    (p.0 ∙ sym h.0, s.0 ∙ (f.0 ∙ sym h.0), s.3, omega (arith, h.1), tells (first_world c.self.inside.line.shared.key) _ _ _ _)
+    (p.0 ∙ sym h.0, s.0 ∙ (f.0 ∙ sym h.0), s.3, omega (arith, h.1), tells _ _ _ _)

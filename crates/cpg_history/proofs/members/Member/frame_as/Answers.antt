@@ -1,5 +1,5 @@
 use Rattle.bytes.specs.declared.shared.Bytes.{Bytes}
-use Rattle.std.proofs.Common.{Vec, Global, ◌≡◌, ◌∙◌, length, All, Option, Some, Ok, IfSome, sym, ap, subst, arith}
+use Rattle.std.proofs.Common.{Vec, Global, ◌≡◌, ◌∙◌, length, All, Option, Some, Ok, IfSome, refl, sym, ap, subst, arith}
 use Rattle.cpg_wire.specs.Reading.{frame_of}
 use Rattle.cpg_ring.specs.States.{Frame}
 use Rattle.cpg_node.specs.Calls.{answers_to}
@@ -10,11 +10,11 @@ use Rattle.cpg_world_laws.specs.declared.replies.Reply.TheVariants as reply
 use Rattle.cpg_world_laws.specs.Replies.{Answer}
 use Rattle.cpg_history.specs.declared.histories.View.{View}
 use Rattle.cpg_history.specs.Histories.{Came, FrontValue, told, front}
-use Rattle.cpg_history.specs.Members.{MemberValue, ParcelValue, Replied, WereSent, IsAt, IsPenOf, member}
+use Rattle.cpg_history.specs.Members.{MemberValue, ParcelValue, HasTrace, IsMember, Replied, WereSent, IsPenOf, member}
 use Rattle.cpg_history.proofs.Coming.{is_member}
 use Rattle.cpg_history.specs.Traces.{HasNumber, WasRecorded, recorded_of}
 use Rattle.cpg_history.proofs.Hearing.{heard, parcelled, frame_recorded}
-use Rattle.cpg_history.proofs.Noting.{first_number}
+use Rattle.cpg_history.proofs.Noting.{first_number, has_noted}
 use Rattle.cpg_history.proofs.members.Member.frame_as.Goals as goal
 
 pub invariant_of-result : goal.invariant_of-result
@@ -27,9 +27,9 @@ invariant_of-result g c =
     let f = c.parcel.inside.front in
     let event = Arrival c.self.inside.id f.number in
     let is : g.E.Happens.event ≡ event = c.requires ∙ (ap (λ (m : MemberValue). Arrival m.id c.args.parcel.number) (sym c.self.view_is) ∙ ap (λ (p : ParcelValue). Arrival c.self.inside.id p.number) (sym c.parcel.view_is)) in
-    let came : Came start (told c.self.inside.pen (front f)) event c.add-stamp.result c.add-stamp.new.pen.seen = subst (λ (v : View). Came start v event c.add-stamp.result c.add-stamp.new.pen.seen) c.tell.ensures (subst (λ (e : WorldEvent). Came start c.tell.new.pen e c.add-stamp.result c.add-stamp.new.pen.seen) is c.add-stamp.ensures.came) in
+    let came : Came (told c.self.inside.pen (front f)) event c.add-stamp.result c.add-stamp.new.pen.seen = subst (λ (v : View). Came v event c.add-stamp.result c.add-stamp.new.pen.seen) c.tell.ensures (subst (λ (e : WorldEvent). Came c.tell.new.pen e c.add-stamp.result c.add-stamp.new.pen.seen) is c.add-stamp.ensures.came) in
     let p = c.parcel.invariant.0 in
-    let i = c.self.invariant.holds c.if-self.false in
+    let i = c.self.invariant.0.holds c.if-self.false in
     let read : frame_of c.as_slice.result.now ≡ Some p.frame = ap frame_of c.as_slice.ensures ∙ p.reads in
     let a = subst (λ (o : Option Frame). IsFrameAnswer (λ (list : Vec (Bytes Global) Global). list.items) x o (Ok c.in-Ok.frames) t.node) read c.in-Ok.ensures.answer in
     let range = subst (λ (o : Option Frame). IfSome o (λ fr. All CanBeSpelled (answers_to x fr))) read c.in-Ok.ensures.range in
@@ -47,15 +47,22 @@ invariant_of-self g c =
     let f = c.parcel.inside.front in
     let event = Arrival c.self.inside.id f.number in
     let is : g.E.Happens.event ≡ event = c.requires ∙ (ap (λ (m : MemberValue). Arrival m.id c.args.parcel.number) (sym c.self.view_is) ∙ ap (λ (p : ParcelValue). Arrival c.self.inside.id p.number) (sym c.parcel.view_is)) in
-    let came : Came start (told c.self.inside.pen (front f)) event c.add-stamp.result c.add-stamp.new.pen.seen = subst (λ (v : View). Came start v event c.add-stamp.result c.add-stamp.new.pen.seen) c.tell.ensures (subst (λ (e : WorldEvent). Came start c.tell.new.pen e c.add-stamp.result c.add-stamp.new.pen.seen) is c.add-stamp.ensures.came) in
+    let came : Came (told c.self.inside.pen (front f)) event c.add-stamp.result c.add-stamp.new.pen.seen = subst (λ (v : View). Came v event c.add-stamp.result c.add-stamp.new.pen.seen) c.tell.ensures (subst (λ (e : WorldEvent). Came c.tell.new.pen e c.add-stamp.result c.add-stamp.new.pen.seen) is c.add-stamp.ensures.came) in
     let p = c.parcel.invariant.0 in
-    let i = c.self.invariant.holds c.if-self.false in
+    let i = c.self.invariant.0.holds c.if-self.false in
     let read : frame_of c.as_slice.result.now ≡ Some p.frame = ap frame_of c.as_slice.ensures ∙ p.reads in
     let a = subst (λ (o : Option Frame). IsFrameAnswer (λ (list : Vec (Bytes Global) Global). list.items) x o (Ok c.in-Ok.frames) t.node) read c.in-Ok.ensures.answer in
-    let answer = heard c.reads_what_is_spelled.ensures.again start c.self.inside.pen f c.add-stamp.result c.self.inside.id s t spare c.add-stamp.new.pen.seen c.parcel.inside.bytes c.in-Ok.frames.items p came i.2 a.0 a.1 a.2 in
-    let q = c.note.ensures ∙ (c.front-front.ensures.pen ∙ c.add-stamp.ensures.pen) in
-    let pen : IsPenOf start c.note.new.self c.self.inside.id t.node = (ap (λ (v : View). v.from) q ∙ (ap (λ (v : View). v.from) c.tell.ensures ∙ i.0), ap (λ (v : View). v.to) q ∙ (ap (λ (v : View). v.to) c.tell.ensures ∙ i.1), subst (λ (v : View). IsAt start v.seen c.self.inside.id t.node) (sym (c.note.ensures ∙ c.front-front.ensures.pen)) answer.now) in
-    is_member start c.self.inside.id t spare c.note.new.self c.self.invariant.begins c.if-self.false pen
+    let answer = heard c.reads_what_is_spelled.ensures.again start c.self.inside.pen f c.add-stamp.result c.self.inside.id s t spare c.add-stamp.new.pen.seen c.parcel.inside.bytes c.in-Ok.frames.items p came i.2 a.0 a.1 a.2 c.self.inside.trace c.note.new.self in
+    let pen : IsPenOf start c.add-stamp.new.pen c.self.inside.id t.node = (ap (λ (v : View). v.from) c.add-stamp.ensures.pen ∙ (ap (λ (v : View). v.from) c.tell.ensures ∙ i.0), ap (λ (v : View). v.to) c.add-stamp.ensures.pen ∙ (ap (λ (v : View). v.to) c.tell.ensures ∙ i.1), answer.now) in
+    let full = c.in-Ok.frames.ok.0 in
+    let count : length c.in-Ok.frames.items ≡ c.len.result = omega (arith, full, c.len.ensures) in
+    let written = Arrival c.self.inside.id c.parcel.inside.index in
+    let one = subst (λ n. WasRecorded start c.add-stamp.new.pen.seen (recorded_of c.add-stamp.result n c.parcel.inside.source written)) count
+    (frame_recorded c.reads_what_is_spelled.ensures.again start c.self.inside.pen f c.add-stamp.result c.self.inside.id s t spare c.add-stamp.new.pen.seen c.parcel.inside.bytes c.in-Ok.frames.items p came i.2 a.0 a.1 a.2 c.parcel.inside.source c.parcel.inside.index c.parcel.invariant.1) in
+    subst (λ (v : View). IsMember start c.self.inside.id t spare v × HasTrace start c.self.inside.id spare v.seen c.note.new.self) (sym c.front-front.ensures.pen) (
+      is_member start c.self.inside.id t spare c.add-stamp.new.pen c.self.invariant.0.begins c.if-self.false pen,
+      has_noted start (told c.self.inside.pen (front f)) event event c.add-stamp.result c.self.inside.id spare c.add-stamp.new.pen.seen c.self.inside.trace c.note.new.self c.len.result c.parcel.inside.source (Some written) c.self.invariant.1 c.if-self.false refl refl came one c.note.ensures,
+    )
 
 pub returns-in-Ok-clause-ok : goal.returns-in-Ok-clause-ok
 returns-in-Ok-clause-ok g c =
@@ -67,35 +74,14 @@ returns-in-Ok-clause-ok g c =
     let f = c.parcel.inside.front in
     let event = Arrival c.self.inside.id f.number in
     let is : g.E.Happens.event ≡ event = c.requires ∙ (ap (λ (m : MemberValue). Arrival m.id c.args.parcel.number) (sym c.self.view_is) ∙ ap (λ (p : ParcelValue). Arrival c.self.inside.id p.number) (sym c.parcel.view_is)) in
-    let came : Came start (told c.self.inside.pen (front f)) event c.add-stamp.result c.add-stamp.new.pen.seen = subst (λ (v : View). Came start v event c.add-stamp.result c.add-stamp.new.pen.seen) c.tell.ensures (subst (λ (e : WorldEvent). Came start c.tell.new.pen e c.add-stamp.result c.add-stamp.new.pen.seen) is c.add-stamp.ensures.came) in
+    let came : Came (told c.self.inside.pen (front f)) event c.add-stamp.result c.add-stamp.new.pen.seen = subst (λ (v : View). Came v event c.add-stamp.result c.add-stamp.new.pen.seen) c.tell.ensures (subst (λ (e : WorldEvent). Came c.tell.new.pen e c.add-stamp.result c.add-stamp.new.pen.seen) is c.add-stamp.ensures.came) in
     let p = c.parcel.invariant.0 in
-    let i = c.self.invariant.holds c.if-self.false in
+    let i = c.self.invariant.0.holds c.if-self.false in
     let read : frame_of c.as_slice.result.now ≡ Some p.frame = ap frame_of c.as_slice.ensures ∙ p.reads in
     let a = subst (λ (o : Option Frame). IsFrameAnswer (λ (list : Vec (Bytes Global) Global). list.items) x o (Ok c.in-Ok.frames) t.node) read c.in-Ok.ensures.answer in
-    let answer = heard c.reads_what_is_spelled.ensures.again start c.self.inside.pen f c.add-stamp.result c.self.inside.id s t spare c.add-stamp.new.pen.seen c.parcel.inside.bytes c.in-Ok.frames.items p came i.2 a.0 a.1 a.2 in
+    let answer = heard c.reads_what_is_spelled.ensures.again start c.self.inside.pen f c.add-stamp.result c.self.inside.id s t spare c.add-stamp.new.pen.seen c.parcel.inside.bytes c.in-Ok.frames.items p came i.2 a.0 a.1 a.2 c.self.inside.trace c.note.new.self in
     let reply : Answer = Ok (reply.Sent (length c.in-Ok.frames.items)) in
-    let after : View → MemberValue = λ v. member c.self.inside.id t spare v.seen in
-    subst (λ (v : View). Replied start c.args.self.now (Arrival c.args.self.now.id c.args.parcel.number) reply (after v)) (sym (c.note.ensures ∙ c.front-front.ensures.pen))
+    let after : View → MemberValue = λ v. member c.self.inside.id t spare v.seen c.note.new.self in
+    subst (λ (v : View). Replied start c.args.self.now (Arrival c.args.self.now.id c.args.parcel.number) reply (after v)) (sym c.front-front.ensures.pen)
     (subst (λ (p : ParcelValue). Replied start c.args.self.now (Arrival c.args.self.now.id p.number) reply (after c.add-stamp.new.pen)) c.parcel.view_is
     (subst (λ (m : MemberValue). Replied start m (Arrival m.id f.number) reply (after c.add-stamp.new.pen)) c.self.view_is answer))
-
-pub note-requires : goal.note-requires
-note-requires g c =
-    let start = g.B.HistoryName.start in
-    let s = c.self.inside.station in
-    let x = s.node in
-    let t = c.frame.new.self in
-    let spare = c.self.inside.spare in
-    let f = c.parcel.inside.front in
-    let event = Arrival c.self.inside.id f.number in
-    let is : g.E.Happens.event ≡ event = c.requires ∙ (ap (λ (m : MemberValue). Arrival m.id c.args.parcel.number) (sym c.self.view_is) ∙ ap (λ (p : ParcelValue). Arrival c.self.inside.id p.number) (sym c.parcel.view_is)) in
-    let came : Came start (told c.self.inside.pen (front f)) event c.add-stamp.result c.add-stamp.new.pen.seen = subst (λ (v : View). Came start v event c.add-stamp.result c.add-stamp.new.pen.seen) c.tell.ensures (subst (λ (e : WorldEvent). Came start c.tell.new.pen e c.add-stamp.result c.add-stamp.new.pen.seen) is c.add-stamp.ensures.came) in
-    let p = c.parcel.invariant.0 in
-    let i = c.self.invariant.holds c.if-self.false in
-    let read : frame_of c.as_slice.result.now ≡ Some p.frame = ap frame_of c.as_slice.ensures ∙ p.reads in
-    let a = subst (λ (o : Option Frame). IsFrameAnswer (λ (list : Vec (Bytes Global) Global). list.items) x o (Ok c.in-Ok.frames) t.node) read c.in-Ok.ensures.answer in
-    let full = c.in-Ok.frames.ok.0 in
-    let count : length c.in-Ok.frames.items ≡ c.len.result = omega (arith, full, c.len.ensures) in
-    subst (λ (v : View). WasRecorded start v.seen (recorded_of c.add-stamp.result c.len.result c.parcel.inside.source (Arrival c.self.inside.id c.parcel.inside.index))) (sym c.front-front.ensures.pen)
-    (subst (λ n. WasRecorded start c.add-stamp.new.pen.seen (recorded_of c.add-stamp.result n c.parcel.inside.source (Arrival c.self.inside.id c.parcel.inside.index))) count
-    (frame_recorded c.reads_what_is_spelled.ensures.again start c.self.inside.pen f c.add-stamp.result c.self.inside.id s t spare c.add-stamp.new.pen.seen c.parcel.inside.bytes c.in-Ok.frames.items p came i.2 a.0 a.1 a.2 c.parcel.inside.source c.parcel.inside.index c.parcel.invariant.1))
