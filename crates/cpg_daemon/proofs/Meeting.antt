@@ -1,6 +1,5 @@
 -- What members have seen begins one front, and then they have seen just that.
-use Rattle.std.proofs.Common.{◌≡◌, ℕ, zero, suc, ◌+◌, ◌≤◌, List, [], ◌∷◌, ◌++◌, length, set, slice_get, Some, sym, subst, arith}
-use Rattle.std.proofs.lemmas.Option.{none-some, same_Some}
+use Rattle.std.proofs.Common.{◌≡◌, ℕ, zero, suc, ◌+◌, ◌≤◌, ◌<◌, List, [], ◌∷◌, ◌++◌, length, get_or, set, sym, subst, arith}
 use mathlib.Core.List.{IsPrefix}
 use Rattle.cpg_world_laws.specs.declared.events.WorldEvent.{WorldEvent}
 use Rattle.cpg_history.specs.Members.{MemberValue, Began, HaveSeen}
@@ -17,10 +16,10 @@ Caught zero ms front = Began ms front
 Caught (suc n) [] front = Unit {0}
 Caught (suc n) (m ∷ ms) front = (m.seen ≡ front) × Caught n ms front
 
-pub next_begins : (n : ℕ) (ms : List MemberValue) (m : MemberValue) (front : List WorldEvent) → Caught n ms front → slice_get ms n ≡ Some m → IsPrefix m.seen front
-next_begins n [] m front so_far at = absurd (none-some m at)
-next_begins zero (x ∷ ms) m front so_far at = subst (λ (y : MemberValue). IsPrefix y.seen front) (same_Some x m at) so_far.0
-next_begins (suc n) (x ∷ ms) m front so_far at = next_begins n ms m front so_far.1 at
+pub next_begins : (n : ℕ) (ms : List MemberValue) (d : MemberValue) (front : List WorldEvent) → n < length ms → Caught n ms front → IsPrefix (get_or ms n d).seen front
+next_begins n [] d front less so_far = absurd (omega (arith, less))
+next_begins zero (m ∷ ms) d front less so_far = so_far.0
+next_begins (suc n) (m ∷ ms) d front less so_far = next_begins n ms d front (omega (arith, less)) so_far.1
 
 pub caught_next : (n k : ℕ) (ms : List MemberValue) (m : MemberValue) (front : List WorldEvent) → k ≡ n + 1 → m.seen ≡ front → Caught n ms front → Caught k (set ms n m) front
 caught_next n zero ms m front is seen so_far = absurd (omega (arith, is))

@@ -202,11 +202,7 @@ fn take_one<B: HistoryName, R: Wait>(
 }
 
 /// Each of the stations has seen just what the front has, which begins with all that they had seen.
-fn catch_up<B: HistoryName>(
-    history: &History<B>,
-    stations: &mut [Member<B>],
-    front: &mut Front<B>,
-)
+fn catch_up<B: HistoryName>(history: &History<B>, stations: &mut [Member<B>], front: &mut Front<B>)
     requires { Began stations.old front.old.seen }
     ensures stations { HaveSeen stations.new front.old.seen }
     ensures front { front.new ≡ front.old }
