@@ -1,5 +1,6 @@
 pub mod Said
 pub mod Ordered
 pub mod Played
+pub mod Whole
 pub mod Playing
 pub mod Written

@@ -48,7 +48,7 @@ drop_at [] i x at = absurd (none-some x at)
 drop_at (y ∷ xs) zero x at = ap (λ z. z ∷ xs) (same_Some y x at)
 drop_at (y ∷ xs) (suc i) x at = drop_at xs i x at
 
-counted_same : (k : ℕ) (r : Recorded) (rs : List Recorded) → r.stamp ≡ k → counted k (r ∷ rs) ≡ r ∷ counted (suc k) rs
+pub counted_same : (k : ℕ) (r : Recorded) (rs : List Recorded) → r.stamp ≡ k → counted k (r ∷ rs) ≡ r ∷ counted (suc k) rs
 counted_same k r rs is = let test : (r.stamp == k) ≡ true = grind (arith, nat_tests) in ap (λ t. if t then r ∷ counted (suc k) rs else []) test
 
 counted_other : (k : ℕ) (r : Recorded) (rs : List Recorded) → r.stamp ≢ k → counted k (r ∷ rs) ≡ []

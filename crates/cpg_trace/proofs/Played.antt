@@ -1,7 +1,8 @@
 -- the script of what was recorded plays the history again
 use Rattle.std.proofs.Common.{◌≡◌, ℕ, zero, suc, ◌+◌, ◌<◌, ◌≤◌, ◌%◌, ◌^◌, List, [], ◌∷◌, ◌++◌, length, take, slice_get, Some, option_map, refl, sym, ap, ◌∙◌, subst, arith, length-append, append_assoc}
 use mathlib.Core.List.{IsPrefix}
-use Rattle.std.proofs.Math.Nat.{mod-add-mod}
+use Rattle.std.proofs.Math.Nat.{mod-add-mod, mod-eq_of_lt}
+use Rattle.std.proofs.Math.Seq.{take-append_seam}
 use Rattle.std.proofs.lemmas.Option.{same_Some, slice_get-map, slice_get_within}
 use Rattle.cpg_board.proofs.Known.{take_next}
 use Rattle.cpg_world_laws.specs.declared.events.WorldEvent.{WorldEvent}
@@ -11,20 +12,17 @@ use Rattle.cpg_history.specs.declared.histories.Beginning.{Beginning}
 use Rattle.cpg_history.specs.declared.traces.Recorded.{Recorded}
 use Rattle.cpg_history.specs.Histories.{first_world}
 use Rattle.cpg_history.specs.Traces.{WasRecorded, IsWritten, AreRecorded}
+use Rattle.cpg_history.proofs.Resting.{prefix_then}
 use Rattle.cpg_trace.specs.Scripts.{sent_by, numbered, events_of, IsNumbered}
 use Rattle.cpg_trace.proofs.Ordered.{all_at, sent_by_both}
 
--- a list's front, and what stands behind it
-take_front : {X : Type 0} (xs ys : List X) → take (length xs) (xs ++ ys) ≡ xs
-take_front [] ys = refl
-take_front (x ∷ xs) ys = ap (λ l. x ∷ l) (take_front xs ys)
-
+-- what stands behind a list's front
 get_middle : {X : Type 0} (xs : List X) (x : X) (ys : List X) → slice_get ((xs ++ x ∷ []) ++ ys) (length xs) ≡ Some x
 get_middle [] x ys = refl
 get_middle (z ∷ xs) x ys = get_middle xs x ys
 
 take_begins : {X : Type 0} (xs zs : List X) → IsPrefix xs zs → take (length xs) zs ≡ xs
-take_begins xs zs p = ap (take (length xs)) (sym p.1) ∙ take_front xs p.0
+take_begins xs zs p = ap (take (length xs)) (sym p.1) ∙ take-append_seam xs p.0
 
 some_below : {X : Type 0} (xs : List X) (i : ℕ) → i < length xs → (x : X) × (slice_get xs i ≡ Some x)
 some_below [] i less = absurd (omega (arith, less))
@@ -100,10 +98,10 @@ module _ (b : Beginning) (seen : List WorldEvent) (script : List Recorded) (shor
       let less = below i r at in
       let source : r.source ≡ length h.log = whole r.source (length h.log) h.stamped (omega (arith, within, less, short)) in
       let early : r.source ≤ length script = early_enough r.source (length h.log) (length log) i (length script) source within (place_is i r at) (slice_get_within script i r at) in
-      let sent : length (runs start h.log).sent ≡ 1 + sent_by (take r.source script) = ap (λ l. length (runs start l).sent) (sym (take_begins h.log seen (chained h.log log seen h.before (begins i r at))) ∙ ap (λ n. take n seen) (sym source)) ∙ sums r.source early in
+      let sent : length (runs start h.log).sent ≡ 1 + sent_by (take r.source script) = ap (λ l. length (runs start l).sent) (sym (take_begins h.log seen (prefix_then h.log log seen h.before (begins i r at))) ∙ ap (λ n. take n seen) (sym source)) ∙ sums r.source early in
       let number : w.0 ≡ (2 + sent_by (take r.source script)) + index = counts w.0 (length (runs start h.log).sent) (sent_by (take r.source script)) index h.count sent in
       let fits' : w.0 < 2 ^ 64 = subst IsNumbered w.2 fits in
-      ap (λ n. events.Frame node n) (mod-add-mod (2 + sent_by (take r.source script)) (2 ^ 64) index ∙ (ap (λ n. n % 2 ^ 64) (sym number) ∙ small w.0 fits')) ∙ sym w.2
+      ap (λ n. events.Frame node n) (mod-add-mod (2 + sent_by (take r.source script)) (2 ^ 64) index ∙ (ap (λ n. n % 2 ^ 64) (sym number) ∙ mod-eq_of_lt fits')) ∙ sym w.2
     where
       shorter : {X : Type 0} (xs ys : List X) → IsPrefix xs ys → length xs ≤ length ys
       shorter xs ys p = let is = ap length p.1 in let both = length-append xs p.0 in by_length (length xs) (length p.0) (length (xs ++ p.0)) (length ys) is both
@@ -111,17 +109,11 @@ module _ (b : Beginning) (seen : List WorldEvent) (script : List Recorded) (shor
           by_length : (a c d e : ℕ) → d ≡ e → d ≡ a + c → a ≤ e
           by_length a c d e is both = omega (arith, is, both)
 
-      chained : {X : Type 0} (xs ys zs : List X) → IsPrefix xs ys → IsPrefix ys zs → IsPrefix xs zs
-      chained xs ys zs p q = (p.0 ++ q.0, sym (append_assoc xs p.0 q.0) ∙ (ap (λ l. l ++ q.0) p.1 ∙ q.1))
-
       early_enough : (s l m i n : ℕ) → s ≡ l → l ≤ m → m ≡ i → i < n → s ≤ n
       early_enough s l m i n is within place less = omega (arith, is, within, place, less)
 
       counts : (k c d index : ℕ) → k ≡ suc c + index → c ≡ 1 + d → k ≡ (2 + d) + index
       counts k c d index is sent = omega (arith, is, sent)
-
-      small : (n : ℕ) → n < 2 ^ 64 → n % 2 ^ 64 ≡ n
-      small n less = omega (arith, less)
   said i r at written e w fits = sym w
 
   pub plays : (i : ℕ) (e : WorldEvent) → i < length script → slice_get seen i ≡ Some e → IsNumbered e → slice_get (events_of script) i ≡ Some e

@@ -8,24 +8,25 @@ use Rattle.std.proofs.lemmas.List.Elements.{All-from_recursion, recursion_from_A
 use Rattle.std.proofs.lemmas.List.Sorted.{All-permutation, IsPermutation-append_comm, IsPermutation-append_right}
 use Rattle.cpg_world_laws.specs.declared.events.WorldEvent.{WorldEvent}
 use Rattle.cpg_world_laws.specs.Worlds.{WorldValue}
-use Rattle.cpg_history.specs.Members.{MemberValue, HaveSeen}
+use Rattle.cpg_history.specs.Members.{MemberValue}
 use Rattle.cpg_history.specs.declared.histories.Beginning.{Beginning}
 use Rattle.cpg_history.specs.declared.traces.Recorded.{Recorded}
 use Rattle.cpg_history.specs.Histories.{first_world}
-use Rattle.cpg_history.specs.Traces.{AreRecorded, WasRecorded}
-use Rattle.cpg_trace.specs.Scripts.{IsNumbered, IsScript, entries_of, events_of, is_cut}
+use Rattle.cpg_history.specs.Traces.{AreRecorded, IsTraceOf, WasRecorded}
+use Rattle.cpg_trace.specs.Scripts.{HaveNodesOf, HaveTraces, IsNumbered, IsRecording, IsScript, entries_of, events_of, is_cut}
 use Rattle.cpg_trace.proofs.Ordered.{all_counted, stamp_at}
 use Rattle.cpg_trace.proofs.Played.{plays, no_longer}
+use Rattle.cpg_trace.proofs.Whole.{is_whole}
 
 -- what pens recorded, put together
 pub recorded_both : (start : WorldValue) (seen : List WorldEvent) (xs ys : List Recorded) → AreRecorded start seen xs → AreRecorded start seen ys → AreRecorded start seen (xs ++ ys)
 recorded_both start seen [] ys one two = two
 recorded_both start seen (x ∷ xs) ys one two = (one.0, recorded_both start seen xs ys one.1 two)
 
--- members that have seen a front, without the last of them, and the last
-pub seen_last : (ms : List MemberValue) (m : MemberValue) (front : List WorldEvent) → HaveSeen (ms ++ m ∷ []) front → HaveSeen ms front × (m.seen ≡ front)
-seen_last [] m front all = (tt, all.0)
-seen_last (x ∷ ms) m front all = let rest = seen_last ms m front all.1 in ((all.0, rest.0), rest.1)
+-- no member is left
+pub none_left : (ms : List MemberValue) → length ms ≡ 0 → ms ≡ []
+none_left [] none = refl
+none_left (m ∷ ms) none = absurd (omega (arith, none))
 
 -- what the last of them recorded goes behind the others
 pub gathered : (ms : List MemberValue) (m : MemberValue) (script : List Recorded) → IsPermutation (entries_of (ms ++ m ∷ []) ++ script) (entries_of ms ++ (script ++ m.trace.entries))
@@ -45,10 +46,23 @@ cut_last ms m cut = by_cases (is_cut ms) (is_some m.trace.lost) cut ∙ ap (λ b
     by_cases false false true = refl
     by_cases false false false = refl
 
-module _ (b : Beginning) (seen : List WorldEvent) (entries script : List Recorded) (short : length seen < 2 ^ 64) (all : AreRecorded (first_world b) seen entries) (is : IsScript entries script) where
+-- all that members recorded
+all_recorded : (start : WorldValue) (seen : List WorldEvent) (ms : List MemberValue) → HaveTraces start seen ms → AreRecorded start seen (entries_of ms)
+all_recorded start seen [] traces = tt
+all_recorded start seen (m ∷ ms) traces = recorded_both start seen m.trace.entries (entries_of ms) traces.0.recorded (all_recorded start seen ms traces.1)
+
+-- one member more has a trace
+pub one_more_trace : (start : WorldValue) (seen : List WorldEvent) (ms : List MemberValue) (m : MemberValue) → HaveTraces start seen ms → IsTraceOf start m.id seen m.trace → HaveTraces start seen (ms ++ m ∷ [])
+one_more_trace start seen [] m all one = (one, tt)
+one_more_trace start seen (x ∷ ms) m all one = (all.0, one_more_trace start seen ms m all.1 one)
+
+module _ (b : Beginning) (seen : List WorldEvent) (members : List MemberValue) (script : List Recorded) (cut : Bool) (short : length seen < 2 ^ 64) (r : IsRecording (first_world b) seen members script cut) where
+  abbrev is : IsScript (entries_of members) script
+  is = r.script_is
+
   still : AreRecorded (first_world b) seen script
   still =
-      let ordered : AllByRecursion (WasRecorded (first_world b) seen) is.ordered = recursion_from_All (WasRecorded (first_world b) seen) is.ordered (All-permutation (WasRecorded (first_world b) seen) entries is.ordered is.same (All-from_recursion (WasRecorded (first_world b) seen) entries all)) in
+      let ordered : AllByRecursion (WasRecorded (first_world b) seen) is.ordered = recursion_from_All (WasRecorded (first_world b) seen) is.ordered (All-permutation (WasRecorded (first_world b) seen) (entries_of members) is.ordered is.same (All-from_recursion (WasRecorded (first_world b) seen) (entries_of members) (all_recorded (first_world b) seen members r.traces))) in
       subst (AllByRecursion (WasRecorded (first_world b) seen)) (sym is.front) (all_counted (WasRecorded (first_world b) seen) 0 is.ordered ordered)
 
   stamps : (i : ℕ) (r : Recorded) → slice_get script i ≡ Some r → r.stamp ≡ i
@@ -59,3 +73,6 @@ module _ (b : Beginning) (seen : List WorldEvent) (entries script : List Recorde
 
   pub is_no_longer : length script ≤ length seen
   is_no_longer = no_longer b seen script short still stamps
+
+pub whole_script : (b : Beginning) (seen : List WorldEvent) (members : List MemberValue) (script : List Recorded) → length seen < 2 ^ 64 → IsRecording (first_world b) seen members script false → HaveNodesOf members seen → length script ≡ length seen
+whole_script b seen members script short r nodes = is_whole (first_world b) seen members script short r.traces (sym r.cut_is) nodes r.script_is

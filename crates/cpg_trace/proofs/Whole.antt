@@ -40,12 +40,12 @@ times_there : (y z : ℕ) (xs : List ℕ) → z ≢ y → times y (z ∷ xs) ≡
 times_there y z xs not = let more = sum_by-cons (one y) z xs in let here = one_other y z not in omega (arith, more, here)
 
 -- a number is another or not
-by_number : {ℓ : Level} (A : Type ℓ) (z y : ℕ) → (z ≡ y → A) → (z ≢ y → A) → A
-by_number A z y yes no = by_test (z == y) refl
+by_number : (A : Type 0) (z y : ℕ) → (z ≡ y → A) → (z ≢ y → A) → A
+by_number A z y same apart = by_test (z == y) refl
   where
     by_test : (t : Bool) → (z == y) ≡ t → A
-    by_test true is = yes (grind (arith, nat_tests))
-    by_test false is = no (λ same. true≢false (sym (let test : (z == y) ≡ true = grind (arith, nat_tests) in test) ∙ is))
+    by_test true is = same (grind (arith, nat_tests))
+    by_test false is = apart (grind (arith, nat_tests))
 
 up_above : (k n y : ℕ) → 1 ≤ times y (up k n) → k ≤ y
 up_above k zero y some = absurd (omega (arith, some))
@@ -69,17 +69,17 @@ is_up (x ∷ xs) k (suc n) rises same =
     let once = times_here x x xs refl in
     let low : k ≤ x = up_above k (suc n) x (omega (arith, there, once)) in
     let high : x ≤ k = by_number (x ≤ k) x k (λ is. omega (arith, is)) (λ not.
-        let mine = times_there k x xs not in
-        let its = same k in
-        let first = times_here k k (up (suc k) n) refl in
-        least x k xs rises.0 (omega (arith, mine, its, first))) in
+    let mine = times_there k x xs not in
+    let its = same k in
+    let first = times_here k k (up (suc k) n) refl in
+    least x k xs rises.0 (omega (arith, mine, its, first))) in
     let is : x ≡ k = omega (arith, low, high) in
     let rest : xs ≡ up (suc k) n = is_up xs (suc k) n rises.1 (λ y.
-        let both = same y in
-        let left = sum_by-cons (one y) x xs in
-        let right = sum_by-cons (one y) k (up (suc k) n) in
-        let alike : one y x ≡ one y k = ap (one y) is in
-        omega (arith, both, left, right, alike)) in
+    let both = same y in
+    let left = sum_by-cons (one y) x xs in
+    let right = sum_by-cons (one y) k (up (suc k) n) in
+    let alike : one y x ≡ one y k = ap (one y) is in
+    omega (arith, both, left, right, alike)) in
     ap (λ z. z ∷ xs) is ∙ ap (λ l. k ∷ l) rest
 
 -- the stamps of entries in order ascend
@@ -118,27 +118,27 @@ module _ (e : WorldEvent) (es : List WorldEvent) (k : ℕ) where
   -- where the event's node is none of theirs
   none_more : (ms : List MemberValue) → members_of (node_in e) ms ≡ 0 → stamps_by ms k (e ∷ es) ≡ stamps_by ms (suc k) es
   none_more [] none = refl
-  none_more (m ∷ ms) none = by_test (node_in e == m.id) none
+  none_more (m ∷ ms) none = by_test (none_more ms) (node_in e == m.id) none
     where
-      by_test : (t : Bool) → (if t then suc (members_of (node_in e) ms) else members_of (node_in e) ms) ≡ 0 → more t m.id ++ stamps_by ms k (e ∷ es) ≡ stamps_of m.id (suc k) es ++ stamps_by ms (suc k) es
-      by_test true is = absurd (omega (arith, is))
-      by_test false is = ap (λ l. stamps_of m.id (suc k) es ++ l) (none_more ms is)
+      by_test : (members_of (node_in e) ms ≡ 0 → stamps_by ms k (e ∷ es) ≡ stamps_by ms (suc k) es) → (t : Bool) → (if t then suc (members_of (node_in e) ms) else members_of (node_in e) ms) ≡ 0 → more t m.id ++ stamps_by ms k (e ∷ es) ≡ stamps_of m.id (suc k) es ++ stamps_by ms (suc k) es
+      by_test rest true is = absurd (omega (arith, is))
+      by_test rest false is = ap (λ l. stamps_of m.id (suc k) es ++ l) (rest is)
 
   -- where it is that of one of them
   one_more : (ms : List MemberValue) → members_of (node_in e) ms ≡ 1 → IsPermutation (stamps_by ms k (e ∷ es)) (k % 2 ^ 64 ∷ stamps_by ms (suc k) es)
   one_more [] once = absurd (omega (arith, once))
-  one_more (m ∷ ms) once = by_test (node_in e == m.id) once
+  one_more (m ∷ ms) once = by_test (one_more ms) (node_in e == m.id) once
     where
       rest : List ℕ
       rest = stamps_by ms (suc k) es
 
-      by_test : (t : Bool) → (if t then suc (members_of (node_in e) ms) else members_of (node_in e) ms) ≡ 1 → IsPermutation (more t m.id ++ stamps_by ms k (e ∷ es)) (k % 2 ^ 64 ∷ stamps_of m.id (suc k) es ++ rest)
-      by_test true is =
+      by_test : (members_of (node_in e) ms ≡ 1 → IsPermutation (stamps_by ms k (e ∷ es)) (k % 2 ^ 64 ∷ rest)) → (t : Bool) → (if t then suc (members_of (node_in e) ms) else members_of (node_in e) ms) ≡ 1 → IsPermutation (more t m.id ++ stamps_by ms k (e ∷ es)) (k % 2 ^ 64 ∷ stamps_of m.id (suc k) es ++ rest)
+      by_test others true is =
           let same : stamps_by ms k (e ∷ es) ≡ rest = none_more ms (omega (arith, is)) in
           subst (λ l. IsPermutation (k % 2 ^ 64 ∷ stamps_of m.id (suc k) es ++ l) (k % 2 ^ 64 ∷ stamps_of m.id (suc k) es ++ rest)) (sym same) (IsPermutation-refl (k % 2 ^ 64 ∷ stamps_of m.id (suc k) es ++ rest))
-      by_test false is =
+      by_test others false is =
           IsPermutation-trans (stamps_of m.id (suc k) es ++ stamps_by ms k (e ∷ es)) (stamps_of m.id (suc k) es ++ k % 2 ^ 64 ∷ rest) (k % 2 ^ 64 ∷ stamps_of m.id (suc k) es ++ rest)
-          (IsPermutation-append_right (stamps_of m.id (suc k) es) (stamps_by ms k (e ∷ es)) (k % 2 ^ 64 ∷ rest) (one_more ms is))
+          (IsPermutation-append_right (stamps_of m.id (suc k) es) (stamps_by ms k (e ∷ es)) (k % 2 ^ 64 ∷ rest) (others is))
           (IsPermutation-middle (stamps_of m.id (suc k) es) (k % 2 ^ 64) rest)
 
 no_stamps : (ms : List MemberValue) (k : ℕ) → stamps_by ms k [] ≡ []
@@ -172,11 +172,11 @@ is_whole start seen ms script short traces whole nodes is =
     let stamp : Recorded → ℕ = λ r. r.stamp in
     let N = length seen in
     let stamps : IsPermutation (map stamp (entries_of ms)) (up 0 N) =
-        subst (λ l. IsPermutation (map stamp (entries_of ms)) l) (are_up 0 seen (omega (arith, short)))
-        (subst (λ l. IsPermutation l (stamps_from 0 seen)) (sym (recorded_all start seen ms traces whole)) (all_stamps ms 0 seen nodes)) in
+    subst (λ l. IsPermutation (map stamp (entries_of ms)) l) (are_up 0 seen (omega (arith, short)))
+    (subst (λ l. IsPermutation l (stamps_from 0 seen)) (sym (recorded_all start seen ms traces whole)) (all_stamps ms 0 seen nodes)) in
     let ordered = IsPermutation-map stamp (entries_of ms) is.ordered is.same in
     let same : map stamp is.ordered ≡ up 0 N = is_up (map stamp is.ordered) 0 N (rises_by is.ordered is.ascend) (λ y.
-        sum_by-IsPermutation (one y) (map stamp (entries_of ms)) (map stamp is.ordered) ordered ∙ sym (sum_by-IsPermutation (one y) (map stamp (entries_of ms)) (up 0 N) stamps)) in
+    sum_by-IsPermutation (one y) (map stamp (entries_of ms)) (map stamp is.ordered) ordered ∙ sym (sum_by-IsPermutation (one y) (map stamp (entries_of ms)) (up 0 N) stamps)) in
     let long : length is.ordered ≡ N = sym (length-map is.ordered stamp) ∙ (ap length same ∙ length_up 0 N) in
     ap length (is.front ∙ all_counted 0 is.ordered (same ∙ ap (up 0) (sym long))) ∙ long
   where

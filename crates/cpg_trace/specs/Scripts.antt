@@ -1,13 +1,13 @@
 -- what was recorded, as a script of `step`
 use Rattle.std.specs.Prelude.{Bool, true, false, codes, ℕ, ◌≡◌, ◌+◌, ◌%◌, ◌^◌, ◌==◌, ◌<◌, ◌≤◌, List, [], ◌∷◌, ◌++◌, take, length, map, slice_get, is_some, Some, suc, if◌then◌else◌}
-use Rattle.std.specs.List.{flat_map, list_any}
+use Rattle.std.specs.List.{AllByRecursion, flat_map, list_any}
 use Rattle.std.specs.List.Sorted.{IsPermutation, IsNonDecreasingBy}
 use Rattle.cpg_world_laws.specs.declared.events.WorldEvent.{WorldEvent}
 use Rattle.cpg_world_laws.specs.declared.events.WorldEvent.TheVariants.{Frame}
-use Rattle.cpg_world_laws.specs.Worlds.{WorldValue}
+use Rattle.cpg_world_laws.specs.Worlds.{WorldValue, node_in}
 use Rattle.cpg_history.specs.declared.traces.Recorded.{Recorded}
 use Rattle.cpg_history.specs.Members.{MemberValue}
-use Rattle.cpg_history.specs.Traces.{AreRecorded}
+use Rattle.cpg_history.specs.Traces.{IsTraceOf}
 use Rattle.cpg_trace.specs.Lines.{event_line}
 
 -- the entries from that stamp on, as long as each has the next
@@ -76,8 +76,21 @@ entries_of members = flat_map (λ (m : MemberValue). m.trace.entries) members
 abbrev pub is_cut : List MemberValue → Bool
 is_cut members = list_any (λ (m : MemberValue). is_some m.trace.lost) members
 
--- What stations recorded that had seen this of the history: the script of all their entries, and whether it may end before the last event.
+-- what was recorded of each of these stations' nodes
+abbrev pub HaveTraces : WorldValue → List WorldEvent → List MemberValue → Type 0
+HaveTraces start seen members = AllByRecursion (λ (m : MemberValue). IsTraceOf start m.id seen m.trace) members
+
+-- What stations recorded that had seen this of the history: the script of all their entries, and whether one of them lost an event.
 pub record IsRecording (start : WorldValue) (seen : List WorldEvent) (members : List MemberValue) (script : List Recorded) (cut : Bool) : Type 0 where
-  pub recorded : AreRecorded start seen (entries_of members)
+  pub traces : HaveTraces start seen members
   pub script_is : IsScript (entries_of members) script
   pub cut_is : cut ≡ is_cut members
+
+-- how many of these stations are of that node
+abbrev pub members_of : ℕ → List MemberValue → ℕ
+members_of n [] = 0
+members_of n (m ∷ ms) = if n == m.id then suc (members_of n ms) else members_of n ms
+
+-- of each event's node there is just one of these stations
+abbrev pub HaveNodesOf : List MemberValue → List WorldEvent → Type 0
+HaveNodesOf members events = AllByRecursion (λ (e : WorldEvent). members_of (node_in e) members ≡ 1) events

@@ -12,6 +12,5 @@ mod scripts;
 mod writing;
 
 pub use laws::{events_read_back, scripts_play_again};
-pub use lines::put_event;
 pub use recordings::{Recording, recorded_by};
 pub use writing::write_trace;

@@ -37,7 +37,7 @@ fn put_conn(text: &mut Vec<u8>, word: &str, node: NodeId, conn: u16) -> Result<(
 }
 
 /// Puts the command of the event, as `step` reads it, at the text's end.
-pub fn put_event(text: &mut Vec<u8>, event: &WorldEvent) -> Result<(), Refusal>
+pub(crate) fn put_event(text: &mut Vec<u8>, event: &WorldEvent) -> Result<(), Refusal>
     ensures ok { OnOk result (text.new.items ≡ text.old.items ++ event_text event.now) }
     ensures memory { IsOkUnless result Refusal.Memory }
 {

@@ -3,8 +3,7 @@
 ghost use Rattle.std.specs.Prelude.{◌≡◌, ◌≤◌, ◌+◌, ◌++◌, ◌||◌, IfOk, OnOk, IsOkUnless, length};
 ghost use Rattle.std.specs.List.Sorted.{IsPermutation};
 ghost use Rattle.cpg_history.specs.Members.{HaveSeen};
-ghost use Rattle.cpg_history.specs.Traces.{AreRecorded};
-ghost use Rattle.cpg_trace.specs.Scripts.{IsRecording, entries_of, events_of, is_cut};
+ghost use Rattle.cpg_trace.specs.Scripts.{HaveTraces, IsRecording, entries_of, is_cut};
 
 use crate::ordering::{gather, order};
 use cpg_cred::Refusal;
@@ -20,18 +19,25 @@ pub struct Recording {
     pub cut: bool,
 }
 
+/// Of each of these stations, which have seen just what the front has, what was recorded is its node's events of that. The
+/// function has nothing to do.
+fn are_traced<B: HistoryName>(stations: &[Member<B>], front: &Front<B>)
+    requires { HaveSeen stations.now front.now.seen }
+    ensures { HaveTraces B.start front.now.seen stations.now }
+{
+    for station in stations {
+        station.stands();
+    }
+    let _front = front;
+}
+
 /// Takes the last of the stations, and puts what it recorded behind the others.
 fn gather_last<B: HistoryName>(
     stations: &mut Vec<Member<B>>,
     recording: &mut Recording,
-    front: &Front<B>,
 ) -> Result<(), Refusal>
     requires some { 1 ≤ length stations.old.items }
-    requires seen { HaveSeen stations.old.items front.now.seen }
-    requires recorded { AreRecorded B.start front.now.seen (recording.old).script.items }
     ensures fewer { length stations.new.items + 1 ≡ length stations.old.items }
-    ensures seen { HaveSeen stations.new.items front.now.seen }
-    ensures recorded { OnOk result (AreRecorded B.start front.now.seen (recording.new).script.items) }
     ensures entries { OnOk result (IsPermutation (entries_of stations.old.items ++ (recording.old).script.items) (entries_of stations.new.items ++ (recording.new).script.items)) }
     ensures cut { OnOk result ((is_cut stations.new.items || (recording.new).cut) ≡ (is_cut stations.old.items || (recording.old).cut)) }
     ensures memory { IsOkUnless result Refusal.Memory }
@@ -39,7 +45,6 @@ fn gather_last<B: HistoryName>(
     let Some(station) = stations.pop() else {
         return Ok(());
     };
-    station.stands();
     let trace = station.into_trace();
     recording.cut = recording.cut || trace.lost().is_some();
     gather(&mut recording.script, trace.into_entries())
@@ -59,8 +64,9 @@ pub fn recorded_by<B: HistoryName>(
         script: Vec::new(alloc),
         cut: false,
     };
+    are_traced(stations.as_slice(), front);
     for _ in 0..stations.len() {
-        gather_last(&mut stations, &mut recording, front)?;
+        gather_last(&mut stations, &mut recording)?;
     }
     order(&mut recording.script);
     Ok(recording)
