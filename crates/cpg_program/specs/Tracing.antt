@@ -1,11 +1,13 @@
 -- what is written of what a cluster recorded
-use Rattle.std.specs.Prelude.{ℕ, List, [], ◌∷◌, ◌++◌, Bool, Option, codes, decimal}
+use Rattle.std.specs.Prelude.{◌≡◌, ◌⊎◌, ℕ, List, [], ◌∷◌, ◌++◌, Bool, Option, codes, decimal}
 use Rattle.std.specs.List.{flat_map}
 use Rattle.std.specs.Io.KnownBytes.{Appends}
 use Rattle.cpg_ring.specs.declared.settings.Settings.{Settings}
 use Rattle.cpg_world_laws.specs.declared.events.WorldEvent.{WorldEvent}
 use Rattle.cpg_world_laws.specs.Worlds.{WorldValue}
+use Rattle.cpg_history.specs.Members.{MemberValue}
 use Rattle.cpg_history.specs.declared.traces.Recorded.{Recorded}
+use Rattle.cpg_text.specs.Streams.{AppendsFront}
 use Rattle.cpg_trace.specs.Scripts.{IsRecording, trace_text}
 
 -- a word between two texts
@@ -33,6 +35,10 @@ heading_text s words = codes "# cpgring step" ++ each_between (codes " ") [] (st
 abbrev pub words_text : Settings → List (List ℕ) → List ℕ
 words_text s words = each_between [] (codes "\n") (step_words s words)
 
--- behind the heading is written what was recorded of the history that leads to what was seen
-abbrev pub IsTraced : WorldValue → List WorldEvent → List ℕ → Option (List ℕ) → Option (List ℕ) → Type 0
-IsTraced start seen heading old new = (script : List Recorded) × (cut : Bool) × IsRecording start seen script × Appends old new (trace_text heading script cut)
+-- behind the heading is written what these stations recorded, which had seen this of the history
+abbrev pub IsTraced : WorldValue → List WorldEvent → List MemberValue → List ℕ → Option (List ℕ) → Option (List ℕ) → Type 0
+IsTraced start seen members heading old new = (script : List Recorded) × (cut : Bool) × IsRecording start seen members script cut × Appends old new (trace_text heading script cut)
+
+-- nothing of that is written, or a front of it
+abbrev pub IsPartlyTraced : WorldValue → List WorldEvent → List MemberValue → List ℕ → Option (List ℕ) → Option (List ℕ) → Type 0
+IsPartlyTraced start seen members heading old new = (new ≡ old) ⊎ ((script : List Recorded) × (cut : Bool) × IsRecording start seen members script cut × AppendsFront old new (trace_text heading script cut))

@@ -3,9 +3,9 @@
 //! Proved: behind the heading stand the commands of what the cluster's nodes recorded of its one history, in the order of
 //! their stamps, and where some is missing a line that says so. That it is written where it is asked for is tested.
 
-ghost use Rattle.std.specs.Prelude.{◌≡◌, ◌++◌, map, IfOk, OnOk, IsOkUnless};
-ghost use Rattle.cpg_history.specs.Members.{Began};
-ghost use Rattle.cpg_program.specs.Tracing.{IsTraced, between, each_between, heading_text, option_word, step_words, words_text};
+ghost use Rattle.std.specs.Prelude.{◌≡◌, ◌++◌, None, map, IfOk, IfSome, OnOk, OnErr, IsOkUnless};
+ghost use Rattle.cpg_history.specs.Members.{HaveSeen};
+ghost use Rattle.cpg_program.specs.Tracing.{IsTraced, IsPartlyTraced, between, each_between, heading_text, option_word, step_words, words_text};
 
 use cpg_cluster::hand_on;
 use cpg_cred::Refusal;
@@ -19,14 +19,14 @@ use std::io::Write;
 
 /// What becomes of a stopped cluster.
 pub trait KeepsEnds {
-    ghost use Rattle.cpg_history.specs.Members.{Began};
+    ghost use Rattle.cpg_history.specs.Members.{HaveSeen};
 
     /// Whether the cluster is to record what happens.
     fn is_asked(&self) -> bool;
 
     /// Takes what the cluster left.
     fn keep<B: HistoryName>(&mut self, alloc: Global, ends: Ends<B>)
-        requires { Began ends.stations.items ends.front.seen };
+        requires { HaveSeen ends.stations.items ends.front.seen };
 }
 
 /// Lets a stopped cluster go.
@@ -53,7 +53,9 @@ pub struct Tracer<'a, T> {
 
 impl<'a, T> Tracer<'a, T> {
     /// One that has written nothing.
-    pub fn new(heading: &'a [u8], writer: T) -> Tracer<'a, T> {
+    pub fn new(heading: &'a [u8], writer: T) -> Tracer<'a, T>
+        ensures { result ≡ record { heading = heading; writer = writer; refused = None } }
+    {
         Tracer {
             heading,
             writer,
@@ -62,8 +64,21 @@ impl<'a, T> Tracer<'a, T> {
     }
 
     /// Why it could not write all, if it could not: Memory or Write.
-    pub fn refused(&self) -> Option<Refusal> {
+    pub fn refused(&self) -> Option<Refusal>
+        ensures { result ≡ (self.now).refused }
+    {
         self.refused
+    }
+}
+
+impl<'a, T: Write> Tracer<'a, T> {
+    /// Writes what the stopped cluster recorded behind the heading, and keeps why that was refused, if it was.
+    fn write<B: HistoryName>(&mut self, alloc: Global, ends: Ends<B>)
+        requires { HaveSeen ends.stations.items ends.front.seen }
+        ensures none { (self.new).refused ≡ None → IsTraced B.start ends.front.seen ends.stations.items (self.old).heading.now (T.contents (self.old).writer) (T.contents (self.new).writer) }
+        ensures some { IfSome (self.new).refused (λ why. IsPartlyTraced B.start ends.front.seen ends.stations.items (self.old).heading.now (T.contents (self.old).writer) (T.contents (self.new).writer)) }
+    {
+        self.refused = trace_ends(alloc, &mut self.writer, self.heading, ends).err();
     }
 }
 
@@ -73,7 +88,7 @@ impl<'a, T: Write> KeepsEnds for Tracer<'a, T> {
     }
 
     fn keep<B: HistoryName>(&mut self, alloc: Global, ends: Ends<B>) {
-        self.refused = trace_ends(alloc, &mut self.writer, self.heading, ends).err();
+        self.write(alloc, ends);
     }
 }
 
@@ -84,8 +99,9 @@ fn trace_ends<B: HistoryName, T: Write>(
     heading: &[u8],
     ends: Ends<B>,
 ) -> Result<(), Refusal>
-    requires { Began ends.stations.items ends.front.seen }
-    ensures { OnOk result (IsTraced B.start ends.front.seen heading.now (T.contents writer.old) (T.contents writer.new)) }
+    requires { HaveSeen ends.stations.items ends.front.seen }
+    ensures ok { OnOk result (IsTraced B.start ends.front.seen ends.stations.items heading.now (T.contents writer.old) (T.contents writer.new)) }
+    ensures err { OnErr result (IsPartlyTraced B.start ends.front.seen ends.stations.items heading.now (T.contents writer.old) (T.contents writer.new)) }
 {
     let Ends {
         stations,
