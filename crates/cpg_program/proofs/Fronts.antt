@@ -1,5 +1,5 @@
 -- fronts of a text
-use Rattle.std.proofs.Common.{ℕ, List, [], ◌++◌, Option, refl, sym, ap, ◌∙◌, append-nil, append_assoc}
+use Rattle.std.proofs.Common.{ℕ, List, [], ◌++◌, Option, Result, Ok, Err, OnErr, refl, sym, ap, ◌∙◌, append-nil, append_assoc}
 use Rattle.std.specs.Io.KnownBytes.{Appends}
 use Rattle.std.proofs.KnownBytes.{Appends-nil, Appends-trans}
 use Rattle.cpg_text.specs.Streams.{AppendsFront}
@@ -33,3 +33,8 @@ front_more a b text more f = record {
   whole = ap (λ t. t ++ more) f.whole ∙ append_assoc f.front f.rest more;
   written = f.written;
 }
+
+-- what is so whatever was answered
+pub whatever : {A E : Type 0} (r : Result A E) (It : Type 0) → It → OnErr r It
+whatever (Ok x) It is = tt
+whatever (Err why) It is = is

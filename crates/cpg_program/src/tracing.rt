@@ -54,7 +54,9 @@ pub struct Tracer<'a, T> {
 impl<'a, T> Tracer<'a, T> {
     /// One that has written nothing.
     pub fn new(heading: &'a [u8], writer: T) -> Tracer<'a, T>
-        ensures { result ≡ record { heading = heading; writer = writer; refused = None } }
+        ensures heading { result.heading.now ≡ heading.now }
+        ensures writer { result.writer ≡ writer }
+        ensures refused { result.refused ≡ None }
     {
         Tracer {
             heading,
