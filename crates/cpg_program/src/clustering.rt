@@ -2,12 +2,14 @@
 //!
 //! Proved: the words of the command line come first, then the settings, then the script; and what is written.
 
-ghost use Rattle.std.specs.Prelude.{◌≡◌, ◌≢◌, ◌↔◌, Err, Some, None, map, OnOk, IfErr, IfSome};
+ghost use Rattle.std.specs.Prelude.{◌≡◌, ◌≢◌, ◌⊎◌, ◌↔◌, Err, Some, None, map, OnOk, OnErr, IfErr, IfSome};
 ghost use Rattle.cpg_history.specs.Histories.{first_world};
 ghost use Rattle.cpg_program.specs.Runs.{Clusters, ClustersAll, FailsLate};
 ghost use Rattle.cpg_program.specs.Speaking.{spoken_as};
 ghost use Rattle.cpg_program.specs.Starting.{ClusterLeaves};
+ghost use Rattle.cpg_program.specs.Tracing.{WasKept, WasKeptOf};
 ghost use Rattle.cpg_program.specs.Words.{list_of_words};
+ghost use Rattle.cpg_world_laws.specs.Worlds.{new_world};
 
 use crate::failures::Failure;
 use crate::founding::new_base;
@@ -53,6 +55,8 @@ where
         Clusters (spoken_as (manner.now).form) settings (list_of_words (map (λ word. word.now) words.now)) script (Some failure) (W.contents writer.old) (W.contents writer.new))) }
     ensures late { IfErr result (λ failure. FailsLate failure (W.contents writer.old) (W.contents writer.new)) }
     ensures word { (result ≡ Err Failure.BadWord) ↔ (list_of_words (map (λ word. word.now) words.now) ≡ None) }
+    ensures kept { OnOk result (WasKeptOf K.keeps settings (list_of_words (map (λ word. word.now) words.now)) keeper.old keeper.new) }
+    ensures left { OnErr result ((keeper.new ≡ keeper.old) ⊎ WasKeptOf K.keeps settings (list_of_words (map (λ word. word.now) words.now)) keeper.old keeper.new) }
 {
     match read_list(alloc, words) {
         Err(refusal) => Err(Failure::from(refusal)),
@@ -84,6 +88,8 @@ where
         Clusters (spoken_as (manner.now).form) settings (Some list) script (Some failure) (W.contents writer.old) (W.contents writer.new))) }
     ensures late { IfErr result (λ failure. FailsLate failure (W.contents writer.old) (W.contents writer.new)) }
     ensures word { result ≢ Err Failure.BadWord }
+    ensures kept { OnOk result (WasKept K.keeps (new_world settings list) keeper.old keeper.new) }
+    ensures left { OnErr result ((keeper.new ≡ keeper.old) ⊎ WasKept K.keeps (new_world settings list) keeper.old keeper.new) }
 {
     if !are_settings(&settings) {
         return Err(Failure::from(Refusal::Range));
@@ -122,6 +128,8 @@ where
         Clusters (spoken_as (manner.now).form) opened.start.settings (Some opened.start.list) script (Some failure) (W.contents writer.old) (W.contents writer.new))) }
     ensures late { IfErr result (λ failure. FailsLate failure (W.contents writer.old) (W.contents writer.new)) }
     ensures word { result ≢ Err Failure.BadWord }
+    ensures kept { OnOk result (WasKept K.keeps B.start keeper.old keeper.new) }
+    ensures left { OnErr result ((keeper.new ≡ keeper.old) ⊎ WasKept K.keeps B.start keeper.old keeper.new) }
 {
     match Cluster::<B, PassAll>::start(rt, alloc, board, opened, PassAll) {
         Err(_) => Err(Failure::from(Refusal::Memory)),
@@ -152,6 +160,7 @@ where
         ClusterLeaves (spoken_as (manner.now).form) cluster.nodes cluster.list script failure (W.contents writer.old) (W.contents writer.new))) }
     ensures late { IfErr result (λ failure. FailsLate failure (W.contents writer.old) (W.contents writer.new)) }
     ensures word { result ≢ Err Failure.BadWord }
+    ensures kept { WasKept K.keeps B.start keeper.old keeper.new }
 {
     let done = cluster_script(&rt, alloc, reader, writer, &cluster, manner);
     keeper.keep(alloc, cluster.stop(&rt));

@@ -3,7 +3,7 @@
 //! The form is this project's own. Proved, where the streams tell their bytes: all that `perform` promises, and the hint
 //! that stands on standard error behind the fault's line.
 
-ghost use Rattle.std.specs.Prelude.{◌≡◌, ◌⊎◌, ◌↔◌, ◌++◌, ℕ, List, [], false, true, Some, IfOk, IfSome, IsSomeAnd, IsTrue, IsOkUnless};
+ghost use Rattle.std.specs.Prelude.{◌≡◌, ◌⊎◌, ◌↔◌, ◌++◌, ℕ, List, [], false, true, None, Some, IfOk, IfSome, IsSomeAnd, IsTrue, IsOkUnless};
 ghost use Rattle.std.specs.Io.Buffered.{writer_buffer};
 ghost use Rattle.std.specs.Io.KnownBytes.{Appends, Keeps};
 ghost use Rattle.cpg_text.specs.Streams.{AppendsFront};
@@ -12,6 +12,7 @@ ghost use Rattle.cpg_program.specs.Hinting.{failure_unread, hint_told, kind_of, 
 ghost use Rattle.cpg_program.specs.Pipes.{has_left, written};
 ghost use Rattle.cpg_program.specs.Runs.{FailsLate, HasWrongWord, IsOfWords, Runs};
 ghost use Rattle.cpg_program.specs.Telling.{told_text};
+ghost use Rattle.cpg_program.specs.Tracing.{IsLeft};
 ghost use Rattle.cpg_program.specs.Words.{wrong_hint};
 
 use crate::failures::Failure;
@@ -106,6 +107,8 @@ where
     // The failure's line and the hint behind it, or a front of both.
     ensures told { IfSome (R.remaining reader.old) (λ script. IsTrue result.told → Appends (E.contents errors.old) (E.contents errors.new) (told_text (has_left writer.new) result.failure ++ hint_told run.now script result.failure)) }
     ensures untold { IfSome (R.remaining reader.old) (λ script. AppendsFront (E.contents errors.old) (E.contents errors.new) (told_text (has_left writer.new) result.failure ++ hint_told run.now script result.failure)) }
+    ensures kept { result.failure ≡ None → IsLeft K.keeps run.now keeper.old keeper.new }
+    ensures left { IfSome result.failure (λ _. (keeper.new ≡ keeper.old) ⊎ IsLeft K.keeps run.now keeper.old keeper.new) }
 {
     match read_whole(alloc, reader) {
         Ok(script) => run_read(rt, alloc, run, script.as_slice(), writer, errors, keeper),
@@ -136,6 +139,8 @@ where
     ensures unflushed { result.flushed ≡ false → (result.failure ≡ Some (Failure.Fault (whole_fault Refusal.Write))) ⊎ IsSomeAnd result.failure IsOfWords }
     ensures told { IsTrue result.told → Appends (E.contents errors.old) (E.contents errors.new) (told_text (has_left writer.new) result.failure ++ hint_told run.now script.now result.failure) }
     ensures untold { AppendsFront (E.contents errors.old) (E.contents errors.new) (told_text (has_left writer.new) result.failure ++ hint_told run.now script.now result.failure) }
+    ensures kept { result.failure ≡ None → IsLeft K.keeps run.now keeper.old keeper.new }
+    ensures left { IfSome result.failure (λ _. (keeper.new ≡ keeper.old) ⊎ IsLeft K.keeps run.now keeper.old keeper.new) }
 {
     let mut reader = script;
     let ended = perform(rt, alloc, run, &mut reader, writer, errors, keeper);

@@ -3,7 +3,7 @@
 //! Standard output is buffered, and what was gathered is handed on also after a fault. Proved: what is
 //! written to standard output and to standard error, and the status, whatever the streams do.
 
-ghost use Rattle.std.specs.Prelude.{◌≡◌, ◌⊎◌, ◌↔◌, [], false, Err, None, Some, map, OnOk, IfErr, IfSome, IsSomeAnd, IsTrue};
+ghost use Rattle.std.specs.Prelude.{◌≡◌, ◌⊎◌, ◌↔◌, [], false, Err, None, Some, map, OnOk, OnErr, IfErr, IfSome, IsSomeAnd, IsTrue};
 ghost use Rattle.std.specs.Io.Buffered.{writer_buffer, writer_contents};
 ghost use Rattle.std.specs.Io.KnownBytes.{Appends, Keeps};
 ghost use Rattle.cpg_text.specs.Streams.{AppendsFront};
@@ -11,6 +11,7 @@ ghost use Rattle.cpg_accept.specs.Accepting.{whole_fault};
 ghost use Rattle.cpg_program.specs.Runs.{failure_of, failure_told, status_after, FailsLate, HasWrongWord, IsOfWords, Prints, Runs};
 ghost use Rattle.cpg_program.specs.Pipes.{has_left, written};
 ghost use Rattle.cpg_program.specs.Telling.{told_text};
+ghost use Rattle.cpg_program.specs.Tracing.{IsLeft};
 
 use crate::auditing::{Inquiry, explain_over_cluster};
 use crate::clustering::run_cluster;
@@ -144,6 +145,10 @@ where
     // where it is one of writing to a pipe whose reader has left.
     ensures told { IsTrue result.told → Appends (E.contents errors.old) (E.contents errors.new) (told_text (has_left writer.new) result.failure) }
     ensures untold { AppendsFront (E.contents errors.old) (E.contents errors.new) (told_text (has_left writer.new) result.failure) }
+
+    // A run of sessions leaves its cluster to the keeper; any other run leaves nothing.
+    ensures kept { result.failure ≡ None → IsLeft K.keeps run.now keeper.old keeper.new }
+    ensures left { IfSome result.failure (λ _. (keeper.new ≡ keeper.old) ⊎ IsLeft K.keeps run.now keeper.old keeper.new) }
 {
     let (failure, flushed) = run_flushed(rt, alloc, run, reader, writer, keeper);
     let told = tell(errors, writer.get_ref().has_left(), &failure);
@@ -198,6 +203,8 @@ where
     ensures word { (result.0 ≡ Some Failure.BadWord) ↔ HasWrongWord run.now }
     ensures flushed { IsTrue result.1 → writer_buffer writer.new ≡ [] }
     ensures unflushed { result.1 ≡ false → (result.0 ≡ Some (Failure.Fault (whole_fault Refusal.Write))) ⊎ IsSomeAnd result.0 IsOfWords }
+    ensures kept { result.0 ≡ None → IsLeft K.keeps run.now keeper.old keeper.new }
+    ensures left { IfSome result.0 (λ _. (keeper.new ≡ keeper.old) ⊎ IsLeft K.keeps run.now keeper.old keeper.new) }
 {
     let done = run_script(rt, alloc, run, reader, writer, keeper);
     let flushed = hand_on(writer);
@@ -237,6 +244,8 @@ where
         Prints run.now script (Some failure) (W.contents writer.old) (W.contents writer.new))) }
     ensures late { IfErr result (λ failure. FailsLate failure (W.contents writer.old) (W.contents writer.new)) }
     ensures word { (result ≡ Err Failure.BadWord) ↔ HasWrongWord run.now }
+    ensures kept { OnOk result (IsLeft K.keeps run.now keeper.old keeper.new) }
+    ensures left { OnErr result ((keeper.new ≡ keeper.old) ⊎ IsLeft K.keeps run.now keeper.old keeper.new) }
 {
     match run {
         Run::Judge(form) => judge(alloc, *form, reader, writer)?,

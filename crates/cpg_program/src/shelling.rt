@@ -3,14 +3,16 @@
 //! Proved: the words of the command line come first, then the settings, then the lines; what is printed and told, and the
 //! status.
 
-ghost use Rattle.std.specs.Prelude.{◌≡◌, ◌++◌, None, Some, map, OnOk, IfErr, IfOk, IsOkUnless};
+ghost use Rattle.std.specs.Prelude.{◌≡◌, ◌⊎◌, ◌++◌, None, Some, map, OnOk, OnErr, IfErr, IfOk, IfSome, IsOkUnless};
 ghost use Rattle.cpg_text.specs.Streams.{AppendsFront};
 ghost use Rattle.cpg_history.specs.Histories.{first_world};
 ghost use Rattle.cpg_program.specs.Pipes.{has_left, written};
 ghost use Rattle.cpg_program.specs.Shelling.{ShellEnds, ShellRuns, Shells, word_told};
 ghost use Rattle.cpg_program.specs.Speaking.{spoken_as};
 ghost use Rattle.cpg_program.specs.Telling.{told_text};
+ghost use Rattle.cpg_program.specs.Tracing.{WasKept, WasKeptOf};
 ghost use Rattle.cpg_program.specs.Words.{list_of_words};
+ghost use Rattle.cpg_world_laws.specs.Worlds.{new_world};
 
 use crate::failures::Failure;
 use crate::founding::new_base;
@@ -54,9 +56,11 @@ where
     W: Write + Drop,
     E: Write,
     K: KeepsEnds,
-    ensures { ShellRuns (spoken_as (manner.now).form) settings (list_of_words (map (λ word. word.now) words.now)) (has_left writer.new) result.flushed result.failure
+    ensures runs { ShellRuns (spoken_as (manner.now).form) settings (list_of_words (map (λ word. word.now) words.now)) (has_left writer.new) result.flushed result.failure
         (word_told (manner.now).form words.now result.failure)
         (R.remaining reader.old) (written W.contents writer.old) (written W.contents writer.new) (E.contents errors.old) (E.contents errors.new) }
+    ensures kept { result.failure ≡ None → WasKeptOf K.keeps settings (list_of_words (map (λ word. word.now) words.now)) keeper.old keeper.new }
+    ensures left { IfSome result.failure (λ _. (keeper.new ≡ keeper.old) ⊎ WasKeptOf K.keeps settings (list_of_words (map (λ word. word.now) words.now)) keeper.old keeper.new) }
 {
     let done = run_shell(
         rt, alloc, manner, settings, words, reader, writer, errors, keeper,
@@ -148,6 +152,8 @@ where
         (R.remaining reader.old) (W.contents writer.old) (W.contents writer.new) (E.contents errors.old) (E.contents errors.new)) }
     ensures err { IfErr result (λ failure. Shells (spoken_as (manner.now).form) settings (list_of_words (map (λ word. word.now) words.now)) (Some failure)
         (R.remaining reader.old) (W.contents writer.old) (W.contents writer.new) (E.contents errors.old) (E.contents errors.new)) }
+    ensures kept { OnOk result (WasKeptOf K.keeps settings (list_of_words (map (λ word. word.now) words.now)) keeper.old keeper.new) }
+    ensures left { OnErr result ((keeper.new ≡ keeper.old) ⊎ WasKeptOf K.keeps settings (list_of_words (map (λ word. word.now) words.now)) keeper.old keeper.new) }
 {
     match read_list(alloc, words) {
         Err(refusal) => Err(Failure::from(refusal)),
@@ -181,6 +187,8 @@ where
         (R.remaining reader.old) (W.contents writer.old) (W.contents writer.new) (E.contents errors.old) (E.contents errors.new)) }
     ensures err { IfErr result (λ failure. Shells (spoken_as (manner.now).form) settings (Some list) (Some failure)
         (R.remaining reader.old) (W.contents writer.old) (W.contents writer.new) (E.contents errors.old) (E.contents errors.new)) }
+    ensures kept { OnOk result (WasKept K.keeps (new_world settings list) keeper.old keeper.new) }
+    ensures left { OnErr result ((keeper.new ≡ keeper.old) ⊎ WasKept K.keeps (new_world settings list) keeper.old keeper.new) }
 {
     if !are_settings(&settings) {
         return Err(Failure::from(Refusal::Range));
@@ -219,6 +227,8 @@ where
         (R.remaining reader.old) (W.contents writer.old) (W.contents writer.new) (E.contents errors.old) (E.contents errors.new)) }
     ensures err { IfErr result (λ failure. Shells (spoken_as (manner.now).form) opened.start.settings (Some opened.start.list) (Some failure)
         (R.remaining reader.old) (W.contents writer.old) (W.contents writer.new) (E.contents errors.old) (E.contents errors.new)) }
+    ensures kept { OnOk result (WasKept K.keeps B.start keeper.old keeper.new) }
+    ensures left { OnErr result ((keeper.new ≡ keeper.old) ⊎ WasKept K.keeps B.start keeper.old keeper.new) }
 {
     match Cluster::<B, PassAll>::start(rt, alloc, board, opened, PassAll) {
         Err(_) => Err(Failure::from(Refusal::Memory)),
@@ -248,6 +258,7 @@ where
         (R.remaining reader.old) (W.contents writer.old) (W.contents writer.new) (E.contents errors.old) (E.contents errors.new)) }
     ensures err { IfErr result (λ failure. ShellEnds (spoken_as (manner.now).form) cluster.list cluster.nodes (Some failure)
         (R.remaining reader.old) (W.contents writer.old) (W.contents writer.new) (E.contents errors.old) (E.contents errors.new)) }
+    ensures kept { WasKept K.keeps B.start keeper.old keeper.new }
 {
     let done = shell_lines(&rt, alloc, reader, writer, errors, &cluster, manner);
     keeper.keep(alloc, cluster.stop(&rt));

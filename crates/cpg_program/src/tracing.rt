@@ -3,7 +3,7 @@
 //! Proved: behind the heading stand the commands of what the cluster's nodes recorded of its one history, in the order of
 //! their stamps, and where some is missing a line that says so. That it is written where it is asked for is tested.
 
-ghost use Rattle.std.specs.Prelude.{◌≡◌, ◌++◌, None, map, IfOk, IfSome, OnOk, OnErr, IsOkUnless};
+ghost use Rattle.std.specs.Prelude.{◌≡◌, ◌++◌, None, map, IfOk, OnOk, OnErr, IsOkUnless};
 ghost use Rattle.cpg_history.specs.Members.{HaveSeen};
 ghost use Rattle.cpg_program.specs.Tracing.{IsTraced, IsPartlyTraced, between, each_between, heading_text, option_word, step_words, words_text};
 
@@ -19,14 +19,21 @@ use std::io::Write;
 
 /// What becomes of a stopped cluster.
 pub trait KeepsEnds {
-    ghost use Rattle.cpg_history.specs.Members.{HaveSeen};
+    ghost use Rattle.cpg_history.specs.Members.{HaveSeen, MemberValue};
+    ghost use Rattle.cpg_world_laws.specs.Worlds.{WorldValue};
+    ghost use Rattle.cpg_world_laws.specs.declared.events.WorldEvent.{WorldEvent};
+    ghost use Rattle.std.specs.Prelude.{List};
+
+    /// What taking it does: by the world that its history began with, and its stations with what all of them had seen.
+    ghost keeps: { WorldValue → List WorldEvent → List MemberValue → Self → Self → Type 0 };
 
     /// Whether the cluster is to record what happens.
     fn is_asked(&self) -> bool;
 
     /// Takes what the cluster left.
     fn keep<B: HistoryName>(&mut self, alloc: Global, ends: Ends<B>)
-        requires { HaveSeen ends.stations.items ends.front.seen };
+        requires { HaveSeen ends.stations.items ends.front.seen }
+        ensures { Self.keeps B.start ends.front.seen ends.stations.items self.old self.new };
 }
 
 /// Lets a stopped cluster go.
@@ -34,6 +41,10 @@ pub trait KeepsEnds {
 pub struct Untraced;
 
 impl KeepsEnds for Untraced {
+    ghost use Rattle.std.specs.Prelude.{◌≡◌};
+
+    ghost keeps = { λ start seen members old new. new ≡ old };
+
     fn is_asked(&self) -> bool {
         false
     }
@@ -73,24 +84,17 @@ impl<'a, T> Tracer<'a, T> {
     }
 }
 
-impl<'a, T: Write> Tracer<'a, T> {
-    /// Writes what the stopped cluster recorded behind the heading, and keeps why that was refused, if it was.
-    fn write<B: HistoryName>(&mut self, alloc: Global, ends: Ends<B>)
-        requires { HaveSeen ends.stations.items ends.front.seen }
-        ensures none { (self.new).refused ≡ None → IsTraced B.start ends.front.seen ends.stations.items (self.old).heading.now (T.contents (self.old).writer) (T.contents (self.new).writer) }
-        ensures some { IfSome (self.new).refused (λ why. IsPartlyTraced B.start ends.front.seen ends.stations.items (self.old).heading.now (T.contents (self.old).writer) (T.contents (self.new).writer)) }
-    {
-        self.refused = trace_ends(alloc, &mut self.writer, self.heading, ends).err();
-    }
-}
-
 impl<'a, T: Write> KeepsEnds for Tracer<'a, T> {
+    ghost use Rattle.cpg_program.specs.Tracing.{Traces};
+
+    ghost keeps = { λ start seen members old new. Traces start seen members old.heading.now new.refused (T.contents old.writer) (T.contents new.writer) };
+
     fn is_asked(&self) -> bool {
         true
     }
 
     fn keep<B: HistoryName>(&mut self, alloc: Global, ends: Ends<B>) {
-        self.write(alloc, ends);
+        self.refused = trace_ends(alloc, &mut self.writer, self.heading, ends).err();
     }
 }
 
