@@ -1,6 +1,5 @@
 //! What a cluster of three nodes recorded, played in a world: what its nodes delivered is judged there alike.
 
-ghost use Rattle.std.specs.Prelude.{◌≡◌, IfOk};
 ghost use Rattle.cpg_history.specs.Members.{HaveSeen};
 
 use crate::sharing::{node_of, settings_of};
@@ -45,9 +44,7 @@ fn events_of(alloc: Global, script: &[Recorded]) -> Result<Vec<WorldEvent>, Refu
 }
 
 /// The world of three nodes after these events.
-fn world_after(alloc: Global, events: &[WorldEvent]) -> Result<World, Refusal>
-    ensures { IfOk result (λ world. world.settings.nodes ≡ 3) }
-{
+fn world_after(alloc: Global, events: &[WorldEvent]) -> Result<World, Refusal> {
     let list = AcceptList::new(alloc);
     let mut world = World::new(alloc, settings_of(3), &list)?;
     if !world.has_nodes_of(events) {
