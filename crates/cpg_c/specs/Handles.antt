@@ -35,6 +35,6 @@ IsConfOpenedAt setup known conf None status (Some e) fault = (status ≡ OK) × 
 IsConfOpenedAt setup known conf None status None fault = IsConfOpened setup known conf (Err status) fault ⊎ (status ≡ number Memory)
 
 -- Close: nothing is in the handle then.
-abbrev pub IsClosed : Option EndpointValue → ℕ → Option EndpointValue → Type 0
-IsClosed None status new = (status ≡ CLOSED) × (new ≡ None)
-IsClosed (Some e) status new = (status ≡ OK) × (new ≡ None)
+abbrev pub IsEmptied : Option EndpointValue → ℕ → Option EndpointValue → Type 0
+IsEmptied None status new = (status ≡ CLOSED) × (new ≡ None)
+IsEmptied (Some e) status new = (status ≡ OK) × (new ≡ None)

@@ -3,7 +3,7 @@
 ghost use Rattle.std.specs.Prelude.{◌≡◌};
 ghost use Rattle.cpg_conf.specs.Names.{known_of};
 ghost use Rattle.cpg_embed.specs.Opening.{listing_of};
-ghost use Rattle.cpg_c.specs.Handles.{IsOpenedAt, IsConfOpenedAt, IsClosed};
+ghost use Rattle.cpg_c.specs.Handles.{IsOpenedAt, IsConfOpenedAt, IsEmptied};
 
 use crate::handles::Handle;
 use cpg_cred::Refusal;
@@ -72,7 +72,7 @@ pub extern "C" fn cpgring_open_conf(
 /// Closes a handle.
 #[unsafe(no_mangle)]
 pub extern "C" fn cpgring_close(alloc: Global, handle: &mut Handle) -> u32
-    ensures { IsClosed handle.old.slot.held result handle.new.slot.held }
+    ensures { IsEmptied handle.old.slot.held result handle.new.slot.held }
 {
     match handle.take(alloc) {
         Some(boxed) => {

@@ -1,5 +1,6 @@
 -- seats that have seen more
-use Rattle.std.proofs.Common.{ℕ, ◌≡◌, ◌≤◌, List, length, take, Some, None, Ok, Err, slice_get, inl, inr, refl, sym, ap, subst, ◌∙◌, arith}
+use Rattle.std.proofs.Common.{ℕ, ◌≡◌, ◌≤◌, List, length, take, Option, Some, None, Result, Ok, Err, slice_get, inl, inr, refl, sym, ap, subst, ◌∙◌, arith}
+use Rattle.std.specs.Prelude.{IfOk, OnErr}
 use Rattle.std.proofs.lemmas.List.{take-take, length-take, take_all}
 use Rattle.cpg_cred.specs.declared.refusals.Refusal.{Refusal}
 use Rattle.cpg_cred.specs.declared.refusals.Refusal.TheVariants as refusal
@@ -12,7 +13,7 @@ use Rattle.cpg_daemon.specs.Sessions.{SessionValue, IsTaken}
 use Rattle.cpg_cluster.specs.declared.commands.Ask.TheVariants as ask
 use Rattle.cpg_cluster.specs.declared.replies.Reply.TheVariants.{Took, Nothing}
 use Rattle.cpg_cluster.specs.Answers.{Stays, IsNothing, Serves}
-use Rattle.cpg_cluster.specs.Steps.{IsPolled}
+use Rattle.cpg_cluster.specs.Steps.{IsPolled, poll_of}
 
 begins_length : {X : Type 0} (xs ys : List X) → Begins xs ys → length xs ≤ length ys
 begins_length xs ys b = let l = length-take (length xs) ys in omega (arith, ap length b, l)
@@ -62,6 +63,18 @@ polled_none a b stay over = (stay, inl (over.0, over.1, over.2, sym over.3))
 
 pub polled_behind : (a b : SessionValue) (reached : ℕ) → Stays a b → IsTaken a b.seat (Err (refusal.Behind reached)) → IsPolled a None b
 polled_behind a b reached stay behind = (stay, inr (reached, omega (arith, begins_length a.seat b.seat stay.1, behind)))
+
+-- what one poll tells, by what the session was answered
+polled_as : (a b : SessionValue) (answer : Result (Option Event) Refusal) → IsTaken a b.seat answer → IfOk answer (λ event. b.who ≡ moved_on a.who event) → OnErr answer ((b.who ≡ a.who) × (b.seen ≡ a.seen)) → Begins a.seat b.seat → IsPolled a (poll_of answer) b
+polled_as a b (Ok None) answer who err seat = polled_none a b (who, seat) answer
+polled_as a b (Ok (Some event)) answer who err seat = ((answer.0, answer.1, answer.2, sym answer.3), who, seat)
+polled_as a b (Err (refusal.Behind reached)) answer who err seat = polled_behind a b reached (err.0, seat) answer
+polled_as a b (Err refusal.Memory) answer who err seat = (tt, (err.0, seat))
+polled_as a b (Err refusal.Stopped) answer who err seat = (tt, (err.0, seat))
+polled_as a b (Err _) answer who err seat = absurd answer
+
+pub polled_is : (a b : SessionValue) (answer : Result (Option Event) Refusal) (told : Option (Result Event Refusal)) → told ≡ poll_of answer → IsTaken a b.seat answer → IfOk answer (λ event. b.who ≡ moved_on a.who event) → OnErr answer ((b.who ≡ a.who) × (b.seen ≡ a.seen)) → Begins a.seat b.seat → IsPolled a told b
+polled_is a b answer told is taken who err seat = subst (λ (t : Option (Result Event Refusal)). IsPolled a t b) (sym is) (polled_as a b answer taken who err seat)
 
 -- nothing came while it stayed
 pub nothing_came : (a b : SessionValue) → Stays a b → IsNothing a b.seat → Serves a ask.Wait (Ok (Nothing (length b.seat))) b

@@ -1,6 +1,7 @@
 -- steps of the functions that run, and what the calls that other crates build on ask for
 use Rattle.std.specs.Prelude.{ℕ, ◌≤◌, ⊤, List, All, Option, Some, None, Result, Ok, Err, IfSome, option_map, slice_index}
 use Rattle.cpg_cred.specs.declared.refusals.Refusal.{Refusal}
+use Rattle.cpg_cred.specs.declared.refusals.Refusal.TheVariants as refusal
 use Rattle.cpg_text.specs.Lines.{words_of}
 use Rattle.cpg_record.specs.declared.events.Event.{Event}
 use Rattle.cpg_board.specs.Seats.{IsSeatOf}
@@ -15,6 +16,14 @@ use Rattle.cpg_cluster.specs.declared.replies.Reply.TheVariants.{Took, Audit}
 -- the command of a line that follows so many, where the lines that hold one have those numbers
 abbrev pub numbered_by : ℕ → List ℕ → ℕ → List ℕ → Option Numbered
 numbered_by nodes numbers before line = option_map (numbered (slice_index numbers before)) (command_of nodes (words_of line))
+
+-- What the answer of one poll tells a session that waits: nothing where there is no event yet, or where its node is behind; else the event, or
+-- why waiting ends.
+abbrev pub poll_of : Result (Option Event) Refusal → Option (Result Event Refusal)
+poll_of (Ok None) = None
+poll_of (Ok (Some event)) = Some (Ok event)
+poll_of (Err (refusal.Behind reached)) = None
+poll_of (Err why) = Some (Err why)
 
 -- What one poll gives, and what the session is then: nothing, or an event of its inbox, or why waiting ends.
 abbrev pub IsPolled : SessionValue → Option (Result Event Refusal) → SessionValue → Type 0

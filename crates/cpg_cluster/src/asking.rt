@@ -9,7 +9,7 @@ ghost use Rattle.cpg_station.specs.Serving.{SubmitRefuses};
 ghost use Rattle.cpg_cluster.specs.declared.commands.Ask.TheVariants as asks;
 ghost use Rattle.cpg_cluster.specs.declared.replies.Reply.TheVariants as replies;
 ghost use Rattle.cpg_cluster.specs.Answers.{Serves};
-ghost use Rattle.cpg_cluster.specs.Steps.{SeatsOn, IsPolled};
+ghost use Rattle.cpg_cluster.specs.Steps.{SeatsOn, IsPolled, poll_of};
 
 use crate::commands::Ask;
 use crate::forms::Patience;
@@ -57,9 +57,21 @@ fn submit<B: HistoryName, G, H: Wait>(
     }
 }
 
-/// What the session is told when it asks for its next event once: nothing where there is none yet, or where its node
+/// What the answer of one poll tells whoever waits: nothing where there is no event yet, or where the session's node
 /// is behind.
-#[tactic(auto, using(crate::proofs::Seen::polled_none, crate::proofs::Seen::polled_behind))]
+fn polled(answer: Result<Option<Event>, Refusal>) -> Option<Result<Event, Refusal>>
+    ensures { result ≡ poll_of answer }
+{
+    match answer {
+        Ok(None) => None,
+        Ok(Some(event)) => Some(Ok(event)),
+        Err(Refusal::Behind(_)) => None,
+        Err(refusal) => Some(Err(refusal)),
+    }
+}
+
+/// What the session is told when it asks for its next event once.
+#[tactic(auto, using(crate::proofs::Seen::polled_is))]
 fn look<B: HistoryName, G, H: Wait>(
     rt: &H,
     running: &Running<B, G>,
@@ -68,12 +80,7 @@ fn look<B: HistoryName, G, H: Wait>(
     requires { session.old.who.id.node ≤ running.now.nodes }
     ensures { IsPolled session.old result session.new }
 {
-    match running.take(rt, session) {
-        Ok(None) => None,
-        Ok(Some(event)) => Some(Ok(event)),
-        Err(Refusal::Behind(_)) => None,
-        Err(refusal) => Some(Err(refusal)),
-    }
+    polled(running.take(rt, session))
 }
 
 /// The same, counted.

@@ -1,3 +1,4 @@
 pub mod Pairs
 pub mod Passing
 pub mod Rising
+pub mod Values

@@ -70,8 +70,25 @@ pub fn list_conf(alloc: Global, text: &[u8], names: &Names) -> Result<Numbers, R
     ensures ok { IfOk result (λ numbers. listed names.now text.now ≡ Ok (numbers_listed numbers)) }
     ensures err { IfErr result (Refuses (listed names.now text.now)) }
 {
-    check(text, names)?;
-    collect(alloc, text, names)
+    match collect(alloc, text, names) {
+        Ok(numbers) => Ok(numbers),
+        Err(refusal) => Err(fault_before(text, names, refusal)),
+    }
+}
+
+/// The refusal of a text that was not collected: where that was for memory, the text is gone through once more,
+/// for a fault that comes before it.
+fn fault_before(text: &[u8], names: &Names, refusal: Refusal) -> Refusal
+    requires { (refusal ≡ Refusal.Memory) ⊎ (listed names.now text.now ≡ Err refusal) }
+    ensures { Refuses (listed names.now text.now) result }
+{
+    match refusal {
+        Refusal::Memory => match check(text, names) {
+            Ok(()) => Refusal::Memory,
+            Err(fault) => fault,
+        },
+        fault => fault,
+    }
 }
 
 /// The fault of the text, where there is one.

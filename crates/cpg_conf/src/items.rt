@@ -12,7 +12,7 @@ use crate::names::Names;
 use crate::namings::read_value;
 use crate::nesting::Nesting;
 use cpg_cred::Refusal;
-use cpg_text::is_number;
+use cpg_text::{is_number, read_number};
 
 /// What a line of a conf text lists.
 #[derive(Debug, Clone, Copy)]
@@ -60,13 +60,33 @@ fn read_key(names: &Names, number: u32, key: &[u8], value: &[u8]) -> Result<Item
     ensures err { IfErr result (λ refusal. key_said names.now number key.now value.now ≡ Err refusal) }
 {
     if key == b"uid".as_slice() {
-        let uid = choose_number(number, value, names.user(value))?;
-        Ok(Item::User(uid))
+        Ok(Item::User(read_user(names, number, value)?))
     } else if key == b"gid".as_slice() {
-        let gid = choose_number(number, value, names.group(value))?;
-        Ok(Item::Group(gid))
+        Ok(Item::Group(read_group(names, number, value)?))
     } else {
         Err(Refusal::BadItem(number))
+    }
+}
+
+/// The number of the user that a value stands for. A name is looked up only where digits write no number.
+#[tactic(auto, using(crate::proofs::Values::said_at_once))]
+fn read_user(names: &Names, number: u32, value: &[u8]) -> Result<u32, Refusal>
+    ensures { result ≡ number_said number value.now (number_of (names.now).users value.now) }
+{
+    match read_number(0, u64::from(u32::MAX), value) {
+        Some(uid) => Ok(uid as u32),
+        None => choose_number(number, value, names.user(value)),
+    }
+}
+
+/// The same for a group.
+#[tactic(auto, using(crate::proofs::Values::said_at_once))]
+fn read_group(names: &Names, number: u32, value: &[u8]) -> Result<u32, Refusal>
+    ensures { result ≡ number_said number value.now (number_of (names.now).groups value.now) }
+{
+    match read_number(0, u64::from(u32::MAX), value) {
+        Some(gid) => Ok(gid as u32),
+        None => choose_number(number, value, names.group(value)),
     }
 }
 

@@ -55,10 +55,11 @@ impl Names {
         ensures ok { IfOk result (λ names. known_of text.now ≡ Ok names) }
         ensures err { IfErr result (Refuses (known_of text.now)) }
     {
-        check(text)?;
         let mut names = Names::new(alloc);
-        names.add_all(text)?;
-        Ok(names)
+        match names.add_all(text) {
+            Ok(()) => Ok(names),
+            Err(refusal) => Err(fault_before(text, refusal)),
+        }
     }
 
     /// The number of a user's name, if it is known.
@@ -115,6 +116,21 @@ impl Names {
             NamingView::User(name, number) => self.add_user(name, *number),
             NamingView::Group(name, number) => self.add_group(name, *number),
         }
+    }
+}
+
+/// The refusal of a text that was not taken in: where that was for memory, the text is gone through once more, for
+/// a fault that comes before it.
+fn fault_before(text: &[u8], refusal: Refusal) -> Refusal
+    requires { (refusal ≡ Refusal.Memory) ⊎ (namings_from 1 (lines_of text.now) ≡ Err refusal) }
+    ensures { Refuses (known_of text.now) result }
+{
+    match refusal {
+        Refusal::Memory => match check(text) {
+            Ok(()) => Refusal::Memory,
+            Err(fault) => fault,
+        },
+        fault => fault,
     }
 }
 

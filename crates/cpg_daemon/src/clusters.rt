@@ -8,6 +8,7 @@ ghost use Rattle.cpg_daemon.specs.Clusters.{IsUnstarted};
 ghost use Rattle.cpg_daemon.specs.Links.{peers_of, links_of};
 
 use crate::beginning::begin_all;
+use crate::bells::{Bell, new_bells};
 use crate::gates::Gate;
 use crate::lines::Lines;
 use crate::making::{first_token, new_links, new_locks, new_room, new_spares, peers, put_first};
@@ -21,6 +22,7 @@ use cpg_ring::are_settings;
 use std::alloc::Global;
 use std::marker::Model;
 use std::ops::Deref;
+use std::sync::atomic::{AtomicBool, AtomicU64};
 use std::sync::{Arc, Mutex, Wait};
 use std::thread::Threads;
 use std::time::Clock;
@@ -67,13 +69,14 @@ pub struct Ends<B: HistoryName> {
     pub links: Vec<(LinkTx<Parcel<B>>, LinkRx<Parcel<B>>)>,
 }
 
-/// Running nodes with those stations.
+/// Running nodes with those stations and bells.
 fn new_running<B: HistoryName, G>(
     alloc: Global,
     board: Board,
     history: History<B>,
     list: AcceptList,
     stations: Vec<Mutex<Member<B>>>,
+    bells: Vec<Bell>,
     nodes: u8,
     gate: G,
 ) -> Result<Arc<Running<B, G>, Global>, Refusal>
@@ -81,7 +84,7 @@ where
     G: Drop,
     requires board { board ≡ B.cells }
     requires list { list ≡ B.start.list }
-    requires nodes { (vec_len stations ≡ nodes) × (nodes ≤ 8) }
+    requires nodes { (vec_len stations ≡ nodes) × (vec_len bells ≡ nodes) × (nodes ≤ 8) }
     ensures ok { IfOk result (λ running. arc_value running ≡ record { nodes = nodes; list = list }) }
     ensures memory { IsOkUnless result Refusal.Memory }
 {
@@ -94,6 +97,9 @@ where
             nodes,
             stations,
             gate,
+            bells,
+            calls: AtomicU64::new(0),
+            halted: AtomicBool::new(false),
         },
     )?)
 }
@@ -218,7 +224,8 @@ where
         let token = first_token(&rt, &history, &locks)?;
         put_first(&rt, nodes, token, lines.outgoing.as_mut_slice());
         let Beginning { settings: _, list } = beginning;
-        let running = new_running(alloc, board, history, list, locks, nodes, gate)?;
+        let bells = new_bells(alloc, nodes)?;
+        let running = new_running(alloc, board, history, list, locks, bells, nodes, gate)?;
         begin(rt, alloc, running, lines, room)
     }
 

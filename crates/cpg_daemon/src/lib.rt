@@ -6,6 +6,7 @@
 #![tactic(auto)]
 
 mod beginning;
+mod bells;
 mod clusters;
 mod gates;
 mod lines;

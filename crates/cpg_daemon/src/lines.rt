@@ -2,7 +2,7 @@
 
 use crate::gates::{Fate, Gate};
 use cpg_cred::NodeId;
-use cpg_history::{History, HistoryName, Parcel};
+use cpg_history::{History, HistoryName, Parcel, Parcels};
 use cpg_link::{LinkRx, LinkTx};
 use std::sync::Wait;
 
@@ -37,11 +37,14 @@ pub(crate) struct Outgoing<B: HistoryName> {
     pub link: LinkTx<Parcel<B>>,
 }
 
-/// The end of a link from which its node's thread takes frames.
+/// The end of a link from which its node's thread takes frames. It holds the turn's frame until the node hears it, and then
+/// what the node answered until that is sent.
 #[derive(Drop)]
 pub(crate) struct Incoming<B: HistoryName> {
     pub way: Way,
     pub link: LinkRx<Parcel<B>>,
+    pub frame: Option<Parcel<B>>,
+    pub answer: Option<Parcels<B>>,
 }
 
 /// The ends that a node's thread holds.
@@ -57,6 +60,8 @@ impl<B: HistoryName> Incoming<B> {
         Incoming {
             way: Way { from, to },
             link,
+            frame: None,
+            answer: None,
         }
     }
 }

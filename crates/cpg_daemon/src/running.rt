@@ -5,15 +5,17 @@ ghost use Rattle.cpg_board.specs.Seats.{IsSeatOf};
 ghost use Rattle.cpg_history.specs.Members.{IsSafeAt};
 ghost use Rattle.cpg_daemon.specs.Links.{next_of};
 
+use crate::bells::{Bell, News};
 use cpg_board::{Board, Seat};
-use cpg_cred::{AcceptList, NodeId, Refusal};
-use cpg_history::{History, HistoryName, Member, Parcel, Parcels};
+use cpg_cred::{AcceptList, NodeId};
+use cpg_history::{History, HistoryName, Member, Parcel};
 use std::marker::Model;
+use std::sync::atomic::{AtomicBool, AtomicU64, Ordering};
 use std::sync::{Mutex, Wait};
 
-/// Running nodes: a station for each behind a lock, with its node's pen of their history, their board, and the list that
-/// they accept by. All
-/// threads may share it. Contracts see how many nodes there are, and the list.
+/// Running nodes: a station for each behind a lock, with its node's pen of their history, their board, the list that they
+/// accept by, and the bells of their threads. All threads may share it. Contracts see how many nodes there are, and the
+/// list.
 #[derive(Drop)]
 pub struct Running<B: HistoryName, G> {
     pub(crate) board: Board,
@@ -22,6 +24,11 @@ pub struct Running<B: HistoryName, G> {
     pub(crate) nodes: u8,
     pub(crate) stations: Vec<Mutex<Member<B>>>,
     pub(crate) gate: G,
+    pub(crate) bells: Vec<Bell>,
+    /// How many calls were admitted, at any node.
+    pub(crate) calls: AtomicU64,
+    /// Whether all nodes are halted.
+    pub(crate) halted: AtomicBool,
 }
 
 impl<B: HistoryName, G> Model for Running<B, G> {
@@ -32,7 +39,7 @@ impl<B: HistoryName, G> Model for Running<B, G> {
 
     ghost view = { λ running. record { nodes = running.nodes; list = running.list } };
 
-    ghost invariant = { λ running. (running.board ≡ B.cells) × (running.list ≡ B.start.list) × (vec_len running.stations ≡ running.nodes) × (running.nodes ≤ 8) };
+    ghost invariant = { λ running. (running.board ≡ B.cells) × (running.list ≡ B.start.list) × (vec_len running.stations ≡ running.nodes) × (vec_len running.bells ≡ running.nodes) × (running.nodes ≤ 8) };
 }
 
 impl<B: HistoryName, G> Running<B, G> {
@@ -78,6 +85,13 @@ impl<B: HistoryName, G> Running<B, G> {
         for station in self.stations.iter() {
             station.lock(rt).halt();
         }
+        self.halted.store(true, Ordering::SeqCst);
+        self.ring_all(News::Halt);
+    }
+
+    /// Whether all nodes are halted.
+    pub(crate) fn are_halted(&self) -> bool {
+        self.halted.load(Ordering::SeqCst)
     }
 
     /// Whether the node is halted.
@@ -87,30 +101,29 @@ impl<B: HistoryName, G> Running<B, G> {
         self.station(node).lock(rt).is_halted()
     }
 
-    /// The node hears a frame. Gives what it is answered with.
-    pub(crate) fn frame<R: Wait>(
-        &self,
-        rt: &R,
-        node: NodeId,
-        frame: Parcel<B>,
-    ) -> Result<Parcels<B>, Refusal>
+    /// The bell of a node's thread.
+    pub(crate) fn bell(&self, node: NodeId) -> &Bell
         requires { node ≤ self.now.nodes }
     {
-        self.station(node).lock(rt).frame(&self.history, frame)
+        &self.bells[usize::from(node.get()) - 1]
     }
 
-    /// Whether the node delivers a place.
-    pub(crate) fn deliver<R: Wait>(&self, rt: &R, node: NodeId) -> bool
-        requires { node ≤ self.now.nodes }
-    {
-        match self
-            .station(node)
-            .lock(rt)
-            .deliver(&self.history, &self.board)
-        {
-            Ok(place) => place.is_some(),
-            Err(_) => false,
+    /// Rings all bells.
+    fn ring_all(&self, news: News) {
+        for bell in self.bells.iter() {
+            bell.ring(news);
         }
+    }
+
+    /// Counts a call that was admitted, and wakes the threads of a ring at rest: the token has to come by.
+    pub(crate) fn tell_call(&self) {
+        self.calls.fetch_add(1, Ordering::SeqCst);
+        self.ring_all(News::Call);
+    }
+
+    /// How many calls were admitted.
+    pub(crate) fn calls(&self) -> u64 {
+        self.calls.load(Ordering::SeqCst)
     }
 
     /// The node's last token sent, if there is one, and a copy could be made.

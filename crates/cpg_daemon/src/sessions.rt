@@ -96,9 +96,14 @@ impl<B: HistoryName, G> Running<B, G> {
         ensures err { IfErr result (λ refused. (refused.back ≡ call) × SubmitRefuses call refused.refusal) }
         ensures unchanged { OnErr result (session.new ≡ session.old) }
     {
-        self.station(session.who.id.node)
+        let answer = self
+            .station(session.who.id.node)
             .lock(rt)
-            .submit_for(&self.history, &mut session.front, &session.who, call)
+            .submit_for(&self.history, &mut session.front, &session.who, call);
+        if answer.is_ok() {
+            self.tell_call();
+        }
+        answer
     }
 
     /// The next event of the session, if there is one. Refused with Stopped; with Behind where its node has
@@ -174,7 +179,10 @@ impl<B: HistoryName, G> Running<B, G> {
         ensures err { IfErr result (λ refused. (refused.back ≡ session) × IsEndRefusal refused.refusal) }
     {
         match self.end(rt, &mut session) {
-            Ok(()) => Ok(()),
+            Ok(()) => {
+                self.tell_call();
+                Ok(())
+            }
             Err(refusal) => Err(Refused {
                 refusal,
                 back: session,

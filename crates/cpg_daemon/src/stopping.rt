@@ -130,7 +130,15 @@ fn sender_of<B: HistoryName>(end: Outgoing<B>) -> LinkTx<Parcel<B>> {
 }
 
 fn receiver_of<B: HistoryName>(end: Incoming<B>) -> LinkRx<Parcel<B>> {
-    end.link
+    let Incoming {
+        way: _,
+        link,
+        frame,
+        answer,
+    } = end;
+    drop(frame);
+    drop(answer);
+    link
 }
 
 /// The two ends of each link, in the order of the nodes that the links come from, and then of those that they

@@ -1,48 +1,61 @@
 //! What a node's thread does: turn after turn, until its station is halted.
 
-ghost use Rattle.std.specs.Prelude.{◌≡◌, ◌≤◌, vec_len};
+ghost use Rattle.std.specs.Prelude.{◌≡◌, ◌≤◌, ◌+◌, IfSome, IsTrue, vec_len};
 
+use crate::bells::{Bell, Depth, News};
 use crate::gates::Gate;
 use crate::lines::{Incoming, Lines, Outgoing};
 use crate::running::Running;
 use cpg_cred::NodeId;
-use cpg_history::{History, HistoryName, Parcel, Parcels};
+use cpg_history::{History, HistoryName, Member, Parcel, Parcels};
 use std::sync::Wait;
 use std::thread;
-use std::time::{Clock, Duration};
 
 /// After how many idle turns in a row a node sends its last token again.
 const IDLE_TURNS: u32 = 64;
 
-/// After how many turns in a row that weren't busy a thread yields after each, and after how many it sleeps after
-/// each.
-const SPINS: u32 = 64;
+/// For how many idle turns in a row a thread only looks for a frame before it takes the next; after those that follow
+/// it sleeps. So 64 idle turns take some milliseconds, and a token comes round in less even where the nodes share
+/// a processor.
+const LOOKED_TURNS: u32 = 32;
 
-const YIELDS: u32 = 512;
+/// For how many microseconds a thread sleeps lightly at most: it is woken by a frame.
+const LIGHT_MICROS: u64 = 50;
 
-/// For how long a thread sleeps between such turns, in microseconds: eight nodes pass the token round in some 12
-/// milliseconds then.
-const SLEEP_MICROS: u64 = 3_000;
+/// For how many tokens sent again since a frame came a thread sleeps so long once more: whoever's token is the last finds
+/// the time for its own idle turns then.
+const SLOWEST_RESENT: u32 = 15;
 
-/// For how long it sleeps after a turn that passed the token on, in microseconds: it comes back after all others
-/// had it.
-const PASSED_MICROS: u64 = 6_000;
-
-/// After how many idle turns in a row the token is overdue, so that a thread sleeps so long no more until it
-/// sends its last one again.
-const DUE_TURNS: u32 = 16;
-
-/// How many microseconds more a thread sleeps after an idle turn for each time that it sent its last token again,
-/// up to so many times: whoever's token is the last finds the time for its own idle turns then.
-const RESENT_MICROS: u64 = 20;
-
-const SLOWEST_RESENT: u32 = 8;
-
-/// After how many tokens sent again, or frames refused, a thread takes it that there is no way on.
+/// After how many tokens sent again, or frames refused, a thread takes it that there is no way on, and for how many
+/// microseconds it then sleeps at most.
 const MOST_IN_VAIN: u32 = 1024;
 
+const VAIN_MICROS: u64 = 10_000;
+
+/// After how many tokens in a row that brought nothing and took nothing along a ring is calm: in so many rounds the places
+/// that were given out have been asked for and delivered. A thread then waits longer for a token, so many microseconds
+/// at most, and so doesn't send its own again where another thread is late or at rest.
+const CALM_TOKENS: u32 = 6;
+
+const CALM_MICROS: u64 = 10_000;
+
+/// After how many the ring is at rest: so many more that all nodes are calm before the first of them rests, whose counts
+/// differ by a round or two.
+const REST_TOKENS: u32 = 12;
+
+/// After how many idle turns in a row the token is overdue: while the ring is at rest it moves on with each sleep that
+/// ends, and so comes round within eight of these.
+const DUE_TURNS: u32 = 32;
+
+/// How many frames refused in a row show that a token was lost, and not only sent again too early: the ring is calm no more.
+const LOST_STALE: u32 = 2;
+
+/// For how many microseconds a thread of a ring at rest sleeps at most: it is woken by data and by calls. Eight threads
+/// that wake so often use less than a hundredth of a processor.
+const DEEP_MICROS: u64 = 100_000;
+
 /// What a turn did.
-#[derive(Clone, Copy, PartialEq, Eq)]
+#[derive(Debug, Clone, Copy, PartialEq, Eq)]
 enum Turn {
     /// It took no frame, and delivered nothing.
     Idle,
@@ -67,12 +80,12 @@ impl Turn {
 }
 
 /// How long nothing much has happened.
-#[derive(Clone, Copy)]
+#[derive(Debug, Clone, Copy)]
 struct Lull {
-    /// How many turns in a row weren't busy.
-    still: u32,
-    /// How many of the last were idle since a token was sent again.
+    /// How many of the last turns were idle since a token was sent again.
     idle: u32,
+    /// How many tokens in a row brought nothing and took nothing along, since a call was admitted.
+    quiet: u32,
     /// How often a token was sent again since a frame came.
     resent: u32,
     /// How many frames were refused since one was not.
@@ -82,28 +95,28 @@ struct Lull {
 impl Lull {
     /// After a turn that was busy.
     const NONE: Lull = Lull {
-        still: 0,
         idle: 0,
+        quiet: 0,
         resent: 0,
         stale: 0,
     };
 
     /// After one turn more.
-    fn after(self, turn: Turn) -> Lull {
-        let still = self.still.saturating_add(1);
+    fn after(self, turn: Turn) -> Lull
+        ensures { result.idle ≤ self.idle + 1 }
+    {
         match turn {
             Turn::Busy => Lull::NONE,
             Turn::Quiet => Lull {
-                still,
+                quiet: self.quiet.saturating_add(1),
                 ..Lull::NONE
             },
             Turn::Stale => Lull {
-                still,
+                quiet: self.quiet,
                 stale: self.stale.saturating_add(1),
                 ..Lull::NONE
             },
             Turn::Idle => Lull {
-                still,
                 idle: self.idle.saturating_add(1),
                 ..self
             },
@@ -111,7 +124,9 @@ impl Lull {
     }
 
     /// After a token was sent again.
-    fn after_resend(self) -> Lull {
+    fn after_resend(self) -> Lull
+        ensures { result.idle ≡ 0 }
+    {
         Lull {
             idle: 0,
             resent: self.resent.saturating_add(1),
@@ -119,22 +134,93 @@ impl Lull {
         }
     }
 
-    /// For how many microseconds to sleep, if at all.
-    fn sleep(self) -> Option<u64> {
-        if self.resent > MOST_IN_VAIN || self.stale > MOST_IN_VAIN {
-            return Some(SLEEP_MICROS);
-        }
-        if self.resent > 0 && self.idle > 0 {
-            return Some(RESENT_MICROS * u64::from(self.resent.min(SLOWEST_RESENT)));
-        }
-        if self.still <= YIELDS || self.resent > 0 || self.stale > 0 || self.idle > DUE_TURNS {
-            return None;
-        }
-        Some(if self.idle == 0 {
-            PASSED_MICROS
+    /// After calls were admitted.
+    fn after_calls(self) -> Lull
+        ensures { (result.quiet ≡ 0) × (result.idle ≡ self.idle) }
+    {
+        Lull { quiet: 0, ..self }
+    }
+
+    /// Whether the ring is calm.
+    fn is_calm(self) -> bool
+        ensures { IsTrue result → 6 ≤ self.quiet }
+    {
+        self.quiet >= CALM_TOKENS && self.stale < LOST_STALE
+    }
+
+    /// Whether the ring is at rest.
+    fn is_rest(self) -> bool
+        ensures { IsTrue result → (12 ≤ self.quiet) × (self.idle ≤ 32) × (self.resent ≡ 0) }
+    {
+        self.is_calm() && self.quiet >= REST_TOKENS && self.idle <= DUE_TURNS && self.resent == 0
+    }
+
+    /// How deep to sleep, once one turn more has found nothing.
+    fn depth(self) -> Depth
+        ensures awake { result ≡ Depth.Awake → self.idle ≡ 0 }
+        ensures deep { result ≡ Depth.Deep → (12 ≤ self.quiet) × (self.idle ≤ 32) × (self.resent ≡ 0) }
+    {
+        if self.is_rest() {
+            Depth::Deep
+        } else if self.idle > 0 {
+            Depth::Light
         } else {
-            SLEEP_MICROS
-        })
+            Depth::Awake
+        }
+    }
+
+    /// For how many microseconds to sleep at most, if at all: a tenth of a second, however deep.
+    fn most_micros(self) -> Option<u64>
+        ensures { IfSome result (λ micros. micros ≤ 100_000) }
+    {
+        if self.is_rest() {
+            Some(DEEP_MICROS)
+        } else if self.resent > MOST_IN_VAIN || self.stale > MOST_IN_VAIN {
+            Some(VAIN_MICROS)
+        } else if self.is_calm() {
+            Some(CALM_MICROS)
+        } else if self.idle <= LOOKED_TURNS {
+            None
+        } else {
+            Some(LIGHT_MICROS * u64::from(self.resent.min(SLOWEST_RESENT) + 1))
+        }
+    }
+}
+
+/// What a node's thread goes by between its turns.
+#[derive(Debug, Clone, Copy)]
+struct Pace {
+    /// The number of the next turn; it stays at its last value.
+    turn: u64,
+    lull: Lull,
+    /// How many calls it knows to be admitted.
+    calls: u64,
+    /// Whether the last delivery was refused: each turn tries it again.
+    owes: bool,
+}
+
+impl Pace {
+    /// Before the first turn.
+    const FIRST: Pace = Pace {
+        turn: 1,
+        lull: Lull::NONE,
+        calls: 0,
+        owes: false,
+    };
+
+    /// After one turn more, and so many calls.
+    fn after(self, turn: Turn, owes: bool, calls: u64) -> Pace {
+        let lull = self.lull.after(turn);
+        Pace {
+            turn: self.turn.saturating_add(1),
+            lull: if calls == self.calls {
+                lull
+            } else {
+                lull.after_calls()
+            },
+            calls,
+            owes,
+        }
     }
 }
 
@@ -144,15 +230,6 @@ fn turn_of(answers: usize) -> Turn {
         Turn::Quiet
     } else {
         Turn::Busy
-    }
-}
-
-/// Rests between two turns: not at all, by a yield, or by a sleep.
-fn rest<R: Clock>(rt: &R, lull: Lull) {
-    match lull.sleep() {
-        Some(micros) => thread::sleep(rt, Duration::from_micros(micros)),
-        None if lull.still > SPINS => thread::yield_now(),
-        None => {}
     }
 }
 
@@ -187,7 +264,66 @@ fn send_token<B: HistoryName, G: Gate, R: Wait>(
     }
 }
 
+/// Takes at most one frame from each link. Says whether there was one.
+fn take_each<B: HistoryName, R: Wait>(rt: &R, incoming: &mut [Incoming<B>]) -> bool {
+    let mut some = false;
+    for end in incoming.iter_mut() {
+        end.frame = end.link.take(rt);
+        some = some || end.frame.is_some();
+    }
+    some
+}
+
+/// Waits between two turns until the thread's bell is rung, for as long at most as the lull says.
+fn rest<R: Wait>(rt: &R, bell: &Bell, lull: Lull) {
+    if !lull.is_rest() && bell.is_rung_soon() {
+        return;
+    }
+    if let Some(micros) = lull.most_micros() {
+        bell.sleep(rt, micros);
+    }
+}
+
 impl<B: HistoryName, G: Gate> Running<B, G> {
+    /// The node hears the frame of a link, if one was taken. A refused frame is lost.
+    fn hear(&self, station: &mut Member<B>, end: &mut Incoming<B>) -> Turn {
+        let Some(frame) = end.frame.take() else {
+            return Turn::Idle;
+        };
+        match station.frame(&self.history, frame) {
+            Ok(sent) => {
+                let turn = turn_of(sent.len());
+                end.answer = Some(sent);
+                turn
+            }
+            Err(_) => Turn::Stale,
+        }
+    }
+
+    /// The node hears the frames that were taken, one after the other, under one lock.
+    fn hear_each<R: Wait>(&self, rt: &R, node: NodeId, incoming: &mut [Incoming<B>]) -> Turn
+        requires { node ≤ self.now.nodes }
+    {
+        let mut heard = Turn::Idle;
+        let mut station = self.station(node).lock(rt);
+        for end in incoming.iter_mut() {
+            heard = heard.and(self.hear(&mut station, end));
+        }
+        heard
+    }
+
+    /// Wakes those to whom frames were sent: the next, for the token, and where data was, all.
+    fn ring_for(&self, node: NodeId, frames: usize)
+        requires { node ≤ self.now.nodes }
+    {
+        self.bell(self.next(node)).ring(News::Token);
+        if frames > 1 {
+            for bell in self.bells.iter() {
+                bell.ring(News::Data);
+            }
+        }
+    }
+
     /// Sends what a frame is answered with: its last is a token, which goes to the next node, the others are data, which
     /// goes to all others. What memory is refused for is lost.
     fn send_all<R: Wait>(
@@ -211,59 +347,41 @@ impl<B: HistoryName, G: Gate> Running<B, G> {
                 send_token(rt, &self.gate, &self.history, next, &mut frame, outgoing);
             }
         }
+        self.ring_for(node, count);
     }
 
-    /// Takes at most one frame from a link, and sends what the node answers it with. A refused frame is lost.
-    fn hear<R: Wait>(
-        &self,
-        rt: &R,
-        node: NodeId,
-        incoming: &mut Incoming<B>,
-        outgoing: &mut [Outgoing<B>],
-    ) -> Turn
-        requires { node ≤ self.now.nodes }
-    {
-        let Some(frame) = incoming.link.take(rt) else {
-            return Turn::Idle;
-        };
-        match self.frame(rt, node, frame) {
-            Ok(mut sent) => {
-                self.send_all(rt, node, &mut sent, outgoing);
-                turn_of(sent.len())
-            }
-            Err(_) => Turn::Stale,
-        }
-    }
-
-    /// Hears at most one frame from each link.
-    fn hear_each<R: Wait>(
+    /// Sends what the frames of a turn were answered with.
+    fn answer_each<R: Wait>(
         &self,
         rt: &R,
         node: NodeId,
         incoming: &mut [Incoming<B>],
         outgoing: &mut [Outgoing<B>],
-    ) -> Turn
+    )
         requires { node ≤ self.now.nodes }
     {
-        let mut heard = Turn::Idle;
         for end in incoming.iter_mut() {
-            heard = heard.and(self.hear(rt, node, end, outgoing));
+            if let Some(mut sent) = end.answer.take() {
+                self.send_all(rt, node, &mut sent, outgoing);
+            }
         }
-        heard
     }
 
-    /// Delivers what the node can.
-    fn deliver_all<R: Wait>(&self, rt: &R, node: NodeId) -> Turn
+    /// Delivers what the node can, under one lock. Says, too, whether it was refused.
+    fn deliver_all<R: Wait>(&self, rt: &R, node: NodeId) -> (Turn, bool)
         requires { node ≤ self.now.nodes }
     {
         let mut delivered = Turn::Idle;
+        let mut station = self.station(node).lock(rt);
         for _ in rt.forever() {
-            if !self.deliver(rt, node) {
-                break;
+            match station.deliver(&self.history, &self.board) {
+                Ok(None) => break,
+                Err(_) => return (delivered, true),
+                Ok(Some(_)) => {}
             }
             delivered = Turn::Busy;
         }
-        delivered
+        (delivered, false)
     }
 
     /// Sends the node's last token again.
@@ -273,50 +391,93 @@ impl<B: HistoryName, G: Gate> Running<B, G> {
         if let Some(mut token) = self.timer(rt, node) {
             let next = self.next(node);
             send_token(rt, &self.gate, &self.history, next, &mut token, outgoing);
+            self.ring_for(node, 1);
         }
     }
 
-    /// One turn.
+    /// One turn. It takes no lock where no frame came and no delivery is owed. Says, too, whether one is then.
     fn turn<R: Wait>(
         &self,
         rt: &R,
         node: NodeId,
+        owes: bool,
         incoming: &mut [Incoming<B>],
         outgoing: &mut [Outgoing<B>],
-    ) -> Turn
+    ) -> (Turn, bool)
         requires { node ≤ self.now.nodes }
     {
-        let heard = self.hear_each(rt, node, incoming, outgoing);
-        heard.and(self.deliver_all(rt, node))
+        let came = take_each(rt, incoming);
+        if !came && !owes {
+            return (Turn::Idle, false);
+        }
+        let heard = if came {
+            self.hear_each(rt, node, incoming)
+        } else {
+            Turn::Idle
+        };
+        self.answer_each(rt, node, incoming, outgoing);
+        let (delivered, refused) = self.deliver_all(rt, node);
+        (heard.and(delivered), refused)
     }
 
-    /// A node's thread. It gives back its ends of links.
-    pub(crate) fn run<R: Wait + Clock>(&self, rt: &R, node: NodeId, mut lines: Lines<B>) -> Lines<B>
+    /// Whether the thread is to end. A station halts by itself only where it refuses a delivery, so that no lock is taken
+    /// where none is owed.
+    fn is_over<R: Wait>(&self, rt: &R, node: NodeId, owes: bool) -> bool
+        requires { node ≤ self.now.nodes }
+    {
+        self.are_halted() || owes && self.is_halted(rt, node)
+    }
+
+    /// One turn, and what the thread goes by after it. After so many idle turns the last token is sent again.
+    fn go_on<R: Wait>(
+        &self,
+        rt: &R,
+        node: NodeId,
+        pace: Pace,
+        incoming: &mut [Incoming<B>],
+        outgoing: &mut [Outgoing<B>],
+    ) -> Pace
+        requires { node ≤ self.now.nodes }
+    {
+        let (turn, owes) = self.turn(rt, node, pace.owes, incoming, outgoing);
+        let next = pace.after(turn, owes, self.calls());
+        if next.lull.idle < IDLE_TURNS {
+            return next;
+        }
+        self.send_again(rt, node, outgoing);
+        Pace {
+            lull: next.lull.after_resend(),
+            ..next
+        }
+    }
+
+    /// A node's thread. It gives back its ends of links. What can end a sleep is looked at after the sleep is announced: the
+    /// halt, the links and the calls.
+    pub(crate) fn run<R: Wait>(&self, rt: &R, node: NodeId, mut lines: Lines<B>) -> Lines<B>
         requires { node ≤ self.now.nodes }
         ensures { (vec_len result.outgoing ≡ vec_len lines.outgoing) × (vec_len result.incoming ≡ vec_len lines.incoming) }
     {
-        let mut turn = 1u64;
-        let mut lull = Lull::NONE;
+        let mut pace = Pace::FIRST;
         for _ in rt.forever() {
-            if self.is_halted(rt, node) {
+            let depth = pace.lull.depth();
+            self.bell(node).announce(depth);
+            if self.is_over(rt, node, pace.owes) {
                 break;
             }
-            if !self.gate.may_turn(node, turn) {
+            if !self.gate.may_turn(node, pace.turn) {
                 thread::yield_now();
                 continue;
             }
-            turn = turn.saturating_add(1);
-            lull = lull.after(self.turn(
+            pace = self.go_on(
                 rt,
                 node,
+                pace,
                 lines.incoming.as_mut_slice(),
                 lines.outgoing.as_mut_slice(),
-            ));
-            if lull.idle >= IDLE_TURNS {
-                self.send_again(rt, node, lines.outgoing.as_mut_slice());
-                lull = lull.after_resend();
+            );
+            if depth != Depth::Awake && pace.lull.depth() == depth {
+                rest(rt, self.bell(node), pace.lull);
             }
-            rest(rt, lull);
         }
         lines
     }

@@ -20,7 +20,7 @@ use Rattle.cpg_step.specs.declared.commands.Command.{Command}
 use Rattle.cpg_step.specs.declared.commands.Command.TheVariants.{Act, Look}
 use Rattle.cpg_draw.specs.declared.arrows.Arrow.{Arrow}
 use Rattle.cpg_draw.specs.Rows.{brings, sent_by, first_arrows, row_text, event_text, state_text, act_text, look_row, act_row, arrows_after, rows_of, head_of, IsPicture}
-use Rattle.cpg_draw.specs.Steps.{IsActed, AreRows, GoesOn}
+use Rattle.cpg_draw.specs.Steps.{IsActed, AreRows, StandsBefore}
 use Rattle.cpg_draw.specs.Telling.{IsTold}
 
 -- the parts of what an event's row says, put one after the other
@@ -57,7 +57,7 @@ told_acted row arrows later w v e old first new put told = record {
 
 -- an event's row stands before those that follow it
 pub act_goes_on : (row : ℕ) (arrows : List Arrow) (w : WorldValue) (e : WorldEvent) (old : List ℕ) (then : List Arrow) (v : WorldValue) (new : List ℕ)
-    → IsActed row arrows w e old then v new → GoesOn row arrows w (Act e) old then v new
+    → IsActed row arrows w e old then v new → StandsBefore row arrows w (Act e) old then v new
 act_goes_on row arrows w e old then v new acted later whole h =
     let there : AreRows (row + 1) then (happens w e) later new whole = subst (λ x. AreRows (row + 1) then x later new whole) acted.happened h in
     let rest : AreRows (row + 1) (arrows_after row arrows w e) (happens w e) later new whole = subst (λ x. AreRows (row + 1) x (happens w e) later new whole) acted.noted there in
@@ -69,7 +69,7 @@ act_goes_on row arrows w e old then v new acted later whole h =
 
 -- and so does the row of a command that only looks
 pub look_goes_on : (row : ℕ) (arrows : List Arrow) (w : WorldValue) (l : LookValue) (old new : List ℕ)
-    → new ≡ old ++ look_row row arrows w l → GoesOn row arrows w (Look l) old arrows w new
+    → new ≡ old ++ look_row row arrows w l → StandsBefore row arrows w (Look l) old arrows w new
 look_goes_on row arrows w l old new put later whole rest = record {
   answers = rest.answers;
   replies = rest.replies;
@@ -85,7 +85,7 @@ as_many_acted row arrows w e old then v new acted = ap (λ (x : WorldValue). len
 pub step_rows : (commands : List Command) (i : ℕ) (c : Command) (arrows then first : List Arrow) (w v start : WorldValue) (old new begun : List ℕ)
     → i < length commands → get_or commands i c ≡ c
     → ((whole : List ℕ) → AreRows (i + 1) arrows w (drop i commands) old whole → AreRows 1 first start commands begun whole)
-    → GoesOn (i + 1) arrows w c old then v new
+    → StandsBefore (i + 1) arrows w c old then v new
     → (whole : List ℕ) → AreRows (i + 1 + 1) then v (drop (i + 1) commands) new whole → AreRows 1 first start commands begun whole
 step_rows commands i c arrows then first w v start old new begun within e known goes whole rest =
     known whole (subst (λ cs. AreRows (i + 1) arrows w cs old whole) (sym (drop_more commands i c within ∙ ap (λ x. x ∷ drop (i + 1) commands) e)) (goes (drop (i + 1) commands) whole rest))

@@ -24,6 +24,6 @@ pub record AreRows (row : ℕ) (arrows : List Arrow) (w : WorldValue) (commands 
   pub put : new ≡ old ++ concat (rows_of row arrows w commands answers)
 
 -- whatever rows follow, the command's row stands before them
-abbrev pub GoesOn : ℕ → List Arrow → WorldValue → Command → List ℕ → List Arrow → WorldValue → List ℕ → Type 0
-GoesOn row arrows w command old then world new =
+abbrev pub StandsBefore : ℕ → List Arrow → WorldValue → Command → List ℕ → List Arrow → WorldValue → List ℕ → Type 0
+StandsBefore row arrows w command old then world new =
     (later : List Command) (whole : List ℕ) → AreRows (row + 1) then world later new whole → AreRows row arrows w (command ∷ later) old whole

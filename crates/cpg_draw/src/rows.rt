@@ -11,7 +11,7 @@ ghost use Rattle.cpg_step.specs.Lines.{answer_line};
 ghost use Rattle.cpg_draw.specs.Arrows.{arrows_of};
 ghost use Rattle.cpg_draw.specs.Columns.{columns};
 ghost use Rattle.cpg_draw.specs.Rows.{brings, numbered, event_text, state_text, row_text, look_at, look_text, look_row};
-ghost use Rattle.cpg_draw.specs.Steps.{IsActed, GoesOn};
+ghost use Rattle.cpg_draw.specs.Steps.{IsActed, StandsBefore};
 ghost use Rattle.cpg_draw.specs.Telling.{IsTold};
 ghost use Rattle.cpg_draw.specs.Words.{brought_text, sent_text};
 
@@ -238,7 +238,7 @@ pub(crate) fn draw_command(
     command: &Command,
 ) -> Result<(), Refusal>
     requires { IsWithin (length world.old.nodes) command.now }
-    ensures ok { OnOk result (GoesOn row arrows.old.items world.old command.now text.old.items arrows.new.items world.new text.new.items) }
+    ensures ok { OnOk result (StandsBefore row arrows.old.items world.old command.now text.old.items arrows.new.items world.new text.new.items) }
     ensures nodes { OnOk result (length world.new.nodes ≡ length world.old.nodes) }
     ensures memory { IsOkUnless result Refusal.Memory }
 {

@@ -9,9 +9,9 @@ use Rattle.cpg_ring.specs.Visits.{visit_step}
 use Rattle.cpg_ring.specs.Worlds.{receive_token, receive_data}
 use Rattle.cpg_node.specs.Nodes.{NodeValue}
 use Rattle.cpg_node.specs.Calls.{answers_to}
-use Rattle.cpg_embed.specs.Laws.{IsVisit}
+use Rattle.cpg_embed.specs.Laws.{EndsWithToken}
 
-to_token : (s : Settings) (n : ℕ) (r : NodeState) (t : Token) (why : Option Refusal) → ((receive_token s n r t why).1 ≡ []) ⊎ IsVisit (receive_token s n r t why).1
+to_token : (s : Settings) (n : ℕ) (r : NodeState) (t : Token) (why : Option Refusal) → ((receive_token s n r t why).1 ≡ []) ⊎ EndsWithToken (receive_token s n r t why).1
 to_token s n r t (Some why) = inl refl
 to_token s n r t None = inr ((visit_step s n r t).packets, (visit_step s n r t).token, refl)
 
@@ -19,6 +19,6 @@ to_packet : (r : NodeState) (p : Packet) (why : Option Refusal) → (receive_dat
 to_packet r p (Some why) = refl
 to_packet r p None = refl
 
-pub answers_end : (x : NodeValue) (f : Frame) → (answers_to x f ≡ []) ⊎ IsVisit (answers_to x f)
+pub answers_end : (x : NodeValue) (f : Frame) → (answers_to x f ≡ []) ⊎ EndsWithToken (answers_to x f)
 answers_end x (frames.Packet p) = inl (to_packet x.ring.state p (data_refusal_of x.ring p))
 answers_end x (frames.Token t) = to_token x.ring.settings x.ring.node x.ring.state t (refusal_of x.ring t)

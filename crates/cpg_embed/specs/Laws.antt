@@ -6,9 +6,9 @@ use Rattle.cpg_node.specs.Nodes.{NodeValue}
 use Rattle.cpg_node.specs.Calls.{answers_to}
 
 -- packets, and then one token
-abbrev pub IsVisit : List Frame → Type 0
-IsVisit answer = (packets : List Packet) × (t : Token) × (answer ≡ map frames.Packet packets ++ frames.Token t ∷ [])
+abbrev pub EndsWithToken : List Frame → Type 0
+EndsWithToken answer = (packets : List Packet) × (t : Token) × (answer ≡ map frames.Packet packets ++ frames.Token t ∷ [])
 
 -- an answer is nothing, or packets and then one token
 abbrev pub AnswersEndWithTheirToken : Type 0
-AnswersEndWithTheirToken = (x : NodeValue) (f : Frame) → (answers_to x f ≡ []) ⊎ IsVisit (answers_to x f)
+AnswersEndWithTheirToken = (x : NodeValue) (f : Frame) → (answers_to x f ≡ []) ⊎ EndsWithToken (answers_to x f)

@@ -6,6 +6,7 @@
 //! carry stands in `specs/Ranges.antt`, and what the types of its fields give in `specs/Widths.antt`.
 #![tactic(auto)]
 
+mod bodies;
 mod calls;
 mod entries;
 mod frames;

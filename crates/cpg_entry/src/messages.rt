@@ -1,7 +1,9 @@
 //! What members send.
 
-ghost use Rattle.std.specs.Prelude.{◌≡◌, ◌<◌, ◌↔◌, length, IsTrue, IfOk, OnErr, IsOkUnless};
+ghost use Rattle.std.specs.Prelude.{◌≡◌, ◌<◌, ◌≤◌, ◌-◌, ◌↔◌, length, drop, IsTrue, IfOk, OnErr, IsOkUnless};
 
+use crate::bodies::{Body, KEPT_INSIDE};
+use bytes::Bytes;
 use cpg_rules::Refusal;
 use smallvec::SmallVec;
 use std::alloc::Global;
@@ -10,21 +12,19 @@ use std::marker::Model;
 /// How many bytes a message has at most.
 pub const MOST_MESSAGE_BYTES: usize = 8192;
 
-/// How many bytes a message keeps in itself: a longer one has memory of its own.
-const KEPT_INSIDE: usize = 16;
-
-/// What a member sends. Contracts see it as the list of its bytes.
+/// What a member sends. Contracts see it as the list of its bytes. Copies of a long one share them.
 #[derive(Debug, Drop)]
 pub struct Message {
-    bytes: SmallVec<u8, KEPT_INSIDE>,
+    body: Body,
 }
 
 impl Model for Message {
     ghost use Rattle.std.specs.Prelude.{List, ℕ};
+    ghost use Rattle.cpg_entry.specs.Bodies.{bytes_of};
 
     ghost Value = { List ℕ };
 
-    ghost view = { λ message. message.bytes.items };
+    ghost view = { λ message. bytes_of message.body };
 }
 
 impl Message {
@@ -36,34 +36,66 @@ impl Message {
         // Bytes that are kept inside take no memory.
         ensures outside { OnErr result (KEPT_INSIDE < length bytes.now) }
     {
-        Ok(Message {
-            bytes: SmallVec::from_slice(alloc, bytes)?,
-        })
+        let body = if bytes.len() <= KEPT_INSIDE {
+            Body::Own(SmallVec::from_slice(alloc, bytes)?)
+        } else {
+            Body::Shared(Bytes::copy_from_slice(alloc, bytes)?)
+        };
+        Ok(Message { body })
     }
 
-    /// The message of those bytes, which takes no memory.
+    /// The message of those bytes. It is never refused: where memory to share a long one is, each copy takes its own.
     pub fn from_vec(bytes: Vec<u8>) -> Message
         ensures { result ≡ bytes.items }
     {
-        Message {
-            bytes: SmallVec::from_vec(bytes),
-        }
+        let body = if bytes.len() <= KEPT_INSIDE {
+            Body::Own(SmallVec::from_vec(bytes))
+        } else {
+            match Bytes::from_vec(bytes) {
+                Ok(shared) => Body::Shared(shared),
+                Err(failed) => Body::Own(SmallVec::from_vec(failed.value)),
+            }
+        };
+        Message { body }
     }
 
-    /// A message of the same bytes.
+    /// The message of a frame's last bytes, so many, which a long one shares with the frame.
+    pub fn from_end(alloc: Global, frame: &Bytes, count: usize) -> Result<Message, Refusal>
+        requires { count ≤ length frame.now }
+        ensures ok { IfOk result (λ message. message ≡ drop (length frame.now - count) frame.now) }
+        ensures memory { IsOkUnless result Refusal.Memory }
+        ensures outside { OnErr result (KEPT_INSIDE < count) }
+    {
+        let start = frame.len() - count;
+        if count <= KEPT_INSIDE {
+            return Message::from_slice(alloc, &frame.as_slice()[start..]);
+        }
+        let shared = frame.slice(start..)?;
+        Ok(Message {
+            body: Body::Shared(shared),
+        })
+    }
+
+    /// A message of the same bytes, which the two share where they are many.
     pub fn copy(&self, alloc: Global) -> Result<Message, Refusal>
         ensures ok { IfOk result (λ message. message ≡ self.now) }
         ensures memory { IsOkUnless result Refusal.Memory }
         ensures outside { OnErr result (KEPT_INSIDE < length self.now) }
     {
-        Message::from_slice(alloc, self.as_slice())
+        match &self.body {
+            Body::Own(bytes) => Message::from_slice(alloc, bytes.as_slice()),
+            Body::Shared(bytes) => Message::from_end(alloc, bytes, bytes.len()),
+        }
     }
 
     /// The bytes.
     pub fn as_slice(&self) -> &[u8]
         ensures { result.now ≡ self.now }
     {
-        self.bytes.as_slice()
+        match &self.body {
+            Body::Own(bytes) => bytes.as_slice(),
+            Body::Shared(bytes) => bytes.as_slice(),
+        }
     }
 
     /// Whether the messages have the same bytes.
@@ -84,7 +116,7 @@ impl PartialEq for Message {
     ghost laws = { Prim.search (comparing, rules) };
 
     fn eq(&self, other: &Message) -> bool {
-        self.bytes.as_slice() == other.bytes.as_slice()
+        self.as_slice() == other.as_slice()
     }
 }
 

@@ -19,7 +19,7 @@ use Rattle.std.proofs.lemmas.Option.{none-some}
 use Rattle.cpg_ring.specs.Visits.{up_to}
 use Rattle.cpg_history.specs.declared.histories.Beginning.{Beginning}
 use Rattle.cpg_history.specs.Histories.{first_world}
-use Rattle.cpg_history.specs.Members.{IsAt, IsNew}
+use Rattle.cpg_history.specs.Members.{IsAt, IsNewWorld}
 
 pub same_on : (w : WorldValue) (es : List WorldEvent) → ((runs w es).settings ≡ w.settings) × ((runs w es).list ≡ w.list)
 same_on w [] = (refl, refl)
@@ -80,7 +80,7 @@ first_at b (suc k) low high =
     item_map (λ m. new_value b.settings m b.list) (up_to N) (suc k) ∙ (ap (option_map (λ m. new_value b.settings m b.list)) there.1 ∙ ap (λ m. Some (new_value b.settings m b.list)) (up_to_at N k there.0 there.1))
 
 -- each node of a world after a new one has its number and the world's list
-pub stands_at : (start : WorldValue) (seen : List WorldEvent) (n : ℕ) (x : NodeValue) → IsNew start → IsAt start seen n x → (x.ring.node ≡ n) × (x.list ≡ start.list)
+pub stands_at : (start : WorldValue) (seen : List WorldEvent) (n : ℕ) (x : NodeValue) → IsNewWorld start → IsAt start seen n x → (x.ring.node ≡ n) × (x.list ≡ start.list)
 stands_at start seen n x new at =
     let is : start ≡ new_world start.settings start.list = subst (λ (w : WorldValue). w ≡ new_world w.settings w.list) new.1 refl in
     let stands = (ring_reached (runs start seen) (reached_by start seen is)).numbered n x at in

@@ -10,7 +10,7 @@ use Rattle.cpg_world_laws.specs.Worlds.{WorldValue, moves, moved, node_in, runs}
 use Rattle.cpg_station.specs.Stations.{StationValue}
 use Rattle.cpg_history.specs.Histories.{Came, later}
 use Rattle.cpg_world_laws.specs.Replies.{Answer, IsReply, IsAnswerAt, IsAnswerOf}
-use Rattle.cpg_history.specs.Members.{MemberValue, IsAt, IsNew, IsPenOf, IsMember, Replied, Told, member}
+use Rattle.cpg_history.specs.Members.{MemberValue, IsAt, IsNewWorld, IsPenOf, IsMember, Replied, Told, member}
 use Rattle.cpg_history.specs.Traces.{TraceValue}
 use Rattle.cpg_history.proofs.Runs.{runs_on}
 use Rattle.cpg_history.proofs.Resting.{rests_same}
@@ -98,5 +98,5 @@ module _ (start : WorldValue) (v : View) (e event : WorldEvent) (stamp id : ℕ)
       (subst (λ l. IsAt start l id y) same (subst (λ n. IsAt start seen n y) for_node (now_at start v event stamp x seen c at' y (moved (runs start c.log).sent))))
 
 -- a station that is no spare
-pub is_member : (start : WorldValue) (id : ℕ) (s : StationValue) (spare : Bool) (pen : View) → IsNew start → spare ≡ false → IsPenOf start pen id s.node → IsMember start id s spare pen
+pub is_member : (start : WorldValue) (id : ℕ) (s : StationValue) (spare : Bool) (pen : View) → IsNewWorld start → spare ≡ false → IsPenOf start pen id s.node → IsMember start id s spare pen
 is_member start id s spare pen new not p = record { begins = new; halts = λ yes. absurd (true≢false (sym yes ∙ not)); holds = λ _. p }

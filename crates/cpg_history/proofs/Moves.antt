@@ -11,7 +11,7 @@ use Rattle.atomic_table.proofs.Lists.{at_set, set_again}
 use Rattle.cpg_world_laws.specs.declared.events.WorldEvent.{WorldEvent}
 use Rattle.cpg_history.specs.declared.histories.View.{View}
 use Rattle.cpg_world_laws.specs.Worlds.{node_in}
-use Rattle.cpg_history.specs.Histories.{view, Owns, Fits, Kept, Adds, Looks, first_node, other_nodes, front_of, told, nobody, all_nodes, CatchesUp}
+use Rattle.cpg_history.specs.Histories.{view, Owns, FitsHistory, Kept, Adds, Looks, first_node, other_nodes, front_of, told, nobody, all_nodes, TellsCatch}
 use Rattle.cpg_history.proofs.Runs.{prefix_self, prefix_on}
 use Rattle.cpg_history.proofs.Resting.{rests_self, rests_on, rests_before, rests_behind}
 
@@ -34,11 +34,11 @@ last_of (x ∷ xs) more v zero at = inl at
 last_of (x ∷ xs) more v (suc j) at = ⊎_elim (λ front. inl front) (λ (end : (j ≡ length xs) × (more ≡ v)). inr (ap suc end.0, end.1)) (last_of xs more v j at)
 
 -- whoever has no node of its own fits where it has seen a beginning
-idle : (log : List WorldEvent) (seat : ℕ → ℕ) (by : ℕ) (seen also : List WorldEvent) (number : ℕ) → IsPrefix seen log → IsPrefix also log → Fits log seat by (view 0 0 seen also number)
+idle : (log : List WorldEvent) (seat : ℕ → ℕ) (by : ℕ) (seen also : List WorldEvent) (number : ℕ) → IsPrefix seen log → IsPrefix also log → FitsHistory log seat by (view 0 0 seen also number)
 idle log seat by seen also number one other = record { seen = one; also = other; own = λ n owns. absurd (omega (arith, owns.1)) }
 
 -- another pass still fits, once an event was added at a node that is not its own
-other_fits : (log : List WorldEvent) (e : WorldEvent) (seat : ℕ → ℕ) (by j : ℕ) (u : View) → seat (node_in e) ≡ by → j ≢ by → Fits log seat j u → Fits (log ++ e ∷ []) seat j u
+other_fits : (log : List WorldEvent) (e : WorldEvent) (seat : ℕ → ℕ) (by j : ℕ) (u : View) → seat (node_in e) ≡ by → j ≢ by → FitsHistory log seat j u → FitsHistory (log ++ e ∷ []) seat j u
 other_fits log e seat by j u mine apart fits = record {
   seen = prefix_on u.seen log (e ∷ []) fits.seen;
   also = prefix_on u.also log (e ∷ []) fits.also;
@@ -67,7 +67,7 @@ adds e slots id me st owns s h len at small =
         log = log;
         seat = h.seat;
         count = counts s.words h.log e h.count;
-        each = each_after s.views (Fits h.log h.seat) (Fits log h.seat) id w h.each
+        each = each_after s.views (FitsHistory h.log h.seat) (FitsHistory log h.seat) id w h.each
             (record { seen = prefix_self log; also = (log, refl); own = λ n owns. ((mine.own n owns).0, rests_self n log) })
             (λ j u apart was. other_fits h.log e h.seat id j u here.0 apart was);
       },
@@ -83,7 +83,7 @@ fronts id number v s h at =
       count = h.count;
       each = λ j u now. ⊎_elim
           (λ was. h.each j u (subst (λ l. get_elem? l j ≡ some u) (set_again s.views id v at) was))
-          (λ (new : (j ≡ length (set s.views id v)) × (front_of number v ≡ u)). subst (Fits h.log h.seat j) new.1 (idle h.log h.seat j v.seen [] number mine.seen (h.log, refl)))
+          (λ (new : (j ≡ length (set s.views id v)) × (front_of number v ≡ u)). subst (FitsHistory h.log h.seat j) new.1 (idle h.log h.seat j v.seen [] number mine.seen (h.log, refl)))
           (last_of (set s.views id v) (front_of number v) u j now);
     }
 
@@ -91,7 +91,7 @@ pub tells : (id : ℕ) (v : View) (other : ℕ) (w : View) → Joins Rule id v o
 tells id v other w s h at apart there =
     let mine = h.each id v at in
     let theirs = ⊎_elim (λ (t : (other ≡ id) × (told v w ≡ w)). absurd (apart t.0)) (λ (t : (other ≢ id) × (get_elem? s.views other ≡ some w)). h.each other w t.1) (at_set s.views id other (told v w) w there) in
-    let Is = Fits h.log h.seat in
+    let Is = FitsHistory h.log h.seat in
     record {
       log = h.log;
       seat = h.seat;
@@ -124,7 +124,7 @@ next id v some_left s h at =
       seat = seat;
       count = h.count;
       each = λ j u now. ⊎_elim
-          (λ was. each_after s.views (Fits h.log h.seat) (Fits h.log seat) id (other_nodes v) h.each
+          (λ was. each_after s.views (FitsHistory h.log h.seat) (FitsHistory h.log seat) id (other_nodes v) h.each
           (record {
             seen = mine.seen;
             also = mine.also;
@@ -136,7 +136,7 @@ next id v some_left s h at =
             own = λ n owns. let had = fits.own n owns in (given_else h.seat v.from new n (λ is. apart (sym had.0 ∙ (ap h.seat is ∙ first.0))) ∙ had.0, had.1);
           })
           j u was)
-          (λ (last : (j ≡ new) × (first_node v ≡ u)). subst (Fits h.log seat j) last.1 (record {
+          (λ (last : (j ≡ new) × (first_node v ≡ u)). subst (FitsHistory h.log seat j) last.1 (record {
             seen = mine.seen;
             also = (h.log, refl);
             own = λ n owns. let is : n ≡ v.from = omega (arith, owns.0, owns.1) in (given_here h.seat v.from new n is ∙ sym last.0, (mine.own n (omega (arith, is), omega (arith, is, some_left))).1);
@@ -151,8 +151,8 @@ begins = record { log = []; seat = λ n. 0; count = refl; each = first }
     v : View
     v = all_nodes
 
-    first : Each (v ∷ []) (Fits [] (λ n. 0))
-    first zero u at = subst (Fits [] (λ n. 0) 0) (some-injective v u at) (record { seen = ([], refl); also = ([], refl); own = λ n owns. (refl, rests_self n []) })
+    first : Each (v ∷ []) (FitsHistory [] (λ n. 0))
+    first zero u at = subst (FitsHistory [] (λ n. 0) 0) (some-injective v u at) (record { seen = ([], refl); also = ([], refl); own = λ n owns. (refl, rests_self n []) })
     first (suc j) u at = absurd (some-ne-none u (sym at))
 
 pub looks : (slots id : ℕ) (me : Me ℕ View) (st : Step ℕ) → Allows Rule slots id me 0 (λ n. n) (Looks st me)
@@ -167,7 +167,7 @@ looks slots id me st s h len at small =
         log = h.log;
         seat = h.seat;
         count = ap (λ ws. slice_set ws 0 (slice_index ws 0)) h.count;
-        each = each_after s.views (Fits h.log h.seat) (Fits h.log h.seat) id w h.each
+        each = each_after s.views (FitsHistory h.log h.seat) (FitsHistory h.log h.seat) id w h.each
             (record { seen = prefix_self h.log; also = (h.log, refl); own = λ n owns. ((mine.own n owns).0, rests_self n h.log) })
             (λ j u apart was. was);
       },
@@ -175,7 +175,7 @@ looks slots id me st s h len at small =
     )
 
 -- a pass that has seen just what it was told still fits
-pub catches : (slots id : ℕ) (me : Me ℕ View) (st : Step ℕ) → IsPrefix me.0.seen me.0.also → Allows Rule slots id me 0 (λ n. n) (CatchesUp st me)
+pub catches : (slots id : ℕ) (me : Me ℕ View) (st : Step ℕ) → IsPrefix me.0.seen me.0.also → Allows Rule slots id me 0 (λ n. n) (TellsCatch st me)
 catches slots id me st on s h len at small =
     let v = me.0 in
     let w = view v.from v.to v.also [] 0 in
@@ -187,7 +187,7 @@ catches slots id me st on s h len at small =
         log = h.log;
         seat = h.seat;
         count = ap (λ ws. slice_set ws 0 (slice_index ws 0)) h.count;
-        each = each_after s.views (Fits h.log h.seat) (Fits h.log h.seat) id w h.each
+        each = each_after s.views (FitsHistory h.log h.seat) (FitsHistory h.log h.seat) id w h.each
             (record { seen = mine.also; also = (h.log, refl); own = λ n owns. let had = mine.own n owns in (had.0, rests_behind n v.seen v.also h.log on mine.also had.1) })
             (λ j u apart was. was);
       },

@@ -16,7 +16,7 @@ use Rattle.cpg_station.specs.Serving.{IsHeard, IsKnown, StaysOrHalts, halted_of}
 use Rattle.cpg_station.specs.Admitting.{AdmitsNot, StopsAt, IsOther}
 use Rattle.cpg_history.specs.declared.histories.View.{View}
 use Rattle.cpg_history.specs.Histories.{Catches, FrontValue, Owns, Rests, front, told}
-use Rattle.cpg_history.specs.Members.{HasTrace, IsAt, IsMember, IsNew, IsPenOf}
+use Rattle.cpg_history.specs.Members.{HasTrace, IsAt, IsMember, IsNewWorld, IsPenOf}
 use Rattle.cpg_history.specs.Traces.{IsTraceOf, TraceValue, new_trace}
 use Rattle.cpg_history.proofs.Noting.{trace_begins, trace_nothing, trace_rests}
 use Rattle.cpg_history.proofs.Resting.{rests_same}
@@ -99,13 +99,13 @@ refused_stays start id s spare pen m list node pid cred why new listed own not =
     by_why w not = absurd not
 
 -- a new member, and a spare
-pub begun : (start : WorldValue) (id : ℕ) (s : StationValue) (pen : View) (traced : Bool) → IsNew start → IsPenOf start pen id s.node → pen.seen ≡ [] → IsMember start id s false pen × HasTrace start id false pen.seen (new_trace traced)
+pub begun : (start : WorldValue) (id : ℕ) (s : StationValue) (pen : View) (traced : Bool) → IsNewWorld start → IsPenOf start pen id s.node → pen.seen ≡ [] → IsMember start id s false pen × HasTrace start id false pen.seen (new_trace traced)
 begun start id s pen traced new own none = (
   record { begins = new; halts = λ yes. absurd (true≢false (sym yes)); holds = λ _. own },
   record { spared = λ yes. absurd (true≢false (sym yes)); follows = subst (λ l. IsTraceOf start id l (new_trace traced)) (sym none) (trace_begins start id traced) },
 )
 
-pub spared : (start : WorldValue) (id : ℕ) (s : StationValue) (pen : View) → IsNew start → s.halted ≡ true → IsMember start id s true pen × HasTrace start id true pen.seen (new_trace false)
+pub spared : (start : WorldValue) (id : ℕ) (s : StationValue) (pen : View) → IsNewWorld start → s.halted ≡ true → IsMember start id s true pen × HasTrace start id true pen.seen (new_trace false)
 spared start id s pen new halts = (
   record { begins = new; halts = λ _. halts; holds = λ not. absurd (true≢false not) },
   record { spared = λ _. refl; follows = trace_nothing start id pen.seen },

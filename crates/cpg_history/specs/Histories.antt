@@ -37,7 +37,7 @@ Rests n xs ys = (more : List WorldEvent) × (xs ++ more ≡ ys) × AllByRecursio
 
 -- A view fits a history where node n is owned by the view of number `seat n`: both lists that it has seen begin the history; and nothing
 -- has happened since at the nodes that it owns.
-pub record Fits (log : List WorldEvent) (seat : ℕ → ℕ) (by : ℕ) (v : View) : Type 0 where
+pub record FitsHistory (log : List WorldEvent) (seat : ℕ → ℕ) (by : ℕ) (v : View) : Type 0 where
   pub seen : IsPrefix v.seen log
   pub also : IsPrefix v.also log
   pub own : (n : ℕ) → Owns v n → (seat n ≡ by) × Rests n v.seen log
@@ -47,7 +47,7 @@ pub record Kept (words : List ℕ) (views : List View) : Type 0 where
   pub log : List WorldEvent
   pub seat : ℕ → ℕ
   pub count : words ≡ length log % 2 ^ 64 ∷ []
-  pub each : (by : ℕ) (v : View) → get_elem? views by ≡ some v → Fits log seat by v
+  pub each : (by : ℕ) (v : View) → get_elem? views by ≡ some v → FitsHistory log seat by v
 
 -- The event came after `log`, which begins with all that the view had seen, and in which nothing had happened at the node since. Its stamp
 -- is how many came before it.
@@ -84,8 +84,8 @@ pub record Catches (v w : View) : Type 0 where
   pub same : w ≡ later v v.also
 
 -- what a step tells by which a view sees just what it was told
-abbrev pub CatchesUp : Step ℕ → Me ℕ View → ℕ → Me ℕ View → Type 0
-CatchesUp s v found w = Catches v.0 w.0 × (w.1 ≡ v.1)
+abbrev pub TellsCatch : Step ℕ → Me ℕ View → ℕ → Me ℕ View → Type 0
+TellsCatch s v found w = Catches v.0 w.0 × (w.1 ≡ v.1)
 
 -- the view of the first node alone, and of the others
 abbrev pub first_node : View → View

@@ -46,12 +46,12 @@ abbrev pub IsPenOf : WorldValue → View → ℕ → NodeValue → Type 0
 IsPenOf start pen id x = (pen.from ≡ id) × (pen.to ≡ suc id) × IsAt start pen.seen id x
 
 -- it is a new world
-abbrev pub IsNew : WorldValue → Type 0
-IsNew start = (b : Beginning) × (first_world b ≡ start)
+abbrev pub IsNewWorld : WorldValue → Type 0
+IsNewWorld start = (b : Beginning) × (first_world b ≡ start)
 
 -- The history begins with a new world. A spare is halted. Any other station's node is that node of the world after all that its pen has seen.
 pub record IsMember (start : WorldValue) (id : ℕ) (s : StationValue) (spare : Bool) (pen : View) : Type 0 where
-  pub begins : IsNew start
+  pub begins : IsNewWorld start
   pub halts : spare ≡ true → s.halted ≡ true
   pub holds : spare ≡ false → IsPenOf start pen id s.node
 

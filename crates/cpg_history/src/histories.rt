@@ -7,7 +7,7 @@ ghost use Rattle.std.specs.Prelude.{◌≡◌, ◌<◌, true, false, IfOk};
 ghost use mathlib.Core.List.{IsPrefix};
 ghost use Rattle.cpg_world_laws.specs.Worlds.{node_in};
 ghost use Rattle.cpg_history.specs.Histories.{Came, Catches, Owns, Sees, first_world, all_nodes, later, first_node, other_nodes, told, front as front_at};
-ghost use Rattle.cpg_history.specs.Members.{IsNew};
+ghost use Rattle.cpg_history.specs.Members.{IsNewWorld};
 
 use atomic_table::{Badge, Join, Play, Seat, Split, Table, TableRule};
 use cpg_cred::AcceptList;
@@ -149,9 +149,9 @@ impl Play<u64, View> for Look {
 struct CatchUp;
 
 impl Play<u64, View> for CatchUp {
-    ghost use Rattle.cpg_history.specs.Histories.{CatchesUp};
+    ghost use Rattle.cpg_history.specs.Histories.{TellsCatch};
 
-    ghost then = { CatchesUp };
+    ghost then = { TellsCatch };
 }
 
 /// An empty history, which has no name yet, and what it begins with.
@@ -291,7 +291,7 @@ impl<B: HistoryName> Model for Front<B> {
 impl<B: HistoryName> History<B> {
     /// It begins with a new world. The function has nothing to do.
     pub fn begins(&self)
-        ensures { IsNew B.start }
+        ensures { IsNewWorld B.start }
     {
         let _line = &self.line;
     }

@@ -13,7 +13,7 @@ ghost use Rattle.cpg_world_laws.specs.declared.events.WorldEvent.TheVariants as 
 ghost use Rattle.cpg_world_laws.specs.declared.replies.Reply.TheVariants as reply;
 ghost use Rattle.cpg_station.specs.Delivering.{Delivers, DeliverRefuses};
 ghost use Rattle.cpg_station.specs.Serving.{halted_of};
-ghost use Rattle.cpg_history.specs.Members.{IsAt, IsNew, IsPenOf, IsSafeAt, Replied, how_many};
+ghost use Rattle.cpg_history.specs.Members.{IsAt, IsNewWorld, IsPenOf, IsSafeAt, Replied, how_many};
 ghost use Rattle.cpg_history.specs.Traces.{IsTraceOf, new_trace};
 
 use crate::histories::{Front, Happens, History, HistoryName, Pen};
@@ -76,7 +76,7 @@ impl<B: HistoryName> Member<B> {
         pen: Pen<B>,
         traced: bool,
     ) -> Member<B>
-        requires begins { IsNew B.start }
+        requires begins { IsNewWorld B.start }
         requires pen { IsPenOf B.start pen id station.node }
         requires seen { pen.seen ≡ [] }
         ensures { result ≡ record { id = id; station = station; spare = false; seen = []; trace = new_trace traced } }
@@ -92,7 +92,7 @@ impl<B: HistoryName> Member<B> {
 
     /// A spare, which is halted.
     pub fn spare(alloc: Global, id: NodeId, mut station: Station<B>, pen: Pen<B>) -> Member<B>
-        requires { IsNew B.start }
+        requires { IsNewWorld B.start }
         ensures { result ≡ record { id = id; station = halted_of station; spare = true; seen = pen.seen; trace = new_trace false } }
     {
         station.halt();
@@ -129,7 +129,7 @@ impl<B: HistoryName> Member<B> {
     /// The history begins with a new world; where this is no spare, its node is that node of the world after all that its pen
     /// has seen; and of that all of the node's events are recorded, or the first of them. The function has nothing to do.
     pub fn stands(&self)
-        ensures begins { IsNew B.start }
+        ensures begins { IsNewWorld B.start }
         ensures node { self.now.spare ≡ false → IsAt B.start self.now.seen self.now.id self.now.station.node }
         ensures trace { IsTraceOf B.start self.now.id self.now.seen self.now.trace }
     {
@@ -232,7 +232,7 @@ impl<B: HistoryName> Member<B> {
             index,
             front,
         } = parcel;
-        match self.station.frame(bytes.as_slice()) {
+        match self.station.shared_frame(&bytes) {
             Ok(frames) => {
                 history.tell(&mut self.pen, front);
                 let stamp = history.add::<E>(&mut self.pen);

@@ -4,7 +4,7 @@
 //! one order. A frame that arrives is told by the event that sent it, since how many frames were sent in the whole world
 //! before that event no node knows: it follows from how many each event sent.
 
-ghost use Rattle.std.specs.Prelude.{◌≡◌, IfSome, is_none};
+ghost use Rattle.std.specs.Prelude.{◌≡◌, ◌++◌, ◌∷◌, [], IfSome, IsTrue, IsFalse, is_none};
 ghost use Rattle.cpg_world_laws.specs.declared.events.WorldEvent.TheVariants.{Submit, List};
 ghost use Rattle.cpg_history.specs.Traces.{Notes, new_trace};
 
@@ -42,6 +42,14 @@ impl Model for Trace {
     ghost Value = { TraceValue };
 
     ghost view = { λ t. record { entries = t.entries.items; lost = t.lost } };
+}
+
+/// Puts it behind the others, and tells whether memory was there for it.
+fn keep(entries: &mut Vec<Recorded>, next: Recorded) -> bool
+    ensures kept { IsTrue result → entries.new.items ≡ entries.old.items ++ next ∷ [] }
+    ensures lost { IsFalse result → entries.new.items ≡ entries.old.items }
+{
+    entries.push(next).is_ok()
 }
 
 impl Trace {
@@ -126,15 +134,15 @@ impl Trace {
         }
         let kept = match event {
             None => false,
-            Some(event) => self
-                .entries
-                .push(Recorded {
+            Some(event) => keep(
+                &mut self.entries,
+                Recorded {
                     stamp,
                     sent,
                     source,
                     event,
-                })
-                .is_ok(),
+                },
+            ),
         };
         if !kept {
             self.lost = Some(stamp);

@@ -6,7 +6,7 @@ use lib.ListN.{get_elem?}
 use Rattle.crossbeam_queue.specs.Fifo.{Pushes, Pops, Forks, Merges, Learns}
 use Rattle.crossbeam_queue.proofs.Lists.{at_set}
 use Rattle.cpg_link.specs.declared.passes.Known.{Known}
-use Rattle.cpg_link.specs.Links.{known, StandBehind, Fits, Carries}
+use Rattle.cpg_link.specs.Links.{known, StandBehind, FitsPass, Carries}
 
 module _ {T : Type 0} where
   -- it is so of each pass
@@ -28,8 +28,8 @@ module _ {T : Type 0} where
   pub begins : Carries {T = T} [] (known true true [] [] ∷ [])
   begins = (0, 0, [], [], refl, first)
     where
-      first : Each (known true true [] [] ∷ []) (Fits 0 0 [] [])
-      first zero v at = subst (Fits 0 0 [] [] 0) (some-injective (known true true [] []) v at) ((λ _. (refl, refl)), λ _. (refl, refl))
+      first : Each (known true true [] [] ∷ []) (FitsPass 0 0 [] [])
+      first zero v at = subst (FitsPass 0 0 [] [] 0) (some-injective (known true true [] []) v at) ((λ _. (refl, refl)), λ _. (refl, refl))
       first (suc j) v at = absurd (some-ne-none v (sym at))
 
   pub sends : (n pass : ℕ) (v : Known T) (x : T) → v.puts ≡ true → Pushes Carries n pass v x (λ w. w ≡ known v.puts v.takes (v.put ++ x ∷ []) v.taken)
@@ -38,7 +38,7 @@ module _ {T : Type 0} where
       let put = h.2 ++ x ∷ [] in
       let mine = h.5 pass v at in
       let sender = mine.0 may in
-      let each : Each (set views pass w) (Fits h.0 h.1 put h.3) = each_after views (Fits h.0 h.1 h.2 h.3) (Fits h.0 h.1 put h.3) pass w h.5
+      let each : Each (set views pass w) (FitsPass h.0 h.1 put h.3) = each_after views (FitsPass h.0 h.1 h.2 h.3) (FitsPass h.0 h.1 put h.3) pass w h.5
       ((λ _. (sender.0, ap (λ l. l ++ x ∷ []) sender.1)), mine.1)
       (λ j u other was. ((λ p. absurd (other ((was.0 p).0 ∙ sym sender.0))), was.1)) in
       (w, (h.0, h.1, put, h.3, ap (λ l. l ++ x ∷ []) h.4 ∙ append_assoc h.3 items (x ∷ []), each), refl)
@@ -49,7 +49,7 @@ module _ {T : Type 0} where
       let taken = h.3 ++ x ∷ [] in
       let mine = h.5 pass v at in
       let receiver = mine.1 may in
-      let each : Each (set views pass w) (Fits h.0 h.1 h.2 taken) = each_after views (Fits h.0 h.1 h.2 h.3) (Fits h.0 h.1 h.2 taken) pass w h.5
+      let each : Each (set views pass w) (FitsPass h.0 h.1 h.2 taken) = each_after views (FitsPass h.0 h.1 h.2 h.3) (FitsPass h.0 h.1 h.2 taken) pass w h.5
       (mine.0, λ _. (receiver.0, ap (λ l. l ++ x ∷ []) receiver.1))
       (λ j u other was. (was.0, λ p. absurd (other ((was.1 p).0 ∙ sym receiver.0)))) in
       (w, (h.0, h.1, h.2, taken, h.4 ∙ sym (append_assoc h.3 (x ∷ []) items), each), refl)
@@ -61,7 +61,7 @@ module _ {T : Type 0} where
       let vs : List (Known T) = set views pass left in
       let mine = h.5 pass v at in
       let Sends : ℕ → Known T → Type 0 = λ j u. (u.puts ≡ true → (j ≡ h.0) × (u.put ≡ h.2)) × (u.takes ≢ true) in
-      let sends_only : Each vs Sends = each_after views (Fits h.0 h.1 h.2 h.3) Sends pass left h.5 ((λ _. mine.0 puts), λ p. true≢false (sym p)) (λ j u other was. (was.0, λ p. other ((was.1 p).0 ∙ sym (mine.1 takes).0))) in (
+      let sends_only : Each vs Sends = each_after views (FitsPass h.0 h.1 h.2 h.3) Sends pass left h.5 ((λ _. mine.0 puts), λ p. true≢false (sym p)) (λ j u other was. (was.0, λ p. other ((was.1 p).0 ∙ sym (mine.1 takes).0))) in (
         h.0,
         length vs,
         h.2,
@@ -80,9 +80,9 @@ module _ {T : Type 0} where
       let mine = (h.5 pass v at).0 puts in
       let was : get_elem? views other ≡ some u = ⊎_elim (λ (here : (other ≡ pass) × (both ≡ u)). absurd (apart here.0)) (λ (there : (other ≢ pass) × (get_elem? views other ≡ some u)). there.1) (at_set views pass other both u at') in
       let theirs = (h.5 other u was).1 takes in
-      let But : ℕ → Known T → Type 0 = λ j y. j ≢ other → Fits h.0 pass h.2 h.3 j y in
-      let but : Each vs But = each_after views (Fits h.0 h.1 h.2 h.3) But pass both h.5 (λ _. ((λ _. mine), λ _. (refl, theirs.1))) (λ j y _ old away. (old.0, λ p. absurd (away ((old.1 p).0 ∙ sym theirs.0)))) in
-      (h.0, pass, h.2, h.3, h.4, each_after vs But (Fits h.0 pass h.2 h.3) other spent but ((λ p. absurd (true≢false (sym p))), λ p. absurd (true≢false (sym p))) (λ j y away old. old away))
+      let But : ℕ → Known T → Type 0 = λ j y. j ≢ other → FitsPass h.0 pass h.2 h.3 j y in
+      let but : Each vs But = each_after views (FitsPass h.0 h.1 h.2 h.3) But pass both h.5 (λ _. ((λ _. mine), λ _. (refl, theirs.1))) (λ j y _ old away. (old.0, λ p. absurd (away ((old.1 p).0 ∙ sym theirs.0)))) in
+      (h.0, pass, h.2, h.3, h.4, each_after vs But (FitsPass h.0 pass h.2 h.3) other spent but ((λ p. absurd (true≢false (sym p))), λ p. absurd (true≢false (sym p))) (λ j y away old. old away))
 
   pub totals : (pass : ℕ) (v : Known T) → v.puts ≡ true → v.takes ≡ true → Learns Carries pass v (λ items. v.put ≡ v.taken ++ items)
   totals pass v puts takes items views h at =

@@ -54,10 +54,10 @@ abbrev pub StandBehind : {T : Type 0} → Known T → List T → Type 0
 StandBehind {T} v items = (taken : List T) × (v.put ≡ taken ++ items)
 
 -- where the pass may put, it is the sender's and knows what was put; where it may take, it is the receiver's and knows what was taken
-abbrev pub Fits : {T : Type 0} → ℕ → ℕ → List T → List T → ℕ → Known T → Type 0
-Fits sender receiver put taken pass v = (v.puts ≡ true → (pass ≡ sender) × (v.put ≡ put)) × (v.takes ≡ true → (pass ≡ receiver) × (v.taken ≡ taken))
+abbrev pub FitsPass : {T : Type 0} → ℕ → ℕ → List T → List T → ℕ → Known T → Type 0
+FitsPass sender receiver put taken pass v = (v.puts ≡ true → (pass ≡ sender) × (v.put ≡ put)) × (v.takes ≡ true → (pass ≡ receiver) × (v.taken ≡ taken))
 
 -- What was put is what was taken, followed by what stands in the queue. One pass at most may put, and it knows what was put; one at most may take, and it knows what was taken.
 abbrev pub Carries : {T : Type 0} → List T → List (Known T) → Type 0
 Carries {T} items views = (sender : ℕ) × (receiver : ℕ) × (put : List T) × (taken : List T) × (put ≡ taken ++ items)
-    × ((pass : ℕ) (v : Known T) → get_elem? views pass ≡ some v → Fits sender receiver put taken pass v)
+    × ((pass : ℕ) (v : Known T) → get_elem? views pass ≡ some v → FitsPass sender receiver put taken pass v)

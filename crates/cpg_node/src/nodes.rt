@@ -223,6 +223,23 @@ impl Node {
         self.hear(frame)
     }
 
+    /// Hears a frame as `frame` does; a long message that it brings is shared with its bytes, not copied.
+    pub fn shared_frame(&mut self, bytes: &Bytes) -> Result<Vec<Bytes>, Refusal>
+        ensures answer { IsFrameAnswer (λ list. list.items) self.old (frame_of bytes.now) result self.new }
+        ensures few { IfOk result (λ list. length list.items ≤ 41) }
+        ensures range { OnOk result (IfSome (frame_of bytes.now) (λ f. All CanBeSpelled (answers_to self.old f))) }
+        ensures kept { records_of self.new ≡ records_of self.old }
+    {
+        let Some(view) = FrameView::read(bytes.as_slice()) else {
+            return Err(Refusal::Malformed);
+        };
+        if let Some(refusal) = self.frame_refusal(&view) {
+            return Err(refusal);
+        }
+        let frame = view.share(self.alloc, bytes)?;
+        self.hear(frame)
+    }
+
     /// The node's last token sent, to be sent again.
     pub fn timer(&mut self) -> Result<Option<Bytes>, Refusal>
         ensures ok { IfOk result (λ bytes. bytes ≡ option_map (λ t. spelling Two (frames.Token t)) self.old.ring.state.last_token) }

@@ -11,7 +11,7 @@ use Rattle.cpg_step.specs.declared.commands.Command.{Command}
 use Rattle.cpg_step.specs.declared.commands.Command.TheVariants.{Act, Look}
 use Rattle.cpg_step.specs.Lines.{answer_line, look_lines}
 use Rattle.cpg_numbers.specs.Numbers.{numbers_after, frames_text}
-use Rattle.cpg_numbers.specs.Lines.{unended, numbered_line, numbered_lines, IsNumbered, IsActed, ArePut, GoesOn}
+use Rattle.cpg_numbers.specs.Lines.{unended, numbered_line, numbered_lines, IsNumbered, IsActed, ArePut, StandsBefore}
 
 -- one number more
 pub numbers_more : (before index : ℕ) (old known spaced new : List ℕ) → before ≤ index
@@ -50,7 +50,7 @@ line_put w v e answer old line ended first second new replied happened said cut 
     regrouped a b c d = simp append_assoc
 
 -- an event's line stands before those that follow it
-pub act_goes_on : (w : WorldValue) (e : WorldEvent) (old : List ℕ) (v : WorldValue) (new : List ℕ) → IsActed w e old v new → GoesOn w (Act e) old v new
+pub act_goes_on : (w : WorldValue) (e : WorldEvent) (old : List ℕ) (v : WorldValue) (new : List ℕ) → IsActed w e old v new → StandsBefore w (Act e) old v new
 act_goes_on w e old v new acted later whole h =
     let rest : ArePut (happens w e) later new whole = subst (λ x. ArePut x later new whole) acted.happened h in
     record {
@@ -61,7 +61,7 @@ act_goes_on w e old v new acted later whole h =
     }
 
 -- and so do the lines of a command that only looks
-pub look_goes_on : (w : WorldValue) (l : LookValue) (old new : List ℕ) → new ≡ old ++ concat (look_lines w l) → GoesOn w (Look l) old w new
+pub look_goes_on : (w : WorldValue) (l : LookValue) (old new : List ℕ) → new ≡ old ++ concat (look_lines w l) → StandsBefore w (Look l) old w new
 look_goes_on w l old new put later whole rest = record {
   answers = rest.answers;
   replies = rest.replies;
@@ -75,7 +75,7 @@ as_many_acted w e old v new acted = ap (λ (x : WorldValue). length x.nodes) act
 -- the lines after one command more
 pub step_lines : (commands : List Command) (i : ℕ) (c : Command) (w v start : WorldValue) (old new begun : List ℕ)
     → i < length commands → get_or commands i c ≡ c
-    → ((whole : List ℕ) → ArePut w (drop i commands) old whole → ArePut start commands begun whole) → GoesOn w c old v new
+    → ((whole : List ℕ) → ArePut w (drop i commands) old whole → ArePut start commands begun whole) → StandsBefore w c old v new
     → (whole : List ℕ) → ArePut v (drop (i + 1) commands) new whole → ArePut start commands begun whole
 step_lines commands i c w v start old new begun within e known goes whole rest =
     known whole (subst (λ cs. ArePut w cs old whole) (sym (drop_more commands i c within ∙ ap (λ x. x ∷ drop (i + 1) commands) e)) (goes (drop (i + 1) commands) whole rest))

@@ -45,5 +45,5 @@ pub record ArePut (w : WorldValue) (commands : List Command) (old new : List ℕ
   pub put : new ≡ old ++ numbered_lines w commands answers
 
 -- whatever lines follow, the command's stand before them
-abbrev pub GoesOn : WorldValue → Command → List ℕ → WorldValue → List ℕ → Type 0
-GoesOn w command old v new = (later : List Command) (whole : List ℕ) → ArePut v later new whole → ArePut w (command ∷ later) old whole
+abbrev pub StandsBefore : WorldValue → Command → List ℕ → WorldValue → List ℕ → Type 0
+StandsBefore w command old v new = (later : List Command) (whole : List ℕ) → ArePut v later new whole → ArePut w (command ∷ later) old whole

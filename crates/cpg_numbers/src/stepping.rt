@@ -6,7 +6,7 @@ ghost use Rattle.std.specs.Prelude.{◌≡◌, ◌≤◌, None, All, length, OnO
 ghost use Rattle.cpg_world_laws.specs.Worlds.{node_in};
 ghost use Rattle.cpg_step.specs.Commands.{IsWithin};
 ghost use Rattle.cpg_step.specs.Scripts.{commands_of_script};
-ghost use Rattle.cpg_numbers.specs.Lines.{IsNumbered, IsActed, ArePut, GoesOn};
+ghost use Rattle.cpg_numbers.specs.Lines.{IsNumbered, IsActed, ArePut, StandsBefore};
 ghost use Rattle.cpg_numbers.specs.Stepping.{IsStepped, Leaves, EndsStepping};
 
 use crate::numbers::put_frames;
@@ -100,7 +100,7 @@ fn step_command(
     command: &Command,
 ) -> Result<(), Refusal>
     requires { IsWithin (length world.old.nodes) command.now }
-    ensures ok { OnOk result (GoesOn world.old command.now text.old.items world.new text.new.items) }
+    ensures ok { OnOk result (StandsBefore world.old command.now text.old.items world.new text.new.items) }
     ensures nodes { OnOk result (length world.new.nodes ≡ length world.old.nodes) }
     ensures memory { IsOkUnless result Refusal.Memory }
 {

@@ -17,7 +17,7 @@ use Rattle.cpg_node.specs.declared.connections.Client.{Client}
 use Rattle.cpg_node.specs.declared.connections.Connection.{Connection}
 use Rattle.cpg_node.specs.Answers.{connection_of}
 use Rattle.cpg_board.specs.Seats.{SeatValue}
-use Rattle.cpg_station.specs.Admitting.{Accepts, AdmitsNot, IsOther, newcomer, taken_in, is_shut}
+use Rattle.cpg_station.specs.Admitting.{Accepts, AdmitsNot, IsOther, newcomer, with_newcomer, is_shut}
 use Rattle.cpg_station.specs.Serving.{halted_of}
 use Rattle.cpg_station.specs.Stations.{StationValue, KeepsRest}
 
@@ -125,7 +125,7 @@ turned_away list node pid cred accepts old now new P why result is same answer a
 -- ---- a station that took the process in
 
 -- the station after it, by its parts
-pub station_is : (s old : StationValue) (pid : ℕ) (cred : Cred) → s.node ≡ connected old.node pid cred → KeepsRest old s → s ≡ taken_in old pid cred
+pub station_is : (s old : StationValue) (pid : ℕ) (cred : Cred) → s.node ≡ connected old.node pid cred → KeepsRest old s → s ≡ with_newcomer old pid cred
 station_is s old pid cred node rest =
     ap (λ (x : NodeValue). let v : StationValue = record { node = x; seat = s.seat; halted = s.halted } in v) node
     ∙ (ap (λ (t : SeatValue). let v : StationValue = record { node = connected old.node pid cred; seat = t; halted = s.halted } in v) rest.0

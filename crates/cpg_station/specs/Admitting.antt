@@ -23,8 +23,8 @@ abbrev pub IsAdmitted : Listed → ℕ → ℕ → Cred → Connection → Type 
 IsAdmitted list node pid cred who = Accepts list cred × (who ≡ newcomer node who.id.conn pid cred)
 
 -- the station has one connection more, of that process
-abbrev pub taken_in : StationValue → ℕ → Cred → StationValue
-taken_in s pid cred = record { node = connected s.node pid cred; seat = s.seat; halted = s.halted }
+abbrev pub with_newcomer : StationValue → ℕ → Cred → StationValue
+with_newcomer s pid cred = record { node = connected s.node pid cred; seat = s.seat; halted = s.halted }
 
 -- the station is not the one that is asked for: its own list lets the credentials in where the given one doesn't, or the other way round, or
 -- its node has another number
@@ -35,7 +35,7 @@ IsOther list node cred s = (is_some (via_of list cred) ≢ is_some (via_of s.nod
 abbrev pub StopsAt : Listed → ℕ → ℕ → Cred → StationValue → StationValue → Type 0
 StopsAt list node pid cred old new =
     ((old.halted ≡ true) × (new ≡ old))
-    ⊎ (IsOther list node cred old × ((new ≡ halted_of old) ⊎ (new ≡ halted_of (taken_in old pid cred))))
+    ⊎ (IsOther list node cred old × ((new ≡ halted_of old) ⊎ (new ≡ halted_of (with_newcomer old pid cred))))
 
 -- Why it doesn't. Access: the list doesn't let the credentials in. ConnectionsFull and Memory: it does; and the station is as it was.
 abbrev pub AdmitsNot : Listed → ℕ → ℕ → Cred → StationValue → Refusal → StationValue → Type 0

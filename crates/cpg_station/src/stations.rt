@@ -125,6 +125,17 @@ impl<B: BoardName> Station<B> {
         self.node.frame(bytes)
     }
 
+    /// Hears a frame as `frame` does; a long message that it brings is shared with its bytes, not copied.
+    #[tactic(auto, using(crate::proofs::Steps::kept_on))]
+    pub fn shared_frame(&mut self, bytes: &Bytes) -> Result<Vec<Bytes>, Refusal>
+        ensures answer { IsFrameAnswer (λ list. list.items) self.old.node (frame_of bytes.now) result self.new.node }
+        ensures few { IfOk result (λ list. length list.items ≤ 41) }
+        ensures range { OnOk result (IfSome (frame_of bytes.now) (λ f. All CanBeSpelled (answers_to self.old.node f))) }
+        ensures rest { KeepsRest self.old self.new }
+    {
+        self.node.shared_frame(bytes)
+    }
+
     /// The node's last token sent, to be sent again.
     #[tactic(auto, using(crate::proofs::Steps::kept_same))]
     pub fn timer(&mut self) -> Result<Option<Bytes>, Refusal>

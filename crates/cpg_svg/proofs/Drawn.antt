@@ -19,7 +19,7 @@ use Rattle.cpg_svg.specs.declared.sheets.Sheet.{Sheet}
 use Rattle.cpg_svg.specs.Arrows.{arrow_shape, lost_in}
 use Rattle.cpg_svg.specs.Rows.{Row, line_of, dot_of, words_of, row_with, act_row, look_row, start_row, rows_of, arrows_past, most_letters, shapes_of}
 use Rattle.cpg_svg.specs.Pictures.{picture_of, picture_with, IsPicture}
-use Rattle.cpg_svg.specs.Steps.{IsPut, IsActed, AreRows, GoesOn}
+use Rattle.cpg_svg.specs.Steps.{IsPut, IsActed, AreRows, StandsBefore}
 
 regrouped : (old p q r : List ℕ) → (old ++ p) ++ (q ++ r) ≡ old ++ (p ++ q ++ r)
 regrouped old p q r = simp append_assoc
@@ -66,7 +66,7 @@ row_looked row arrows w l old middle new words begun kept told said counted =
 
 -- an event's row stands before those that follow it
 pub act_goes_on : (row : ℕ) (arrows : List Arrow) (w : WorldValue) (e : WorldEvent) (old : Sheet) (then : List Arrow) (v : WorldValue) (new : Sheet)
-    → IsActed row arrows w e old then v new → GoesOn row arrows w (Act e) old then v new
+    → IsActed row arrows w e old then v new → StandsBefore row arrows w (Act e) old then v new
 act_goes_on row arrows w e old then v new acted later last world whole h =
     let there : AreRows (row + 1) then (happens w e) later new last world whole = subst (λ x. AreRows (row + 1) then x later new last world whole) acted.happened h in
     let rest : AreRows (row + 1) (arrows_after row arrows w e) (happens w e) later new last world whole
@@ -83,7 +83,7 @@ act_goes_on row arrows w e old then v new acted later last world whole h =
 
 -- and so does the row of a command that only looks
 pub look_goes_on : (row : ℕ) (arrows : List Arrow) (w : WorldValue) (l : LookValue) (old new : Sheet)
-    → IsPut (look_row row arrows w l) old new → GoesOn row arrows w (Look l) old arrows w new
+    → IsPut (look_row row arrows w l) old new → StandsBefore row arrows w (Look l) old arrows w new
 look_goes_on row arrows w l old new drawn later last world whole rest =
     let rows : List Row = rows_of (row + 1) arrows w later rest.answers in
     record {
@@ -104,7 +104,7 @@ as_many_acted row arrows w e old then v new acted = ap (λ (x : WorldValue). len
 pub step_rows : (commands : List Command) (i : ℕ) (c : Command) (arrows then first : List Arrow) (w v start : WorldValue) (old new begun : Sheet)
     → i < length commands → get_or commands i c ≡ c
     → ((last : List Arrow) (world : WorldValue) (whole : Sheet) → AreRows (i + 1) arrows w (drop i commands) old last world whole → AreRows 1 first start commands begun last world whole)
-    → GoesOn (i + 1) arrows w c old then v new
+    → StandsBefore (i + 1) arrows w c old then v new
     → (last : List Arrow) (world : WorldValue) (whole : Sheet) → AreRows (i + 1 + 1) then v (drop (i + 1) commands) new last world whole → AreRows 1 first start commands begun last world whole
 step_rows commands i c arrows then first w v start old new begun within e known goes last world whole rest =
     known last world whole (subst (λ cs. AreRows (i + 1) arrows w cs old last world whole)

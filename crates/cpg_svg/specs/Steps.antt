@@ -33,7 +33,7 @@ pub record AreRows (row : ℕ) (arrows : List Arrow) (w : WorldValue) (commands 
   pub world_after : world ≡ after w commands
 
 -- whatever rows follow, the command's row stands before them
-abbrev pub GoesOn : ℕ → List Arrow → WorldValue → Command → Sheet → List Arrow → WorldValue → Sheet → Type 0
-GoesOn row arrows w command old then v new =
+abbrev pub StandsBefore : ℕ → List Arrow → WorldValue → Command → Sheet → List Arrow → WorldValue → Sheet → Type 0
+StandsBefore row arrows w command old then v new =
     (later : List Command) (last : List Arrow) (world : WorldValue) (whole : Sheet)
     → AreRows (row + 1) then v later new last world whole → AreRows row arrows w (command ∷ later) old last world whole

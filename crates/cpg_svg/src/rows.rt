@@ -9,7 +9,7 @@ ghost use Rattle.cpg_step.specs.Commands.{IsWithin, LooksWithin};
 ghost use Rattle.cpg_draw.specs.Words.{sent_text};
 ghost use Rattle.cpg_svg.specs.Arrows.{arrow_shape};
 ghost use Rattle.cpg_svg.specs.Rows.{line_of, middle_of, circle_of, dot_of, words_of, row_with, look_row};
-ghost use Rattle.cpg_svg.specs.Steps.{IsPut, IsActed, GoesOn};
+ghost use Rattle.cpg_svg.specs.Steps.{IsPut, IsActed, StandsBefore};
 
 use crate::arrows::put_arrow_to;
 use crate::layout::{column_at, row_at, words_across, words_down};
@@ -177,7 +177,7 @@ pub(crate) fn draw_command(
     command: &Command,
 ) -> Result<(), Refusal>
     requires { IsWithin (length world.old.nodes) command.now }
-    ensures ok { OnOk result (GoesOn row arrows.old.items world.old command.now sheet.old arrows.new.items world.new sheet.new) }
+    ensures ok { OnOk result (StandsBefore row arrows.old.items world.old command.now sheet.old arrows.new.items world.new sheet.new) }
     ensures nodes { OnOk result (length world.new.nodes ≡ length world.old.nodes) }
     ensures memory { IsOkUnless result Refusal.Memory }
 {

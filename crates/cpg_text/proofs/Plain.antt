@@ -1,32 +1,69 @@
-use Rattle.std.proofs.Common.{◌≡◌, ◌≢◌, ◌≤◌, ◌<◌, ℕ, suc, ◌+◌, ◌*◌, List, [], ◌∷◌, ◌++◌, length, Bool, true, false, ◌&&◌, not, Option, Some, None, refl, ap, arith}
+use Rattle.std.proofs.Common.{◌≡◌, ◌≢◌, ◌≤◌, ◌<◌, ℕ, suc, ◌+◌, ◌*◌, List, [], ◌∷◌, ◌++◌, length, take, drop, cond, Bool, true, false, ◌&&◌, not, Option, Some, None, refl, sym, ap, ap₂, ◌∙◌, append_assoc, arith}
 use Rattle.std.specs.Prelude.{◌==◌, if◌then◌else◌}
 use Rattle.std.specs.Char.{is_digit, digit_value}
-use Rattle.std.specs.List.{list_all}
+use Rattle.std.specs.List.{list_all, position, position_or_len, prefix_len}
+use Rattle.std.proofs.lemmas.Bool.Decides.{nat_tests}
+use Rattle.std.proofs.lemmas.List.{append-nil, drop_all, take_all}
+use Rattle.std.proofs.lemmas.List.Folds.{list_all_at}
+use Rattle.std.proofs.lemmas.List.Quantifiers.{position-Some}
 use Rattle.cpg_text.specs.Percent.{before, decoded, encoded, escape, escaped, is_plain}
+use Rattle.cpg_text.specs.Steps.{after}
+use Rattle.cpg_text.proofs.Round.{plain_first}
+use Rattle.cpg_text.proofs.Texts.{some_position}
 
--- one plain byte more
-one_more : (b : ℕ) (rest : List ℕ) (p q : Bool) → (p && q) ≡ true → (q ≡ true → encoded rest ≡ rest) →
-    (if p then b ∷ [] else escape b) ++ encoded rest ≡ b ∷ rest
-one_more b rest false q all more = cc
-one_more b rest true q all more = ap (λ bytes. b ∷ bytes) (more all)
+-- a message is spelled by its plain front, and then by what follows
+pub run_spelled : (bytes : List ℕ) → encoded bytes ≡ take (prefix_len is_plain bytes) bytes ++ encoded (drop (prefix_len is_plain bytes) bytes)
+run_spelled [] = refl
+run_spelled (b ∷ bs) = by_test (is_plain b) refl (run_spelled bs)
+  where
+    by_test : (p : Bool) → is_plain b ≡ p → encoded bs ≡ take (prefix_len is_plain bs) bs ++ encoded (drop (prefix_len is_plain bs) bs) → (if p then b ∷ [] else escape b) ++ encoded bs
+        ≡ take (cond p (1 + prefix_len is_plain bs) 0) (b ∷ bs) ++ encoded (drop (cond p (1 + prefix_len is_plain bs) 0) (b ∷ bs))
+    by_test false e front = rw e refl
+    by_test true e front = let one : 1 + prefix_len is_plain bs ≡ suc (prefix_len is_plain bs) = omega arith in rw one (ap (λ (rest : List ℕ). b ∷ rest) front)
 
--- a message of plain bytes alone is spelled by itself
-pub plain_spelled : (message : List ℕ) → list_all is_plain message ≡ true → encoded message ≡ message
-plain_spelled [] all = refl
-plain_spelled (b ∷ bs) all = one_more b bs (is_plain b) (list_all is_plain bs) all (plain_spelled bs)
+-- the plain front was put, and what follows is still to come
+pub run_put : (old new message run rest : List ℕ) (n : ℕ) → new ≡ old ++ run → run ≡ take n message → rest ≡ drop n message → n ≡ prefix_len is_plain message
+    → new ++ encoded rest ≡ old ++ encoded message
+run_put old new message run rest n put front back long =
+    rw (put, front, back, long, append_assoc) (ap (λ (tail : List ℕ). old ++ tail) (sym (run_spelled message)))
 
--- one byte more that is no percent sign
-one_before : (b : ℕ) (rest : List ℕ) (percent q : Bool) (other more : Option (List ℕ)) → (not percent && q) ≡ true → (q ≡ true → more ≡ Some rest) →
-    (if percent then other else before b more) ≡ Some (b ∷ rest)
-one_before b rest true q other more all further = cc
-one_before b rest false q other more all further = ap (before b) (further all)
+-- nothing in front changes nothing
+pub after_none : (o : Option (List ℕ)) → o ≡ after [] o
+after_none None = refl
+after_none (Some bytes) = refl
 
--- a text without a percent sign stands for itself
-pub plain_decoded : (text : List ℕ) → list_all (λ byte. not (byte == 37)) text ≡ true → decoded text ≡ Some text
-plain_decoded [] all = refl
-plain_decoded (b ∷ []) all = one_before b [] (b == 37) true _ _ all (λ same. refl)
-plain_decoded (b ∷ next ∷ []) all = one_before b (next ∷ []) (b == 37) _ _ _ all (plain_decoded (next ∷ []))
-plain_decoded (b ∷ high ∷ low ∷ rest) all = one_before b (high ∷ low ∷ rest) (b == 37) _ _ _ all (plain_decoded (high ∷ low ∷ rest))
+-- a byte before what stands behind a front
+before_after : (b : ℕ) (front : List ℕ) (o : Option (List ℕ)) → before b (after front o) ≡ after (b ∷ front) o
+before_after b front None = refl
+before_after b front (Some bytes) = refl
+
+-- a text stands for its bytes before the first percent sign, and then for what the rest stands for
+abbrev run_of : List ℕ → ℕ
+run_of text = position_or_len (λ byte. byte == 37) text
+
+pub run_decoded : (text : List ℕ) → decoded text ≡ after (take (run_of text) text) (decoded (drop (run_of text) text))
+run_decoded [] = refl
+run_decoded (b ∷ bs) = by_test (b == 37) refl (run_decoded bs)
+  where
+    by_test : (percent : Bool) → (b == 37) ≡ percent → decoded bs ≡ after (take (run_of bs) bs) (decoded (drop (run_of bs) bs)) → decoded (b ∷ bs)
+        ≡ after (take (cond (not percent) (1 + run_of bs) 0) (b ∷ bs)) (decoded (drop (cond (not percent) (1 + run_of bs) 0) (b ∷ bs)))
+    by_test true e rest = after_none (decoded (b ∷ bs))
+    by_test false e rest =
+        let one : 1 + run_of bs ≡ suc (run_of bs) = omega arith in
+        rw one (plain_first b bs e ∙ ap (before b) rest ∙ before_after b (take (run_of bs) bs) (decoded (drop (run_of bs) bs)))
+
+-- the same where a search found the first percent sign
+pub run_found : (text : List ℕ) (end : ℕ) → position (λ byte. byte == 37) text ≡ Some end → decoded text ≡ after (take end text) (decoded (drop end text))
+run_found text end e = let p = some_position (λ byte. byte == 37) text end e in rw (← p.1) (run_decoded text)
+
+-- and where there is none
+pub run_alone : (text : List ℕ) → position (λ byte. byte == 37) text ≡ None → decoded text ≡ Some (text ++ [])
+run_alone text e =
+    let past : length text ≤ run_of text = grind (arith, nat_tests) in
+    run_decoded text ∙ ap₂ (λ (front rest : List ℕ). after front (decoded rest)) (take_all (run_of text) text past) (drop_all (run_of text) text past)
+
+pub run_whole : (text : List ℕ) → position (λ byte. byte == 37) text ≡ None → decoded text ≡ Some text
+run_whole text e = run_alone text e ∙ ap Some (append-nil text)
 
 -- what stands behind the byte that was put before it
 behind : (b : ℕ) (more : Option (List ℕ)) (bytes : List ℕ) → before b more ≡ Some bytes → (rest : List ℕ) × (more ≡ Some rest) × (b ∷ rest ≡ bytes)
@@ -73,5 +110,11 @@ shrinks (b ∷ high ∷ low ∷ rest) bytes e =
     one_shrinks b (high ∷ low ∷ rest) bytes (b == 37) (escaped high low (decoded rest)) refl (λ is f. escape_shrinks high low rest bytes (shrinks rest) f) (shrinks (high ∷ low ∷ rest)) e
 
 -- a text with a percent sign does not stand for itself
-pub percent_decoded : (text : List ℕ) → list_all (λ byte. not (byte == 37)) text ≡ false → decoded text ≢ Some text
+percent_decoded : (text : List ℕ) → list_all (λ byte. not (byte == 37)) text ≡ false → decoded text ≢ Some text
 percent_decoded text some same = let h = (shrinks text text same).1 some in absurd (omega (arith, h))
+
+-- the same where a search found one
+pub percent_found : (text : List ℕ) (end : ℕ) → position (λ byte. byte == 37) text ≡ Some end → decoded text ≢ Some text
+percent_found text end e =
+    let first = position-Some (λ byte. byte == 37) text end 0 e in
+    percent_decoded text (list_all_at (λ byte. not (byte == 37)) text end 0 first.0 (ap not first.1))

@@ -1,4 +1,4 @@
-use Rattle.std.proofs.Common.{◌≡◌, ℕ, ◌+◌, ◌-◌, ◌<◌, ◌≤◌, List, [], ◌∷◌, ◌++◌, length, take, drop, Bool, false, Option, Some, None, refl, ap, append_assoc, arith}
+use Rattle.std.proofs.Common.{◌≡◌, ℕ, ◌+◌, ◌-◌, ◌<◌, ◌≤◌, List, [], ◌∷◌, ◌++◌, length, take, drop, Bool, false, Option, Some, None, refl, ap, append_assoc, ◌∙◌, length-append, arith}
 use Rattle.std.proofs.lemmas.Bool.Decides.{nat_tests}
 use Rattle.std.proofs.lemmas.List.Splits.{slice_split_first, slice_split_none}
 use Rattle.std.proofs.lemmas.List.{take_all, length-drop}
@@ -14,6 +14,16 @@ use Rattle.cpg_text.specs.Lines.{is_line_feed, lines_of}
 pub after_push : (front : List ℕ) (b : ℕ) (o : Option (List ℕ)) → after (front ++ b ∷ []) o ≡ after front (before b o)
 after_push front b None = refl
 after_push front b (Some bs) = ap Some (append_assoc front (b ∷ []) bs)
+
+-- a piece more: a byte and those behind it
+pub after_piece : (front : List ℕ) (b : ℕ) (run : List ℕ) (o : Option (List ℕ)) → after ((front ++ b ∷ []) ++ run) o ≡ after front (before b (after run o))
+after_piece front b run None = refl
+after_piece front b run (Some bs) = ap Some (append_assoc (front ++ b ∷ []) run bs ∙ append_assoc front (b ∷ []) (run ++ bs))
+
+-- a piece more before the count of what the rest stands for
+pub counted_piece : (count b : ℕ) (run : List ℕ) (o : Option (List ℕ)) → counted_after (count + (1 + length run)) o ≡ counted_after count (before b (after run o))
+counted_piece count b run None = refl
+counted_piece count b run (Some bs) = ap Some (omega (arith, length-append run bs))
 
 -- one byte more before the count of what the rest stands for
 pub counted_push : (count b : ℕ) (o : Option (List ℕ)) → counted_after (count + 1) o ≡ counted_after count (before b o)

@@ -1,7 +1,8 @@
 -- steps of the reading functions, which no contract of a public function cites
-use Rattle.std.specs.Prelude.{◌≡◌, ⊤, false, ℕ, ◌+◌, ◌*◌, ◌-◌, ◌%◌, List, [], ◌∷◌, ◌++◌, length, ◌&&◌, nat_le, if◌then◌else◌, Option, Some, None, option_map}
+use Rattle.std.specs.Prelude.{◌≡◌, ⊤, Bool, false, not, ℕ, ◌+◌, ◌*◌, ◌-◌, ◌%◌, List, [], ◌∷◌, ◌++◌, length, ◌&&◌, nat_le, if◌then◌else◌, Option, Some, None, option_map}
 use Rattle.std.specs.Char.{is_ascii_digit}
 use Rattle.cpg_text.specs.Lines.{is_blank}
+use Rattle.cpg_text.specs.Percent.{is_plain}
 
 -- the number after one digit more, where it is at most `most`
 abbrev pub one_more : ℕ → ℕ → ℕ → Option ℕ
@@ -39,3 +40,7 @@ StartsWord (byte ∷ rest) = is_blank byte ≡ false
 -- so many bytes, and then those that the rest stands for
 abbrev pub counted_after : ℕ → Option (List ℕ) → Option ℕ
 counted_after count more = option_map (λ bytes. count + length bytes) more
+
+-- a byte that can't stand for itself
+abbrev pub is_odd : ℕ → Bool
+is_odd byte = not (is_plain byte)

@@ -8,6 +8,8 @@ mod laws;
 mod lines;
 mod numbers;
 mod percent;
+mod places;
+mod runs;
 mod streams;
 mod words;
 

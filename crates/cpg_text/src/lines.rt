@@ -8,7 +8,7 @@ ghost use Rattle.std.specs.List.{position};
 ghost use Rattle.std.specs.Iterator.{YieldsFirstRef, item_count};
 ghost use Rattle.cpg_text.specs.Lines.{is_line_feed, is_blank, is_edge, lines_of, lines_left, trimmed_front, trimmed_end, trimmed, is_ignored};
 
-use memchr::memchr;
+use crate::places::place_of;
 
 /// The lines of a text, first to last, without their line feeds.
 #[derive(Drop)]
@@ -45,17 +45,10 @@ impl<'a> Iterator for Lines<'a> {
 fn first_line(text: &[u8]) -> (&[u8], Option<&[u8]>)
     ensures { lines_of text.now ≡ result.0.now ∷ lines_left (option_map (λ rest. rest.now) result.1) }
 {
-    match line_end(text) {
+    match place_of(b'\n', text) {
         None => (text, None),
         Some(end) => (&text[..end], Some(&text[end + 1..])),
     }
-}
-
-#[tactic(auto, using(crate::proofs::Feeds::first_feed))]
-fn line_end(text: &[u8]) -> Option<usize>
-    ensures { result ≡ position is_line_feed text.now }
-{
-    memchr(b'\n', text)
 }
 
 /// The line without the space, tab and CR at both ends.

@@ -2,12 +2,15 @@
 //!
 //! Proved: both directions are the definitions `message_of` and `text_of`.
 
-ghost use Rattle.std.specs.Prelude.{◌≡◌, ◌≢◌, ◌<◌, ◌≤◌, [], vec_capacity, ◌==◌, ◌++◌, not, length, OnOk, IfOk, IfSome, MatchOption, IsOkUnless, None, Some, true, option_map};
+ghost use Rattle.std.specs.Prelude.{◌≡◌, ◌≢◌, ◌+◌, ◌<◌, ◌≤◌, [], vec_capacity, ◌++◌, length, OnOk, IfOk, IfSome, MatchOption, IsOkUnless, None, Some, true, option_map, vec_len};
 ghost use Rattle.std.specs.Fmt.{digit_glyph};
-ghost use Rattle.std.specs.List.{list_all};
+ghost use Rattle.std.specs.List.{prefix_len};
 ghost use Rattle.cpg_text.specs.Memory.{IsOkUnlessMemoryFor};
-ghost use Rattle.cpg_text.specs.Percent.{decoded, before, message_of, is_plain, encoded_byte, encoded, text_of};
+ghost use Rattle.cpg_text.specs.Steps.{after};
+ghost use Rattle.cpg_text.specs.Percent.{decoded, before, message_of, is_plain, encoded, escape, text_of};
 
+use crate::places::place_of;
+use crate::runs::{is_plain, plain_run};
 use cpg_cred::Refusal;
 use std::alloc::Global;
 
@@ -35,21 +38,14 @@ pub fn plain_message(word: &[u8]) -> Option<&[u8]>
 }
 
 /// The text, where it stands for its own bytes.
-#[tactic(auto, using(crate::proofs::Plain::plain_decoded, crate::proofs::Plain::percent_decoded))]
+#[tactic(auto, using(crate::proofs::Plain::run_whole))]
 fn plain_text(text: &[u8]) -> Option<&[u8]>
     ensures { MatchOption result (decoded text.now ≢ Some text.now) (λ bytes. (bytes.now ≡ text.now) × (decoded text.now ≡ Some text.now)) }
 {
-    if has_no_percent(text) {
-        Some(text)
-    } else {
-        None
+    match place_of(b'%', text) {
+        None => Some(text),
+        Some(_) => None,
     }
-}
-
-fn has_no_percent(text: &[u8]) -> bool
-    ensures { result ≡ list_all (λ byte. not (byte == 37)) text.now }
-{
-    text.iter().all(|byte| *byte != b'%')
 }
 
 /// How many bytes the message has that the word spells. Takes no memory.
@@ -64,15 +60,15 @@ pub fn message_length(word: &[u8]) -> Option<usize>
 }
 
 /// How many bytes the text stands for.
-#[tactic(auto, using(crate::proofs::Texts::counted_push))]
+#[tactic(auto, using(crate::proofs::Texts::counted_piece))]
 fn decoded_length(text: &[u8]) -> Option<usize>
     ensures { result ≡ option_map (λ bytes. length bytes) (decoded text.now) }
 {
     let mut count = 0;
     let mut rest = text;
     while !rest.is_empty() {
-        let (_, more) = first_byte(rest)?;
-        count += 1;
+        let (_, run, more) = first_piece(rest)?;
+        count += 1 + run.len();
         rest = more;
     }
     Some(count)
@@ -94,7 +90,7 @@ fn decode(alloc: Global, text: &[u8]) -> Result<Option<Vec<u8>>, Refusal>
 }
 
 /// The bytes that the text stands for, one after the other, in the room for as many as it has.
-#[tactic(auto, using(crate::proofs::Texts::after_push))]
+#[tactic(auto, using(crate::proofs::Texts::after_piece))]
 fn decode_into(room: Vec<u8>, text: &[u8]) -> Option<Vec<u8>>
     requires empty { room.items ≡ [] }
     requires reserved { length text.now ≤ vec_capacity room }
@@ -103,14 +99,64 @@ fn decode_into(room: Vec<u8>, text: &[u8]) -> Option<Vec<u8>>
     let mut bytes = room;
     let mut rest = text;
     while !rest.is_empty() {
-        let (byte, more) = first_byte(rest)?;
+        let (byte, run, more) = first_piece(rest)?;
         bytes.push_reserved(byte);
+        extend_reserved(&mut bytes, run);
         rest = more;
     }
     Some(bytes)
 }
 
+/// Puts the bytes last, where there is room for them.
+#[inline(always)]
+fn extend_reserved(bytes: &mut Vec<u8>, run: &[u8])
+    requires { vec_len bytes.old + length run.now ≤ vec_capacity bytes.old }
+    ensures items { bytes.new.items ≡ bytes.old.items ++ run.now }
+    ensures len { vec_len bytes.new ≡ vec_len bytes.old + length run.now }
+    ensures capacity { vec_capacity bytes.old ≤ vec_capacity bytes.new }
+{
+    if !run.is_empty() {
+        let done = bytes.extend_from_slice(run);
+        prove!(done.is_ok());
+    }
+}
+
+/// The byte that the front of a text stands for, the bytes behind it up to the next percent sign, and the text
+/// from there.
+#[inline(always)]
+fn first_piece(text: &[u8]) -> Option<(u8, &[u8], &[u8])>
+    requires { 0 < length text.now }
+    ensures is { MatchOption result (decoded text.now ≡ None) (λ piece. decoded text.now ≡ before piece.0 (after piece.1.now (decoded piece.2.now))) }
+    ensures shorter { IfSome result (λ piece. length piece.1.now + length piece.2.now < length text.now) }
+{
+    let (byte, rest) = first_byte(text)?;
+    let (run, rest) = split_run(rest);
+    Some((byte, run, rest))
+}
+
+/// The bytes before the first percent sign, and the text from there.
+#[tactic(auto, using(crate::proofs::Plain::run_alone, crate::proofs::Plain::run_found, crate::proofs::Plain::after_none))]
+#[inline(always)]
+fn split_run(text: &[u8]) -> (&[u8], &[u8])
+    ensures is { decoded text.now ≡ after result.0.now (decoded result.1.now) }
+    ensures whole { length result.0.now + length result.1.now ≡ length text.now }
+{
+    if starts_escape(text) {
+        return (&[], text);
+    }
+    match place_of(b'%', text) {
+        None => (text, &[]),
+        Some(place) => text.split_at(place),
+    }
+}
+
+#[inline(always)]
+fn starts_escape(text: &[u8]) -> bool {
+    matches!(text, [b'%', ..])
+}
+
 /// The byte that the front of a text stands for, and what follows.
+#[inline(always)]
 fn first_byte(text: &[u8]) -> Option<(u8, &[u8])>
     requires { 0 < length text.now }
     ensures is { MatchOption result (decoded text.now ≡ None) (λ found. decoded text.now ≡ before found.0 (decoded found.1.now)) }
@@ -146,45 +192,58 @@ pub fn push_message(line: &mut Vec<u8>, message: &[u8]) -> Result<(), Refusal>
     }
 }
 
-/// Puts each byte as itself or escaped at the line's end, all at once where each stands for itself.
-#[tactic(auto, using(crate::proofs::Plain::plain_spelled))]
+/// Puts each byte as itself or escaped at the line's end.
 fn push_encoded(line: &mut Vec<u8>, message: &[u8]) -> Result<(), Refusal>
     ensures ok { OnOk result (line.new.items ≡ line.old.items ++ encoded message.now) }
     ensures memory { IsOkUnless result Refusal.Memory }
 {
-    if has_plain_alone(message) {
-        line.extend_from_slice(message)?;
-        return Ok(());
-    }
     line.reserve(message.len())?;
-    for byte in message {
-        push_byte(line, *byte)?;
+    let mut rest = message;
+    while !rest.is_empty() {
+        rest = push_front(line, rest)?;
     }
     Ok(())
 }
 
-fn has_plain_alone(message: &[u8]) -> bool
-    ensures { result ≡ list_all is_plain message.now }
-{
-    message.iter().all(|byte| is_plain(*byte))
-}
-
-fn push_byte(line: &mut Vec<u8>, byte: u8) -> Result<(), Refusal>
-    ensures ok { OnOk result (line.new.items ≡ line.old.items ++ encoded_byte byte) }
+/// Puts the plain bytes in front of the message all at once, or else the escape of its first byte, at the
+/// line's end, and tells what follows.
+fn push_front<'a>(line: &mut Vec<u8>, message: &'a [u8]) -> Result<&'a [u8], Refusal>
+    requires { 0 < length message.now }
+    ensures ok { IfOk result (λ rest. line.new.items ++ encoded rest.now ≡ line.old.items ++ encoded message.now) }
+    ensures shorter { IfOk result (λ rest. length rest.now < length message.now) }
     ensures memory { IsOkUnless result Refusal.Memory }
 {
-    if is_plain(byte) {
-        line.push(byte)?;
-    } else {
-        line.extend_from_slice(&[b'%', upper_digit(byte / 16), upper_digit(byte % 16)])?;
+    match message {
+        [] => Ok(message),
+        [byte, rest @ ..] => {
+            if is_plain(*byte) {
+                return push_run(line, message);
+            }
+            push_escape(line, *byte)?;
+            Ok(rest)
+        }
     }
-    Ok(())
 }
 
-fn is_plain(byte: u8) -> bool
-    ensures { result ≡ is_plain byte }
+/// Puts the plain bytes in front of the message at the line's end, and tells what follows.
+#[tactic(auto, using(crate::proofs::Plain::run_put))]
+fn push_run<'a>(line: &mut Vec<u8>, message: &'a [u8]) -> Result<&'a [u8], Refusal>
+    ensures ok { IfOk result (λ rest. line.new.items ++ encoded rest.now ≡ line.old.items ++ encoded message.now) }
+    ensures shorter { IfOk result (λ rest. length rest.now + prefix_len is_plain message.now ≡ length message.now) }
+    ensures memory { IsOkUnless result Refusal.Memory }
 {
-    byte >= b'!' && byte <= b'~' && byte != b'%'
+    let (run, rest) = message.split_at(plain_run(message));
+    line.extend_from_slice(run)?;
+    Ok(rest)
+}
+
+/// Puts the escape of the byte at the line's end.
+fn push_escape(line: &mut Vec<u8>, byte: u8) -> Result<(), Refusal>
+    ensures ok { OnOk result (line.new.items ≡ line.old.items ++ escape byte) }
+    ensures memory { IsOkUnless result Refusal.Memory }
+{
+    line.extend_from_slice(&[b'%', upper_digit(byte / 16), upper_digit(byte % 16)])?;
+    Ok(())
 }
 
 /// The hexadecimal digit, a letter in upper case.

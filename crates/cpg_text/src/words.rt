@@ -4,12 +4,12 @@
 //! the definition `words_of`.
 
 ghost use Rattle.std.specs.Prelude.{◌≡◌, ◌<◌, ◌∷◌, [], ℕ, List, length, map, take, MatchOption};
-ghost use Rattle.std.specs.List.{position};
 ghost use Rattle.std.specs.Iterator.{YieldsFirstRef, item_count};
-ghost use Rattle.cpg_text.specs.Lines.{is_blank, words_of};
+ghost use Rattle.cpg_text.specs.Lines.{words_of};
 ghost use Rattle.cpg_text.specs.Steps.{StartsWord};
 
 use crate::lines::is_blank;
+use crate::places::place_of_blank;
 use arrayvec::ArrayVec;
 
 /// The words of a line, first to last.
@@ -50,7 +50,7 @@ fn first_word(line: &[u8]) -> Option<(&[u8], &[u8])>
     if line.is_empty() {
         return None;
     }
-    match word_end(line) {
+    match place_of_blank(line) {
         None => Some((line, &[])),
         Some(end) => Some((&line[..end], &line[end + 1..])),
     }
@@ -69,12 +69,6 @@ fn skip_blanks(line: &[u8]) -> &[u8]
         rest = after;
     }
     rest
-}
-
-fn word_end(line: &[u8]) -> Option<usize>
-    ensures { result ≡ position is_blank line.now }
-{
-    line.iter().position(|byte| is_blank(*byte))
 }
 
 /// The first words of a line, at most `N`, in room of their own. One word more than a shape has room for tells

@@ -13,7 +13,7 @@ use Rattle.cpg_history.specs.declared.histories.Beginning.{Beginning}
 use Rattle.cpg_history.specs.declared.traces.Recorded.{Recorded}
 use Rattle.cpg_history.specs.Histories.{first_world}
 use Rattle.cpg_history.specs.Traces.{AreRecorded, IsTraceOf, WasRecorded}
-use Rattle.cpg_trace.specs.Scripts.{HaveNodesOf, HaveTraces, IsNumbered, IsRecording, IsScript, entries_of, events_of, is_cut}
+use Rattle.cpg_trace.specs.Scripts.{HaveNodesOf, HaveTraces, IsNumbered, IsRecording, IsScript, lines_of_all, events_of, is_cut}
 use Rattle.cpg_trace.proofs.Ordered.{all_counted, stamp_at}
 use Rattle.cpg_trace.proofs.Played.{plays, no_longer}
 use Rattle.cpg_trace.proofs.Whole.{is_whole}
@@ -29,12 +29,12 @@ none_left [] none = refl
 none_left (m ∷ ms) none = absurd (omega (arith, none))
 
 -- what the last of them recorded goes behind the others
-pub gathered : (ms : List MemberValue) (m : MemberValue) (script : List Recorded) → IsPermutation (entries_of (ms ++ m ∷ []) ++ script) (entries_of ms ++ (script ++ m.trace.entries))
+pub gathered : (ms : List MemberValue) (m : MemberValue) (script : List Recorded) → IsPermutation (lines_of_all (ms ++ m ∷ []) ++ script) (lines_of_all ms ++ (script ++ m.trace.entries))
 gathered ms m script =
-    let both : entries_of (ms ++ m ∷ []) ++ script ≡ entries_of ms ++ (m.trace.entries ++ script) =
-    ap (λ l. l ++ script) (flat_map-append (λ (m : MemberValue). m.trace.entries) ms (m ∷ []) ∙ ap (λ l. entries_of ms ++ l) (append-nil m.trace.entries)) ∙ append_assoc (entries_of ms) m.trace.entries script in
-    subst (λ l. IsPermutation l (entries_of ms ++ (script ++ m.trace.entries))) (sym both)
-    (IsPermutation-append_right (entries_of ms) (m.trace.entries ++ script) (script ++ m.trace.entries) (IsPermutation-append_comm m.trace.entries script))
+    let both : lines_of_all (ms ++ m ∷ []) ++ script ≡ lines_of_all ms ++ (m.trace.entries ++ script) =
+    ap (λ l. l ++ script) (flat_map-append (λ (m : MemberValue). m.trace.entries) ms (m ∷ []) ∙ ap (λ l. lines_of_all ms ++ l) (append-nil m.trace.entries)) ∙ append_assoc (lines_of_all ms) m.trace.entries script in
+    subst (λ l. IsPermutation l (lines_of_all ms ++ (script ++ m.trace.entries))) (sym both)
+    (IsPermutation-append_right (lines_of_all ms) (m.trace.entries ++ script) (script ++ m.trace.entries) (IsPermutation-append_comm m.trace.entries script))
 
 pub cut_last : (ms : List MemberValue) (m : MemberValue) (cut : Bool) → (is_cut ms || (cut || is_some m.trace.lost)) ≡ (is_cut (ms ++ m ∷ []) || cut)
 cut_last ms m cut = by_cases (is_cut ms) (is_some m.trace.lost) cut ∙ ap (λ b. b || cut) (sym (list_any-append (λ (m : MemberValue). is_some m.trace.lost) ms (m ∷ [])))
@@ -47,9 +47,9 @@ cut_last ms m cut = by_cases (is_cut ms) (is_some m.trace.lost) cut ∙ ap (λ b
     by_cases false false false = refl
 
 -- all that members recorded
-all_recorded : (start : WorldValue) (seen : List WorldEvent) (ms : List MemberValue) → HaveTraces start seen ms → AreRecorded start seen (entries_of ms)
+all_recorded : (start : WorldValue) (seen : List WorldEvent) (ms : List MemberValue) → HaveTraces start seen ms → AreRecorded start seen (lines_of_all ms)
 all_recorded start seen [] traces = tt
-all_recorded start seen (m ∷ ms) traces = recorded_both start seen m.trace.entries (entries_of ms) traces.0.recorded (all_recorded start seen ms traces.1)
+all_recorded start seen (m ∷ ms) traces = recorded_both start seen m.trace.entries (lines_of_all ms) traces.0.recorded (all_recorded start seen ms traces.1)
 
 -- one member more has a trace
 pub one_more_trace : (start : WorldValue) (seen : List WorldEvent) (ms : List MemberValue) (m : MemberValue) → HaveTraces start seen ms → IsTraceOf start m.id seen m.trace → HaveTraces start seen (ms ++ m ∷ [])
@@ -57,12 +57,12 @@ one_more_trace start seen [] m all one = (one, tt)
 one_more_trace start seen (x ∷ ms) m all one = (all.0, one_more_trace start seen ms m all.1 one)
 
 module _ (b : Beginning) (seen : List WorldEvent) (members : List MemberValue) (script : List Recorded) (cut : Bool) (short : length seen < 2 ^ 64) (r : IsRecording (first_world b) seen members script cut) where
-  abbrev is : IsScript (entries_of members) script
+  abbrev is : IsScript (lines_of_all members) script
   is = r.script_is
 
   still : AreRecorded (first_world b) seen script
   still =
-      let ordered : AllByRecursion (WasRecorded (first_world b) seen) is.ordered = recursion_from_All (WasRecorded (first_world b) seen) is.ordered (All-permutation (WasRecorded (first_world b) seen) (entries_of members) is.ordered is.same (All-from_recursion (WasRecorded (first_world b) seen) (entries_of members) (all_recorded (first_world b) seen members r.traces))) in
+      let ordered : AllByRecursion (WasRecorded (first_world b) seen) is.ordered = recursion_from_All (WasRecorded (first_world b) seen) is.ordered (All-permutation (WasRecorded (first_world b) seen) (lines_of_all members) is.ordered is.same (All-from_recursion (WasRecorded (first_world b) seen) (lines_of_all members) (all_recorded (first_world b) seen members r.traces))) in
       subst (AllByRecursion (WasRecorded (first_world b) seen)) (sym is.front) (all_counted (WasRecorded (first_world b) seen) 0 is.ordered ordered)
 
   stamps : (i : ℕ) (r : Recorded) → slice_get script i ≡ Some r → r.stamp ≡ i

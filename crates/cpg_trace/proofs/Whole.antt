@@ -12,7 +12,7 @@ use Rattle.cpg_world_laws.specs.Worlds.{WorldValue, node_in}
 use Rattle.cpg_history.specs.Members.{MemberValue}
 use Rattle.cpg_history.specs.declared.traces.Recorded.{Recorded}
 use Rattle.cpg_history.specs.Traces.{IsTraceOf, recorded_stamps, stamps_of}
-use Rattle.cpg_trace.specs.Scripts.{HaveNodesOf, HaveTraces, IsScript, counted, entries_of, is_cut, members_of}
+use Rattle.cpg_trace.specs.Scripts.{HaveNodesOf, HaveTraces, IsScript, counted, lines_of_all, is_cut, members_of}
 use Rattle.cpg_trace.proofs.Ordered.{counted_same}
 
 -- so many numbers, from one on
@@ -160,23 +160,23 @@ neither : (a b : Bool) → (a || b) ≡ false → (a ≡ false) × (b ≡ false)
 neither true b is = absurd (true≢false is)
 neither false b is = (refl, is)
 
-recorded_all : (start : WorldValue) (seen : List WorldEvent) (ms : List MemberValue) → HaveTraces start seen ms → is_cut ms ≡ false → map (λ (r : Recorded). r.stamp) (entries_of ms) ≡ stamps_by ms 0 seen
+recorded_all : (start : WorldValue) (seen : List WorldEvent) (ms : List MemberValue) → HaveTraces start seen ms → is_cut ms ≡ false → map (λ (r : Recorded). r.stamp) (lines_of_all ms) ≡ stamps_by ms 0 seen
 recorded_all start seen [] traces whole = refl
 recorded_all start seen (m ∷ ms) traces whole =
     let both = neither (is_some m.trace.lost) (is_cut ms) whole in
-    map-append (λ (r : Recorded). r.stamp) m.trace.entries (entries_of ms)
-    ∙ (ap (λ l. l ++ map (λ (r : Recorded). r.stamp) (entries_of ms)) (traces.0.whole (none_lost m.trace.lost both.0)) ∙ ap (λ l. stamps_of m.id 0 seen ++ l) (recorded_all start seen ms traces.1 both.1))
+    map-append (λ (r : Recorded). r.stamp) m.trace.entries (lines_of_all ms)
+    ∙ (ap (λ l. l ++ map (λ (r : Recorded). r.stamp) (lines_of_all ms)) (traces.0.whole (none_lost m.trace.lost both.0)) ∙ ap (λ l. stamps_of m.id 0 seen ++ l) (recorded_all start seen ms traces.1 both.1))
 
-pub is_whole : (start : WorldValue) (seen : List WorldEvent) (ms : List MemberValue) (script : List Recorded) → length seen < 2 ^ 64 → HaveTraces start seen ms → is_cut ms ≡ false → HaveNodesOf ms seen → IsScript (entries_of ms) script → length script ≡ length seen
+pub is_whole : (start : WorldValue) (seen : List WorldEvent) (ms : List MemberValue) (script : List Recorded) → length seen < 2 ^ 64 → HaveTraces start seen ms → is_cut ms ≡ false → HaveNodesOf ms seen → IsScript (lines_of_all ms) script → length script ≡ length seen
 is_whole start seen ms script short traces whole nodes is =
     let stamp : Recorded → ℕ = λ r. r.stamp in
     let N = length seen in
-    let stamps : IsPermutation (map stamp (entries_of ms)) (up 0 N) =
-    subst (λ l. IsPermutation (map stamp (entries_of ms)) l) (are_up 0 seen (omega (arith, short)))
+    let stamps : IsPermutation (map stamp (lines_of_all ms)) (up 0 N) =
+    subst (λ l. IsPermutation (map stamp (lines_of_all ms)) l) (are_up 0 seen (omega (arith, short)))
     (subst (λ l. IsPermutation l (stamps_from 0 seen)) (sym (recorded_all start seen ms traces whole)) (all_stamps ms 0 seen nodes)) in
-    let ordered = IsPermutation-map stamp (entries_of ms) is.ordered is.same in
+    let ordered = IsPermutation-map stamp (lines_of_all ms) is.ordered is.same in
     let same : map stamp is.ordered ≡ up 0 N = is_up (map stamp is.ordered) 0 N (rises_by is.ordered is.ascend) (λ y.
-    sum_by-IsPermutation (one y) (map stamp (entries_of ms)) (map stamp is.ordered) ordered ∙ sym (sum_by-IsPermutation (one y) (map stamp (entries_of ms)) (up 0 N) stamps)) in
+    sum_by-IsPermutation (one y) (map stamp (lines_of_all ms)) (map stamp is.ordered) ordered ∙ sym (sum_by-IsPermutation (one y) (map stamp (lines_of_all ms)) (up 0 N) stamps)) in
     let long : length is.ordered ≡ N = sym (length-map is.ordered stamp) ∙ (ap length same ∙ length_up 0 N) in
     ap length (is.front ∙ all_counted 0 is.ordered (same ∙ ap (up 0) (sym long))) ∙ long
   where

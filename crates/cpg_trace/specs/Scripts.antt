@@ -69,8 +69,8 @@ abbrev pub trace_text : List ℕ → List Recorded → Bool → List ℕ
 trace_text heading script cut = heading ++ script_text script ++ end_text cut
 
 -- what these stations recorded, one after the other
-abbrev pub entries_of : List MemberValue → List Recorded
-entries_of members = flat_map (λ (m : MemberValue). m.trace.entries) members
+abbrev pub lines_of_all : List MemberValue → List Recorded
+lines_of_all members = flat_map (λ (m : MemberValue). m.trace.entries) members
 
 -- whether one of them could not record all events of its node
 abbrev pub is_cut : List MemberValue → Bool
@@ -83,7 +83,7 @@ HaveTraces start seen members = AllByRecursion (λ (m : MemberValue). IsTraceOf 
 -- What stations recorded that had seen this of the history: the script of all their entries, and whether one of them lost an event.
 pub record IsRecording (start : WorldValue) (seen : List WorldEvent) (members : List MemberValue) (script : List Recorded) (cut : Bool) : Type 0 where
   pub traces : HaveTraces start seen members
-  pub script_is : IsScript (entries_of members) script
+  pub script_is : IsScript (lines_of_all members) script
   pub cut_is : cut ≡ is_cut members
 
 -- how many of these stations are of that node

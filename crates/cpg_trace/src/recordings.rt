@@ -3,7 +3,7 @@
 ghost use Rattle.std.specs.Prelude.{◌≡◌, ◌≤◌, ◌+◌, ◌++◌, ◌||◌, IfOk, OnOk, IsOkUnless, length};
 ghost use Rattle.std.specs.List.Sorted.{IsPermutation};
 ghost use Rattle.cpg_history.specs.Members.{HaveSeen};
-ghost use Rattle.cpg_trace.specs.Scripts.{HaveTraces, IsRecording, entries_of, is_cut};
+ghost use Rattle.cpg_trace.specs.Scripts.{HaveTraces, IsRecording, lines_of_all, is_cut};
 
 use crate::ordering::{gather, order};
 use cpg_cred::Refusal;
@@ -38,7 +38,7 @@ fn gather_last<B: HistoryName>(
 ) -> Result<(), Refusal>
     requires some { 1 ≤ length stations.old.items }
     ensures fewer { length stations.new.items + 1 ≡ length stations.old.items }
-    ensures entries { OnOk result (IsPermutation (entries_of stations.old.items ++ (recording.old).script.items) (entries_of stations.new.items ++ (recording.new).script.items)) }
+    ensures entries { OnOk result (IsPermutation (lines_of_all stations.old.items ++ (recording.old).script.items) (lines_of_all stations.new.items ++ (recording.new).script.items)) }
     ensures cut { OnOk result ((is_cut stations.new.items || (recording.new).cut) ≡ (is_cut stations.old.items || (recording.old).cut)) }
     ensures memory { IsOkUnless result Refusal.Memory }
 {

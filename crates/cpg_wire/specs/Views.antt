@@ -1,4 +1,5 @@
 -- What a view over a frame's bytes stands for.
+use Rattle.std.specs.Prelude.{ℕ, List, ◌≡◌, ◌≤◌, ◌-◌, ⊤, length, drop}
 use Rattle.cpg_entry.specs.declared.calls.Call.TheVariants as calls
 use Rattle.cpg_entry.specs.declared.calls.Op.{Op}
 use Rattle.cpg_entry.specs.declared.calls.Op.TheVariants as ops
@@ -34,3 +35,13 @@ token_seen view = record { ring = view.ring; hop = view.hop; seq = view.seq; aru
 abbrev pub frame_seen : FrameView → Frame
 frame_seen (frame_views.Packet view) = frames.Packet (packet_seen view)
 frame_seen (frame_views.Token view) = frames.Token (token_seen view)
+
+-- The bytes end with the message that the op sends, if it sends one.
+abbrev pub EndsWith : Op → List ℕ → Type 0
+EndsWith (ops.Act (calls.Send message)) bytes = (length message ≤ length bytes) × (drop (length bytes - length message) bytes ≡ message)
+EndsWith _ _ = ⊤
+
+-- the same of a frame
+abbrev pub BringsLast : Frame → List ℕ → Type 0
+BringsLast (frames.Packet packet) bytes = EndsWith packet.entry.op bytes
+BringsLast (frames.Token token) bytes = ⊤

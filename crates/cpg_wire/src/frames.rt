@@ -10,12 +10,13 @@ ghost use Rattle.cpg_entry.specs.Ranges.{IsFrame};
 ghost use Rattle.cpg_entry.specs.Widths.{FrameFits};
 ghost use Rattle.cpg_wire.specs.Reading.{Reads, head_at, carried_at, frame_at, frame_of};
 ghost use Rattle.cpg_wire.specs.Spelling.{Spells};
-ghost use Rattle.cpg_wire.specs.Views.{frame_seen};
+ghost use Rattle.cpg_wire.specs.Views.{frame_seen, BringsLast};
 
 use crate::codes::{Kind, MARK, Version};
 use crate::input::Input;
 use crate::packets::PacketView;
 use crate::tokens::TokenView;
+use bytes::Bytes;
 use cpg_entry::{Frame, Refusal};
 use std::alloc::Global;
 
@@ -32,6 +33,8 @@ impl<'a> FrameView<'a> {
     pub fn read(bytes: &'a [u8]) -> Option<FrameView<'a>>
         ensures exact { frame_of bytes.now ≡ option_map frame_seen result }
         ensures range { IfSome result (λ view. IsFrame (frame_seen view) × FrameFits (frame_seen view)) }
+        // A message is the last of them.
+        ensures last { IfSome result (λ view. BringsLast (frame_seen view) bytes.now) }
     {
         FrameView::read_whole(bytes)
     }
@@ -78,6 +81,18 @@ impl<'a> FrameView<'a> {
     {
         match self {
             FrameView::Packet(packet) => Ok(Frame::Packet(packet.copy(alloc)?)),
+            FrameView::Token(token) => Ok(Frame::Token(token.copy(alloc)?)),
+        }
+    }
+
+    /// The frame, of bytes that end as it does; a long message is shared with them.
+    pub fn share(&self, alloc: Global, bytes: &Bytes) -> Result<Frame, Refusal>
+        requires { BringsLast (frame_seen self.now) bytes.now }
+        ensures ok { IfOk result (λ frame. frame ≡ frame_seen self.now) }
+        ensures memory { IsOkUnless result Refusal.Memory }
+    {
+        match self {
+            FrameView::Packet(packet) => Ok(Frame::Packet(packet.share(alloc, bytes)?)),
             FrameView::Token(token) => Ok(Frame::Token(token.copy(alloc)?)),
         }
     }

@@ -5,12 +5,13 @@
 
 ghost use Rattle.std.specs.Prelude.{◌≡◌, IfOk, IsOkUnless, option_map};
 ghost use Rattle.cpg_wire.specs.Reading.{Reads, insert_at, remove_at, body_at, op_at};
-ghost use Rattle.cpg_wire.specs.Views.{op_seen};
+ghost use Rattle.cpg_wire.specs.Views.{op_seen, EndsWith};
 
 use crate::codes::{OpCode, Version};
 use crate::fields::{read_message, read_name};
 use crate::input::Input;
 use crate::rules::read_rule;
+use bytes::Bytes;
 use cpg_entry::{Call, Message, Name, Op, Refusal, Rule};
 use std::alloc::Global;
 
@@ -86,6 +87,21 @@ impl<'a> OpView<'a> {
                 Ok(Op::Act(Call::Remove(Name::from_slice(alloc, name)?, *id)))
             }
             OpView::Gone => Ok(Op::Gone),
+        }
+    }
+
+    /// The op; a long message is shared with the frame, which it ends.
+    pub fn share(&self, alloc: Global, frame: &Bytes) -> Result<Op, Refusal>
+        requires { EndsWith (op_seen self.now) frame.now }
+        ensures ok { IfOk result (λ op. op ≡ op_seen self.now) }
+        ensures memory { IsOkUnless result Refusal.Memory }
+    {
+        match self {
+            OpView::Send(message) => {
+                let message = Message::from_end(alloc, frame, message.len())?;
+                Ok(Op::Act(Call::Send(message)))
+            }
+            _ => self.copy(alloc),
         }
     }
 }

@@ -4,13 +4,14 @@
 
 ghost use Rattle.std.specs.Prelude.{◌≡◌, IfOk, IsOkUnless, option_map};
 ghost use Rattle.cpg_wire.specs.Reading.{Reads, sender_at, cred_at, packet_at};
-ghost use Rattle.cpg_wire.specs.Views.{packet_seen};
+ghost use Rattle.cpg_wire.specs.Views.{op_seen, packet_seen, EndsWith};
 
 use crate::codes::Version;
 use crate::fields::read_node;
 use crate::input::Input;
 use crate::ops::OpView;
-use cpg_entry::{Cred, Entry, MOST_CONNECTIONS, MOST_PLACES, NodeId, Packet, Refusal};
+use bytes::Bytes;
+use cpg_entry::{Cred, Entry, MOST_CONNECTIONS, MOST_PLACES, NodeId, Op, Packet, Refusal};
 use std::alloc::Global;
 
 /// A packet whose name or message stands in the frame.
@@ -53,7 +54,25 @@ impl<'a> PacketView<'a> {
         ensures memory { IsOkUnless result Refusal.Memory }
     {
         let op = self.op.copy(alloc)?;
-        Ok(Packet {
+        Ok(self.with_op(op))
+    }
+
+    /// The packet; a long message is shared with the frame, which it ends.
+    pub fn share(&self, alloc: Global, frame: &Bytes) -> Result<Packet, Refusal>
+        requires { EndsWith (op_seen (self.now).op) frame.now }
+        ensures ok { IfOk result (λ packet. packet ≡ packet_seen self.now) }
+        ensures memory { IsOkUnless result Refusal.Memory }
+    {
+        let op = self.op.share(alloc, frame)?;
+        Ok(self.with_op(op))
+    }
+
+    /// The packet with that op.
+    fn with_op(&self, op: Op) -> Packet
+        requires { op ≡ op_seen (self.now).op }
+        ensures { result ≡ packet_seen self.now }
+    {
+        Packet {
             ring: self.ring,
             place: self.place,
             entry: Entry {
@@ -63,7 +82,7 @@ impl<'a> PacketView<'a> {
                 cred: self.cred,
                 op,
             },
-        })
+        }
     }
 }
 

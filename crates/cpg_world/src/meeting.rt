@@ -103,7 +103,7 @@ fn meet_frame(
         return Err(Refusal::NoFrame);
     }
     sent.reserve(41)?;
-    let mut list = match node.frame(sent[k - 1].as_slice()) {
+    let mut list = match node.shared_frame(&sent[k - 1]) {
         Ok(list) => list,
         Err(refusal) => return Err(refusal),
     };

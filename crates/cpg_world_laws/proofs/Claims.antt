@@ -133,7 +133,7 @@ module _ (below : Below) where
     received = received w es answers settings reached (within_reached w settings reached) replies;
     ends = at_each EndsExactly ends_exactly w es answers numbered replies;
     listings = at_each ListsExactly (lists_exactly below.listings) w es answers numbered replies;
-    in_order = in_order w es settings reached;
+    placed_in_order = in_order w es settings reached;
     agreed_grows = run_agrees w es;
     goes_on = λ n x later at after. goes_on below.prefixes w es n x later at after (before n x at) (then n later after);
     alike_later = λ n m x y at after. judge_alike below.prefixes w es x y (before n x at) (then m y after);

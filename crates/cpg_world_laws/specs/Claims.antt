@@ -228,7 +228,7 @@ pub record IsTrueRun (w : WorldValue) (events : List WorldEvent) (answers : List
   -- listings show exactly what rules allow, and are denied by a rule that is named
   pub listings : AtEach ListsExactly w events answers
   -- a node's entries take places in the order in which they were admitted, each once
-  pub in_order : (n : ℕ) → node_entries (runs w events) n ≡ node_entries w n ++ admitted w n events
+  pub placed_in_order : (n : ℕ) → node_entries (runs w events) n ≡ node_entries w n ++ admitted w n events
   -- the agreed list only grows
   pub agreed_grows : Begins (agreed w.sent) (agreed (runs w events).sent)
   -- a node goes on from where it was

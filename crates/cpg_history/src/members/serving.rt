@@ -8,7 +8,7 @@ ghost use Rattle.cpg_node.specs.Calls.{submit_refusal, submitted, disconnected};
 ghost use Rattle.cpg_world_laws.specs.declared.events.WorldEvent.TheVariants as events;
 ghost use Rattle.cpg_world_laws.specs.declared.replies.Reply.TheVariants as reply;
 ghost use Rattle.cpg_board.specs.Seats.{IsSeatOf, Begins};
-ghost use Rattle.cpg_station.specs.Admitting.{IsAdmitted, AdmitsNot, taken_in};
+ghost use Rattle.cpg_station.specs.Admitting.{IsAdmitted, AdmitsNot, with_newcomer};
 ghost use Rattle.cpg_station.specs.Serving.{IsKnown, IsHeard, IsTakeFor, IsListFor, IsGroupsFor, KeepsWatch, SubmitRefuses, taken_from, moved_on, halted_of, with_node};
 ghost use Rattle.cpg_history.specs.Members.{Told, RefusalTold, is_answer};
 
@@ -41,7 +41,7 @@ impl<B: HistoryName> Member<B> {
     ) -> Result<(Connection, Front<B>), Refusal>
         requires { list.now ≡ B.start.list }
         ensures ok { IfOk result (λ r. IsAdmitted list.now node pid cred r.0 × IsKnown self.new.station.node r.0) }
-        ensures station { OnOk result ((self.old.station.halted ≡ false) × (self.new.station ≡ taken_in self.old.station pid cred)) }
+        ensures station { OnOk result ((self.old.station.halted ≡ false) × (self.new.station ≡ with_newcomer self.old.station pid cred)) }
         ensures history { IfOk result (λ r. Told B.start [] (events.Connect node pid cred) (Ok (reply.Connected r.0.id.conn)) r.1.seen) }
         ensures err { IfErr result (λ why. AdmitsNot list.now node pid cred self.old.station why self.new.station) }
     {
@@ -59,7 +59,7 @@ impl<B: HistoryName> Member<B> {
         requires list { list.now ≡ B.start.list }
         requires event { E.event ≡ events.Connect node pid cred }
         ensures ok { IfOk result (λ r. IsAdmitted list.now node pid cred r.0 × IsKnown self.new.station.node r.0) }
-        ensures station { OnOk result ((self.old.station.halted ≡ false) × (self.new.station ≡ taken_in self.old.station pid cred)) }
+        ensures station { OnOk result ((self.old.station.halted ≡ false) × (self.new.station ≡ with_newcomer self.old.station pid cred)) }
         ensures history { IfOk result (λ r. Told B.start [] (events.Connect node pid cred) (Ok (reply.Connected r.0.id.conn)) r.1.seen) }
         ensures err { IfErr result (λ why. AdmitsNot list.now node pid cred self.old.station why self.new.station) }
     {

@@ -7,7 +7,7 @@ ghost use Rattle.cpg_node.specs.Answers.{IsTakeAnswer, IsListAnswer, IsGroupsAns
 ghost use Rattle.cpg_node.specs.Calls.{connect_refusal, submit_refusal, submitted, disconnected};
 ghost use Rattle.cpg_node.specs.Nodes.{open_client};
 ghost use Rattle.cpg_ring.specs.Answers.{IsAnswer, answer_of};
-ghost use Rattle.cpg_station.specs.Admitting.{IsAdmitted, AdmitsNot, is_shut, taken_in};
+ghost use Rattle.cpg_station.specs.Admitting.{IsAdmitted, AdmitsNot, is_shut, with_newcomer};
 ghost use Rattle.cpg_station.specs.Serving.{IsKnown, IsHeard, BringsUp, StaysDown, IsTakeFor, IsListFor, IsGroupsFor, KeepsWatch, StaysOrHalts, SubmitRefuses, WhereDenied, taken_from, moved_on, halted_of, with_node};
 
 use super::Station;
@@ -95,7 +95,7 @@ impl<B: BoardName> Station<B> {
         ensures ok { IfOk result (λ who. IsAdmitted list.now node pid cred who × IsKnown self.new.node who) }
         ensures number { IfOk result (λ who. who.id.conn ≡ suc (length self.old.node.clients)) }
         ensures room { OnOk result (connect_refusal self.old.node cred ≡ None) }
-        ensures station { OnOk result ((self.old.halted ≡ false) × (self.new ≡ taken_in self.old pid cred)) }
+        ensures station { OnOk result ((self.old.halted ≡ false) × (self.new ≡ with_newcomer self.old pid cred)) }
         ensures err { IfErr result (λ why. AdmitsNot list.now node pid cred self.old why self.new) }
     {
         if self.halted {

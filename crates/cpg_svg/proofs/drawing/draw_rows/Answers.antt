@@ -1,5 +1,5 @@
 use Rattle.std.proofs.Common.{◌<◌, ◌≤◌, ◌+◌, length, sym, ap, subst, ◌∙◌, arith}
-use Rattle.cpg_svg.specs.Steps.{GoesOn}
+use Rattle.cpg_svg.specs.Steps.{StandsBefore}
 use Rattle.cpg_svg.proofs.Drawn.{step_rows, last_rows}
 use Rattle.cpg_svg.proofs.drawing.draw_rows.Goals as goal
 
@@ -8,7 +8,7 @@ loop-command-preserved c =
     let i = c.loop-command.command-index in
     let within : i < length c.args.commands.now = omega arith in
     let counted = ap (λ n. n + 1) c.loop-command.invariant.counted in
-    let goes = subst (λ n. GoesOn n c.loop-command.arrows.items c.loop-command.world c.command-item.result c.loop-command.sheet c.draw_command.new.arrows.items c.draw_command.new.world c.draw_command.new.sheet) counted c.in_ok-draw_command.ensures.ok in
+    let goes = subst (λ n. StandsBefore n c.loop-command.arrows.items c.loop-command.world c.command-item.result c.loop-command.sheet c.draw_command.new.arrows.items c.draw_command.new.world c.draw_command.new.sheet) counted c.in_ok-draw_command.ensures.ok in
     record {
       counted = counted;
       drawn = step_rows c.args.commands.now i c.command-item.result c.loop-command.arrows.items c.draw_command.new.arrows.items c.args.arrows.now.items c.loop-command.world c.draw_command.new.world c.args.world.now c.loop-command.sheet c.draw_command.new.sheet c.args.sheet.now within (sym c.command-item.is) c.loop-command.invariant.drawn goes;

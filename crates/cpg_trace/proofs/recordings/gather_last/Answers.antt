@@ -1,7 +1,7 @@
 use Rattle.std.proofs.Common.{◌≡◌, ◌∙◌, ◌++◌, ◌||◌, is_some, sym, ap, subst}
 use Rattle.std.specs.List.Sorted.{IsPermutation}
 use Rattle.cpg_history.specs.Traces.{TraceValue}
-use Rattle.cpg_trace.specs.Scripts.{entries_of, is_cut}
+use Rattle.cpg_trace.specs.Scripts.{lines_of_all, is_cut}
 use Rattle.cpg_trace.proofs.Playing.{gathered, cut_last}
 use Rattle.cpg_trace.proofs.Written.{on_ok_so}
 use Rattle.cpg_trace.proofs.recordings.gather_last.Goals as goal
@@ -11,9 +11,9 @@ pub returns-clause-entries : goal.returns-clause-entries
 returns-clause-entries g c =
     let script = c.args.recording.now.script.items in
     let more : c.into_entries.result.items ≡ c.in-Some.station.trace.entries = c.into_entries.ensures ∙ ap (λ (t : TraceValue). t.entries) c.into_trace-trace.ensures in
-    on_ok_so c.gather.result _ (IsPermutation (entries_of c.args.stations.now.items ++ script) (entries_of c.pop.new.self.items ++ c.gather.new.entries.items))
-    (λ is. subst (λ l. IsPermutation (entries_of c.args.stations.now.items ++ script) (entries_of c.pop.new.self.items ++ l)) (sym (is ∙ ap (λ l. script ++ l) more))
-    (subst (λ ms. IsPermutation (entries_of ms ++ script) (entries_of c.pop.new.self.items ++ (script ++ c.in-Some.station.trace.entries))) (sym c.in-Some.ensures.items) (gathered c.pop.new.self.items c.in-Some.station script)))
+    on_ok_so c.gather.result _ (IsPermutation (lines_of_all c.args.stations.now.items ++ script) (lines_of_all c.pop.new.self.items ++ c.gather.new.entries.items))
+    (λ is. subst (λ l. IsPermutation (lines_of_all c.args.stations.now.items ++ script) (lines_of_all c.pop.new.self.items ++ l)) (sym (is ∙ ap (λ l. script ++ l) more))
+    (subst (λ ms. IsPermutation (lines_of_all ms ++ script) (lines_of_all c.pop.new.self.items ++ (script ++ c.in-Some.station.trace.entries))) (sym c.in-Some.ensures.items) (gathered c.pop.new.self.items c.in-Some.station script)))
     c.gather.ensures.ok
 
 pub returns-clause-cut : goal.returns-clause-cut

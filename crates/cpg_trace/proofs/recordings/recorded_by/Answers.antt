@@ -2,7 +2,7 @@ use Rattle.std.proofs.Common.{◌≡◌, ◌∙◌, ◌++◌, ◌||◌, [], leng
 use Rattle.std.specs.List.Sorted.{IsPermutation}
 use Rattle.std.proofs.lemmas.List.Sorted.{IsPermutation-trans}
 use Rattle.cpg_history.specs.Members.{MemberValue}
-use Rattle.cpg_trace.specs.Scripts.{HaveTraces, entries_of, is_cut}
+use Rattle.cpg_trace.specs.Scripts.{HaveTraces, lines_of_all, is_cut}
 use Rattle.cpg_trace.proofs.Playing.{none_left}
 use Rattle.cpg_trace.proofs.recordings.recorded_by.Goals as goal
 
@@ -18,7 +18,7 @@ returns-clause-ok g c =
     let count = c.loop.invariant.0 in
     let none : c.loop.stations.items ≡ [] = none_left c.loop.stations.items (omega (arith, count)) in
     let script = c.loop.recording.script.items in
-    let gathered = subst (λ ms. IsPermutation (entries_of c.args.stations.items) (entries_of ms ++ script)) none c.loop.invariant.1 in
+    let gathered = subst (λ ms. IsPermutation (lines_of_all c.args.stations.items) (lines_of_all ms ++ script)) none c.loop.invariant.1 in
     let cut = subst (λ ms. (is_cut ms || c.loop.recording.cut) ≡ is_cut c.args.stations.items) none c.loop.invariant.2 in
     record {
       traces = subst (HaveTraces g.B.HistoryName.start c.args.front.now.seen) c.as_slice.ensures.value c.are_traced.ensures;
