@@ -2,7 +2,7 @@
 use Rattle.std.proofs.Common.{◌≡◌, ℕ, List, ◌∷◌, Option, Some, Result, Ok, Err, sym, ap, subst, inl, inr}
 use Rattle.std.specs.Prelude.{◌⊎◌}
 use Rattle.cpg_cred.specs.declared.refusals.Refusal.{Refusal}
-use Rattle.cpg_conf.specs.Listed.{Refuses}
+use Rattle.cpg_conf.specs.Listed.{FailsBy}
 use Rattle.cpg_conf.specs.Names.{next_number}
 use Rattle.cpg_script.specs.declared.faults.Fault.{Fault}
 use Rattle.cpg_accept.specs.declared.parts.Kind.{Kind}
@@ -13,7 +13,7 @@ use Rattle.cpg_accept.specs.Steps.{EndsRead, RefusesPart, StopsAt, StopsIn}
 
 -- what was not read of a names or conf part, as a fault of that part
 pub refused_part : {A : Type 0} (part : ℕ) (make : A → Admitted) (read : Result A Refusal) (refused : Refusal)
-    → Refuses read refused → RefusesPart part (read_in (Some part) make read) (record { part = Some part; refusal = refused })
+    → FailsBy read refused → RefusesPart part (read_in (Some part) make read) (record { part = Some part; refusal = refused })
 refused_part part make (Ok read) refused e = ap (λ r. record { part = Some part; refusal = r }) e
 refused_part part make (Err fault) refused e = ap (λ r. record { part = Some part; refusal = r }) e
 

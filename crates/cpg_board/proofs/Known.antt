@@ -8,10 +8,10 @@ use Rattle.std.specs.declared.alloc.Global.{Global}
 use Rattle.once_cell.specs.Once.{cell_name}
 use Rattle.once_cell.specs.declared.race.note.Note.{Note}
 use Rattle.cpg_record.specs.declared.records.Record.{Record}
-use Rattle.cpg_record.specs.Places.{record_at}
+use Rattle.cpg_record.specs.Places.{record_at, Begins}
 use Rattle.cpg_record.proofs.Placing.{record_at-index}
 use Rattle.cpg_board.specs.Noted.{known_of, with_known, AllKnow}
-use Rattle.cpg_board.specs.Seats.{SeatValue, IsSeatOf, Begins, records_of}
+use Rattle.cpg_board.specs.Seats.{SeatValue, IsSeatOf, records_of}
 
 -- notes that all know something know as many cells as there are notes
 pub known_length : {X : Type 0} (ns : List (Note X)) → AllKnow ns → length (known_of ns) ≡ length ns

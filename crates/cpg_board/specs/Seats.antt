@@ -3,6 +3,7 @@ use Rattle.std.specs.Prelude.{ℕ, ◌≡◌, ◌<◌, ◌≤◌, List, length, 
 use Rattle.std.specs.declared.cmp.Ordering.{Ordering}
 use Rattle.std.specs.declared.cmp.Ordering.TheVariants.{Less, Equal, Greater}
 use Rattle.cpg_record.specs.declared.records.Record.{Record}
+use Rattle.cpg_record.specs.Places.{Begins}
 
 -- the cells that a seat knows, each with the record that stands in it
 abbrev pub SeatValue : Type 0
@@ -17,10 +18,6 @@ records_of seat = map (λ known. known.1) seat
 -- the seat's cells are the first ones of the board
 abbrev pub IsSeatOf : List ℕ → SeatValue → Type 0
 IsSeatOf board seat = take (length seat) board ≡ cells_of seat
-
--- xs begins ys
-abbrev pub Begins : {X : Type 0} → List X → List X → Type 0
-Begins xs ys = take (length xs) ys ≡ xs
 
 -- of two lists the one that is no longer begins the other, by the ordering of their lengths
 abbrev pub Meets : {X : Type 0} → List X → List X → Ordering → Type 0

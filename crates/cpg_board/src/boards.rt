@@ -1,10 +1,10 @@
 //! The board, with its calls.
 
 ghost use Rattle.std.specs.Prelude.{◌≡◌, ◌≢◌, ◌++◌, ◌∷◌, ◌<◌, ◌≤◌, [], length, take, Some, None, Ok, IsOk, slice_get, IfOk, IfErr, OnOk, OnErr, IsOkUnless, MatchOption, MatchResult, vec_len, vec_capacity};
-ghost use Rattle.cpg_record.specs.Places.{record_at};
+ghost use Rattle.cpg_record.specs.Places.{record_at, Begins};
 ghost use Rattle.cpg_board.specs.Making.{HasBoard, IsUnmade};
 ghost use Rattle.cpg_board.specs.Noted.{known_of, AllKnow};
-ghost use Rattle.cpg_board.specs.Seats.{IsSeatOf, records_of, Begins, Meets, IsLonger};
+ghost use Rattle.cpg_board.specs.Seats.{IsSeatOf, records_of, Meets, IsLonger};
 ghost use Rattle.cpg_board.specs.Settling.{Refuses};
 ghost use Rattle.cpg_board.specs.declared.settling.Settled.TheVariants.{Differs};
 

@@ -3,7 +3,7 @@
 ghost use Rattle.std.specs.Prelude.{◌≡◌};
 ghost use Rattle.std.specs.List.{slice_get};
 ghost use Rattle.cpg_node.specs.Calls.{place_to_deliver};
-ghost use Rattle.cpg_embed.specs.Frames.{IsFrameStatus, IsTimerStatus, IsNext, IsDelivered};
+ghost use Rattle.cpg_embed.specs.Frames.{IsFrameStatus, IsTimerStatus, IsNextFrame, IsDelivered};
 ghost use Rattle.cpg_c.specs.Handles.{AtHandle};
 
 use crate::handles::Handle;
@@ -45,7 +45,7 @@ pub extern "C" fn cpgring_next(
     len: &mut usize,
     route: &mut u32,
 ) -> u32
-    ensures { AtHandle handle.old.slot.held result handle.new.slot.held (λ e new. IsNext e (slice_get e.made e.given) buffer.old result buffer.new len.new route.new new) }
+    ensures { AtHandle handle.old.slot.held result handle.new.slot.held (λ e new. IsNextFrame e (slice_get e.made e.given) buffer.old result buffer.new len.new route.new new) }
 {
     let Some(mut boxed) = handle.take(alloc) else {
         return CLOSED;

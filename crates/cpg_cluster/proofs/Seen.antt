@@ -7,7 +7,8 @@ use Rattle.cpg_cred.specs.declared.refusals.Refusal.TheVariants as refusal
 use Rattle.cpg_record.specs.declared.events.Event.{Event}
 use Rattle.cpg_record.specs.Events.{inbox}
 use Rattle.cpg_node.specs.declared.connections.Connection.{Connection}
-use Rattle.cpg_board.specs.Seats.{Begins, SeatValue}
+use Rattle.cpg_record.specs.Places.{Begins}
+use Rattle.cpg_board.specs.Seats.{SeatValue}
 use Rattle.cpg_station.specs.Serving.{OverFront, moved_on}
 use Rattle.cpg_daemon.specs.Sessions.{SessionValue, IsTaken}
 use Rattle.cpg_cluster.specs.declared.commands.Ask.TheVariants as ask

@@ -8,7 +8,8 @@ use Rattle.cpg_cred.specs.declared.refusals.Refusal.{Refusal}
 use Rattle.cpg_cred.specs.declared.refusals.Refusal.TheVariants as refusal
 use Rattle.cpg_record.specs.declared.events.Event.{Event}
 use Rattle.cpg_record.specs.Events.{inbox}
-use Rattle.cpg_board.specs.Seats.{SeatValue, Begins}
+use Rattle.cpg_record.specs.Places.{Begins}
+use Rattle.cpg_board.specs.Seats.{SeatValue}
 use Rattle.cpg_ring.specs.Worlds.{item, with_item}
 use Rattle.cpg_station.specs.Serving.{OverFront, SubmitRefuses, moved_on}
 use Rattle.cpg_daemon.specs.Sessions.{SessionValue, IsNew, ConnectRefuses, IsListed, AreNamed, IsEndRefusal}

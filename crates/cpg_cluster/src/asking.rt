@@ -1,10 +1,12 @@
 //! What an open session is asked for, and what it is answered.
 //!
 //! Proved: the answer is one that `specs/Answers.antt` allows, whatever the threads do; and a wait by looks that gives
-//! up has asked `MOST_POLLS` times, a number that `limits` says. Of a wait by the clock no time is proved.
+//! up has asked `MOST_POLLS` times, a number that `limits` says. One by the clock has asked at least once; no time is
+//! proved of it.
 
-ghost use Rattle.std.specs.Prelude.{ℕ, ◌≡◌, ◌≤◌, ◌<◌, ◌+◌, Ok, OnOk, IsOkUnless};
-ghost use Rattle.cpg_board.specs.Seats.{IsSeatOf, Begins};
+ghost use Rattle.std.specs.Prelude.{true, false, ℕ, ◌≡◌, ◌≤◌, ◌<◌, ◌+◌, Ok, OnOk, IsOkUnless};
+ghost use Rattle.cpg_record.specs.Places.{Begins};
+ghost use Rattle.cpg_board.specs.Seats.{IsSeatOf};
 ghost use Rattle.cpg_station.specs.Serving.{SubmitRefuses};
 ghost use Rattle.cpg_cluster.specs.declared.commands.Ask.TheVariants as asks;
 ghost use Rattle.cpg_cluster.specs.declared.replies.Reply.TheVariants as replies;
@@ -132,6 +134,21 @@ fn wait_looks<B: HistoryName, G, H: Wait + Clock>(
     Ok(Reply::Nothing(session.seat().len()))
 }
 
+/// The same, noted.
+fn look_noted<B: HistoryName, G, H: Wait>(
+    rt: &H,
+    running: &Running<B, G>,
+    session: &mut Session<B>,
+    looked: &mut bool,
+) -> Option<Result<Event, Refusal>>
+    requires { session.old.who.id.node ≤ running.now.nodes }
+    ensures told { IsPolled session.old result session.new }
+    ensures noted { looked.new ≡ true }
+{
+    *looked = true;
+    look(rt, running, session)
+}
+
 /// Whether so much time went by since the start, as far as the clock tells.
 fn is_over<H: Clock>(rt: &H, start: &Instant, time: Duration) -> bool {
     match start.elapsed(rt) {
@@ -150,7 +167,7 @@ fn rest_within<H: Clock>(rt: &H, poll: u64, start: &Instant, time: Duration) -> 
 }
 
 /// The session's next event, once it comes; nothing where it does not come within the time since the start. It is
-/// asked for at least once.
+/// asked for at least once, which is noted.
 #[tactic(auto, using(crate::proofs::Seen::stays_on, crate::proofs::Seen::stays_self, crate::proofs::Seen::awaited_on, crate::proofs::Seen::nothing_on, crate::proofs::Seen::nothing_came, crate::proofs::Seen::ended_on))]
 fn wait_within<B: HistoryName, G, H: Wait + Clock>(
     rt: &H,
@@ -158,13 +175,16 @@ fn wait_within<B: HistoryName, G, H: Wait + Clock>(
     session: &mut Session<B>,
     start: &Instant,
     time: Duration,
+    looked: &mut bool,
 ) -> Result<Reply, Refusal>
-    requires { session.old.who.id.node ≤ running.now.nodes }
+    requires node { session.old.who.id.node ≤ running.now.nodes }
+    requires none { looked.old ≡ false }
     ensures answer { Serves session.old asks.Wait result session.new }
+    ensures looked { (seen : ℕ) → result ≡ Ok (replies.Nothing seen) → looked.new ≡ true }
     ensures seats { SeatsOn B.cells result }
 {
     for number in 0..u64::MAX {
-        match look(rt, running, session) {
+        match look_noted(rt, running, session, looked) {
             None => {
                 if rest_within(rt, number, start, time) {
                     return Ok(Reply::Nothing(session.seat().len()));
@@ -191,7 +211,9 @@ fn wait<B: HistoryName, G, H: Wait + Clock>(
 {
     if let Patience::Millis(millis) = patience {
         if let Ok(start) = Instant::now(rt) {
-            return wait_within(rt, running, session, &start, Duration::from_millis(millis));
+            let time = Duration::from_millis(millis);
+            let mut looked = false;
+            return wait_within(rt, running, session, &start, time, &mut looked);
         }
     }
     let mut polls = 0;

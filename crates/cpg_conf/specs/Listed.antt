@@ -67,9 +67,9 @@ abbrev pub listed : Known → List ℕ → Result Listed Refusal
 listed names text = lines_said names [] (map (λ line. line_of (trimmed line)) (lines_of text))
 
 -- a refusal to read is the fault, where there is one, and else a want of memory
-abbrev pub Refuses : {A : Type 0} → Result A Refusal → Refusal → Type 0
-Refuses (Ok read) refusal = refusal ≡ Memory
-Refuses (Err fault) refusal = refusal ≡ fault
+abbrev pub FailsBy : {A : Type 0} → Result A Refusal → Refusal → Type 0
+FailsBy (Ok read) refusal = refusal ≡ Memory
+FailsBy (Err fault) refusal = refusal ≡ fault
 
 -- the list grew by what was listed, and there was no fault
 abbrev pub Grows : Result Listed Refusal → Listed → Listed → Type 0

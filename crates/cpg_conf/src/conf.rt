@@ -8,7 +8,7 @@ ghost use Rattle.std.specs.Prelude.{◌≡◌, ◌⊎◌, ◌+◌, ◌<◌, ◌^
 ghost use Rattle.std.specs.Result.{result_err};
 ghost use Rattle.cpg_text.specs.Lines.{trimmed};
 ghost use Rattle.cpg_conf.specs.Lines.{line_of};
-ghost use Rattle.cpg_conf.specs.Listed.{joined, listed, numbers_listed, Grows, Refuses};
+ghost use Rattle.cpg_conf.specs.Listed.{joined, listed, numbers_listed, Grows, FailsBy};
 ghost use Rattle.cpg_conf.specs.Steps.{item_seen, nesting_after, said_at};
 
 use crate::items::Item;
@@ -36,7 +36,7 @@ pub fn read_conf(
     list: AcceptList,
 ) -> Result<AcceptList, Refused<AcceptList>>
     ensures ok { IfOk result (λ grown. Grows (listed names.now text.now) list grown) }
-    ensures err { IfErr result (λ refused. Refuses (listed names.now text.now) refused.refusal × (refused.back ≡ list)) }
+    ensures err { IfErr result (λ refused. FailsBy (listed names.now text.now) refused.refusal × (refused.back ≡ list)) }
 {
     let mut list = list;
     match add_listed(alloc, text, names, &mut list) {
@@ -56,7 +56,7 @@ fn add_listed(
     list: &mut AcceptList,
 ) -> Result<(), Refusal>
     ensures ok { OnOk result (Grows (listed names.now text.now) list.old list.new) }
-    ensures err { IfErr result (Refuses (listed names.now text.now)) }
+    ensures err { IfErr result (FailsBy (listed names.now text.now)) }
     ensures back { OnErr result (list.new ≡ list.old) }
 {
     let numbers = list_conf(alloc, text, names)?;
@@ -68,7 +68,7 @@ fn add_listed(
 /// The refusals are those of `read_conf`.
 pub fn list_conf(alloc: Global, text: &[u8], names: &Names) -> Result<Numbers, Refusal>
     ensures ok { IfOk result (λ numbers. listed names.now text.now ≡ Ok (numbers_listed numbers)) }
-    ensures err { IfErr result (Refuses (listed names.now text.now)) }
+    ensures err { IfErr result (FailsBy (listed names.now text.now)) }
 {
     match collect(alloc, text, names) {
         Ok(numbers) => Ok(numbers),
@@ -80,7 +80,7 @@ pub fn list_conf(alloc: Global, text: &[u8], names: &Names) -> Result<Numbers, R
 /// for a fault that comes before it.
 fn fault_before(text: &[u8], names: &Names, refusal: Refusal) -> Refusal
     requires { (refusal ≡ Refusal.Memory) ⊎ (listed names.now text.now ≡ Err refusal) }
-    ensures { Refuses (listed names.now text.now) result }
+    ensures { FailsBy (listed names.now text.now) result }
 {
     match refusal {
         Refusal::Memory => match check(text, names) {

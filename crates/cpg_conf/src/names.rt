@@ -7,7 +7,7 @@ ghost use Rattle.std.specs.Prelude.{◌≡◌, ◌⊎◌, Ok, Err, IfOk, IfErr, 
 ghost use Rattle.std.specs.Result.{result_err};
 ghost use Rattle.cpg_text.specs.Lines.{lines_of};
 ghost use Rattle.cpg_conf.specs.Names.{User, Group, no_names, number_of, with_naming, with_namings, namings_from, known_of};
-ghost use Rattle.cpg_conf.specs.Listed.{Refuses};
+ghost use Rattle.cpg_conf.specs.Listed.{FailsBy};
 ghost use Rattle.cpg_conf.specs.Steps.{naming_seen};
 
 use crate::namings::NamingView;
@@ -53,7 +53,7 @@ impl Names {
     /// `Memory` comes only where no line is faulty.
     pub fn read(alloc: Global, text: &[u8]) -> Result<Names, ConfFault>
         ensures ok { IfOk result (λ names. known_of text.now ≡ Ok names) }
-        ensures err { IfErr result (Refuses (known_of text.now)) }
+        ensures err { IfErr result (FailsBy (known_of text.now)) }
     {
         let mut names = Names::new(alloc);
         match names.add_all(text) {
@@ -123,7 +123,7 @@ impl Names {
 /// a fault that comes before it.
 fn fault_before(text: &[u8], refusal: Refusal) -> Refusal
     requires { (refusal ≡ Refusal.Memory) ⊎ (namings_from 1 (lines_of text.now) ≡ Err refusal) }
-    ensures { Refuses (known_of text.now) result }
+    ensures { FailsBy (known_of text.now) result }
 {
     match refusal {
         Refusal::Memory => match check(text) {

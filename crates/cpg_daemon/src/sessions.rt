@@ -2,7 +2,8 @@
 
 ghost use Rattle.std.specs.Prelude.{◌≡◌, ◌≤◌, ◌<◌, [], length, Ok, IfOk, IfErr, OnOk, OnErr, IsOkUnless, IsOk};
 ghost use Rattle.cpg_cred.specs.declared.refusals.Refusal.TheVariants.{Memory, Stopped};
-ghost use Rattle.cpg_board.specs.Seats.{IsSeatOf, Begins, IsLonger};
+ghost use Rattle.cpg_record.specs.Places.{Begins};
+ghost use Rattle.cpg_board.specs.Seats.{IsSeatOf, IsLonger};
 ghost use Rattle.cpg_station.specs.Serving.{SubmitRefuses, moved_on};
 ghost use Rattle.cpg_daemon.specs.Sessions.{IsNew, ConnectRefuses, IsTaken, IsListed, AreNamed, IsClosed, IsEndRefusal};
 ghost use Rattle.cpg_history.specs.Members.{Told, RefusalTold};

@@ -3,7 +3,7 @@ use Rattle.std.proofs.Common.{◌≡◌, sym, ap, subst, inl}
 use Rattle.std.specs.Prelude.{ℕ, List, Result, Ok, Err}
 use Rattle.cpg_cred.specs.declared.refusals.Refusal.{Refusal}
 use Rattle.cpg_cred.specs.Listed.{Listed}
-use Rattle.cpg_conf.specs.Listed.{Refuses, Grows, listed, nothing}
+use Rattle.cpg_conf.specs.Listed.{FailsBy, Grows, listed, nothing}
 use Rattle.cpg_conf.specs.Names.{Known}
 use Rattle.cpg_embed.specs.Endpoints.{EndpointValue}
 use Rattle.cpg_embed.specs.Opening.{IsOpened, IsFaultOf, IsListOpened, IsConfOpened, fault_in, no_fault}
@@ -12,7 +12,7 @@ use Rattle.cpg_embed.specs.declared.opening.Fault.{Fault}
 use Rattle.cpg_embed.specs.Statuses.{number}
 
 -- a refusal to read is the text's fault, where it has one, and else a want of memory
-pub refused_text : {A : Type 0} (text : ℕ) (read : Result A Refusal) (why : Refusal) → Refuses read why → IsFaultOf text read (number why) (fault_in text why)
+pub refused_text : {A : Type 0} (text : ℕ) (read : Result A Refusal) (why : Refusal) → FailsBy read why → IsFaultOf text read (number why) (fault_in text why)
 refused_text text (Err fault) why is = (ap number is, ap (fault_in text) is)
 refused_text text (Ok read) why is = (ap number is, ap (fault_in text) is)
 

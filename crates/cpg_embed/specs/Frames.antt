@@ -8,7 +8,7 @@ use Rattle.cpg_wire.specs.Reading.{frame_of}
 use Rattle.cpg_wire.specs.Spelling.{spelling}
 use Rattle.cpg_wire.specs.declared.codes.Version.TheVariants.{Two}
 use Rattle.cpg_node.specs.Answers.{spelled}
-use Rattle.cpg_node.specs.Calls.{frame_refusal, after_frame, answers_to, delivered}
+use Rattle.cpg_node.specs.Calls.{frame_refusal, after_frame, answers_to, node_after_delivery}
 use Rattle.cpg_embed.specs.Statuses.{number, IfElse, IsHanded}
 use Rattle.cpg_embed.specs.Endpoints.{EndpointValue, at_node, with_frames}
 use Rattle.cpg_embed.specs.declared.statuses.TheConstants.{OK, BUSY, NONE}
@@ -54,13 +54,13 @@ abbrev pub with_one_given : EndpointValue → EndpointValue
 with_one_given e = record e { given = suc e.given }
 
 -- Next: the frame's length and to whom it goes are told, and it is handed over where it fits, once.
-abbrev pub IsNext : EndpointValue → Option (List ℕ) → List ℕ → ℕ → List ℕ → ℕ → ℕ → EndpointValue → Type 0
-IsNext e None buffer status filled len route new = (status ≡ NONE) × (filled ≡ buffer) × (new ≡ e)
-IsNext e (Some bytes) buffer status filled len route new =
+abbrev pub IsNextFrame : EndpointValue → Option (List ℕ) → List ℕ → ℕ → List ℕ → ℕ → ℕ → EndpointValue → Type 0
+IsNextFrame e None buffer status filled len route new = (status ≡ NONE) × (filled ≡ buffer) × (new ≡ e)
+IsNextFrame e (Some bytes) buffer status filled len route new =
     (len ≡ length bytes) × (route ≡ route_of e) × IsHanded bytes buffer status filled × ((status ≡ OK → new ≡ with_one_given e) × (¬ (status ≡ OK) → new ≡ e))
 
 -- Deliver: the next place, or nothing where it is not there.
 abbrev pub IsDelivered : EndpointValue → Option ℕ → ℕ → ℕ → EndpointValue → Type 0
 IsDelivered e None status place new = (status ≡ NONE) × (new ≡ e)
 IsDelivered e (Some next) status place new =
-    ((status ≡ OK) × (place ≡ next) × (new ≡ at_node e (delivered e.node))) ⊎ ((status ≡ number refusal.Memory) × (new ≡ e))
+    ((status ≡ OK) × (place ≡ next) × (new ≡ at_node e (node_after_delivery e.node))) ⊎ ((status ≡ number refusal.Memory) × (new ≡ e))

@@ -3,7 +3,7 @@
 ghost use Rattle.std.specs.Prelude.{◌≡◌};
 ghost use Rattle.std.specs.List.{slice_get};
 ghost use Rattle.cpg_node.specs.Calls.{place_to_deliver};
-ghost use Rattle.cpg_embed.specs.Frames.{IsFrameStatus, IsTimerStatus, IsNext, IsDelivered};
+ghost use Rattle.cpg_embed.specs.Frames.{IsFrameStatus, IsTimerStatus, IsNextFrame, IsDelivered};
 
 use crate::endpoints::Endpoint;
 use crate::statuses::{BUSY, NONE, OK, hand, number_of};
@@ -60,7 +60,7 @@ impl Endpoint {
 
     /// Hands the next frame over, with its length and to whom it goes.
     pub fn next(&mut self, buffer: &mut [u8], len: &mut usize, route: &mut u32) -> u32
-        ensures { IsNext self.old (slice_get self.old.made self.old.given) buffer.old result buffer.new len.new route.new self.new }
+        ensures { IsNextFrame self.old (slice_get self.old.made self.old.given) buffer.old result buffer.new len.new route.new self.new }
     {
         let Some(frame) = self.made.get(self.given) else {
             return NONE;

@@ -1,6 +1,7 @@
 //! What connections ask of groups.
 
 ghost use Rattle.std.specs.Prelude.{◌≡◌, ◌≢◌, ◌↔◌, IsTrue, IfOk, OnErr, IsOkUnless};
+ghost use Rattle.cpg_entry.specs.Entries.{is_move};
 
 use crate::messages::Message;
 use crate::names::Name;
@@ -87,6 +88,17 @@ impl Op {
         match (self, other) {
             (Op::Act(a), Op::Act(b)) => a.equals(b),
             (Op::Gone, Op::Gone) => true,
+            _ => false,
+        }
+    }
+
+    /// Whether the op moves its connection into a group, or out of one, where it is allowed: a join, a leave,
+    /// and the end of the connection.
+    pub fn is_move(&self) -> bool
+        ensures { result ≡ is_move self.now }
+    {
+        match self {
+            Op::Act(Call::Join(_)) | Op::Act(Call::Leave) | Op::Gone => true,
             _ => false,
         }
     }

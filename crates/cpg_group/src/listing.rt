@@ -2,7 +2,7 @@
 
 ghost use Rattle.std.specs.Prelude.{◌≡◌, [], filter, IfOk, OnErr, IsOkUnless};
 ghost use Rattle.std.specs.Option.{option_copied};
-ghost use Rattle.cpg_record.specs.Listings.{Answers, AreGroups, listing, processes};
+ghost use Rattle.cpg_record.specs.Listings.{AnswersListing, AreGroups, listing, processes};
 ghost use Rattle.cpg_record.specs.RuleTables.{rules_of};
 ghost use Rattle.cpg_group.specs.Groups.{is_shown};
 ghost use Rattle.cpg_group.specs.Standing.{names_of, standing, AreStanding};
@@ -83,7 +83,7 @@ pub(crate) fn list_members(
     asker: &Asker,
 ) -> Result<Processes, Refusal>
     requires { group.now ≡ standing records.now name.now }
-    ensures { Answers (listing records.now asker.now name.now) result }
+    ensures { AnswersListing (listing records.now asker.now name.now) result }
 {
     match group.table().decide(Right::List, *asker) {
         Decision::Denied(by) => Err(Refusal::Denied(by)),

@@ -43,7 +43,7 @@ impl Placed for u32 {
 }
 
 /// How many of those that stand at ascending places come up to the last place, by a binary search.
-pub(crate) fn count_upto<T: Placed>(items: &[T], last: usize) -> usize
+pub(crate) fn cut_upto<T: Placed>(items: &[T], last: usize) -> usize
     ensures within { result ≤ length items.now }
     ensures cut { IsNonDecreasingBy T.place_of items.now → IsPartitionPoint (λ item. nat_le (T.place_of item) last ≡ true) (λ item. nat_le (T.place_of item) last ≡ false) items.now result }
 {
@@ -54,7 +54,7 @@ pub(crate) fn count_upto<T: Placed>(items: &[T], last: usize) -> usize
 pub(crate) fn next_in(places: &[u32], last: usize) -> Option<u32>
     ensures { (test : Record → Bool) (records : List Record) → places.now ≡ places_of test records → IsNextOf test records last result }
 {
-    let passed = count_upto(places, last);
+    let passed = cut_upto(places, last);
     if passed < places.len() {
         Some(places[passed])
     } else {
@@ -74,7 +74,7 @@ pub(crate) fn find_members<'a>(
     requires places { places.now ≡ places_of (acts_in group.now) records.now }
     ensures { listed (option_copied result) ≡ members (take last records.now) group.now }
 {
-    let passed = count_upto(places, last);
+    let passed = cut_upto(places, last);
     if passed == 0 {
         return None;
     }

@@ -5,7 +5,7 @@ ghost use Rattle.cpg_entry.specs.declared.calls.Op.TheVariants.{Gone};
 ghost use Rattle.cpg_record.specs.Connections.{conn_of, conns_of};
 ghost use Rattle.cpg_record.specs.Events.{events};
 ghost use Rattle.cpg_record.specs.Judging.{entry_group, judged, most_places, record_of, IsNext};
-ghost use Rattle.cpg_record.specs.Listings.{Answers, AreGroups, listing};
+ghost use Rattle.cpg_record.specs.Listings.{AnswersListing, AreGroups, listing};
 ghost use Rattle.cpg_record.specs.Membership.{group_of};
 ghost use Rattle.cpg_record.specs.Nexts.{acts_in, IsNextTold, TellsNoMore};
 ghost use Rattle.cpg_record.specs.Places.{places_of};
@@ -189,7 +189,7 @@ impl Policy {
     /// list it: else `Denied` by the rule, before any memory is asked for. A name that no group has gives
     /// nobody.
     pub fn members(&self, group: &[u8], asker: Asker) -> Result<Processes, Refusal>
-        ensures { Answers (listing (judged self.now) asker group.now) result }
+        ensures { AnswersListing (listing (judged self.now) asker group.now) result }
     {
         listing::list_members(
             *self.records.allocator(),

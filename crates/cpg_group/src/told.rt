@@ -19,7 +19,7 @@ use std::alloc::Global;
 pub fn count_upto(places: &[u32], last: u32) -> usize
     ensures { (test : Record → Bool) (records : List Record) → places.now ≡ places_of test records → result ≡ length (places_of test (take last records)) }
 {
-    places::count_upto(places, last as usize)
+    places::cut_upto(places, last as usize)
 }
 
 /// A change of the group by the record.

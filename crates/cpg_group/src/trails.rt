@@ -16,7 +16,7 @@ ghost use Rattle.cpg_record.specs.Places.{places_of, IsNextOf};
 ghost use Rattle.cpg_group.specs.Standing.{kept_group, group_past, CanTake};
 ghost use Rattle.cpg_group.specs.Trails.{kept_trail, group_at, join_after, joined_by, AreTrails, IsTrail, StandsBy};
 
-use crate::places::{Placed, count_upto, find_record};
+use crate::places::{Placed, cut_upto, find_record};
 use crate::standing::Groups;
 use cpg_cred::Refusal;
 use cpg_entry::{Call, Name, Op};
@@ -69,7 +69,7 @@ fn join_upto(trail: &[Stop], last: usize) -> u32
     ensures early { (records : List Record) (conn : ConnId) → IsTrail records conn trail.now → result ≤ last }
     ensures group { (records : List Record) (conn : ConnId) → IsTrail records conn trail.now → group_at records result ≡ group_of (take last records) conn }
 {
-    join_past(trail, count_upto(trail, last))
+    join_past(trail, cut_upto(trail, last))
 }
 
 /// The place of the join by which the connection is in a group after all records, 0 where it is in none: its
@@ -122,7 +122,7 @@ pub(crate) fn group_now<'a>(records: &'a [Record], trail: &[Stop]) -> Option<&'a
 pub(crate) fn next_own(trail: &[Stop], last: usize) -> Option<u32>
     ensures { (records : List Record) (conn : ConnId) → IsTrail records conn trail.now → IsNextOf (is_made_by conn) records last result }
 {
-    let passed = count_upto(trail, last);
+    let passed = cut_upto(trail, last);
     if passed < trail.len() {
         Some(trail[passed].place)
     } else {

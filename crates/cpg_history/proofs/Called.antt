@@ -6,7 +6,7 @@ use Rattle.cpg_ring.specs.States.{Frame}
 use Rattle.cpg_world_laws.specs.declared.events.WorldEvent.{WorldEvent}
 use Rattle.cpg_world_laws.specs.Worlds.{WorldValue, moves, node_in}
 use Rattle.cpg_world_laws.specs.Replies.{Answer, IsAnswerAt}
-use Rattle.cpg_station.specs.Serving.{IsHeard}
+use Rattle.cpg_station.specs.Serving.{HearsSession}
 use Rattle.cpg_station.specs.Stations.{StationValue}
 use Rattle.cpg_history.specs.declared.histories.View.{View}
 use Rattle.cpg_history.specs.Histories.{Came, FrontValue, Owns, front, later, told}
@@ -17,7 +17,7 @@ use Rattle.cpg_history.proofs.Noting.{has_noted, if_recorded, recorded_quiet}
 use Rattle.cpg_history.proofs.Serving.{owns_own, serves, serves_by, serves_own}
 
 module _ (start : WorldValue) (id : ℕ) (s t : StationValue) (spare : Bool) (pen : View) (trace : TraceValue)
-    (m : IsMember start id s spare pen × HasTrace start id spare pen.seen trace) (who : Connection) (heard : IsHeard s who) (f : FrontValue)
+    (m : IsMember start id s spare pen × HasTrace start id spare pen.seen trace) (who : Connection) (heard : HearsSession s who) (f : FrontValue)
     (e event : WorldEvent) (is : e ≡ event) (at_node : node_in event ≡ who.id.node) where
   own : node_in event ≡ id
   own = at_node ∙ serves_own start id s spare pen m.0 who heard

@@ -12,8 +12,8 @@ use Rattle.cpg_node.specs.Nodes.{NodeValue, open_client, conn_id}
 use Rattle.cpg_node.specs.Calls.{closed_refusal}
 use Rattle.cpg_world_laws.specs.Worlds.{WorldValue}
 use Rattle.cpg_station.specs.Stations.{StationValue}
-use Rattle.cpg_station.specs.Serving.{IsHeard, IsKnown, StaysOrHalts, halted_of}
-use Rattle.cpg_station.specs.Admitting.{AdmitsNot, StopsAt, IsOther}
+use Rattle.cpg_station.specs.Serving.{HearsSession, IsKnown, StaysOrHalts, halted_of}
+use Rattle.cpg_station.specs.Admitting.{AdmitsNot, StopsAdmitting, IsOther}
 use Rattle.cpg_history.specs.declared.histories.View.{View}
 use Rattle.cpg_history.specs.Histories.{Catches, FrontValue, Owns, Rests, front, told}
 use Rattle.cpg_history.specs.Members.{HasTrace, IsAt, IsMember, IsNewWorld, IsPenOf}
@@ -47,7 +47,7 @@ no_spare start id s spare pen m runs = by_flag spare refl
     by_flag false p = p
     by_flag true p = absurd (true≢false (sym (m.halts p) ∙ runs))
 
-module _ (start : WorldValue) (id : ℕ) (s : StationValue) (spare : Bool) (pen : View) (m : IsMember start id s spare pen) (who : Connection) (heard : IsHeard s who) where
+module _ (start : WorldValue) (id : ℕ) (s : StationValue) (spare : Bool) (pen : View) (m : IsMember start id s spare pen) (who : Connection) (heard : HearsSession s who) where
   pub serves : spare ≡ false
   serves = no_spare start id s spare pen m heard.0
 
@@ -65,10 +65,10 @@ member_stays start id s t spare pen m is =
     is
 
 -- a member of another node that is halted
-pub other_stops : (start : WorldValue) (id : ℕ) (s : StationValue) (spare : Bool) (pen : View) → IsMember start id s spare pen → (list : Listed) (node pid : ℕ) (cred : Cred) (new : StationValue) → id ≢ node → new ≡ halted_of s → StopsAt list node pid cred s new
+pub other_stops : (start : WorldValue) (id : ℕ) (s : StationValue) (spare : Bool) (pen : View) → IsMember start id s spare pen → (list : Listed) (node pid : ℕ) (cred : Cred) (new : StationValue) → id ≢ node → new ≡ halted_of s → StopsAdmitting list node pid cred s new
 other_stops start id s spare pen m list node pid cred new apart is = by_flag spare refl
   where
-    by_flag : (f : Bool) → spare ≡ f → StopsAt list node pid cred s new
+    by_flag : (f : Bool) → spare ≡ f → StopsAdmitting list node pid cred s new
     by_flag true spared = inl (m.halts spared, is ∙ ap (λ h. let t : StationValue = record { node = s.node; seat = s.seat; halted = h } in t) (sym (m.halts spared)))
     by_flag false not = inr (inr (λ same. apart (sym (stands_at start pen.seen id s.node m.begins (m.holds not).2).0 ∙ same)), inl is)
 
@@ -85,7 +85,7 @@ refused_stays start id s spare pen m list node pid cred why new listed own not =
         let stands = stands_at start pen.seen id s.node m.begins (m.holds not).2 in
         ⊎_elim (λ unlike. absurd (unlike (ap (λ l. is_some (via_of l cred)) (listed ∙ sym stands.1)))) (λ apart. absurd (apart (stands.0 ∙ own))) other
 
-    by_stop : StopsAt list node pid cred s new → IsMember start id new spare pen
+    by_stop : StopsAdmitting list node pid cred s new → IsMember start id new spare pen
     by_stop stop =
         ⊎_elim (λ was. same was.1)
         (λ other. by_flag spare refl other.0 (⊎_elim (λ is. ap (λ (u : StationValue). u.halted) is) (λ is. ap (λ (u : StationValue). u.halted) is) other.1))

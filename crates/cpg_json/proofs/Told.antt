@@ -18,7 +18,7 @@ use Rattle.cpg_record.specs.Events.{events, events_by, hears_change, news, news_
 use Rattle.cpg_record.specs.Membership.{is_allowed, is_member}
 use Rattle.cpg_record.specs.Places.{record_at, records_before}
 use Rattle.cpg_group.specs.Telling.{told, told_by, told_from, told_in}
-use Rattle.cpg_judge.specs.Texts.{with_text, Holds, TextValue}
+use Rattle.cpg_judge.specs.Texts.{with_text, HoldsTexts, TextValue}
 use Rattle.cpg_judge.proofs.Ends.{holds_more}
 use Rattle.cpg_json.proofs.Between.{numbers_parted}
 use Rattle.cpg_json.specs.Events.{event_fields, event_json}
@@ -38,7 +38,7 @@ tails_more rs last =
 pub tails_next : (rs : List Record) (last : ℕ) (value new : TextValue) → AreTails value rs last → new ≡ with_text (tail_at rs (last + 1)) value → AreTails new rs (last + 1)
 tails_next rs last value new are is =
     subst (λ v. AreTails v rs (last + 1)) (sym is)
-    (subst (λ texts. Holds (with_text (tail_at rs (last + 1)) value) texts) (sym (tails_more rs last)) (holds_more value (tails_upto rs last) (tail_at rs (last + 1)) are))
+    (subst (λ texts. HoldsTexts (with_text (tail_at rs (last + 1)) value) texts) (sym (tails_more rs last)) (holds_more value (tails_upto rs last) (tail_at rs (last + 1)) are))
 
 -- one tail of them
 pub tail_cut : (rs : List Record) (place : ℕ) → 1 ≤ place → place ≤ length rs → concat (drop (place - 1) (take place (tails_upto rs (length rs)))) ≡ tail_at rs place

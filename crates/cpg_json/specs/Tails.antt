@@ -5,7 +5,7 @@ use Rattle.cpg_record.specs.declared.connections.ConnId.{ConnId}
 use Rattle.cpg_record.specs.declared.events.Event.{Event}
 use Rattle.cpg_record.specs.declared.records.Record.{Record}
 use Rattle.cpg_group.specs.Telling.{told}
-use Rattle.cpg_judge.specs.Texts.{Holds, TextValue}
+use Rattle.cpg_judge.specs.Texts.{HoldsTexts, TextValue}
 use Rattle.cpg_json.specs.Events.{event_fields}
 use Rattle.cpg_json.specs.Objects.{kind, more}
 use Rattle.cpg_json.specs.Records.{conn_fields}
@@ -28,7 +28,7 @@ tails_upto records last = map (tail_at records) (range_with_len 1 last)
 
 -- these are kept
 abbrev pub AreTails : TextValue → List Record → ℕ → Type 0
-AreTails value records last = Holds value (tails_upto records last)
+AreTails value records last = HoldsTexts value (tails_upto records last)
 
 -- the line of a connection's own verdict, where the entry is its own
 abbrev pub own_text : Bool → List ℕ → Event → List ℕ

@@ -7,7 +7,7 @@ ghost use Rattle.std.specs.List.{concat, flat_map};
 ghost use Rattle.std.specs.Option.{option_copied};
 ghost use Rattle.cpg_record.specs.declared.records.Record.{Record};
 ghost use Rattle.cpg_record.specs.Judging.{judged};
-ghost use Rattle.cpg_judge.specs.Texts.{no_text, with_text, Holds};
+ghost use Rattle.cpg_judge.specs.Texts.{no_text, with_text, HoldsTexts};
 ghost use Rattle.cpg_json.specs.Tails.{tail_at, tail_of, AreTails};
 
 use crate::events::put_event_fields;
@@ -94,7 +94,7 @@ impl Tails {
 
     /// Where the first so many texts end.
     fn end(&self, count: usize) -> usize
-        ensures { (texts : List (List ℕ)) → Holds self.now texts → count ≤ length texts → result ≡ length (concat (take count texts)) }
+        ensures { (texts : List (List ℕ)) → HoldsTexts self.now texts → count ≤ length texts → result ≡ length (concat (take count texts)) }
     {
         if count == 0 {
             return 0;
@@ -108,7 +108,7 @@ impl Tails {
 
     /// The texts after the first `from`, up to the first `to`, as one.
     fn range(&self, from: usize, to: usize) -> &[u8]
-        ensures { (texts : List (List ℕ)) → Holds self.now texts → from ≤ to → to ≤ length texts → result.now ≡ concat (drop from (take to texts)) }
+        ensures { (texts : List (List ℕ)) → HoldsTexts self.now texts → from ≤ to → to ≤ length texts → result.now ≡ concat (drop from (take to texts)) }
     {
         let start = self.end(from);
         let end = self.end(to);

@@ -3,8 +3,9 @@ use Rattle.std.proofs.Common.{◌≡◌, ℕ, zero, suc, Bool, true, false, cond
 use Rattle.std.specs.List.{concat}
 use Rattle.std.proofs.lemmas.List.{length-append, take-append-drop, take-take, take_at, drop_at}
 use Rattle.std.proofs.lemmas.List.Folds.{concat-append}
+use Rattle.cpg_entry.specs.Entries.{is_move}
 use Rattle.cpg_record.specs.declared.records.Record.{Record}
-use Rattle.cpg_judge.specs.Texts.{TextValue, Holds, ends_from, is_move, showing, with_place, with_text}
+use Rattle.cpg_judge.specs.Texts.{TextValue, HoldsTexts, ends_from, showing, with_place, with_text}
 
 -- there is an end for each text
 pub ends_length : (start : ℕ) (texts : List (List ℕ)) → length (ends_from start texts) ≡ length texts
@@ -28,7 +29,7 @@ ends_more start (one ∷ texts) text =
     let here : start + length one + length (concat texts) + length text ≡ start + length (one ++ concat texts) + length text = omega (arith, length-append one (concat texts)) in
     ap (λ l. (start + length one) ∷ l) (ends_more (start + length one) texts text ∙ ap (λ n. ends_from (start + length one) texts ++ n ∷ []) here)
 
-pub holds_more : (value : TextValue) (texts : List (List ℕ)) (text : List ℕ) → Holds value texts → Holds (with_text text value) (texts ++ text ∷ [])
+pub holds_more : (value : TextValue) (texts : List (List ℕ)) (text : List ℕ) → HoldsTexts value texts → HoldsTexts (with_text text value) (texts ++ text ∷ [])
 holds_more value texts text h =
     let sum : length (value.text ++ text) ≡ 0 + length (concat texts) + length text = omega (arith, length-append value.text text, ap length h.0) in (
       ap (λ l. l ++ text) h.0 ∙ ap (λ l. concat texts ++ l) (sym (append-nil text)) ∙ sym (concat-append texts (text ∷ [])),
@@ -36,15 +37,15 @@ holds_more value texts text h =
     )
 
 -- and so for a record's text, whomever the record moves
-pub holds_place : (value : TextValue) (texts : List (List ℕ)) (text : List ℕ) (r : Record) → Holds value texts → Holds (with_place r text value) (texts ++ text ∷ [])
+pub holds_place : (value : TextValue) (texts : List (List ℕ)) (text : List ℕ) (r : Record) → HoldsTexts value texts → HoldsTexts (with_place r text value) (texts ++ text ∷ [])
 holds_place value texts text r h = by_case (is_move r.entry.op)
   where
-    by_case : (b : Bool) → Holds (with_text text (cond b (showing r.members value) value)) (texts ++ text ∷ [])
+    by_case : (b : Bool) → HoldsTexts (with_text text (cond b (showing r.members value) value)) (texts ++ text ∷ [])
     by_case true = holds_more (showing r.members value) texts text h
     by_case false = holds_more value texts text h
 
 -- the end of the first so many
-pub end_at : (value : TextValue) (texts : List (List ℕ)) (count : ℕ) (d : ℕ) → Holds value texts → 0 < count → count ≤ length texts
+pub end_at : (value : TextValue) (texts : List (List ℕ)) (count : ℕ) (d : ℕ) → HoldsTexts value texts → 0 < count → count ≤ length texts
     → get_or value.ends (count - 1) d ≡ length (concat (take count texts))
 end_at value texts count d h some within =
     let back : suc (count - 1) ≡ count = omega (arith, some) in

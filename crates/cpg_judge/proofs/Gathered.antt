@@ -10,7 +10,7 @@ use Rattle.cpg_record.specs.Nexts.{acts_in}
 use Rattle.cpg_record.specs.Places.{places_from, places_of, record_at}
 use Rattle.cpg_record.proofs.Nexts.{and_false}
 use Rattle.cpg_record.proofs.Placing.{record_at-index}
-use Rattle.cpg_judge.specs.Texts.{kept_text, told_text, texts_upto, with_place, AreTexts, Holds, KeptTexts}
+use Rattle.cpg_judge.specs.Texts.{kept_text, told_text, texts_upto, with_place, AreTexts, HoldsTexts, KeptTexts}
 use Rattle.cpg_judge.proofs.Ends.{holds_place}
 use Rattle.cpg_judge.proofs.Telling.{places_parted, record_there}
 
@@ -55,7 +55,7 @@ module _ (rs : List Record) (place : ℕ) (r : Record) (some : 1 ≤ place) (is 
     same_texts quiet = λ g.
         let same : texts_upto rs g (place - 1) ≡ texts_upto rs g place =
         sym (append-nil (texts_upto rs g (place - 1))) ∙ ap (λ (b : Bool). texts_upto rs g (place - 1) ++ cond b (told_text rs place ∷ []) []) (sym (quiet g)) ∙ sym (texts_more g) in
-        subst (Holds (kept_text kept g)) same (are g)
+        subst (HoldsTexts (kept_text kept g)) same (are g)
 
     -- a record without a group
     pub without_group : r.group ≡ None → AreTexts kept rs place
@@ -71,14 +71,14 @@ module _ (rs : List Record) (place : ℕ) (r : Record) (some : 1 ≤ place) (is 
     one_told new name of allowed grown = λ g.
         let acts : acts_in g r ≡ bytes_eq name g =
         ap (λ (b : Bool). b && is_named r.group g) allowed ∙ ap (λ (o : Option (List ℕ)). is_named o g) of in
-        subst (λ value. Holds value (texts_upto rs g place)) (sym (grown g)) (for g (bytes_eq name g) acts)
+        subst (λ value. HoldsTexts value (texts_upto rs g place)) (sym (grown g)) (for g (bytes_eq name g) acts)
       where
-        for : (g : List ℕ) (b : Bool) → acts_in g r ≡ b → Holds (cond b (with_place r (told_text rs place) (kept_text kept g)) (kept_text kept g)) (texts_upto rs g place)
+        for : (g : List ℕ) (b : Bool) → acts_in g r ≡ b → HoldsTexts (cond b (with_place r (told_text rs place) (kept_text kept g)) (kept_text kept g)) (texts_upto rs g place)
         for g true acts =
-            subst (Holds (with_place r (told_text rs place) (kept_text kept g)))
+            subst (HoldsTexts (with_place r (told_text rs place) (kept_text kept g)))
             (ap (λ (b : Bool). texts_upto rs g (place - 1) ++ cond b (told_text rs place ∷ []) []) (sym acts) ∙ sym (texts_more g))
             (holds_place (kept_text kept g) (texts_upto rs g (place - 1)) (told_text rs place) r (are g))
         for g false acts =
-            subst (Holds (kept_text kept g))
+            subst (HoldsTexts (kept_text kept g))
             (sym (append-nil (texts_upto rs g (place - 1))) ∙ ap (λ (b : Bool). texts_upto rs g (place - 1) ++ cond b (told_text rs place ∷ []) []) (sym acts) ∙ sym (texts_more g))
             (are g)

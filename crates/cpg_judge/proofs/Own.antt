@@ -35,7 +35,7 @@ use Rattle.cpg_print.specs.Events.{event_line}
 use Rattle.cpg_judge.proofs.Gathered.{one_between, places_between}
 use Rattle.cpg_judge.proofs.Passing.{counts_grow}
 use Rattle.cpg_judge.proofs.Telling.{places_parted, told_cut}
-use Rattle.cpg_judge.specs.Texts.{hears_own, lines_at, told_lines, texts_upto, Holds, Makes, TextValue}
+use Rattle.cpg_judge.specs.Texts.{hears_own, lines_at, told_lines, texts_upto, HoldsTexts, Makes, TextValue}
 
 -- ---- who hears an own record
 
@@ -186,8 +186,8 @@ module _ (rs : List Record) (place : ℕ) (r : Record) (g : List ℕ) (is : reco
 
   -- and the text after those before it is that of the place
   pub line_after : (value : TextValue) (text : List ℕ) (passed : ℕ) → passed ≡ length (places_of (acts_in g) (take (place - 1) rs)) →
-      Holds value (texts_upto rs g (length rs)) →
-      ((texts : List (List ℕ)) → Holds value texts → passed ≤ passed + 1 → passed + 1 ≤ length texts → text ≡ concat (drop passed (take (passed + 1) texts))) →
+      HoldsTexts value (texts_upto rs g (length rs)) →
+      ((texts : List (List ℕ)) → HoldsTexts value texts → passed ≤ passed + 1 → passed + 1 ≤ length texts → text ≡ concat (drop passed (take (passed + 1) texts))) →
       text ≡ concat (told_lines rs place)
   line_after value text passed is_passed holds cut =
       told_cut rs g (place - 1) place value text passed (passed + 1) (omega arith) within is_passed (omega (arith, is_passed, one_more)) holds cut
@@ -196,8 +196,8 @@ module _ (rs : List Record) (place : ℕ) (r : Record) (g : List ℕ) (is : reco
 
   -- and so is that of the last one up to it
   pub line_upto : (value : TextValue) (text : List ℕ) (passed : ℕ) → passed ≡ length (places_of (acts_in g) (take place rs)) →
-      Holds value (texts_upto rs g (length rs)) →
-      ((texts : List (List ℕ)) → Holds value texts → passed - 1 ≤ passed → passed ≤ length texts → text ≡ concat (drop (passed - 1) (take passed texts))) →
+      HoldsTexts value (texts_upto rs g (length rs)) →
+      ((texts : List (List ℕ)) → HoldsTexts value texts → passed - 1 ≤ passed → passed ≤ length texts → text ≡ concat (drop (passed - 1) (take passed texts))) →
       text ≡ concat (told_lines rs place)
   line_upto value text passed is_passed holds cut =
       told_cut rs g (place - 1) place value text (passed - 1) passed (omega arith) within (omega (arith, is_passed, one_more)) is_passed holds cut

@@ -7,6 +7,7 @@ use Rattle.cpg_entry.specs.declared.calls.Call.TheVariants.{Join, Leave, Send, I
 use Rattle.cpg_entry.specs.declared.calls.Op.{Op}
 use Rattle.cpg_entry.specs.declared.calls.Op.TheVariants.{Act, Gone}
 use Rattle.cpg_entry.specs.declared.entries.Entry.{Entry}
+use Rattle.cpg_entry.specs.Entries.{is_move}
 use Rattle.cpg_record.specs.declared.memberships.Member.{Member}
 use Rattle.cpg_record.specs.declared.records.Record.{Record}
 use Rattle.cpg_record.specs.Judging.{judged}
@@ -20,7 +21,7 @@ use Rattle.cpg_record.proofs.Nexts.{and_false, members_stay}
 use Rattle.cpg_record.proofs.Placing.{record_at-index}
 use Rattle.cpg_record.proofs.Told.{first_records}
 use Rattle.cpg_print.specs.Records.{members_text}
-use Rattle.cpg_judge.specs.Texts.{is_move, kept_text, showing, with_place, AreShown, KeptTexts, TextValue}
+use Rattle.cpg_judge.specs.Texts.{kept_text, showing, with_place, AreShown, KeptTexts, TextValue}
 
 -- ---- one place more
 

@@ -15,25 +15,13 @@ use Rattle.cpg_record.specs.Events.{events_by, hears_change, news, news_by}
 use Rattle.cpg_record.specs.Membership.{group_of, is_allowed, is_member, is_named}
 use Rattle.cpg_record.specs.Nexts.{acts_in, is_made_by, reaches}
 use Rattle.cpg_record.specs.Places.{places_from, places_of, record_at, records_before}
-use Rattle.cpg_record.proofs.Growing.{group_of_push}
-use Rattle.cpg_record.proofs.Nexts.{groups_stay, same_either_way, same_group}
+use Rattle.cpg_record.proofs.Nexts.{groups_stay, hears_of_others, same_either_way}
 use Rattle.cpg_group.specs.Telling.{told_by, told_in, told_from}
 use Rattle.cpg_print.specs.Events.{event_line}
 use Rattle.cpg_judge.specs.Inboxes.{told_between}
-use Rattle.cpg_judge.specs.Texts.{lines_at, lines_between, told_lines, told_text, texts_upto, Holds, MakesNone, TextValue}
+use Rattle.cpg_judge.specs.Texts.{lines_at, lines_between, told_lines, told_text, texts_upto, HoldsTexts, MakesNone, TextValue}
 
 -- ---- one place
-
--- who hears a change of another is who is a member before it
-hears_of_others : (before : List Record) (r : Record) (conn : ConnId) (g : List ℕ) (x : Bool) → is_made_by conn r ≡ false →
-    is_member before conn g ≡ x → hears_change before r conn g ≡ x
-hears_of_others before r conn g x other is =
-    ap (λ (o : Option (List ℕ)). is_member before conn g || is_named o g) (group_of_push before r conn ∙ same_group r conn (group_of before conn) other)
-    ∙ ap (λ (b : Bool). b || b) is ∙ either x
-  where
-    either : (b : Bool) → (b || b) ≡ b
-    either true = refl
-    either false = refl
 
 -- members are told what the op tells the group
 news_told : (place : ℕ) (before : List Record) (r : Record) (conn : ConnId) (g : List ℕ) (op : Op) (x : Bool) →
@@ -134,16 +122,6 @@ heard_between rs conn after last low within quiet =
 
 -- ---- the places of a group
 
-places_from-append : (q : Record → Bool) (m : ℕ) (rs more : List Record) → places_from q m (rs ++ more) ≡ places_from q m rs ++ places_from q (m + length rs) more
-places_from-append q m [] more = ap (λ (n : ℕ). places_from q n more) (omega arith)
-places_from-append q m (s ∷ rs) more = by_case (q s) (places_from-append q (suc m) rs more ∙ ap (λ (n : ℕ). places_from q (suc m) rs ++ places_from q n more) (omega arith))
-  where
-    by_case : (b : Bool) → places_from q (suc m) (rs ++ more) ≡ places_from q (suc m) rs ++ places_from q (m + suc (length rs)) more →
-        cond b (m ∷ places_from q (suc m) (rs ++ more)) (places_from q (suc m) (rs ++ more))
-        ≡ cond b (m ∷ places_from q (suc m) rs) (places_from q (suc m) rs) ++ places_from q (m + suc (length rs)) more
-    by_case true rest = ap (λ (ps : List ℕ). m ∷ ps) rest
-    by_case false rest = rest
-
 -- the places up to the later one, after those up to the earlier
 pub places_parted : (q : Record → Bool) (rs : List Record) (after last : ℕ) → after ≤ last → after ≤ length rs →
     places_of q (take last rs) ≡ places_of q (take after rs) ++ places_from q (suc after) (take (last - after) (drop after rs))
@@ -210,8 +188,8 @@ heard_nothing rs conn after last low within quiet none =
 -- what a cut of a group's texts holds, from the count of its places up to one to that up to another
 pub told_cut : (rs : List Record) (g : List ℕ) (after last : ℕ) (value : TextValue) (text : List ℕ) (from to : ℕ) → after ≤ last → last ≤ length rs →
     from ≡ length (places_of (acts_in g) (take after rs)) → to ≡ length (places_of (acts_in g) (take last rs)) →
-    Holds value (texts_upto rs g (length rs)) →
-    ((texts : List (List ℕ)) → Holds value texts → from ≤ to → to ≤ length texts → text ≡ concat (drop from (take to texts))) →
+    HoldsTexts value (texts_upto rs g (length rs)) →
+    ((texts : List (List ℕ)) → HoldsTexts value texts → from ≤ to → to ≤ length texts → text ≡ concat (drop from (take to texts))) →
     text ≡ told_between rs g after last
 told_cut rs g after last value text from to low within from_is to_is holds cut =
     cut (texts_upto rs g (length rs)) holds (omega (arith, from_is, to_is, counts_ascend rs g after last low within)) (omega (arith, to_is, counts_within rs g after last low within))

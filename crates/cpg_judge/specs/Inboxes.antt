@@ -7,7 +7,7 @@ use Rattle.cpg_record.specs.declared.records.Record.{Record}
 use Rattle.cpg_record.specs.Membership.{group_of}
 use Rattle.cpg_record.specs.Nexts.{acts_in}
 use Rattle.cpg_record.specs.Places.{places_from, places_of}
-use Rattle.cpg_judge.specs.Texts.{Holds, TextValue, texts_upto, told_lines}
+use Rattle.cpg_judge.specs.Texts.{HoldsTexts, TextValue, texts_upto, told_lines}
 
 -- the judged entries, and the connection whose inbox it is
 pub record InboxValue : Type 0 where
@@ -23,7 +23,7 @@ pub record ToldValue : Type 0 where
 
 -- these are the group's places and texts
 abbrev pub IsTold : List Record → ToldValue → Type 0
-IsTold records told = (told.places ≡ places_of (acts_in told.group) records) × Holds told.text (texts_upto records told.group (length records))
+IsTold records told = (told.places ≡ places_of (acts_in told.group) records) × HoldsTexts told.text (texts_upto records told.group (length records))
 
 -- how many of the group's places come up to the last one
 abbrev pub count_at : List Record → List ℕ → ℕ → ℕ

@@ -7,6 +7,7 @@ use Rattle.std.specs.declared.vec.Vec.{Vec}
 use Rattle.cpg_entry.specs.declared.calls.Call.TheVariants.{Insert, Join, Leave, Remove}
 use Rattle.cpg_entry.specs.declared.calls.Op.{Op}
 use Rattle.cpg_entry.specs.declared.calls.Op.TheVariants.{Act, Gone}
+use Rattle.cpg_entry.specs.Entries.{is_move}
 use Rattle.cpg_record.specs.declared.connections.ConnId.{ConnId}
 use Rattle.cpg_record.specs.declared.memberships.Member.{Member}
 use Rattle.cpg_record.specs.declared.records.Record.{Record}
@@ -71,8 +72,8 @@ ends_from start [] = []
 ends_from start (text ∷ texts) = (start + length text) ∷ ends_from (start + length text) texts
 
 -- these are the texts that it holds
-abbrev pub Holds : TextValue → List (List ℕ) → Type 0
-Holds value texts = (value.text ≡ concat texts) × (value.ends ≡ ends_from 0 texts)
+abbrev pub HoldsTexts : TextValue → List (List ℕ) → Type 0
+HoldsTexts value texts = (value.text ≡ concat texts) × (value.ends ≡ ends_from 0 texts)
 
 -- with one text more at the end
 abbrev pub with_text : List ℕ → TextValue → TextValue
@@ -81,13 +82,6 @@ with_text text value = record { members = value.members; text = value.text ++ te
 -- with those members
 abbrev pub showing : List Member → TextValue → TextValue
 showing members value = record { members = members_text members; text = value.text; ends = value.ends }
-
--- a join, a leave and an end move a member
-abbrev pub is_move : Op → Bool
-is_move (Act (Join g)) = true
-is_move (Act Leave) = true
-is_move Gone = true
-is_move _ = false
 
 -- what is kept for a group after its allowed record, which tells it that text
 abbrev pub with_place : Record → List ℕ → TextValue → TextValue
@@ -116,7 +110,7 @@ LacksText kept g = lookup (bytes_eq g) kept ≡ None
 
 -- for each group the texts of its places up to the last one are kept
 abbrev pub AreTexts : KeptTexts → List Record → ℕ → Type 0
-AreTexts kept records last = (g : List ℕ) → Holds (kept_text kept g) (texts_upto records g last)
+AreTexts kept records last = (g : List ℕ) → HoldsTexts (kept_text kept g) (texts_upto records g last)
 
 -- and the text of its members after that place
 abbrev pub AreShown : KeptTexts → List Record → ℕ → Type 0

@@ -5,6 +5,7 @@
 ghost use Rattle.std.specs.Prelude.{true, ◌≡◌, ◌≤◌, ◌+◌, ◌-◌, ◌++◌, ℕ, List, [], Some, length, take, drop, if◌then◌else◌, IfOk, OnOk, IsOkUnless};
 ghost use Rattle.std.specs.List.{concat};
 ghost use Rattle.std.specs.Str.{bytes_eq};
+ghost use Rattle.cpg_entry.specs.Entries.{is_move};
 ghost use Rattle.cpg_record.specs.declared.moves.Cause.TheVariants as Cause;
 ghost use Rattle.cpg_record.specs.declared.records.Record.{Record};
 ghost use Rattle.cpg_record.specs.Connections.{member_of};
@@ -12,7 +13,7 @@ ghost use Rattle.cpg_record.specs.Judging.{judged};
 ghost use Rattle.cpg_record.specs.Membership.{is_allowed};
 ghost use Rattle.cpg_record.specs.Places.{record_at};
 ghost use Rattle.cpg_print.specs.Records.{audit_line, members_text};
-ghost use Rattle.cpg_judge.specs.Texts.{is_move, kept_text, no_text, showing, told_text, with_place, AreShown, AreTexts, Holds, LacksText};
+ghost use Rattle.cpg_judge.specs.Texts.{kept_text, no_text, showing, told_text, with_place, AreShown, AreTexts, HoldsTexts, LacksText};
 
 use cpg_cred::Refusal;
 use cpg_entry::{Call, Op};
@@ -79,16 +80,6 @@ fn put_told(
             None => Ok(()),
             Some(event) => put_event(line, &event),
         },
-    }
-}
-
-/// Whether the op moves a member of a group, where it is allowed.
-fn is_move(op: &Op) -> bool
-    ensures { result ≡ is_move op.now }
-{
-    match op {
-        Op::Act(Call::Join(_)) | Op::Act(Call::Leave) | Op::Gone => true,
-        _ => false,
     }
 }
 
@@ -171,7 +162,7 @@ impl Text {
         ensures ok { OnOk result (self.new ≡ with_place past.now (told_text (judged policy.now) place) self.old) }
         ensures memory { IsOkUnless result Refusal.Memory }
     {
-        if is_move(&past.entry.op) {
+        if past.entry.op.is_move() {
             self.show(past.members.as_slice())?;
         }
         put_told(
@@ -211,7 +202,7 @@ impl Text {
 
     /// Where the first so many texts end.
     fn end(&self, count: usize) -> usize
-        ensures { (texts : List (List ℕ)) → Holds self.now texts → count ≤ length texts → result ≡ length (concat (take count texts)) }
+        ensures { (texts : List (List ℕ)) → HoldsTexts self.now texts → count ≤ length texts → result ≡ length (concat (take count texts)) }
     {
         if count == 0 {
             return 0;
@@ -225,7 +216,7 @@ impl Text {
 
     /// The texts after the first `from`, up to the first `to`, as one.
     pub(crate) fn range(&self, from: usize, to: usize) -> &[u8]
-        ensures { (texts : List (List ℕ)) → Holds self.now texts → from ≤ to → to ≤ length texts → result.now ≡ concat (drop from (take to texts)) }
+        ensures { (texts : List (List ℕ)) → HoldsTexts self.now texts → from ≤ to → to ≤ length texts → result.now ≡ concat (drop from (take to texts)) }
     {
         let start = self.end(from);
         let end = self.end(to);

@@ -4,7 +4,7 @@ use Rattle.cpg_cred.specs.Listed.{Listed}
 use Rattle.cpg_cred.specs.declared.refusals.Refusal.TheVariants as refusal
 use Rattle.cpg_cred.specs.declared.refusals.Refused.{Refused}
 use Rattle.cpg_record.specs.declared.events.Event.{Event}
-use Rattle.cpg_record.specs.Listings.{Answers, AreGroups}
+use Rattle.cpg_record.specs.Listings.{AnswersListing, AreGroups}
 use Rattle.cpg_entry.specs.Ranges.{IsFrame}
 use Rattle.cpg_entry.specs.Widths.{FrameFits}
 use Rattle.cpg_wire.specs.declared.codes.Version.TheVariants.{Two}
@@ -53,7 +53,7 @@ IsTakeAnswer x conn (Some c) (Err why) = (why ≡ refusal.Memory) × IsSome (nex
 -- What `list` answers: NoConnection, the denial, the listing; or Memory in its place.
 abbrev pub IsListAnswer : NodeValue → List ℕ → Option Client → Result (List (ℕ × ℕ)) Refusal → Type 0
 IsListAnswer x g None answer = answer ≡ Err refusal.NoConnection
-IsListAnswer x g (Some c) answer = Answers (list_for x c g) answer
+IsListAnswer x g (Some c) answer = AnswersListing (list_for x c g) answer
 
 -- What `groups` answers: NoConnection, the names; or Memory in the place of some.
 abbrev pub IsGroupsAnswer : NodeValue → Option Client → Result (List (List ℕ)) Refusal → Type 0

@@ -106,8 +106,8 @@ answers_to x f = (heard x f).1
 abbrev pub place_to_deliver : NodeValue → Option ℕ
 place_to_deliver x = option_map (λ e. suc x.ring.state.delivered) (next_entry x.ring.state)
 
-abbrev pub delivered : NodeValue → NodeValue
-delivered x = with_ring x (deliver x.ring.state).0
+abbrev pub node_after_delivery : NodeValue → NodeValue
+node_after_delivery x = with_ring x (deliver x.ring.state).0
 
 -- the judgement of the next place, if it is held
 abbrev pub next_record : NodeValue → Option Record

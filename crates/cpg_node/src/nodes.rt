@@ -14,7 +14,7 @@ ghost use Rattle.cpg_wire.specs.Spelling.{spelling};
 ghost use Rattle.cpg_wire.specs.Views.{frame_seen};
 ghost use Rattle.cpg_entry.specs.Ranges.{IsFrame};
 ghost use Rattle.cpg_node.specs.Nodes.{records_of, open_client, new_value, conn_id};
-ghost use Rattle.cpg_node.specs.Calls.{connect_refusal, connected, submit_refusal, submitted, closed_refusal, disconnected, frame_refusal, answers_to, place_to_deliver, next_record, delivered, next_event, took};
+ghost use Rattle.cpg_node.specs.Calls.{connect_refusal, connected, submit_refusal, submitted, closed_refusal, disconnected, frame_refusal, answers_to, place_to_deliver, next_record, node_after_delivery, next_event, took};
 ghost use Rattle.cpg_node.specs.Answers.{CanBeSpelled, IsNodeMade, IsFrameAnswer, IsListAnswer, IsGroupsAnswer, IsTakeAnswer, connection_of};
 
 use crate::clients::{open_client, put_client};
@@ -272,7 +272,7 @@ impl Node {
     /// Takes the next place as delivered, where the record is its judgement.
     pub fn commit(&mut self, next: Record) -> Result<(), Refused<Record>>
         requires { next_record self.old ≡ Some next }
-        ensures ok { OnOk result (self.new ≡ delivered self.old) }
+        ensures ok { OnOk result (self.new ≡ node_after_delivery self.old) }
         ensures unchanged { OnErr result (self.new ≡ self.old) }
         ensures err { IfErr result (λ refused. refused ≡ record { refusal = Refusal.Memory; back = next }) }
     {
@@ -287,7 +287,7 @@ impl Node {
 
     /// Judges the next place and takes it as delivered, if it is held.
     pub fn deliver(&mut self) -> Result<Option<u32>, Refusal>
-        ensures ok { IfOk result (λ place. (place ≡ place_to_deliver self.old) × (self.new ≡ delivered self.old)) }
+        ensures ok { IfOk result (λ place. (place ≡ place_to_deliver self.old) × (self.new ≡ node_after_delivery self.old)) }
         ensures err { OnErr result (self.new ≡ self.old) }
         ensures memory { IsOkUnless result Refusal.Memory }
         ensures none { place_to_deliver self.old ≡ None → result ≡ Ok None }

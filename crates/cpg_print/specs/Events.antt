@@ -6,6 +6,7 @@ use Rattle.cpg_record.specs.declared.events.Event.TheVariants.{Verdict, Message,
 use Rattle.cpg_record.specs.declared.moves.Cause.{Cause}
 use Rattle.cpg_record.specs.declared.moves.Cause.TheVariants as cause
 use Rattle.cpg_record.specs.declared.moves.Move.{Move}
+use Rattle.cpg_record.specs.Receiving.{place_of}
 use Rattle.cpg_text.specs.Percent.{text_of}
 use Rattle.cpg_script.specs.Words.{listed}
 use Rattle.cpg_print.specs.Entries.{conn_text}
@@ -34,13 +35,6 @@ news_text (Message place g node pid message) =
 news_text (Change place g members left joined) =
     codes "change " ++ g ++ codes " members " ++ members_text members ++ codes " left " ++ moves_text left ++ codes " joined " ++ moves_text joined
 news_text (RulesChanged place g) = codes "rules " ++ g
-
--- the place of an event
-abbrev pub place_of : Event → ℕ
-place_of (Verdict place verdict) = place
-place_of (Message place g node pid message) = place
-place_of (Change place g members left joined) = place
-place_of (RulesChanged place g) = place
 
 -- event PLACE and what it says
 abbrev pub event_line : Event → List ℕ

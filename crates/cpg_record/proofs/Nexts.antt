@@ -51,7 +51,7 @@ same_group r conn before other =
     ∙ ap (λ (b : Bool). cond b (group_by r.entry.op before) before) (and_false (is_allowed r.verdict))
 
 -- who hears a change of another is who is a member before it
-hears_of_others : (before : List Record) (r : Record) (conn : ConnId) (g : List ℕ) (x : Bool) → is_made_by conn r ≡ false →
+pub hears_of_others : (before : List Record) (r : Record) (conn : ConnId) (g : List ℕ) (x : Bool) → is_made_by conn r ≡ false →
     is_member before conn g ≡ x → hears_change before r conn g ≡ x
 hears_of_others before r conn g x other is =
     ap (λ (o : Option (List ℕ)). is_member before conn g || is_named o g) (group_of_push before r conn ∙ same_group r conn (group_of before conn) other)

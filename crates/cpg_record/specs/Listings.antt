@@ -34,11 +34,11 @@ abbrev pub listing : List Record → Asker → List ℕ → Result (List (ℕ ×
 listing records asker g = shown (list_decision records asker g) (members records g)
 
 -- a listing call answers the listing or its denial; memory is refused only where the listing is allowed
-abbrev pub Answers : Result (List (ℕ × ℕ)) By → Result (List (ℕ × ℕ)) Refusal → Type 0
-Answers asked (Ok list) = asked ≡ Ok list
-Answers asked (Err refusal.Memory) = IsOk asked
-Answers asked (Err (refusal.Denied by)) = asked ≡ Err by
-Answers asked (Err _) = ⊥
+abbrev pub AnswersListing : Result (List (ℕ × ℕ)) By → Result (List (ℕ × ℕ)) Refusal → Type 0
+AnswersListing asked (Ok list) = asked ≡ Ok list
+AnswersListing asked (Err refusal.Memory) = IsOk asked
+AnswersListing asked (Err (refusal.Denied by)) = asked ≡ Err by
+AnswersListing asked (Err _) = ⊥
 
 -- a group with members that the asker may list
 abbrev pub IsShownTo : List Record → Asker → List ℕ → Type 0

@@ -1,5 +1,5 @@
 -- records by their places, which are counted from 1
-use Rattle.std.specs.Prelude.{ℕ, ◌≡◌, ◌<◌, zero, suc, ◌-◌, Bool, true, false, List, [], ◌∷◌, take, Option, Some, None, nat_le, if◌then◌else◌}
+use Rattle.std.specs.Prelude.{ℕ, ◌≡◌, ◌<◌, zero, suc, ◌-◌, Bool, true, false, List, [], ◌∷◌, length, take, Option, Some, None, nat_le, if◌then◌else◌}
 use Rattle.std.specs.List.{slice_get}
 use Rattle.cpg_record.specs.declared.records.Record.{Record}
 
@@ -33,3 +33,7 @@ abbrev pub sooner : Option ℕ → Option ℕ → Option ℕ
 sooner None other = other
 sooner (Some place) None = Some place
 sooner (Some place) (Some other) = if nat_le place other then Some place else Some other
+
+-- xs begins ys
+abbrev pub Begins : {X : Type 0} → List X → List X → Type 0
+Begins xs ys = take (length xs) ys ≡ xs

@@ -14,7 +14,7 @@ use Rattle.cpg_ring.specs.declared.settings.TheConstants.{WINDOW}
 use Rattle.cpg_ring.specs.States.{Entry, Token, Packet, Settings, IsSettings, HeldPlaces, Holds, NodeState, is_held}
 use Rattle.cpg_ring.specs.Visits.{node_of, is_past, token_refusal, served, burst_size, placed, hold_all, held_through, reach, sets_aru, next_aru, up_to, is_wanted, visit_with, visit_step}
 use Rattle.cpg_entry.specs.Ranges.{Ascends, IsToken}
-use Rattle.cpg_ring.specs.Laws.{AllHeld, NoneAbove, IsGreatestHeld, IsMissing, IsLeastMissing, IsVisit}
+use Rattle.cpg_ring.specs.Laws.{AllHeld, NoneAbove, IsGreatestHeld, LacksPlace, IsLeastMissing, IsVisit}
 use Rattle.cpg_ring.proofs.Holding.{put_other, put_cases}
 use Rattle.cpg_ring.proofs.Tours.{holds_to}
 use Rattle.cpg_ring.proofs.Asking.{ascends_take, ascends_within, ascends_filter, contains_filter, passes, any_from_contains, contains_from_any}
@@ -144,7 +144,7 @@ module _ (s : Settings) (n : ℕ) (r : NodeState) (t : Token) (now rest : List E
   above' : NoneAbove new_held (t.seq + length now)
   above' place d = ⊎_elim (λ old. let l = ok.above place old in omega arith) (λ w. w.1) (placed_held s r.held t.seq now place d)
 
-  wanted_is_missing : (place : ℕ) → (Contains (filter (is_wanted new_held r.delivered t.rtr) (up_to (t.seq + length now))) place) → IsMissing r t (visit_with s n r t now rest) place
+  wanted_is_missing : (place : ℕ) → (Contains (filter (is_wanted new_held r.delivered t.rtr) (up_to (t.seq + length now))) place) → LacksPlace r t (visit_with s n r t now rest) place
   wanted_is_missing place c =
       let w = passes (is_wanted new_held r.delivered t.rtr) (t.seq + length now) place c in
       let d = and_parts (is_held new_held place) (nat_le place (r.delivered + WINDOW)) (list_any (λ p. p == place) t.rtr) w.2 in
@@ -154,7 +154,7 @@ module _ (s : Settings) (n : ℕ) (r : NodeState) (t : Token) (now rest : List E
       (λ asked. let in_rtr = contains_from_any t.rtr place asked in inl (in_rtr, λ h. lacks (h.0, placed_keeps s r.held t.seq now place (ascends_within 0 t.seq t.rtr place range.rtr in_rtr).1 ∙ h.1)))
       d.1
 
-  missing_is_wanted : (place : ℕ) → IsMissing r t (visit_with s n r t now rest) place → Contains (filter (is_wanted new_held r.delivered t.rtr) (up_to (t.seq + length now))) place
+  missing_is_wanted : (place : ℕ) → LacksPlace r t (visit_with s n r t now rest) place → Contains (filter (is_wanted new_held r.delivered t.rtr) (up_to (t.seq + length now))) place
   missing_is_wanted place (inl a) =
       let w = ascends_within 0 t.seq t.rtr place range.rtr a.0 in
       let low = w.0 in

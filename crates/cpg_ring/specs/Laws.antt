@@ -22,14 +22,14 @@ pub record IsGreatestHeld (held : HeldPlaces) (a : ℕ) : Type 0 where
   pub greatest : (b : ℕ) → AllHeld held b → b ≤ a
 
 -- The places that a visit has to ask for: the requests not served, and the places not held in the window.
-abbrev pub IsMissing : NodeState → Token → VisitStep → ℕ → Type 0
-IsMissing r t v place = (Contains t.rtr place × ¬ Holds r.held place) ⊎ ((1 ≤ place) × (place ≤ min v.token.seq (r.delivered + WINDOW)) × ¬ Holds v.held place)
+abbrev pub LacksPlace : NodeState → Token → VisitStep → ℕ → Type 0
+LacksPlace r t v place = (Contains t.rtr place × ¬ Holds r.held place) ⊎ ((1 ≤ place) × (place ≤ min v.token.seq (r.delivered + WINDOW)) × ¬ Holds v.held place)
 
 -- the list is the first n, ascending, of all the places that are missing
 pub record IsLeastMissing (n : ℕ) (r : NodeState) (t : Token) (v : VisitStep) (list : List ℕ) : Type 0 where
   pub whole : List ℕ
   pub ascends : Ascends 0 v.token.seq whole
-  pub has : (place : ℕ) → Contains whole place ↔ IsMissing r t v place
+  pub has : (place : ℕ) → Contains whole place ↔ LacksPlace r t v place
   pub first : list ≡ take n whole
 
 -- What an accepted visit of a token in range does.

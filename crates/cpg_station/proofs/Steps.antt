@@ -10,7 +10,7 @@ use Rattle.cpg_ring.specs.States.{Entry, NodeState}
 use Rattle.cpg_ring.specs.Worlds.{RingOutcome}
 use Rattle.cpg_ring.specs.Moves.{next_entry, after_delivery}
 use Rattle.cpg_node.specs.Nodes.{NodeValue, delivered_entries}
-use Rattle.cpg_node.specs.Calls.{next_record, place_to_deliver, delivered}
+use Rattle.cpg_node.specs.Calls.{next_record, place_to_deliver, node_after_delivery}
 use Rattle.cpg_node.proofs.Keeping.{delivered_more}
 use Rattle.cpg_board.specs.Seats.{SeatValue, records_of}
 use Rattle.cpg_board.proofs.Known.{take_next}
@@ -57,10 +57,10 @@ abbrev gone_on : NodeState → Bool → RingOutcome
 gone_on r b = if b then (after_delivery r, []) else (r, [])
 
 -- a delivery adds the judgement of the next place to the records
-pub audit_more : (x : NodeValue) (r : Record) → next_record x ≡ Some r → audit_of (delivered x) ≡ audit_of x ++ r ∷ []
+pub audit_more : (x : NodeValue) (r : Record) → next_record x ≡ Some r → audit_of (node_after_delivery x) ≡ audit_of x ++ r ∷ []
 audit_more x r is = by_entry (next_entry x.ring.state) refl is
   where
-    by_entry : (o : Option Entry) → next_entry x.ring.state ≡ o → option_map (record_of (audit_of x)) o ≡ Some r → audit_of (delivered x) ≡ audit_of x ++ r ∷ []
+    by_entry : (o : Option Entry) → next_entry x.ring.state ≡ o → option_map (record_of (audit_of x)) o ≡ Some r → audit_of (node_after_delivery x) ≡ audit_of x ++ r ∷ []
     by_entry None held made = absurd (none-some r made)
     by_entry (Some e) held made =
         ap (λ (o : Option Entry). judged (delivered_entries ((gone_on x.ring.state (is_some o)).0))) held
@@ -68,7 +68,7 @@ audit_more x r is = by_entry (next_entry x.ring.state) refl is
         ∙ (fold_push with_judgement [] (delivered_entries x.ring.state) e
         ∙ ap (λ (q : Record). audit_of x ++ q ∷ []) (same_Some (record_of (audit_of x) e) r made)))
 
-pub kept_delivered : (x y : NodeValue) (seat : SeatValue) (r : Record) → Keeps (audit_of x) seat → next_record x ≡ Some r → record_at (records_of seat) (suc (length (audit_of x))) ≡ Some r → y ≡ delivered x → Keeps (audit_of y) seat
+pub kept_delivered : (x y : NodeValue) (seat : SeatValue) (r : Record) → Keeps (audit_of x) seat → next_record x ≡ Some r → record_at (records_of seat) (suc (length (audit_of x))) ≡ Some r → y ≡ node_after_delivery x → Keeps (audit_of y) seat
 kept_delivered x y seat r keeps next there is = subst (λ audit. Keeps audit seat) (sym (ap audit_of is ∙ audit_more x r next)) (kept_more (audit_of x) seat r keeps there)
 
 -- a node whose records are as they were

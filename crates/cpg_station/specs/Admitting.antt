@@ -32,14 +32,14 @@ abbrev pub IsOther : Listed → ℕ → Cred → StationValue → Type 0
 IsOther list node cred s = (is_some (via_of list cred) ≢ is_some (via_of s.node.list cred)) ⊎ (s.node.ring.node ≢ node)
 
 -- Stopped: the station was halted, and is as it was; or it is not the one that is asked for, and is halted, with the connection if it let it in.
-abbrev pub StopsAt : Listed → ℕ → ℕ → Cred → StationValue → StationValue → Type 0
-StopsAt list node pid cred old new =
+abbrev pub StopsAdmitting : Listed → ℕ → ℕ → Cred → StationValue → StationValue → Type 0
+StopsAdmitting list node pid cred old new =
     ((old.halted ≡ true) × (new ≡ old))
     ⊎ (IsOther list node cred old × ((new ≡ halted_of old) ⊎ (new ≡ halted_of (with_newcomer old pid cred))))
 
 -- Why it doesn't. Access: the list doesn't let the credentials in. ConnectionsFull and Memory: it does; and the station is as it was.
 abbrev pub AdmitsNot : Listed → ℕ → ℕ → Cred → StationValue → Refusal → StationValue → Type 0
-AdmitsNot list node pid cred old Stopped new = StopsAt list node pid cred old new
+AdmitsNot list node pid cred old Stopped new = StopsAdmitting list node pid cred old new
 AdmitsNot list node pid cred old Access new = (¬ Accepts list cred) × (new ≡ old)
 AdmitsNot list node pid cred old ConnectionsFull new = Accepts list cred × (connect_refusal old.node cred ≡ Some ConnectionsFull) × (new ≡ old)
 AdmitsNot list node pid cred old Memory new = Accepts list cred × (connect_refusal old.node cred ≡ None) × (new ≡ old)

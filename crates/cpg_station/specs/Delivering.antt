@@ -4,7 +4,7 @@ use Rattle.cpg_cred.specs.declared.refusals.Refusal.{Refusal}
 use Rattle.cpg_cred.specs.declared.refusals.Refusal.TheVariants.{Memory, BoardFull, Differs}
 use Rattle.cpg_record.specs.declared.records.Record.{Record}
 use Rattle.cpg_record.specs.Places.{record_at}
-use Rattle.cpg_node.specs.Calls.{next_record, delivered}
+use Rattle.cpg_node.specs.Calls.{next_record, node_after_delivery}
 use Rattle.cpg_board.specs.Seats.{SeatValue, records_of}
 use Rattle.cpg_station.specs.Stations.{StationValue, audit_of}
 
@@ -25,7 +25,7 @@ FindsAnother s = (wanted : Record) × (next_record s.node ≡ Some wanted) × Is
 pub record Delivers (place : ℕ) (old new : StationValue) : Type 0 where
   pub next : place ≡ station_place old
   pub stands : next_record old.node ≡ record_at (records_of new.seat) place
-  pub node : new.node ≡ delivered old.node
+  pub node : new.node ≡ node_after_delivery old.node
   pub halted : new.halted ≡ old.halted
 
 -- the seat is as it was, or it knows the node's judgement of the next place, which stands there

@@ -5,7 +5,7 @@ use Rattle.cpg_record.specs.declared.connections.ConnId.{ConnId}
 use Rattle.cpg_record.specs.declared.events.Event.{Event}
 use Rattle.cpg_record.specs.declared.records.Record.{Record}
 use Rattle.cpg_record.specs.Events.{inbox}
-use Rattle.cpg_board.specs.Seats.{Begins}
+use Rattle.cpg_record.specs.Places.{Begins}
 
 -- an item of an inbox over the first records is that item of the inbox over all
 abbrev pub InboxesKeepTheirItems : Type 0

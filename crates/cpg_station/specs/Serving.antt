@@ -13,7 +13,8 @@ use Rattle.cpg_node.specs.declared.connections.Connection.{Connection}
 use Rattle.cpg_node.specs.Answers.{connection_of}
 use Rattle.cpg_node.specs.Calls.{took, call_refusal}
 use Rattle.cpg_node.specs.Nodes.{NodeValue}
-use Rattle.cpg_board.specs.Seats.{SeatValue, Begins, records_of}
+use Rattle.cpg_record.specs.Places.{Begins}
+use Rattle.cpg_board.specs.Seats.{SeatValue, records_of}
 use Rattle.cpg_station.specs.Stations.{StationValue, audit_of}
 
 -- A session's seat has been brought up: the station's records begin what it knows, and are no fewer than
@@ -62,8 +63,8 @@ abbrev pub with_node : StationValue → NodeValue → StationValue
 with_node s node = record { node = node; seat = s.seat; halted = s.halted }
 
 -- the station is not halted, and its open connection of that number is as the session knows it
-abbrev pub IsHeard : StationValue → Connection → Type 0
-IsHeard s who = (s.halted ≡ false) × IsKnown s.node who
+abbrev pub HearsSession : StationValue → Connection → Type 0
+HearsSession s who = (s.halted ≡ false) × IsKnown s.node who
 
 -- the session's connection once the event was taken, if there was one
 abbrev pub moved_on : Connection → Option Event → Connection

@@ -2,7 +2,8 @@
 use Rattle.std.specs.Prelude.{◌≡◌, ◌+◌, ◌≤◌, Bool, List, length}
 use Rattle.cpg_record.specs.declared.records.Record.{Record}
 use Rattle.cpg_node.specs.Nodes as nodes
-use Rattle.cpg_board.specs.Seats.{SeatValue, Begins, records_of}
+use Rattle.cpg_record.specs.Places.{Begins}
+use Rattle.cpg_board.specs.Seats.{SeatValue, records_of}
 
 -- What lies under a node's lock.
 pub record StationValue : Type 0 where

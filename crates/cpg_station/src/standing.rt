@@ -2,8 +2,8 @@
 
 ghost use Rattle.std.specs.Prelude.{◌≡◌, ◌<◌, ◌≤◌, suc, length, Some, IfOk, IfErr, OnOk};
 ghost use Rattle.cpg_cred.specs.declared.refusals.Refusal.TheVariants.{Differs};
-ghost use Rattle.cpg_record.specs.Places.{record_at};
-ghost use Rattle.cpg_board.specs.Seats.{IsSeatOf, Begins, records_of};
+ghost use Rattle.cpg_record.specs.Places.{record_at, Begins};
+ghost use Rattle.cpg_board.specs.Seats.{IsSeatOf, records_of};
 ghost use Rattle.cpg_station.specs.Delivering.{IsAnother, StandsNot};
 ghost use Rattle.cpg_station.specs.Stations.{audit_of, Keeps};
 

@@ -11,7 +11,7 @@ use Rattle.cpg_record.specs.Judging.{judged, record_of, with_judgement}
 use Rattle.cpg_record.specs.Places.{record_at, records_before}
 use Rattle.cpg_record.proofs.Denials.{each_entry_is_judged, prefixes_are_judged_alike}
 use Rattle.cpg_record.proofs.Told.{each_is_judged_by_those_before}
-use Rattle.cpg_why.specs.Moves.{kept_move, moved, KeptMoves, AreMoves}
+use Rattle.cpg_why.specs.Moves.{kept_move, moved, KeptMoves, AreLastMoves}
 use Rattle.cpg_why.specs.Forms.{Form, block_by, why_told}
 use Rattle.cpg_why.proofs.Moved.{moves_push}
 use Rattle.cpg_why.proofs.Tabled.{stands_at}
@@ -20,12 +20,12 @@ pub judged_push : (entries : List Entry) (entry : Entry) → judged (entries ++ 
 judged_push entries entry = fold_push with_judgement [] entries entry
 
 -- the kept moves after one entry more
-pub moves_after : (old new : KeptMoves) (entries : List Entry) (entry : Entry) (r : Record) (place : ℕ) → AreMoves old (judged entries) → r ≡ record_of (judged entries) entry
-    → place ≡ length entries + 1 → ((conn : _) → kept_move new conn ≡ moved conn (kept_move old conn) (place, r)) → AreMoves new (judged (entries ++ entry ∷ []))
+pub moves_after : (old new : KeptMoves) (entries : List Entry) (entry : Entry) (r : Record) (place : ℕ) → AreLastMoves old (judged entries) → r ≡ record_of (judged entries) entry
+    → place ≡ length entries + 1 → ((conn : _) → kept_move new conn ≡ moved conn (kept_move old conn) (place, r)) → AreLastMoves new (judged (entries ++ entry ∷ []))
 moves_after old new entries entry r place are is at taken =
     let next = record_of (judged entries) entry in
     let here : place ≡ 1 + length (judged entries) = omega (arith, (each_entry_is_judged entries).0) in
-    subst (AreMoves new) (sym (judged_push entries entry))
+    subst (AreLastMoves new) (sym (judged_push entries entry))
     (moves_push old new (judged entries) next are
     (λ conn. taken conn ∙ ap (λ (x : Record). moved conn (kept_move old conn) (place, x)) is ∙ ap (λ (n : ℕ). moved conn (kept_move old conn) (n, next)) here))
 

@@ -2,20 +2,11 @@
 use Rattle.std.specs.Prelude.{ℕ, ◌≡◌, Bool, true, false, ◌&&◌, List, Option, Some, None, if◌then◌else◌}
 use Rattle.std.specs.List.{fold, enumerate_from}
 use Rattle.std.specs.Map.{lookup}
-use Rattle.cpg_entry.specs.declared.calls.Call.TheVariants.{Join, Leave}
-use Rattle.cpg_entry.specs.declared.calls.Op.{Op}
-use Rattle.cpg_entry.specs.declared.calls.Op.TheVariants.{Act, Gone}
+use Rattle.cpg_entry.specs.Entries.{is_move}
 use Rattle.cpg_record.specs.declared.connections.ConnId.{ConnId}
 use Rattle.cpg_record.specs.declared.records.Record.{Record}
 use Rattle.cpg_record.specs.Connections.{conn_of, is_conn}
 use Rattle.cpg_record.specs.Membership.{is_allowed}
-
--- a join, a leave and the end of a connection move it into a group, or out of one
-abbrev pub is_move : Op → Bool
-is_move (Act (Join g)) = true
-is_move (Act Leave) = true
-is_move Gone = true
-is_move _ = false
 
 -- the record is an allowed join, leave or end of that connection
 abbrev pub moves : ConnId → Record → Bool
@@ -38,5 +29,5 @@ abbrev pub kept_move : KeptMoves → ConnId → Option ℕ
 kept_move kept conn = lookup (is_conn conn) kept
 
 -- the kept places are those that the records make
-abbrev pub AreMoves : KeptMoves → List Record → Type 0
-AreMoves kept records = (conn : ConnId) → kept_move kept conn ≡ last_move records conn
+abbrev pub AreLastMoves : KeptMoves → List Record → Type 0
+AreLastMoves kept records = (conn : ConnId) → kept_move kept conn ≡ last_move records conn

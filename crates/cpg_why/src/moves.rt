@@ -2,10 +2,9 @@
 
 ghost use Rattle.std.specs.Prelude.{◌≡◌, [], OnOk, IsOkUnless};
 ghost use Rattle.cpg_record.specs.declared.connections.ConnId.{ConnId};
-ghost use Rattle.cpg_why.specs.Moves.{is_move, kept_move, moved};
+ghost use Rattle.cpg_why.specs.Moves.{kept_move, moved};
 
 use cpg_cred::Refusal;
-use cpg_entry::{Call, Op};
 use cpg_record::{ConnId, Record};
 use indexmap::IndexMap;
 use std::alloc::Global;
@@ -14,16 +13,6 @@ use std::alloc::Global;
 #[derive(Drop)]
 pub(crate) struct Moves {
     pub(crate) kept: IndexMap<ConnId, u32>,
-}
-
-/// Whether the op moves its connection into a group, or out of one.
-fn is_move(op: &Op) -> bool
-    ensures { result ≡ is_move op.now }
-{
-    match op {
-        Op::Act(Call::Join(_)) | Op::Act(Call::Leave) | Op::Gone => true,
-        Op::Act(_) => false,
-    }
 }
 
 impl Moves {
@@ -48,7 +37,7 @@ impl Moves {
         ensures ok { OnOk result ((conn : ConnId) → kept_move self.new.kept.entries conn ≡ moved conn (kept_move self.old.kept.entries conn) (place, past.now)) }
         ensures memory { IsOkUnless result Refusal.Memory }
     {
-        if past.verdict.is_allowed() && is_move(&past.entry.op) {
+        if past.verdict.is_allowed() && past.entry.op.is_move() {
             self.kept.insert(ConnId::of(&past.entry), place)?;
         }
         Ok(())

@@ -163,7 +163,7 @@ fn put_joined(
 }
 
 /// Whether the member has the process of the entry.
-fn has_process(member: &Member, entry: &Entry) -> bool
+fn is_process_of(member: &Member, entry: &Entry) -> bool
     ensures { result ≡ ((member.now.node == entry.now.node) && (member.now.pid == entry.now.pid)) }
 {
     member.node == entry.node && member.pid == entry.pid
@@ -174,7 +174,7 @@ fn find_member(past: &Record) -> Option<Member>
     ensures { result ≡ find (λ member. (member.node == past.now.entry.node) && (member.pid == past.now.entry.pid)) past.now.members }
 {
     for member in past.members.as_slice() {
-        if has_process(member, &past.entry) {
+        if is_process_of(member, &past.entry) {
             return Some(*member);
         }
     }

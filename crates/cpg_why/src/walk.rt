@@ -2,7 +2,7 @@
 
 ghost use Rattle.std.specs.Prelude.{◌≡◌, ◌<◌, ◌≤◌, ◌+◌, ◌++◌, ◌∷◌, [], Some, length, take, ◌||◌, OnOk, IfOk, IsOkUnless};
 ghost use Rattle.cpg_record.specs.Judging.{judged, most_places, record_of};
-ghost use Rattle.cpg_why.specs.Moves.{AreMoves};
+ghost use Rattle.cpg_why.specs.Moves.{AreLastMoves};
 ghost use Rattle.cpg_why.specs.Forms.{block_by, denial_piece, denials_told, why_told};
 ghost use Rattle.cpg_why.specs.Texts.{is_denied};
 
@@ -26,7 +26,7 @@ impl Walk {
     /// Nothing is judged.
     fn new(alloc: Global) -> Walk
         ensures policy { result.policy ≡ [] }
-        ensures moves { AreMoves result.moves.kept.entries [] }
+        ensures moves { AreLastMoves result.moves.kept.entries [] }
     {
         Walk {
             policy: Policy::new(alloc),
@@ -39,9 +39,9 @@ impl Walk {
 fn take_in(walk: &mut Walk, next: Record) -> Result<(), Refusal>
     requires room { length walk.old.policy < most_places }
     requires judged { next ≡ record_of (judged walk.old.policy) next.entry }
-    requires moves { AreMoves walk.old.moves.kept.entries (judged walk.old.policy) }
+    requires moves { AreLastMoves walk.old.moves.kept.entries (judged walk.old.policy) }
     ensures ok { OnOk result (walk.new.policy ≡ walk.old.policy ++ next.entry ∷ []) }
-    ensures moves { OnOk result (AreMoves walk.new.moves.kept.entries (judged walk.new.policy)) }
+    ensures moves { OnOk result (AreLastMoves walk.new.moves.kept.entries (judged walk.new.policy)) }
     ensures memory { IsOkUnless result Refusal.Memory }
 {
     let place = walk.policy.len() as u32 + 1;
@@ -55,9 +55,9 @@ fn take_in(walk: &mut Walk, next: Record) -> Result<(), Refusal>
 /// Judges one entry more.
 fn pass(walk: &mut Walk, entry: &Entry) -> Result<(), Refusal>
     requires room { length walk.old.policy < most_places }
-    requires moves { AreMoves walk.old.moves.kept.entries (judged walk.old.policy) }
+    requires moves { AreLastMoves walk.old.moves.kept.entries (judged walk.old.policy) }
     ensures ok { OnOk result (walk.new.policy ≡ walk.old.policy ++ entry.now ∷ []) }
-    ensures moves { OnOk result (AreMoves walk.new.moves.kept.entries (judged walk.new.policy)) }
+    ensures moves { OnOk result (AreLastMoves walk.new.moves.kept.entries (judged walk.new.policy)) }
     ensures memory { IsOkUnless result Refusal.Memory }
 {
     let next = walk.policy.judge(entry)?;
@@ -73,7 +73,7 @@ fn put_next<F: Tells>(
 ) -> Result<(), Refusal>
     requires room { length walk.now.policy < most_places }
     requires judged { next.now ≡ record_of (judged walk.now.policy) next.now.entry }
-    requires moves { AreMoves walk.now.moves.kept.entries (judged walk.now.policy) }
+    requires moves { AreLastMoves walk.now.moves.kept.entries (judged walk.now.policy) }
     ensures ok { OnOk result (line.new.items ≡ line.old.items ++ block_by F.form numbers.now (judged walk.now.policy) (length walk.now.policy + 1) (Some next.now)) }
     ensures memory { IsOkUnless result Refusal.Memory }
 {
@@ -90,7 +90,7 @@ fn put_why<F: Tells>(
     entry: &Entry,
 ) -> Result<(), Refusal>
     requires room { length walk.now.policy < most_places }
-    requires moves { AreMoves walk.now.moves.kept.entries (judged walk.now.policy) }
+    requires moves { AreLastMoves walk.now.moves.kept.entries (judged walk.now.policy) }
     ensures ok { OnOk result (line.new.items ≡ line.old.items ++ block_by F.form numbers.now (judged walk.now.policy) (length walk.now.policy + 1) (Some (record_of (judged walk.now.policy) entry.now))) }
     ensures memory { IsOkUnless result Refusal.Memory }
 {
@@ -102,7 +102,7 @@ fn put_why<F: Tells>(
 pub(crate) fn pass_all(alloc: Global, entries: &[Entry]) -> Result<Walk, Refusal>
     requires { length entries.now ≤ most_places }
     ensures ok { IfOk result (λ walk. walk.policy ≡ entries.now) }
-    ensures moves { IfOk result (λ walk. AreMoves walk.moves.kept.entries (judged entries.now)) }
+    ensures moves { IfOk result (λ walk. AreLastMoves walk.moves.kept.entries (judged entries.now)) }
     ensures memory { IsOkUnless result Refusal.Memory }
 {
     let mut walk = Walk::new(alloc);
@@ -123,7 +123,7 @@ fn put_why_at<F: Tells>(
     requires few { length entries.now ≤ most_places }
     requires within { index < length entries.now }
     requires passed { walk.now.policy ≡ take index entries.now }
-    requires moves { AreMoves walk.now.moves.kept.entries (judged (take index entries.now)) }
+    requires moves { AreLastMoves walk.now.moves.kept.entries (judged (take index entries.now)) }
     ensures ok { OnOk result (line.new.items ≡ line.old.items ++ why_told F.form numbers.now (judged entries.now) (index + 1)) }
     ensures memory { IsOkUnless result Refusal.Memory }
 {
@@ -157,7 +157,7 @@ fn put_denied<F: Tells>(
 ) -> Result<bool, Refusal>
     requires room { length walk.now.policy < most_places }
     requires judged { next.now ≡ record_of (judged walk.now.policy) next.now.entry }
-    requires moves { AreMoves walk.now.moves.kept.entries (judged walk.now.policy) }
+    requires moves { AreLastMoves walk.now.moves.kept.entries (judged walk.now.policy) }
     ensures ok { OnOk result (line.new.items ≡ line.old.items ++ denial_piece F.form begun (is_denied next.now) (block_by F.form numbers.now (judged walk.now.policy) (length walk.now.policy + 1) (Some next.now))) }
     ensures begun { IfOk result (λ now. now ≡ (begun || is_denied next.now)) }
     ensures memory { IsOkUnless result Refusal.Memory }
@@ -181,9 +181,9 @@ fn pass_told<F: Tells>(
     entry: &Entry,
 ) -> Result<bool, Refusal>
     requires room { length walk.old.policy < most_places }
-    requires moves { AreMoves walk.old.moves.kept.entries (judged walk.old.policy) }
+    requires moves { AreLastMoves walk.old.moves.kept.entries (judged walk.old.policy) }
     ensures ok { OnOk result (walk.new.policy ≡ walk.old.policy ++ entry.now ∷ []) }
-    ensures moves { OnOk result (AreMoves walk.new.moves.kept.entries (judged walk.new.policy)) }
+    ensures moves { OnOk result (AreLastMoves walk.new.moves.kept.entries (judged walk.new.policy)) }
     ensures text { let next = record_of (judged walk.old.policy) entry.now in
         OnOk result (line.new.items ≡ line.old.items ++ denial_piece F.form begun (is_denied next) (block_by F.form numbers.now (judged walk.old.policy) (length walk.old.policy + 1) (Some next))) }
     ensures begun { IfOk result (λ now. now ≡ (begun || is_denied (record_of (judged walk.old.policy) entry.now))) }
@@ -204,7 +204,7 @@ fn pass_denials<F: Tells>(
 ) -> Result<(), Refusal>
     requires few { length entries.now ≤ most_places }
     requires none { walk.old.policy ≡ [] }
-    requires moves { AreMoves walk.old.moves.kept.entries [] }
+    requires moves { AreLastMoves walk.old.moves.kept.entries [] }
     ensures ok { OnOk result (line.new.items ≡ line.old.items ++ denials_told F.form numbers.now (judged entries.now)) }
     ensures memory { IsOkUnless result Refusal.Memory }
 {

@@ -5,7 +5,7 @@ use Rattle.std.specs.Option.{option_map}
 use Rattle.cpg_cred.specs.declared.refusals.Refusal.{Refusal}
 use Rattle.cpg_cred.specs.declared.refusals.Refusal.TheVariants.{Memory, Malformed}
 use Rattle.cpg_entry.specs.declared.frames.Frame.{Frame}
-use Rattle.cpg_wire.specs.Answering.{Answers}
+use Rattle.cpg_wire.specs.Answering.{AnswersRead}
 use Rattle.cpg_wire.specs.declared.frames.FrameView.{FrameView}
 use Rattle.cpg_wire.specs.Views.{frame_seen}
 use Rattle.cpg_entry.specs.Ranges.{IsFrame}
@@ -15,7 +15,7 @@ use Rattle.cpg_wire.specs.Spelling.{Spells}
 use Rattle.cpg_wire.proofs.Readers.{IsBytes}
 use Rattle.cpg_wire.proofs.ReadsFrames.{spelled_is_read, read_is_spelled}
 
-pub found : (bytes : List ℕ) (answer : Result Frame Refusal) → IsBytes bytes → Answers answer (frame_of bytes) → IfOk answer (λ frame. Spells bytes frame)
+pub found : (bytes : List ℕ) (answer : Result Frame Refusal) → IsBytes bytes → AnswersRead answer (frame_of bytes) → IfOk answer (λ frame. Spells bytes frame)
 found bytes (Ok frame) fits h = read_is_spelled bytes frame fits h
 found bytes (Err refusal) fits h = tt
 
@@ -24,13 +24,13 @@ the_frame : (read : Option Frame) → IsSome read → (frame : Frame) × (read �
 the_frame (Some frame) h = (frame, refl)
 the_frame None h = absurd cc
 
-pub malformed : (bytes : List ℕ) (answer : Result Frame Refusal) → IsBytes bytes → Answers answer (frame_of bytes) → (answer ≡ Err Malformed) ↔ ((frame : Frame) → Spells bytes frame → ⊥)
+pub malformed : (bytes : List ℕ) (answer : Result Frame Refusal) → IsBytes bytes → AnswersRead answer (frame_of bytes) → (answer ≡ Err Malformed) ↔ ((frame : Frame) → Spells bytes frame → ⊥)
 malformed bytes (Ok frame) fits h = (λ e. absurd cc, λ none. absurd (none frame (read_is_spelled bytes frame fits h)))
 malformed bytes (Err Memory) fits h = (λ e. absurd cc, λ none. let f = the_frame (frame_of bytes) h in absurd (none f.0 (read_is_spelled bytes f.0 fits f.1)))
 malformed bytes (Err Malformed) fits h = (λ e frame spelled. let r = spelled_is_read bytes frame spelled in cc (h, r), λ none. refl)
 malformed bytes (Err _) fits h = absurd h
 
-pub refused : (bytes : List ℕ) (answer : Result Frame Refusal) → Answers answer (frame_of bytes) → IfErr answer (λ refusal. (refusal ≡ Malformed) ⊎ (refusal ≡ Memory))
+pub refused : (bytes : List ℕ) (answer : Result Frame Refusal) → AnswersRead answer (frame_of bytes) → IfErr answer (λ refusal. (refusal ≡ Malformed) ⊎ (refusal ≡ Memory))
 refused bytes (Ok frame) h = tt
 refused bytes (Err Memory) h = inr refl
 refused bytes (Err Malformed) h = inl refl

@@ -5,8 +5,8 @@ use Rattle.cpg_cred.specs.declared.refusals.Refusal.TheVariants.{Memory, Malform
 use Rattle.cpg_entry.specs.declared.frames.Frame.{Frame}
 
 -- the frame that was read, or Malformed where none was; memory is asked for, and may be refused, only for a frame
-abbrev pub Answers : Result Frame Refusal → Option Frame → Type 0
-Answers (Ok frame) read = read ≡ Some frame
-Answers (Err Memory) read = IsSome read
-Answers (Err Malformed) read = read ≡ None
-Answers (Err _) read = ⊥
+abbrev pub AnswersRead : Result Frame Refusal → Option Frame → Type 0
+AnswersRead (Ok frame) read = read ≡ Some frame
+AnswersRead (Err Memory) read = IsSome read
+AnswersRead (Err Malformed) read = read ≡ None
+AnswersRead (Err _) read = ⊥

@@ -5,7 +5,7 @@
 
 ghost use Rattle.std.specs.Prelude.{◌≡◌, ◌↔◌, ◌⊎◌, IfOk, IfErr, IfSome, IsOkUnless, option_map};
 ghost use Rattle.cpg_entry.specs.declared.frames.Frame.{Frame};
-ghost use Rattle.cpg_wire.specs.Answering.{Answers};
+ghost use Rattle.cpg_wire.specs.Answering.{AnswersRead};
 ghost use Rattle.cpg_entry.specs.Ranges.{IsFrame};
 ghost use Rattle.cpg_entry.specs.Widths.{FrameFits};
 ghost use Rattle.cpg_wire.specs.Reading.{Reads, head_at, carried_at, frame_at, frame_of};
@@ -119,13 +119,13 @@ pub fn decode(alloc: Global, bytes: &[u8]) -> Result<Frame, Refusal>
     // Whichever version it came in, it keeps the rules, and so may be encoded.
     ensures range { IfOk result (λ frame. IsFrame frame × FrameFits frame) }
     // The same by the function that reads.
-    ensures exact { Answers result (frame_of bytes.now) }
+    ensures exact { AnswersRead result (frame_of bytes.now) }
 {
     answer(alloc, bytes)
 }
 
 fn answer(alloc: Global, bytes: &[u8]) -> Result<Frame, Refusal>
-    ensures { Answers result (frame_of bytes.now) }
+    ensures { AnswersRead result (frame_of bytes.now) }
 {
     match FrameView::read(bytes) {
         None => Err(Refusal::Malformed),

@@ -6,7 +6,7 @@ use Rattle.std.proofs.lemmas.List.{take-append-le}
 use Rattle.cpg_record.specs.declared.records.Record.{Record}
 use Rattle.cpg_record.specs.Judging.{judged}
 use Rattle.cpg_record.specs.Laws.{PrefixesAreJudgedAlike}
-use Rattle.cpg_record.specs.Places.{record_at}
+use Rattle.cpg_record.specs.Places.{record_at, Begins}
 use Rattle.cpg_ring.specs.States.{Entry, Frame}
 use Rattle.cpg_ring.specs.Worlds.{item, with_item, agreed}
 use Rattle.cpg_ring.proofs.Lists.{item_with_same, item_with_other}
@@ -14,7 +14,7 @@ use Rattle.cpg_ring.proofs.Growth.{agreed_grows}
 use Rattle.cpg_node.specs.Nodes.{NodeValue, records_of}
 use Rattle.cpg_world_laws.specs.declared.events.WorldEvent.{WorldEvent}
 use Rattle.cpg_world_laws.specs.Worlds.{WorldValue, moves, node_in, moved, happens, runs}
-use Rattle.cpg_world_laws.specs.Claims.{IsAgreed, Begins, GoesOn, JudgeAlike}
+use Rattle.cpg_world_laws.specs.Claims.{IsAgreed, GoesOn, JudgeAlike}
 use Rattle.cpg_world_laws.proofs.Received.{goes_moves, records_grow}
 
 -- ---- lists

@@ -13,7 +13,7 @@ use Rattle.cpg_ring.specs.Worlds as ring
 use Rattle.cpg_ring.specs.Worlds.{item, with_item, Enqueue, EnqueueEnd, Arrive, Timer as Timeout, Deliver as Delivery, enqueue, enqueue_end, receive, receive_token, receive_data, send_again, deliver}
 use Rattle.cpg_node.specs.declared.connections.Client.{Client}
 use Rattle.cpg_node.specs.Nodes.{NodeValue, open_client, entry_by}
-use Rattle.cpg_node.specs.Calls.{connect_refusal, connected, submit_refusal_by, submit_refusal, with_entry, ended_by, call_refusal, first_of, after_frame, answers_to, delivered, took, node_after_take, counted, next_event}
+use Rattle.cpg_node.specs.Calls.{connect_refusal, connected, submit_refusal_by, submit_refusal, with_entry, ended_by, call_refusal, first_of, after_frame, answers_to, node_after_delivery, took, node_after_take, counted, next_event}
 use Rattle.cpg_world_laws.specs.declared.events.WorldEvent.{WorldEvent}
 use Rattle.cpg_world_laws.specs.declared.events.WorldEvent.TheVariants.{Connect, Submit, Disconnect, Frame as Arrival, Timer, Deliver, Take, List as Listing, Groups}
 use Rattle.cpg_world_laws.specs.Worlds.{WorldValue, NodeOutcome, unless, hears, moves, node_in, moved, happens, ring_world, entry_of, if_admitted, admits}
@@ -104,7 +104,7 @@ again_same x = by_token x.ring.state.last_token
     by_token None = record { state = refl; sent = refl }
     by_token (Some t) = record { state = refl; sent = refl }
 
-delivers_same : (x : NodeValue) → Same (delivered x, []) (deliver x.ring.state)
+delivers_same : (x : NodeValue) → Same (node_after_delivery x, []) (deliver x.ring.state)
 delivers_same x = record { state = refl; sent = by_test (is_held x.ring.state.held (suc x.ring.state.delivered)) }
   where
     by_test : (b : Bool) → [] ≡ (let move : ring.RingOutcome = if b then (after_delivery x.ring.state, []) else (x.ring.state, []) in move.1)

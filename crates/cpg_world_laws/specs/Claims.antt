@@ -20,7 +20,7 @@ use Rattle.cpg_record.specs.declared.verdicts.Verdict.{Verdict}
 use Rattle.cpg_record.specs.Judging.{judged, record_of}
 use Rattle.cpg_record.specs.Laws.{InGroup, LeavesAll}
 use Rattle.cpg_record.specs.Membership.{is_allowed}
-use Rattle.cpg_record.specs.Places.{record_at, records_before}
+use Rattle.cpg_record.specs.Places.{record_at, records_before, Begins}
 use Rattle.cpg_record.specs.Reasons.{Says, IsVerdict}
 use Rattle.cpg_record.specs.Receiving.{IsSent, Precedes}
 use Rattle.cpg_record.specs.RuleTables.{rules_of}
@@ -184,10 +184,6 @@ pub record InboxesAreExact (x : NodeValue) : Type 0 where
       Contains (inbox_of x conn) (event.Message place g node pid message)
       ↔ (IsSent (records_of x) place g node pid message × InGroup (records_before (records_of x) place) (conn_id x conn) g)
   pub in_order : (conn : ℕ) → AllPairs Precedes (inbox_of x conn)
-
--- xs begins ys
-abbrev pub Begins : {X : Type 0} → List X → List X → Type 0
-Begins xs ys = take (length xs) ys ≡ xs
 
 -- a node later: it delivered no fewer places, and its records begin its later ones
 pub record GoesOn (x later : NodeValue) : Type 0 where

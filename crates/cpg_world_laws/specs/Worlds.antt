@@ -13,7 +13,7 @@ use Rattle.cpg_ring.specs.Worlds as ring
 use Rattle.cpg_ring.specs.Worlds.{item, with_item, send_again}
 use Rattle.cpg_node.specs.declared.connections.Client.{Client}
 use Rattle.cpg_node.specs.Nodes.{NodeValue, new_value, open_client, entry_by}
-use Rattle.cpg_node.specs.Calls.{connect_refusal, connected, submit_refusal, submitted, disconnected, frame_refusal, after_frame, answers_to, delivered, took}
+use Rattle.cpg_node.specs.Calls.{connect_refusal, connected, submit_refusal, submitted, disconnected, frame_refusal, after_frame, answers_to, node_after_delivery, took}
 use Rattle.cpg_world_laws.specs.declared.events.WorldEvent.{WorldEvent}
 use Rattle.cpg_world_laws.specs.declared.events.WorldEvent.TheVariants.{Connect, Submit, Disconnect, Frame as Arrival, Timer, Deliver, Take, List as Listing, Groups}
 
@@ -48,7 +48,7 @@ moves sent (Submit n conn call) x = unless (submit_refusal x conn call) x (submi
 moves sent (Disconnect n conn) x = (disconnected x conn, [])
 moves sent (Arrival n k) x = hears (item sent k) x
 moves sent (Timer n) x = (x, (send_again x.ring.state x.ring.state.last_token).1)
-moves sent (Deliver n) x = (delivered x, [])
+moves sent (Deliver n) x = (node_after_delivery x, [])
 moves sent (Take n conn) x = (took x conn, [])
 moves sent (Listing n conn g) x = (x, [])
 moves sent (Groups n conn) x = (x, [])

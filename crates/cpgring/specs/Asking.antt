@@ -211,7 +211,7 @@ IsStatusOf _ status = status ≡ 2
 
 -- only what was asked for is written to standard output, and then nothing is said on standard error unless
 -- it could not be written
-abbrev pub Says : ErrorKind → ℕ → Option (List ℕ) → Option (List ℕ) → Option (List ℕ) → Option (List ℕ) → Type 0
-Says DisplayHelp status output shown told said = status ≡ 0 → Keeps told said
-Says DisplayVersion status output shown told said = status ≡ 0 → Keeps told said
-Says _ status output shown told said = Keeps output shown
+abbrev pub SaysByKind : ErrorKind → ℕ → Option (List ℕ) → Option (List ℕ) → Option (List ℕ) → Option (List ℕ) → Type 0
+SaysByKind DisplayHelp status output shown told said = status ≡ 0 → Keeps told said
+SaysByKind DisplayVersion status output shown told said = status ≡ 0 → Keeps told said
+SaysByKind _ status output shown told said = Keeps output shown

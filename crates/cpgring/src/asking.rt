@@ -10,7 +10,7 @@ ghost use Rattle.cpg_program.specs.Pipes.{stream_of};
 ghost use Rattle.cpg_program.specs.declared.runs.Run.TheVariants.{Why};
 ghost use Rattle.cpgring.specs.Filtering.{is_filtered, IsBadFilter};
 ghost use Rattle.cpgring.specs.Sources.{but_input, path_of};
-ghost use Rattle.cpgring.specs.Asking.{name_of, words_found, AreSettingsGiven, IsAskedFor, IsFormGiven, IsInquiryGiven, IsMannerGiven, IsPictureGiven, IsShellGiven, IsShownGiven, IsSpokenGiven, patience_given, IsEntryAsked, words_before, IsStatusOf, IsUnused, IsUsed, Says, is_numbered};
+ghost use Rattle.cpgring.specs.Asking.{name_of, words_found, AreSettingsGiven, IsAskedFor, IsFormGiven, IsInquiryGiven, IsMannerGiven, IsPictureGiven, IsShellGiven, IsShownGiven, IsSpokenGiven, patience_given, IsEntryAsked, words_before, IsStatusOf, IsUnused, IsUsed, SaysByKind, is_numbered};
 
 use crate::commands::{
     ACCEPT, ALL, CONNECTION, ECHO, FILE, HOPS, JSON, NODES, NUMBERS, PLACE, PLACES, RING, TEXT,
@@ -406,7 +406,7 @@ pub fn explain<W: Write, E: Write>(
     errors: &mut E,
 ) -> u8
     ensures status { IsStatusOf (kind_of error.now) result }
-    ensures streams { Says (kind_of error.now) result (W.contents (stream_of writer.old)) (W.contents (stream_of writer.new)) (E.contents errors.old) (E.contents errors.new) }
+    ensures streams { SaysByKind (kind_of error.now) result (W.contents (stream_of writer.old)) (W.contents (stream_of writer.new)) (E.contents errors.old) (E.contents errors.new) }
 {
     match error.kind() {
         ErrorKind::OutOfMemory => {

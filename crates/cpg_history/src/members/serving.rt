@@ -7,9 +7,10 @@ ghost use Rattle.cpg_ring.specs.Answers.{IsAnswer, answer_of};
 ghost use Rattle.cpg_node.specs.Calls.{submit_refusal, submitted, disconnected};
 ghost use Rattle.cpg_world_laws.specs.declared.events.WorldEvent.TheVariants as events;
 ghost use Rattle.cpg_world_laws.specs.declared.replies.Reply.TheVariants as reply;
-ghost use Rattle.cpg_board.specs.Seats.{IsSeatOf, Begins};
+ghost use Rattle.cpg_record.specs.Places.{Begins};
+ghost use Rattle.cpg_board.specs.Seats.{IsSeatOf};
 ghost use Rattle.cpg_station.specs.Admitting.{IsAdmitted, AdmitsNot, with_newcomer};
-ghost use Rattle.cpg_station.specs.Serving.{IsKnown, IsHeard, IsTakeFor, IsListFor, IsGroupsFor, KeepsWatch, SubmitRefuses, taken_from, moved_on, halted_of, with_node};
+ghost use Rattle.cpg_station.specs.Serving.{IsKnown, HearsSession, IsTakeFor, IsListFor, IsGroupsFor, KeepsWatch, SubmitRefuses, taken_from, moved_on, halted_of, with_node};
 ghost use Rattle.cpg_history.specs.Members.{Told, RefusalTold, is_answer};
 
 use super::Member;
@@ -88,10 +89,10 @@ impl<B: HistoryName> Member<B> {
         who: &Connection,
         call: Call,
     ) -> Result<(), Refused<Call>>
-        ensures heard { IsHeard self.old.station who.now → IsAnswer (submit_refusal self.old.station.node who.now.id.conn call) (λ _. self.new.station ≡ with_node self.old.station (submitted self.old.station.node who.now.id.conn call)) (answer_of result) }
+        ensures heard { HearsSession self.old.station who.now → IsAnswer (submit_refusal self.old.station.node who.now.id.conn call) (λ _. self.new.station ≡ with_node self.old.station (submitted self.old.station.node who.now.id.conn call)) (answer_of result) }
         ensures history { OnOk result (Told B.start front.old.seen (events.Submit who.now.id.node who.now.id.conn call) (Ok reply.Admitted) front.new.seen) }
         ensures err { IfErr result (λ refused. (refused.back ≡ call) × SubmitRefuses call refused.refusal × KeepsWatch self.old.station who.now self.new.station) }
-        ensures unheard { ¬ IsHeard self.old.station who.now → (answer_of result ≡ Err Stopped) × (self.new.station ≡ halted_of self.old.station) }
+        ensures unheard { ¬ HearsSession self.old.station who.now → (answer_of result ≡ Err Stopped) × (self.new.station ≡ halted_of self.old.station) }
         ensures front { OnErr result (front.new ≡ front.old) }
     {
         self.submit_for_as::<Brand>(history, front, who, call)
@@ -105,10 +106,10 @@ impl<B: HistoryName> Member<B> {
         call: Call,
     ) -> Result<(), Refused<Call>>
         requires { E.event ≡ events.Submit who.now.id.node who.now.id.conn call }
-        ensures heard { IsHeard self.old.station who.now → IsAnswer (submit_refusal self.old.station.node who.now.id.conn call) (λ _. self.new.station ≡ with_node self.old.station (submitted self.old.station.node who.now.id.conn call)) (answer_of result) }
+        ensures heard { HearsSession self.old.station who.now → IsAnswer (submit_refusal self.old.station.node who.now.id.conn call) (λ _. self.new.station ≡ with_node self.old.station (submitted self.old.station.node who.now.id.conn call)) (answer_of result) }
         ensures history { OnOk result (Told B.start front.old.seen (events.Submit who.now.id.node who.now.id.conn call) (Ok reply.Admitted) front.new.seen) }
         ensures err { IfErr result (λ refused. (refused.back ≡ call) × SubmitRefuses call refused.refusal × KeepsWatch self.old.station who.now self.new.station) }
-        ensures unheard { ¬ IsHeard self.old.station who.now → (answer_of result ≡ Err Stopped) × (self.new.station ≡ halted_of self.old.station) }
+        ensures unheard { ¬ HearsSession self.old.station who.now → (answer_of result ≡ Err Stopped) × (self.new.station ≡ halted_of self.old.station) }
         ensures front { OnErr result (front.new ≡ front.old) }
     {
         let event = self.trace.submit(who.id.node, who.id.conn, &call);
@@ -132,10 +133,10 @@ impl<B: HistoryName> Member<B> {
         front: &mut Front<B>,
         who: &Connection,
     ) -> Result<(), Refusal>
-        ensures heard { IsHeard self.old.station who.now → IsAnswer None (λ _. self.new.station ≡ with_node self.old.station (disconnected self.old.station.node who.now.id.conn)) result }
+        ensures heard { HearsSession self.old.station who.now → IsAnswer None (λ _. self.new.station ≡ with_node self.old.station (disconnected self.old.station.node who.now.id.conn)) result }
         ensures history { OnOk result (Told B.start front.old.seen (events.Disconnect who.now.id.node who.now.id.conn) (Ok reply.Closed) front.new.seen) }
         ensures err { OnErr result (KeepsWatch self.old.station who.now self.new.station × (front.new ≡ front.old)) }
-        ensures unheard { ¬ IsHeard self.old.station who.now → (result ≡ Err Stopped) × (self.new.station ≡ halted_of self.old.station) }
+        ensures unheard { ¬ HearsSession self.old.station who.now → (result ≡ Err Stopped) × (self.new.station ≡ halted_of self.old.station) }
     {
         self.close_for_as::<Brand>(history, front, who)
     }
@@ -147,10 +148,10 @@ impl<B: HistoryName> Member<B> {
         who: &Connection,
     ) -> Result<(), Refusal>
         requires { E.event ≡ events.Disconnect who.now.id.node who.now.id.conn }
-        ensures heard { IsHeard self.old.station who.now → IsAnswer None (λ _. self.new.station ≡ with_node self.old.station (disconnected self.old.station.node who.now.id.conn)) result }
+        ensures heard { HearsSession self.old.station who.now → IsAnswer None (λ _. self.new.station ≡ with_node self.old.station (disconnected self.old.station.node who.now.id.conn)) result }
         ensures history { OnOk result (Told B.start front.old.seen (events.Disconnect who.now.id.node who.now.id.conn) (Ok reply.Closed) front.new.seen) }
         ensures err { OnErr result (KeepsWatch self.old.station who.now self.new.station × (front.new ≡ front.old)) }
-        ensures unheard { ¬ IsHeard self.old.station who.now → (result ≡ Err Stopped) × (self.new.station ≡ halted_of self.old.station) }
+        ensures unheard { ¬ HearsSession self.old.station who.now → (result ≡ Err Stopped) × (self.new.station ≡ halted_of self.old.station) }
     {
         self.station.close_for(who)?;
         let stamp = history.add_for::<E>(&mut self.pen, front);

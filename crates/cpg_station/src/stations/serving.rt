@@ -2,13 +2,14 @@
 
 ghost use Rattle.std.specs.Prelude.{◌≡◌, ◌≢◌, ◌↔◌, suc, length, false, IsTrue, None, Ok, Err, IfOk, OnOk, OnErr, IfErr};
 ghost use Rattle.cpg_cred.specs.declared.refusals.Refusal.TheVariants.{Stopped};
-ghost use Rattle.cpg_board.specs.Seats.{IsSeatOf, Begins};
+ghost use Rattle.cpg_record.specs.Places.{Begins};
+ghost use Rattle.cpg_board.specs.Seats.{IsSeatOf};
 ghost use Rattle.cpg_node.specs.Answers.{IsTakeAnswer, IsListAnswer, IsGroupsAnswer};
 ghost use Rattle.cpg_node.specs.Calls.{connect_refusal, submit_refusal, submitted, disconnected};
 ghost use Rattle.cpg_node.specs.Nodes.{open_client};
 ghost use Rattle.cpg_ring.specs.Answers.{IsAnswer, answer_of};
 ghost use Rattle.cpg_station.specs.Admitting.{IsAdmitted, AdmitsNot, is_shut, with_newcomer};
-ghost use Rattle.cpg_station.specs.Serving.{IsKnown, IsHeard, BringsUp, StaysDown, IsTakeFor, IsListFor, IsGroupsFor, KeepsWatch, StaysOrHalts, SubmitRefuses, WhereDenied, taken_from, moved_on, halted_of, with_node};
+ghost use Rattle.cpg_station.specs.Serving.{IsKnown, HearsSession, BringsUp, StaysDown, IsTakeFor, IsListFor, IsGroupsFor, KeepsWatch, StaysOrHalts, SubmitRefuses, WhereDenied, taken_from, moved_on, halted_of, with_node};
 
 use super::Station;
 use crate::naming::BoardName;
@@ -67,8 +68,8 @@ impl<B: BoardName> Station<B> {
     /// Refused with Stopped where the station is halted. A station that finds the connection other than the
     /// session knows it is halted.
     fn watch(&mut self, who: &Connection) -> Result<(), Refusal>
-        ensures ok { OnOk result (IsHeard self.old who.now × (self.new ≡ self.old)) }
-        ensures err { IfErr result (λ why. (why ≡ Stopped) × (¬ IsHeard self.old who.now) × (self.new ≡ halted_of self.old) × KeepsWatch self.old who.now self.new) }
+        ensures ok { OnOk result (HearsSession self.old who.now × (self.new ≡ self.old)) }
+        ensures err { IfErr result (λ why. (why ≡ Stopped) × (¬ HearsSession self.old who.now) × (self.new ≡ halted_of self.old) × KeepsWatch self.old who.now self.new) }
     {
         if !self.knows(who) {
             self.halted = true;
@@ -125,7 +126,7 @@ impl<B: BoardName> Station<B> {
         requires seat { IsSeatOf B.cells seat.old }
         ensures seat { IsSeatOf B.cells seat.new × Begins seat.old seat.new }
         ensures ok { OnOk result (IsKnown self.old.node who.now × BringsUp self.new seat.old seat.new) }
-        ensures heard { OnOk result (IsHeard self.old who.now × (self.new ≡ self.old)) }
+        ensures heard { OnOk result (HearsSession self.old who.now × (self.new ≡ self.old)) }
         ensures err { IfErr result (λ why. StaysDown self.new seat.old why × (seat.new ≡ seat.old)) }
         ensures station { KeepsWatch self.old who.now self.new × StaysOrHalts self.old self.new }
     {
@@ -148,7 +149,7 @@ impl<B: BoardName> Station<B> {
         ensures answer { IsTakeFor who.old seat.old self.new seat.new result }
         ensures who { IfOk result (λ event. who.new ≡ moved_on who.old event) }
         ensures ok { OnOk result (self.new ≡ taken_from self.old who.old) }
-        ensures exact { OnOk result (IsHeard self.old who.old × IsTakeAnswer self.old.node who.old.id.conn (open_client self.old.node who.old.id.conn) result) }
+        ensures exact { OnOk result (HearsSession self.old who.old × IsTakeAnswer self.old.node who.old.id.conn (open_client self.old.node who.old.id.conn) result) }
         ensures err { OnErr result (KeepsWatch self.old who.old self.new × StaysOrHalts self.old self.new × (who.new ≡ who.old)) }
     {
         self.serve(board, &*who, seat)?;
@@ -164,11 +165,11 @@ impl<B: BoardName> Station<B> {
     /// or TooLong; QueueFull; Memory.
     #[tactic(auto, using(crate::proofs::Sessions::submit_refuses))]
     pub fn submit_for(&mut self, who: &Connection, call: Call) -> Result<(), Refused<Call>>
-        ensures heard { IsHeard self.old who.now → IsAnswer (submit_refusal self.old.node who.now.id.conn call) (λ _. self.new ≡ with_node self.old (submitted self.old.node who.now.id.conn call)) (answer_of result) }
-        ensures ok { OnOk result (IsHeard self.old who.now) }
+        ensures heard { HearsSession self.old who.now → IsAnswer (submit_refusal self.old.node who.now.id.conn call) (λ _. self.new ≡ with_node self.old (submitted self.old.node who.now.id.conn call)) (answer_of result) }
+        ensures ok { OnOk result (HearsSession self.old who.now) }
         ensures err { IfErr result (λ refused. (refused.back ≡ call) × SubmitRefuses call refused.refusal × KeepsWatch self.old who.now self.new) }
         ensures stays { OnErr result (StaysOrHalts self.old self.new) }
-        ensures unheard { ¬ IsHeard self.old who.now → (answer_of result ≡ Err Stopped) × (self.new ≡ halted_of self.old) }
+        ensures unheard { ¬ HearsSession self.old who.now → (answer_of result ≡ Err Stopped) × (self.new ≡ halted_of self.old) }
     {
         if let Err(refusal) = self.watch(who) {
             return Err(Refused {
@@ -184,10 +185,10 @@ impl<B: BoardName> Station<B> {
     /// Memory.
     #[tactic(auto, using(crate::proofs::Sessions::known_open))]
     pub fn close_for(&mut self, who: &Connection) -> Result<(), Refusal>
-        ensures heard { IsHeard self.old who.now → IsAnswer None (λ _. self.new ≡ with_node self.old (disconnected self.old.node who.now.id.conn)) result }
-        ensures ok { OnOk result (IsHeard self.old who.now) }
+        ensures heard { HearsSession self.old who.now → IsAnswer None (λ _. self.new ≡ with_node self.old (disconnected self.old.node who.now.id.conn)) result }
+        ensures ok { OnOk result (HearsSession self.old who.now) }
         ensures err { OnErr result (KeepsWatch self.old who.now self.new × StaysOrHalts self.old self.new) }
-        ensures unheard { ¬ IsHeard self.old who.now → (result ≡ Err Stopped) × (self.new ≡ halted_of self.old) }
+        ensures unheard { ¬ HearsSession self.old who.now → (result ≡ Err Stopped) × (self.new ≡ halted_of self.old) }
     {
         self.watch(who)?;
         self.disconnect(who.id.conn)
@@ -207,8 +208,8 @@ impl<B: BoardName> Station<B> {
         requires seat { IsSeatOf B.cells seat.old }
         ensures seat { IsSeatOf B.cells seat.new × Begins seat.old seat.new }
         ensures answer { IsListFor who.now group.now seat.old self.new seat.new result }
-        ensures ok { OnOk result (IsHeard self.old who.now × (self.new ≡ self.old) × IsListAnswer self.old.node group.now (open_client self.old.node who.now.id.conn) result) }
-        ensures denied { IfErr result (WhereDenied (IsHeard self.old who.now × (self.new ≡ self.old) × IsListAnswer self.old.node group.now (open_client self.old.node who.now.id.conn) result)) }
+        ensures ok { OnOk result (HearsSession self.old who.now × (self.new ≡ self.old) × IsListAnswer self.old.node group.now (open_client self.old.node who.now.id.conn) result) }
+        ensures denied { IfErr result (WhereDenied (HearsSession self.old who.now × (self.new ≡ self.old) × IsListAnswer self.old.node group.now (open_client self.old.node who.now.id.conn) result)) }
         ensures station { KeepsWatch self.old who.now self.new × StaysOrHalts self.old self.new }
     {
         self.serve(board, who, seat)?;
@@ -228,7 +229,7 @@ impl<B: BoardName> Station<B> {
         requires seat { IsSeatOf B.cells seat.old }
         ensures seat { IsSeatOf B.cells seat.new × Begins seat.old seat.new }
         ensures answer { IsGroupsFor who.now seat.old self.new seat.new result }
-        ensures ok { OnOk result (IsHeard self.old who.now × (self.new ≡ self.old) × IsGroupsAnswer self.old.node (open_client self.old.node who.now.id.conn) result) }
+        ensures ok { OnOk result (HearsSession self.old who.now × (self.new ≡ self.old) × IsGroupsAnswer self.old.node (open_client self.old.node who.now.id.conn) result) }
         ensures station { KeepsWatch self.old who.now self.new × StaysOrHalts self.old self.new }
     {
         self.serve(board, who, seat)?;

@@ -7,22 +7,22 @@ use Rattle.cpg_group.proofs.places.find_members.Goals as goal
 
 pub returns-then-passed-eq0 : goal.returns-then-passed-eq0
 returns-then-passed-eq0 c =
-    members_none c.args.records.now c.requires.judged c.args.group.now c.args.places.now c.requires.places c.args.last c.count_upto-passed.result
-    (c.count_upto-passed.ensures.cut (non_decreasing (λ (place : ℕ). place) c.args.places.now (acts_in c.args.group.now) c.args.records.now (all_themselves c.args.places.now ∙ c.requires.places))) c.if-passed-eq0.true
+    members_none c.args.records.now c.requires.judged c.args.group.now c.args.places.now c.requires.places c.args.last c.cut_upto-passed.result
+    (c.cut_upto-passed.ensures.cut (non_decreasing (λ (place : ℕ). place) c.args.places.now (acts_in c.args.group.now) c.args.records.now (all_themselves c.args.places.now ∙ c.requires.places))) c.if-passed-eq0.true
 
 pub returns-in-None : goal.returns-in-None
 returns-in-None c =
-    absurd (stands_there c.args.records.now c.requires.judged c.args.group.now c.args.places.now c.requires.places c.args.last c.count_upto-passed.result
-    (c.count_upto-passed.ensures.cut (non_decreasing (λ (place : ℕ). place) c.args.places.now (acts_in c.args.group.now) c.args.records.now (all_themselves c.args.places.now ∙ c.requires.places)))
-    (c.count_upto-passed.result - 1) (get_or c.args.places.now (c.count_upto-passed.result - 1) 0)
-    (slice_get-get_or c.args.places.now (c.count_upto-passed.result - 1) 0 (omega (arith, c.if-passed-eq0.false, c.count_upto-passed.ensures.within)))
+    absurd (stands_there c.args.records.now c.requires.judged c.args.group.now c.args.places.now c.requires.places c.args.last c.cut_upto-passed.result
+    (c.cut_upto-passed.ensures.cut (non_decreasing (λ (place : ℕ). place) c.args.places.now (acts_in c.args.group.now) c.args.records.now (all_themselves c.args.places.now ∙ c.requires.places)))
+    (c.cut_upto-passed.result - 1) (get_or c.args.places.now (c.cut_upto-passed.result - 1) 0)
+    (slice_get-get_or c.args.places.now (c.cut_upto-passed.result - 1) 0 (omega (arith, c.if-passed-eq0.false, c.cut_upto-passed.ensures.within)))
     (sym c.in-None.ensures))
 
 pub returns-in-Some : goal.returns-in-Some
 returns-in-Some c =
-    let some : c.count_upto-passed.result ≡ suc (c.count_upto-passed.result - 1) = omega (arith, c.if-passed-eq0.false) in
-    members_some c.args.records.now c.requires.judged c.args.group.now c.args.places.now c.requires.places c.args.last c.count_upto-passed.result
-    (c.count_upto-passed.ensures.cut (non_decreasing (λ (place : ℕ). place) c.args.places.now (acts_in c.args.group.now) c.args.records.now (all_themselves c.args.places.now ∙ c.requires.places)))
-    (c.count_upto-passed.result - 1) (get_or c.args.places.now (c.count_upto-passed.result - 1) 0) c.in-Some.past.now some
-    (slice_get-get_or c.args.places.now (c.count_upto-passed.result - 1) 0 (omega (arith, c.if-passed-eq0.false, c.count_upto-passed.ensures.within)))
+    let some : c.cut_upto-passed.result ≡ suc (c.cut_upto-passed.result - 1) = omega (arith, c.if-passed-eq0.false) in
+    members_some c.args.records.now c.requires.judged c.args.group.now c.args.places.now c.requires.places c.args.last c.cut_upto-passed.result
+    (c.cut_upto-passed.ensures.cut (non_decreasing (λ (place : ℕ). place) c.args.places.now (acts_in c.args.group.now) c.args.records.now (all_themselves c.args.places.now ∙ c.requires.places)))
+    (c.cut_upto-passed.result - 1) (get_or c.args.places.now (c.cut_upto-passed.result - 1) 0) c.in-Some.past.now some
+    (slice_get-get_or c.args.places.now (c.cut_upto-passed.result - 1) 0 (omega (arith, c.if-passed-eq0.false, c.cut_upto-passed.ensures.within)))
     (sym c.in-Some.ensures)

@@ -1,7 +1,7 @@
 use Rattle.std.proofs.Common.{◌≡◌, ◌∙◌, [], Some, Ok, refl, sym, ap, subst, arith}
 use Rattle.cpg_world_laws.specs.declared.events.WorldEvent.TheVariants.{Connect}
 use Rattle.cpg_world_laws.specs.declared.replies.Reply.TheVariants as reply
-use Rattle.cpg_station.specs.Admitting.{StopsAt}
+use Rattle.cpg_station.specs.Admitting.{StopsAdmitting}
 use Rattle.cpg_station.specs.Stations.{StationValue}
 use Rattle.cpg_history.specs.Histories.{FrontValue}
 use Rattle.cpg_history.specs.declared.histories.View.{View}
@@ -16,7 +16,7 @@ use Rattle.cpg_history.proofs.members.Member.admit_as.Goals as goal
 pub returns-then-get-clause-err : goal.returns-then-get-clause-err
 returns-then-get-clause-err g c =
     let m = c.self.inside in
-    subst (λ (n : MemberValue). StopsAt c.args.list.now c.args.node c.args.pid c.args.cred n.station c.halt.new.self) c.self.view_is
+    subst (λ (n : MemberValue). StopsAdmitting c.args.list.now c.args.node c.args.pid c.args.cred n.station c.halt.new.self) c.self.view_is
     (other_stops g.B.HistoryName.start m.id m.station m.spare m.pen c.self.invariant.0 c.args.list.now c.args.node c.args.pid c.args.cred c.halt.new.self (λ same. absurd (omega (arith, same, c.if-get.true, c.get.ensures.value, c.get-2.ensures.value))) c.halt.ensures)
 
 pub invariant_of-self-in-Ok : goal.invariant_of-self-in-Ok

@@ -1,6 +1,6 @@
 use Rattle.std.proofs.Common.{rules, leb}
 use Rattle.std.proofs.lemmas.List.Sorted.{IsPartitionedBy-leb, IsPartitionPoint-from_clause}
-use Rattle.cpg_group.proofs.places.count_upto.Goals as goal
+use Rattle.cpg_group.proofs.places.cut_upto.Goals as goal
 
 pub returns-clause-cut : goal.returns-clause-cut
 returns-clause-cut g c =
