@@ -3,14 +3,13 @@
 ghost use Rattle.std.specs.Prelude.{◌≡◌, ◌≤◌};
 ghost use Rattle.cpg_history.specs.Histories.{first_world};
 
-use crate::sharing::{
-    MOST_ASKS, ROOT, Told, next_told, node_of, opened_of, refusal_in, settings_of,
-};
+use crate::sharing::{MOST_ASKS, ROOT, Told, next_told, opened_of, refusal_in, settings_of};
 use cpg_board::Board;
 use cpg_cred::{NodeId, Refusal};
 use cpg_daemon::{Cluster, Ends, HistoryName, Opened, PassAll, Running, Session};
 use cpg_entry::Call;
 use cpg_node::Settings;
+use cpg_short::node;
 use std::alloc::Global;
 use std::marker::Brand;
 use std::sync::Wait;
@@ -153,7 +152,7 @@ fn counts_of<B: HistoryName>(ends: Ends<B>) -> (usize, usize) {
 fn first_gets_safe<B: HistoryName, R: Wait>(rt: &R, running: &Running<B, PassAll>) -> bool
     requires { 1 ≤ running.now.nodes }
 {
-    match node_of(1) {
+    match node(1) {
         Ok(node) => {
             leaves_and_gets_safe(rt, running, node)
                 && serves_long(rt, running, node)

@@ -2,12 +2,13 @@
 
 ghost use Rattle.std.specs.Prelude.{◌≡◌, ◌≤◌, IfOk};
 
-use crate::sharing::{MOST_ASKS, Told, join, next_told, refusal_in};
+use crate::sharing::{MOST_ASKS, Told, next_told, refusal_in};
 use crate::stepping::{Marks, Plan, Stepping};
 use cpg_cred::{By, Cred, NodeId, Refusal};
 use cpg_daemon::{HistoryName, Running, Session};
 use cpg_entry::{Call, MOST_MESSAGE_BYTES, Message};
 use cpg_record::{Reason, Verdict};
+use cpg_short::join_db;
 use std::alloc::Global;
 use std::sync::Wait;
 use std::thread;
@@ -145,7 +146,7 @@ fn takes_turn<B: HistoryName, R: Wait>(
 ) -> bool
     requires { session.old.who.id.node ≤ running.now.nodes }
 {
-    submits(rt, running, session, join(alloc))
+    submits(rt, running, session, join_db(alloc))
         && submits(rt, running, session, long_message(alloc))
         && marks.one.go_on(1)
         && is_allowed(rt, running, session, 1)
@@ -229,7 +230,7 @@ fn joins_safely<B: HistoryName, R: Wait>(
     requires one { one.old.who.id.node ≤ running.now.nodes }
     requires two { two.old.who.id.node ≤ running.now.nodes }
 {
-    submits(rt, running, one, join(alloc))
+    submits(rt, running, one, join_db(alloc))
         && marks.one.go_on(1)
         && is_allowed(rt, running, one, 1)
         && are_safe(rt, running, 0, 0)

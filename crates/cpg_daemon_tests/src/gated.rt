@@ -3,14 +3,13 @@
 ghost use Rattle.std.specs.Prelude.{◌≡◌, ◌≤◌, IfOk};
 ghost use Rattle.cpg_history.specs.Histories.{first_world};
 
-use crate::sharing::{
-    Told, ask, join, next_told, node_of, opened_for_seven, refusal_in, settings_of,
-};
+use crate::sharing::{Told, ask, next_told, opened_for_seven, refusal_in, settings_of};
 use cpg_board::Board;
 use cpg_cred::{By, Cred, NodeId, Refusal};
 use cpg_daemon::{Cluster, Ends, Fate, Gate, HistoryName, Member, Opened, Running, Session};
 use cpg_entry::Call;
 use cpg_record::Verdict;
+use cpg_short::{join_db, node};
 use std::alloc::Global;
 use std::marker::Brand;
 use std::sync::atomic::{AtomicBool, Ordering};
@@ -181,7 +180,7 @@ fn submits_join<B: HistoryName, R: Wait>(
     requires { session.old.who.id.node ≤ running.now.nodes }
     ensures { session.new.who ≡ session.old.who }
 {
-    match join(alloc) {
+    match join_db(alloc) {
         Ok(call) => refusal_in(running.submit(rt, session, call)) == None,
         Err(_) => false,
     }
@@ -353,7 +352,7 @@ fn two_refuse<B: HistoryName, R: Wait>(
 ) -> bool
     requires { 2 ≤ running.now.nodes }
 {
-    match (node_of(1), node_of(2)) {
+    match (node(1), node(2)) {
         (Ok(one), Ok(two)) => refuses(rt, alloc, running, (one, two), open),
         _ => false,
     }

@@ -2,11 +2,12 @@
 
 ghost use Rattle.cpg_history.specs.Members.{HaveSeen};
 
-use crate::sharing::{node_of, settings_of};
+use crate::sharing::settings_of;
 use cpg_cred::{AcceptList, Refusal};
 use cpg_daemon::{Ends, HistoryName};
 use cpg_history::Recorded;
 use cpg_record::Record;
+use cpg_short::node;
 use cpg_trace::recorded_by;
 use cpg_world::{World, WorldEvent};
 use std::alloc::Global;
@@ -68,7 +69,7 @@ pub fn begins(audit: &[Record], records: &[Record]) -> bool {
 
 /// Whether the world's node of that number has delivered so many places, which are judged as the records say.
 fn is_judged(world: &World, number: u8, delivered: usize, records: &[Record]) -> bool {
-    match node_of(number) {
+    match node(number) {
         Ok(node) if number <= world.nodes() => {
             let audit = world.node(node).audit();
             audit.len() == delivered && begins(audit, records)

@@ -2,11 +2,12 @@
 
 ghost use Rattle.std.specs.Prelude.{◌≡◌, ◌≤◌, IfOk};
 
-use cpg_cred::{AcceptList, Cred, NodeId, Refusal, Refused};
+use cpg_cred::{AcceptList, Cred, Refusal, Refused};
 use cpg_daemon::{Beginning, Gate, HistoryName, Opened, Running, Session};
-use cpg_entry::{Call, Name};
+use cpg_entry::Call;
 use cpg_node::{Event, Settings};
 use cpg_record::Verdict;
+use cpg_short::list_of;
 use std::alloc::Global;
 use std::sync::Wait;
 use std::thread;
@@ -29,28 +30,6 @@ pub fn settings_of(nodes: u8) -> Settings
     }
 }
 
-/// The node of that number, or a refusal.
-pub fn node_of(number: u8) -> Result<NodeId, Refusal>
-    ensures { IfOk result (λ node. node ≡ number) }
-{
-    match NodeId::new(number) {
-        Some(node) => Ok(node),
-        None => Err(Refusal::Range),
-    }
-}
-
-/// A list of user 7.
-fn list_of_seven(alloc: Global) -> Result<AcceptList, Refusal> {
-    let mut list = AcceptList::new(alloc);
-    match list.add_uid(7) {
-        Ok(()) => Ok(list),
-        Err(refusal) => {
-            drop(list);
-            Err(refusal)
-        }
-    }
-}
-
 /// A history that begins with a new world of those settings, and lets in user 0 alone.
 pub fn opened_of(alloc: Global, settings: Settings) -> Result<Opened, Refusal>
     ensures { IfOk result (λ opened. opened.start.settings ≡ settings) }
@@ -63,13 +42,8 @@ pub fn opened_of(alloc: Global, settings: Settings) -> Result<Opened, Refusal>
 pub fn opened_for_seven(alloc: Global, settings: Settings) -> Result<Opened, Refusal>
     ensures { IfOk result (λ opened. opened.start.settings ≡ settings) }
 {
-    let list = list_of_seven(alloc)?;
+    let list = list_of(alloc, [7].as_slice())?;
     Ok(Opened::new(alloc, Beginning { settings, list })?)
-}
-
-/// A call to join `db`.
-pub fn join(alloc: Global) -> Result<Call, Refusal> {
-    Ok(Call::Join(Name::from_slice(alloc, b"db")?))
 }
 
 /// What refuses a call, if anything does.

@@ -27,9 +27,9 @@ use Rattle.cpg_record.specs.Membership.{members}
 use Rattle.cpg_record.proofs.Kept.{Contains-behind, Contains-filter, Contains-from_filter}
 use Rattle.std.specs.Prelude.{is_some}
 use Rattle.std.specs.Map.{lookup}
-use Rattle.cpg_group.specs.Standing.{GroupValue}
 use Rattle.cpg_group.specs.Groups.{allows, has_members, is_shown}
-use Rattle.cpg_group.specs.Standing.{Kept, names_of, or_none, AreStanding}
+use Rattle.cpg_record.specs.Named.{names_of, found_or}
+use Rattle.cpg_group.specs.Standing.{GroupValue, Kept, no_group, AreStanding}
 
 -- ---- lists
 
@@ -72,7 +72,7 @@ members_named kept rs g current some = by_case (lookup (bytes_eq g) kept) refl
     by_case : (o : Option GroupValue) → lookup (bytes_eq g) kept ≡ o → Contains (names_of kept) g
     by_case (Some group) is = found_named kept g (ap is_some is)
     by_case None is =
-        let none : members rs g ≡ [] = ap (λ (group : GroupValue). group.members) (sym (current g) ∙ ap or_none is) in
+        let none : members rs g ≡ [] = ap (λ (group : GroupValue). group.members) (sym (current g) ∙ ap (found_or no_group) is) in
         absurd (some none)
 
 -- ---- what is shown

@@ -32,7 +32,7 @@ use Rattle.cpg_record.proofs.Positions.{places_from-push, sound}
 use Rattle.cpg_record.proofs.Lasting.{is_conn-itself}
 use Rattle.cpg_group.specs.declared.trails.Stop.{Stop}
 use Rattle.cpg_group.specs.Trails.{group_at, join_after, join_by, joined_by, joined_in, kept_trail, or_no_trail, AreTrails, IsTrail, KeptTrails, StandsBy}
-use Rattle.cpg_group.proofs.Kept.{lookup-push, lookup-set}
+use Rattle.cpg_record.proofs.Named.{lookup-push, lookup-set}
 
 abbrev pub place_of : Stop → ℕ
 place_of stop = stop.place

@@ -1,3 +1,4 @@
+pub mod Entering
 pub mod Groups
 pub mod Processes
 pub mod Standing

@@ -1,12 +1,10 @@
 -- how the groups stand, as it is kept beside the records
 use Rattle.std.specs.Prelude.{ℕ, ◌≡◌, true, ◌&&◌, List, [], ◌∷◌, ◌++◌, map, Option, Some, None, if◌then◌else◌}
-use Rattle.std.specs.Map.{lookup}
-use Rattle.std.specs.Str.{bytes_eq}
-use Rattle.std.specs.declared.vec.Vec.{Vec}
 use Rattle.cpg_rules.specs.Tables.{Rules}
 use Rattle.cpg_record.specs.declared.memberships.Member.{Member}
 use Rattle.cpg_record.specs.declared.records.Record.{Record}
 use Rattle.cpg_record.specs.Membership.{is_allowed, is_named, members}
+use Rattle.cpg_record.specs.Named.{Named, kept_or}
 use Rattle.cpg_record.specs.Nexts.{acts_in}
 use Rattle.cpg_record.specs.Places.{places_of}
 use Rattle.cpg_record.specs.RuleTables.{edited_by, rules_of}
@@ -21,28 +19,15 @@ pub record GroupValue : Type 0 where
 
 -- names with their groups
 abbrev pub Kept : Type 0
-Kept = List (List ℕ × GroupValue)
-
--- the names of entries, beside their groups
-abbrev pub named : {Z : Type 0} → List (Vec ℕ Z × GroupValue) → Kept
-named entries = map (λ entry. (entry.0.items, entry.1)) entries
-
--- the names that are kept
-abbrev pub names_of : Kept → List (List ℕ)
-names_of kept = map (λ pair. pair.0) kept
+Kept = Named GroupValue
 
 -- a group without rules, members and places
 abbrev pub no_group : GroupValue
 no_group = record { table = []; members = []; places = [] }
 
--- the group that is found, or none
-abbrev pub or_none : Option GroupValue → GroupValue
-or_none None = no_group
-or_none (Some group) = group
-
 -- the first group that is kept for a name
 abbrev pub kept_group : Kept → List ℕ → GroupValue
-kept_group kept g = or_none (lookup (bytes_eq g) kept)
+kept_group kept g = kept_or no_group kept g
 
 -- the group that is kept for a name, if there is a name
 abbrev pub kept_for : Kept → Option (List ℕ) → GroupValue

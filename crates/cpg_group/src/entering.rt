@@ -8,7 +8,8 @@ ghost use Rattle.cpg_record.specs.Connections.{conn_of, is_conn};
 ghost use Rattle.cpg_record.specs.Judging.{entry_group, record_of};
 ghost use Rattle.cpg_record.specs.Membership.{group_of, is_allowed};
 ghost use Rattle.cpg_record.specs.Verdicts.{verdict};
-ghost use Rattle.cpg_group.specs.Standing.{changed, group_past, kept_group, standing_for, AreStanding, CanChange, CanTake};
+ghost use Rattle.cpg_group.specs.Entering.{CanEnter};
+ghost use Rattle.cpg_group.specs.Standing.{changed, group_past, kept_group, standing_for, CanChange};
 ghost use Rattle.cpg_group.specs.Trails.{AreTrails, IsTrail};
 
 use crate::judging;
@@ -57,9 +58,7 @@ fn enter_apart(
     place: u32,
     next: &mut Record,
 ) -> Result<(), Refusal>
-    requires draft { next.old.members ≡ [] }
-    requires can { (g : List ℕ) → CanTake g (kept_group groups.old g) (place, record_of records.now next.old.entry) }
-    requires groups { AreStanding groups.old records.now }
+    requires entry { CanEnter groups.old records.now place next.old }
     requires trail { IsTrail records.now (conn_of next.old.entry) trail.now }
     ensures ok { OnOk result (next.new ≡ record_of records.now next.old.entry) }
     ensures past { OnOk result ((g : List ℕ) → kept_group groups.new g ≡ group_past g (kept_group groups.old g) (place, record_of records.now next.old.entry)) }
@@ -82,9 +81,7 @@ fn enter_groups(
     place: u32,
     next: &mut Record,
 ) -> Result<(), Refusal>
-    requires draft { next.old.members ≡ [] }
-    requires can { (g : List ℕ) → CanTake g (kept_group groups.old g) (place, record_of records.now next.old.entry) }
-    requires groups { AreStanding groups.old records.now }
+    requires entry { CanEnter groups.old records.now place next.old }
     requires trail { IsTrail records.now (conn_of next.old.entry) trail.now }
     ensures ok { OnOk result (next.new ≡ record_of records.now next.old.entry) }
     ensures past { OnOk result ((g : List ℕ) → kept_group groups.new g ≡ group_past g (kept_group groups.old g) (place, record_of records.now next.old.entry)) }
@@ -112,9 +109,7 @@ fn enter_trail(
     place: u32,
     next: &mut Record,
 ) -> Result<(), Refusal>
-    requires draft { next.old.members ≡ [] }
-    requires can { (g : List ℕ) → CanTake g (kept_group groups.old g) (place, record_of records.now next.old.entry) }
-    requires groups { AreStanding groups.old records.now }
+    requires entry { CanEnter groups.old records.now place next.old }
     requires place { place ≡ length records.now + 1 }
     requires trail { IsTrail records.now (conn_of next.old.entry) trail.old.items }
     ensures ok { OnOk result (next.new ≡ record_of records.now next.old.entry) }
@@ -146,9 +141,7 @@ fn enter_first(
     next: &mut Record,
 ) -> Result<(), Refusal>
     requires absent { lookup (is_conn (conn_of next.old.entry)) trails.old.kept.entries ≡ None }
-    requires draft { next.old.members ≡ [] }
-    requires can { (g : List ℕ) → CanTake g (kept_group groups.old g) (place, record_of records.now next.old.entry) }
-    requires groups { AreStanding groups.old records.now }
+    requires entry { CanEnter groups.old records.now place next.old }
     requires place { place ≡ length records.now + 1 }
     requires trails { AreTrails trails.old.kept.entries records.now }
     ensures ok { OnOk result (next.new ≡ record_of records.now next.old.entry) }
@@ -176,9 +169,7 @@ pub(crate) fn enter(
     place: u32,
     next: &mut Record,
 ) -> Result<(), Refusal>
-    requires draft { next.old.members ≡ [] }
-    requires can { (g : List ℕ) → CanTake g (kept_group groups.old g) (place, record_of records.now next.old.entry) }
-    requires groups { AreStanding groups.old records.now }
+    requires entry { CanEnter groups.old records.now place next.old }
     requires place { place ≡ length records.now + 1 }
     requires trails { AreTrails trails.old.kept.entries records.now }
     ensures ok { OnOk result (next.new ≡ record_of records.now next.old.entry) }

@@ -5,7 +5,8 @@ ghost use Rattle.std.specs.Option.{option_copied};
 ghost use Rattle.cpg_record.specs.Listings.{AnswersListing, AreGroups, listing, processes};
 ghost use Rattle.cpg_record.specs.RuleTables.{rules_of};
 ghost use Rattle.cpg_group.specs.Groups.{is_shown};
-ghost use Rattle.cpg_group.specs.Standing.{names_of, standing, AreStanding};
+ghost use Rattle.cpg_record.specs.Named.{names_of};
+ghost use Rattle.cpg_group.specs.Standing.{standing, AreStanding};
 
 use crate::standing::{Group, Groups};
 use cpg_cred::{NodeId, Refusal};

@@ -9,7 +9,8 @@ ghost use Rattle.cpg_record.specs.Listings.{AreGroups};
 ghost use Rattle.cpg_record.specs.RuleTables.{edited_by};
 ghost use Rattle.cpg_record.specs.Steps.{CanEditBy};
 ghost use Rattle.cpg_record.specs.Verdicts.{has_process};
-ghost use Rattle.cpg_group.specs.Standing.{kept_for, kept_group, names_of, changed, group_past, no_group, AreStanding, CanChange, CanTake};
+ghost use Rattle.cpg_record.specs.Named.{names_of};
+ghost use Rattle.cpg_group.specs.Standing.{kept_for, kept_group, changed, group_past, no_group, AreStanding, CanChange, CanTake};
 
 use crate::listing::shows_group;
 use crate::rosters::Roster;
@@ -140,7 +141,8 @@ pub(crate) struct Groups {
 
 impl Model for Groups {
     ghost use Rattle.std.specs.Prelude.{◌≡◌};
-    ghost use Rattle.cpg_group.specs.Standing.{Kept, named, no_group};
+    ghost use Rattle.cpg_record.specs.Named.{named};
+    ghost use Rattle.cpg_group.specs.Standing.{Kept, no_group};
 
     ghost Value = { Kept };
 

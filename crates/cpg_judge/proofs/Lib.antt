@@ -3,7 +3,6 @@ pub mod Behind
 pub mod Ends
 pub mod Gathered
 pub mod Heard
-pub mod Keeping
 pub mod Lined
 pub mod Own
 pub mod Passing

@@ -16,6 +16,7 @@ use Rattle.cpg_record.specs.Membership.{group_of, is_allowed, is_member, is_name
 use Rattle.cpg_record.specs.Nexts.{acts_in, is_made_by, reaches}
 use Rattle.cpg_record.specs.Places.{places_from, places_of, record_at, records_before}
 use Rattle.cpg_record.proofs.Nexts.{groups_stay, hears_of_others, same_either_way}
+use Rattle.cpg_group.proofs.Counted.{places_from-append}
 use Rattle.cpg_group.specs.Telling.{told_by, told_in, told_from}
 use Rattle.cpg_print.specs.Events.{event_line}
 use Rattle.cpg_judge.specs.Inboxes.{told_between}

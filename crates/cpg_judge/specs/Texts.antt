@@ -3,16 +3,18 @@ use Rattle.std.specs.Prelude.{ℕ, Bool, ◌≡◌, ◌+◌, ◌<◌, ◌≤◌,
 use Rattle.std.specs.List.{concat, flat_map, range_with_len}
 use Rattle.std.specs.Map.{lookup}
 use Rattle.std.specs.Str.{bytes_eq}
-use Rattle.std.specs.declared.vec.Vec.{Vec}
 use Rattle.cpg_entry.specs.declared.calls.Call.TheVariants.{Insert, Join, Leave, Remove}
 use Rattle.cpg_entry.specs.declared.calls.Op.{Op}
 use Rattle.cpg_entry.specs.declared.calls.Op.TheVariants.{Act, Gone}
+use Rattle.cpg_entry.specs.declared.entries.Entry.{Entry}
 use Rattle.cpg_entry.specs.Entries.{is_move}
 use Rattle.cpg_record.specs.declared.connections.ConnId.{ConnId}
 use Rattle.cpg_record.specs.declared.memberships.Member.{Member}
 use Rattle.cpg_record.specs.declared.records.Record.{Record}
 use Rattle.cpg_record.specs.Events.{events}
-use Rattle.cpg_record.specs.Membership.{is_named, members}
+use Rattle.cpg_record.specs.Judging.{judged}
+use Rattle.cpg_record.specs.Membership.{is_allowed, is_named, members}
+use Rattle.cpg_record.specs.Named.{Named, kept_or}
 use Rattle.cpg_record.specs.Nexts.{acts_in, is_made_by}
 use Rattle.cpg_record.specs.Places.{places_of, record_at}
 use Rattle.cpg_group.specs.Telling.{told}
@@ -87,22 +89,18 @@ showing members value = record { members = members_text members; text = value.te
 abbrev pub with_place : Record → List ℕ → TextValue → TextValue
 with_place r text value = with_text text (if is_move r.entry.op then showing r.members value else value)
 
+-- the record is an allowed one of the group of that name, at its place among those that the entries make
+abbrev pub StandsAllowed : List Entry → ℕ → Record → List ℕ → Type 0
+StandsAllowed entries place r name =
+    (1 ≤ place) × (place ≤ length entries) × (record_at (judged entries) place ≡ Some r) × (r.group ≡ Some name) × (is_allowed r.verdict ≡ true)
+
 -- names with texts
 abbrev pub KeptTexts : Type 0
-KeptTexts = List (List ℕ × TextValue)
-
--- the names of entries, beside their texts
-abbrev pub named : {Z : Type 0} → List (Vec ℕ Z × TextValue) → KeptTexts
-named entries = map (λ entry. (entry.0.items, entry.1)) entries
-
--- the texts that are found, or none
-abbrev pub or_no_text : Option TextValue → TextValue
-or_no_text None = no_text
-or_no_text (Some value) = value
+KeptTexts = Named TextValue
 
 -- the texts that are kept for a name
 abbrev pub kept_text : KeptTexts → List ℕ → TextValue
-kept_text kept g = or_no_text (lookup (bytes_eq g) kept)
+kept_text kept g = kept_or no_text kept g
 
 -- no texts are kept for the name
 abbrev pub LacksText : KeptTexts → List ℕ → Type 0

@@ -10,10 +10,9 @@ ghost use Rattle.cpg_record.specs.declared.moves.Cause.TheVariants as Cause;
 ghost use Rattle.cpg_record.specs.declared.records.Record.{Record};
 ghost use Rattle.cpg_record.specs.Connections.{member_of};
 ghost use Rattle.cpg_record.specs.Judging.{judged};
-ghost use Rattle.cpg_record.specs.Membership.{is_allowed};
 ghost use Rattle.cpg_record.specs.Places.{record_at};
 ghost use Rattle.cpg_print.specs.Records.{audit_line, members_text};
-ghost use Rattle.cpg_judge.specs.Texts.{kept_text, no_text, showing, told_text, with_place, AreShown, AreTexts, HoldsTexts, LacksText};
+ghost use Rattle.cpg_judge.specs.Texts.{kept_text, no_text, showing, told_text, with_place, AreShown, AreTexts, HoldsTexts, LacksText, StandsAllowed};
 
 use cpg_cred::Refusal;
 use cpg_entry::{Call, Op};
@@ -57,10 +56,7 @@ fn put_told(
     group: &[u8],
     members: &[u8],
 ) -> Result<(), Refusal>
-    requires place { (1 ≤ place) × (place ≤ length policy.now) }
-    requires stands { record_at (judged policy.now) place ≡ Some past.now }
-    requires group { past.now.group ≡ Some group.now }
-    requires allowed { is_allowed past.now.verdict ≡ true }
+    requires allowed { StandsAllowed policy.now place past.now group.now }
     requires members { is_move past.now.entry.op ≡ true → members.now ≡ members_text past.now.members }
     ensures ok { OnOk result (line.new.items ≡ line.old.items ++ told_text (judged policy.now) place) }
     ensures memory { IsOkUnless result Refusal.Memory }
@@ -155,10 +151,7 @@ impl Text {
         past: &Record,
         group: &[u8],
     ) -> Result<(), Refusal>
-        requires place { (1 ≤ place) × (place ≤ length policy.now) }
-        requires stands { record_at (judged policy.now) place ≡ Some past.now }
-        requires group { past.now.group ≡ Some group.now }
-        requires allowed { is_allowed past.now.verdict ≡ true }
+        requires allowed { StandsAllowed policy.now place past.now group.now }
         ensures ok { OnOk result (self.new ≡ with_place past.now (told_text (judged policy.now) place) self.old) }
         ensures memory { IsOkUnless result Refusal.Memory }
     {
@@ -187,10 +180,7 @@ impl Text {
         past: &Record,
         group: &[u8],
     ) -> Result<(), Refusal>
-        requires place { (1 ≤ place) × (place ≤ length policy.now) }
-        requires stands { record_at (judged policy.now) place ≡ Some past.now }
-        requires group { past.now.group ≡ Some group.now }
-        requires allowed { is_allowed past.now.verdict ≡ true }
+        requires allowed { StandsAllowed policy.now place past.now group.now }
         requires members { (with_place past.now (told_text (judged policy.now) place) self.old).members ≡ members_text past.now.members }
         ensures ok { OnOk result (self.new ≡ with_place past.now (told_text (judged policy.now) place) self.old) }
         ensures line { OnOk result (lines.new.items ≡ lines.old.items ++ audit_line place past.now) }
@@ -239,7 +229,8 @@ pub(crate) struct Texts {
 impl Model for Texts {
     ghost use Rattle.std.specs.Prelude.{◌≡◌};
     ghost use Rattle.cpg_print.specs.Records.{audit_line, members_text};
-    ghost use Rattle.cpg_judge.specs.Texts.{KeptTexts, named, no_text};
+    ghost use Rattle.cpg_record.specs.Named.{named};
+    ghost use Rattle.cpg_judge.specs.Texts.{KeptTexts, no_text};
 
     ghost Value = { KeptTexts };
 
@@ -281,10 +272,7 @@ impl Texts {
         past: &Record,
         name: &[u8],
     ) -> Result<(), Refusal>
-        requires place { (1 ≤ place) × (place ≤ length policy.now) }
-        requires stands { record_at (judged policy.now) place ≡ Some past.now }
-        requires group { past.now.group ≡ Some name.now }
-        requires allowed { is_allowed past.now.verdict ≡ true }
+        requires allowed { StandsAllowed policy.now place past.now name.now }
         requires members { (with_place past.now (told_text (judged policy.now) place) no_text).members ≡ members_text past.now.members }
         requires lacking { LacksText self.old name.now }
         ensures ok { OnOk result ((g : List ℕ) → kept_text self.new g ≡ (if bytes_eq name.now g then with_place past.now (told_text (judged policy.now) place) (kept_text self.old g) else kept_text self.old g)) }
@@ -308,10 +296,7 @@ impl Texts {
         past: &Record,
         name: &[u8],
     ) -> Result<(), Refusal>
-        requires place { (1 ≤ place) × (place ≤ length policy.now) }
-        requires stands { record_at (judged policy.now) place ≡ Some past.now }
-        requires group { past.now.group ≡ Some name.now }
-        requires allowed { is_allowed past.now.verdict ≡ true }
+        requires allowed { StandsAllowed policy.now place past.now name.now }
         requires members { (with_place past.now (told_text (judged policy.now) place) (kept_text self.old name.now)).members ≡ members_text past.now.members }
         ensures ok { OnOk result ((g : List ℕ) → kept_text self.new g ≡ (if bytes_eq name.now g then with_place past.now (told_text (judged policy.now) place) (kept_text self.old g) else kept_text self.old g)) }
         ensures line { OnOk result (lines.new.items ≡ lines.old.items ++ audit_line place past.now) }

@@ -7,6 +7,7 @@ pub mod Growing
 pub mod Inboxes
 pub mod Kept
 pub mod Judging
+pub mod Named
 pub mod Reasoned
 pub mod Lasting
 pub mod Shown

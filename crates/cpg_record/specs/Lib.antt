@@ -5,6 +5,7 @@ pub mod Judging
 pub mod Laws
 pub mod Listings
 pub mod Membership
+pub mod Named
 pub mod Nexts
 pub mod Places
 pub mod Reasons

@@ -6,10 +6,10 @@ ghost use Rattle.cpg_station.specs.Stations.{audit_of};
 
 use bytes::Bytes;
 use cpg_board::{Board, Seat};
-use cpg_cred::{AcceptList, By, Cred, NodeId, Refusal};
-use cpg_entry::{Call, Message, Name};
-use cpg_node::{Event, Node, Settings};
-use cpg_record::Verdict;
+use cpg_cred::{AcceptList, Cred, NodeId, Refusal};
+use cpg_entry::Call;
+use cpg_node::{Node, Settings};
+use cpg_short::{ALLOWED, Told, join_db, list_of, say_hi, told_by};
 use cpg_station::{BoardName, Station};
 use std::alloc::Global;
 use std::marker::Brand;
@@ -42,18 +42,6 @@ fn second_of(case: Case) -> (u8, u32) {
     }
 }
 
-/// A list of user 7.
-fn new_list(alloc: Global) -> Result<AcceptList, Refusal> {
-    let mut list = AcceptList::new(alloc);
-    match list.add_uid(7) {
-        Ok(()) => Ok(list),
-        Err(refusal) => {
-            drop(list);
-            Err(refusal)
-        }
-    }
-}
-
 /// A new node of that number in a ring of two, with that list.
 fn node_with(alloc: Global, id: NodeId, list: AcceptList) -> Result<Node, Refusal>
     ensures { IfOk result (λ node. audit_of node ≡ []) }
@@ -73,7 +61,7 @@ fn new_node(alloc: Global, number: u8) -> Result<Node, Refusal>
 {
     match NodeId::new(number) {
         None => Err(Refusal::Range),
-        Some(id) => node_with(alloc, id, new_list(alloc)?),
+        Some(id) => node_with(alloc, id, list_of(alloc, [7].as_slice())?),
     }
 }
 
@@ -97,15 +85,6 @@ fn submit<B: BoardName>(station: &mut Station<B>, call: Call) -> Result<(), Refu
     station
         .submit(1, call)
         .map_err(|refused| refused.into_refusal())
-}
-
-fn join(alloc: Global) -> Result<Call, Refusal> {
-    Ok(Call::Join(Name::from_slice(alloc, b"db")?))
-}
-
-/// A message that says `hi`.
-fn hi(alloc: Global) -> Result<Call, Refusal> {
-    Ok(Call::Send(Message::from_slice(alloc, b"hi")?))
 }
 
 /// One of the frames.
@@ -140,8 +119,8 @@ fn join_both<B: BoardName>(
     one: &mut Station<B>,
     two: &mut Station<B>,
 ) -> Result<(), Refusal> {
-    submit(one, join(alloc)?)?;
-    submit(two, join(alloc)?)
+    submit(one, join_db(alloc)?)?;
+    submit(two, join_db(alloc)?)
 }
 
 /// Station 1 hears the first token. Gives what it sends.
@@ -166,7 +145,7 @@ fn send_hi<B: BoardName>(
     back: &[Bytes],
 ) -> Result<usize, Refusal> {
     hear(one, back, 0)?;
-    submit(one, hi(alloc)?)?;
+    submit(one, say_hi(alloc)?)?;
     hear(two, one.frame(frame_at(back, 1)?)?.as_slice(), 0)
 }
 
@@ -206,47 +185,6 @@ fn delivers_three<B: BoardName>(board: &Board, station: &mut Station<B>) -> bool
         && delivers(board, station, 2)
         && delivers(board, station, 3)
         && matches!(station.deliver(board), Ok(None))
-}
-
-/// An event in short: its place, and of a change how many members, leavers and joiners it tells.
-#[derive(Clone, Copy, PartialEq, Eq)]
-enum Told {
-    Verdict(u32, Verdict),
-    Message(u32, NodeId, u32),
-    Change(u32, usize, usize, usize),
-    Rules(u32),
-}
-
-fn in_short(event: &Event) -> Told {
-    match event {
-        Event::Verdict { place, verdict } => Told::Verdict(*place, *verdict),
-        Event::Message {
-            place,
-            node,
-            pid,
-            ..
-        } => Told::Message(*place, *node, *pid),
-        Event::Change {
-            place,
-            members,
-            left,
-            joined,
-            ..
-        } => Told::Change(
-            *place,
-            members.as_slice().len(),
-            left.as_slice().len(),
-            joined.as_slice().len(),
-        ),
-        Event::RulesChanged { place, .. } => Told::Rules(*place),
-    }
-}
-
-/// The event in short, which is let go.
-fn told_by(event: Event) -> Told {
-    let told = in_short(&event);
-    drop(event);
-    told
 }
 
 /// The next event of the session of connection 1, if there is one, or what refuses it.
@@ -289,8 +227,6 @@ fn takes<B: BoardName>(board: &Board, station: &mut Station<B>, expected: &[Told
     }
     is_told(board, station, None)
 }
-
-const ALLOWED: Verdict = Verdict::Allowed(By::Default);
 
 /// What connection 1 of node 1 is told of the joins and the message.
 fn told_at_one(first: NodeId) -> [Told; 5] {
@@ -377,7 +313,7 @@ fn a_board_fills(rt: HostRuntime) -> Result<(), Fail> {
 
 /// The station's connection joins, and the station, of node 1, holds that at place 1.
 fn hold_join<B: BoardName>(alloc: Global, one: &mut Station<B>) -> Result<usize, Refusal> {
-    submit(one, join(alloc)?)?;
+    submit(one, join_db(alloc)?)?;
     Ok(begin(one)?.len())
 }
 

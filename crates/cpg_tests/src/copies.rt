@@ -1,11 +1,11 @@
 //! A copy of each type equals its client.
 
 use crate::entering::are_equal;
-use crate::nodes::list_of;
 use crate::rejoining::{events_at, member_conn, rejoin};
 use cpg_cred::{AcceptList, Cred, Refusal, Via};
 use cpg_entry::{Call, Entry, Message, Name, NodeId, Op, Packet, Places, Token};
 use cpg_group::{ConnId, Event, Events, Members, Moves, Policy, Record, Records};
+use cpg_short::list_of;
 use std::alloc::Global;
 
 /// Whether the copy equals the entry.

@@ -1,9 +1,10 @@
 //! Entries of every op, drawn by the numbers of a small generator.
 
-use crate::entering::{Ask, Source, entry, node};
+use crate::entering::{Source, entry};
 use cpg_entry::{Entry, NodeId, Refusal};
 use cpg_group::ConnId;
 use cpg_rules::{Effect, Right, Rule, Who};
+use cpg_short::{Ask, node};
 use std::alloc::Global;
 
 /// The number of that turn of the seed: MurmurHash3's last steps over the two.

@@ -1,8 +1,9 @@
 //! Calls in short words, and their way into a policy.
 
-use cpg_entry::{Call, Cred, Entry, Message, Name, NodeId, Op, Refusal, Rule};
+use cpg_entry::{Cred, Entry, Name, NodeId, Op, Refusal, Rule};
 use cpg_group::{MOST_PLACES, Members, Policy, Record, Records, Verdict};
 use cpg_rules::{Effect, Right, Who};
+use cpg_short::{Ask, node, op};
 use std::alloc::Global;
 
 /// A connection with its process and credentials.
@@ -26,20 +27,6 @@ pub fn client(node: u8, conn: u16, pid: u32, uid: u32) -> Source {
     }
 }
 
-/// What a connection asks, with the names as text.
-#[derive(Clone, Copy)]
-pub enum Ask<'a> {
-    Join(&'a str),
-    Leave,
-    Send(&'a str),
-    /// To put the rule into the group's table at that index.
-    Insert(&'a str, u8, Rule),
-    /// To take the rule of that id out of the group's table.
-    Remove(&'a str, u32),
-    /// Nothing more: the connection has ended.
-    Gone,
-}
-
 /// An insert of a denial at the front of the group's table.
 pub fn deny(group: &str, right: Right, who: Who) -> Ask<'_> {
     let rule = Rule {
@@ -48,30 +35,6 @@ pub fn deny(group: &str, right: Right, who: Who) -> Ask<'_> {
         who,
     };
     Ask::Insert(group, 0, rule)
-}
-
-/// The name of those characters.
-fn name(alloc: Global, text: &str) -> Result<Name, Refusal> {
-    Name::from_slice(alloc, text.as_bytes())
-}
-
-/// The op that asks it.
-fn op(alloc: Global, ask: &Ask) -> Result<Op, Refusal> {
-    Ok(match ask {
-        Ask::Join(group) => Op::Act(Call::Join(name(alloc, group)?)),
-        Ask::Leave => Op::Act(Call::Leave),
-        Ask::Send(text) => Op::Act(Call::Send(Message::from_slice(alloc, text.as_bytes())?)),
-        Ask::Insert(group, index, rule) => {
-            Op::Act(Call::Insert(name(alloc, group)?, *index, *rule))
-        }
-        Ask::Remove(group, id) => Op::Act(Call::Remove(name(alloc, group)?, *id)),
-        Ask::Gone => Op::Gone,
-    })
-}
-
-/// The node of that number; `Range` where there is none.
-pub fn node(number: u8) -> Result<NodeId, Refusal> {
-    NodeId::new(number).ok_or(Refusal::Range)
 }
 
 /// The entry of a connection of that node that asks it.

@@ -1,9 +1,10 @@
 //! Groups and tables that are full.
 
-use crate::entering::{Ask, Source, answer, client, count_rules};
+use crate::entering::{Source, answer, client, count_rules};
 use cpg_entry::{By, Refusal};
 use cpg_group::{Policy, Reason, Verdict};
 use cpg_rules::{Effect, Right, Rule, Table, Who};
+use cpg_short::Ask;
 use std::alloc::Global;
 
 /// Whether the answer is that it is allowed.

@@ -1,9 +1,10 @@
 //! What askers see, and the check of records.
 
-use crate::entering::{Ask, Change, are_named, changed_at, client, count_rules, deny, enter_rows};
+use crate::entering::{Change, are_named, changed_at, client, count_rules, deny, enter_rows};
 use cpg_entry::{Asker, By, Cred, NodeId, Refusal};
 use cpg_group::{Policy, Record, Verdict, verify};
 use cpg_rules::{Right, Who};
+use cpg_short::Ask;
 use std::alloc::Global;
 
 /// Judges two joins, of one group each, and a rule by which user 8 may not list one of the groups.

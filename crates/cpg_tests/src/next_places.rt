@@ -1,8 +1,9 @@
 //! The next place that tells a connection anything, by hand.
 
-use crate::entering::{Ask, answer, client};
+use crate::entering::{answer, client};
 use crate::rejoining::{events_at, member_conn};
 use cpg_group::{ConnId, Policy};
+use cpg_short::Ask;
 use std::alloc::Global;
 
 /// A connection asks 198 times for a leave.

@@ -1,10 +1,10 @@
 //! A node's calls with short answers: a refusal is told alone, and of frames how many there are.
 
-use crate::entering::node;
 use bytes::Bytes;
 use cpg_cred::{AcceptList, Cred};
 use cpg_entry::{Call, NodeId, Refusal};
 use cpg_node::{Node, Settings};
+use cpg_short::{list_of, node};
 use std::alloc::Global;
 
 /// A ring of that number with 100 places and 100 hops.
@@ -20,26 +20,6 @@ pub fn settings(ring: u32, nodes: u8) -> Settings {
 /// Credentials of group 100.
 pub fn user(uid: u32) -> Cred {
     Cred { uid, gid: 100 }
-}
-
-/// Puts the users into the list.
-fn add_users(list: &mut AcceptList, users: &[u32]) -> Result<(), Refusal> {
-    for uid in users {
-        list.add_uid(*uid)?;
-    }
-    Ok(())
-}
-
-/// A list of those users.
-pub fn list_of(alloc: Global, users: &[u32]) -> Result<AcceptList, Refusal> {
-    let mut list = AcceptList::new(alloc);
-    match add_users(&mut list, users) {
-        Ok(()) => Ok(list),
-        Err(refusal) => {
-            drop(list);
-            Err(refusal)
-        }
-    }
 }
 
 /// A new node with that list.

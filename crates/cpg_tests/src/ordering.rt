@@ -1,8 +1,9 @@
 //! The members of a group stand in the order of their joins.
 
-use crate::entering::{Ask, Source, client, enter_rows};
+use crate::entering::{Source, client, enter_rows};
 use cpg_entry::By;
 use cpg_group::{Member, Policy, Verdict};
+use cpg_short::Ask;
 use std::alloc::Global;
 
 /// Whether the members are those processes, each by its node and pid, in that order.

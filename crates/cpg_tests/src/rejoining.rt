@@ -1,9 +1,10 @@
 //! A member that leaves and may not join again, and what its connection is told.
 
-use crate::entering::{Ask, client, deny, enter_rows, node};
+use crate::entering::{client, deny, enter_rows};
 use cpg_entry::{By, Refusal};
 use cpg_group::{ConnId, Event, Events, Policy, Reason, Record, Verdict};
 use cpg_rules::{Right, Who};
+use cpg_short::{Ask, node};
 use std::alloc::Global;
 
 /// Judges a join, a rule against it, a message, a leave and a second join.

@@ -1,53 +1,12 @@
 //! Two nodes that are fed by hand, and listings of a node that heard entries as frames.
 
-use crate::entering::{are_named, node};
+use crate::entering::are_named;
 use crate::nodes::{hear, node_with, settings, submit, user};
 use bytes::Bytes;
-use cpg_entry::{By, Call, Message, Name, NodeId, Refusal};
-use cpg_group::{Event, Verdict};
+use cpg_entry::{By, NodeId, Refusal};
 use cpg_node::Node;
+use cpg_short::{ALLOWED, Told, join_db, node, say_hi, told_by};
 use std::alloc::Global;
-
-/// An event in short: its place, and of a change how many members, leavers and joiners it tells.
-#[derive(Clone, Copy, PartialEq, Eq)]
-enum Told {
-    Verdict(u32, Verdict),
-    Message(u32, NodeId, u32),
-    Change(u32, usize, usize, usize),
-    Rules(u32),
-}
-
-fn in_short(event: &Event) -> Told {
-    match event {
-        Event::Verdict { place, verdict } => Told::Verdict(*place, *verdict),
-        Event::Message {
-            place,
-            node,
-            pid,
-            ..
-        } => Told::Message(*place, *node, *pid),
-        Event::Change {
-            place,
-            members,
-            left,
-            joined,
-            ..
-        } => Told::Change(
-            *place,
-            members.as_slice().len(),
-            left.as_slice().len(),
-            joined.as_slice().len(),
-        ),
-        Event::RulesChanged { place, .. } => Told::Rules(*place),
-    }
-}
-
-/// The event in short, which is let go.
-fn told_by(event: Event) -> Told {
-    let told = in_short(&event);
-    drop(event);
-    told
-}
 
 /// The next event of the node's connection 1, if there is one.
 fn take(node: &mut Node) -> Result<Option<Told>, Refusal> {
@@ -129,10 +88,6 @@ fn delivers(node: &mut Node, way: Way, first: usize, last: usize) -> bool {
     deliver_next(node, way) == Ok(false)
 }
 
-fn join_db(alloc: Global) -> Result<Call, Refusal> {
-    Ok(Call::Join(Name::from_slice(alloc, b"db")?))
-}
-
 /// A process of user 7 connects to the node and joins `db`.
 fn connect_and_join(alloc: Global, node: &mut Node, pid: u32) -> Result<(), Refusal> {
     node.connect(pid, user(7))?;
@@ -163,11 +118,6 @@ fn join_both(alloc: Global, one: &mut Node, two: &mut Node) -> Result<Vec<Bytes>
     go_round(one, two)
 }
 
-/// A message that says `hi`.
-fn hi(alloc: Global) -> Result<Call, Refusal> {
-    Ok(Call::Send(Message::from_slice(alloc, b"hi")?))
-}
-
 /// Whether node 2 hears the first of the two frames.
 fn hears_of_two(two: &mut Node, frames: &[Bytes]) -> bool {
     hear_one(two, frames, 0) == Ok(0) && frames.len() == 2
@@ -183,7 +133,7 @@ fn pass_on(one: &mut Node, two: &mut Node, token: &[u8]) -> bool {
 
 /// Whether node 1's process may send `hi`.
 fn submits_hi(alloc: Global, one: &mut Node) -> bool {
-    match hi(alloc) {
+    match say_hi(alloc) {
         Ok(call) => submit(one, 1, call).is_ok(),
         Err(_) => false,
     }
@@ -196,8 +146,6 @@ fn says_hi(alloc: Global, one: &mut Node, two: &mut Node, back: &[Bytes]) -> boo
         Err(_) => false,
     }
 }
-
-const ALLOWED: Verdict = Verdict::Allowed(By::Default);
 
 /// Whether node 1's connection was told what it has to be.
 fn tells_one(one: &mut Node, first: NodeId) -> bool {

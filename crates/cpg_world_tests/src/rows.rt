@@ -1,26 +1,21 @@
 //! A worked row, and settings out of their ranges.
 
-use crate::short::{Short, answers, list_of, settings};
-use cpg_cred::{AcceptList, By, Cred, NodeId, Refusal};
-use cpg_entry::{Call, Message, Name};
+use crate::short::{Short, answers, settings};
+use cpg_cred::{AcceptList, Cred, NodeId, Refusal};
 use cpg_node::Settings;
-use cpg_record::Verdict;
+use cpg_short::{ALLOWED, Told, join_db, list_of, say_hi};
 use cpg_world::{World, WorldEvent};
 use std::alloc::Global;
 
 /// Credentials of user 7 in group 100.
 const USER: Cred = Cred { uid: 7, gid: 100 };
 
-const ALLOWED: Verdict = Verdict::Allowed(By::Default);
-
 fn join(alloc: Global, node: NodeId) -> Result<WorldEvent, Refusal> {
-    let name = Name::from_slice(alloc, b"db")?;
-    Ok(WorldEvent::Submit(node, 1, Call::Join(name)))
+    Ok(WorldEvent::Submit(node, 1, join_db(alloc)?))
 }
 
 fn say_hi(alloc: Global, node: NodeId) -> Result<WorldEvent, Refusal> {
-    let message = Message::from_slice(alloc, b"hi")?;
-    Ok(WorldEvent::Submit(node, 1, Call::Send(message)))
+    Ok(WorldEvent::Submit(node, 1, say_hi(alloc)?))
 }
 
 /// Both processes connect and join, and the token goes round.
@@ -100,15 +95,15 @@ fn expected(one: NodeId) -> [Short; 28] {
         Short::Delivered(Some(3)),
         Short::Delivered(Some(3)),
         Short::Delivered(None),
-        Short::Verdict(1, ALLOWED),
-        Short::Change(1, 1, 0, 1),
-        Short::Change(2, 2, 0, 1),
-        Short::Verdict(3, ALLOWED),
-        Short::Message(3, one, 40),
+        Short::Told(Told::Verdict(1, ALLOWED)),
+        Short::Told(Told::Change(1, 1, 0, 1)),
+        Short::Told(Told::Change(2, 2, 0, 1)),
+        Short::Told(Told::Verdict(3, ALLOWED)),
+        Short::Told(Told::Message(3, one, 40)),
         Short::NoEvent,
-        Short::Verdict(2, ALLOWED),
-        Short::Change(2, 2, 0, 1),
-        Short::Message(3, one, 40),
+        Short::Told(Told::Verdict(2, ALLOWED)),
+        Short::Told(Told::Change(2, 2, 0, 1)),
+        Short::Told(Told::Message(3, one, 40)),
         Short::NoEvent,
     ]
 }
@@ -124,7 +119,7 @@ fn runs_the_row(alloc: Global, world: &mut World, one: NodeId, two: NodeId) -> b
 
 /// A new world that lets user 7 in.
 fn new_world(alloc: Global, settings: Settings) -> Result<World, Refusal> {
-    let list = list_of(alloc, 7)?;
+    let list = list_of(alloc, [7].as_slice())?;
     let world = World::new(alloc, settings, &list);
     drop(list);
     world

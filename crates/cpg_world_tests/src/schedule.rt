@@ -1,9 +1,10 @@
 //! A long random schedule of eight nodes, with losses, repeats and reordering, beside the plain program.
 
 use crate::plain::{NODES, PLACES, PlainFrame, PlainNode};
-use crate::short::{Short, answers, list_of, settings};
+use crate::short::{Short, answers, settings};
 use cpg_cred::{Cred, NodeId, Refusal};
 use cpg_entry::{Call, Message, Op};
+use cpg_short::list_of;
 use cpg_world::{World, WorldEvent};
 use std::alloc::Global;
 
@@ -244,7 +245,7 @@ fn runs_alike(world: &mut World, plain: &Plain, schedule: &Schedule) -> bool {
 }
 
 fn new_world(alloc: Global) -> Result<World, Refusal> {
-    let list = list_of(alloc, 7)?;
+    let list = list_of(alloc, [7].as_slice())?;
     let world = World::new(alloc, settings(NODES as u8, PLACES as u32), &list);
     drop(list);
     world

@@ -5,7 +5,7 @@ use Rattle.cpg_record.specs.declared.records.Record.{Record}
 use Rattle.cpg_record.specs.Connections.{conn_of, is_conn}
 use Rattle.cpg_record.specs.Judging.{record_of}
 use Rattle.cpg_group.specs.Trails.{or_no_trail, IsTrail}
-use Rattle.cpg_group.proofs.Kept.{on_ok, on_err}
+use Rattle.cpg_record.proofs.Named.{on_ok, on_err}
 use Rattle.cpg_group.proofs.Stops.{AreTrails-same, AreTrails-set}
 use Rattle.cpg_group.proofs.entering.enter.Goals as goal
 

@@ -1,7 +1,7 @@
 use Rattle.std.proofs.Common.{ap, ◌∙◌}
 use Rattle.cpg_record.specs.declared.records.Record.{Record}
 use Rattle.cpg_group.specs.Standing.{kept_group, group_past}
-use Rattle.cpg_group.proofs.Kept.{on_ok}
+use Rattle.cpg_record.proofs.Named.{on_ok}
 use Rattle.cpg_group.proofs.entering.enter_apart.Goals as goal
 
 pub returns-clause-past : goal.returns-clause-past

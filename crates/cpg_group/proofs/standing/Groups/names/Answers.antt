@@ -1,6 +1,6 @@
 use Rattle.std.proofs.Common.{bytes_eq, map, ap, sym, subst, ◌∙◌}
 use Rattle.std.specs.List.{IsDistinct}
-use Rattle.cpg_group.specs.Standing.{names_of}
+use Rattle.cpg_record.specs.Named.{names_of}
 use Rattle.cpg_group.proofs.Kept.{keys_named, names_apart, take_past}
 use Rattle.cpg_group.proofs.standing.Groups.names.Goals as goal
 

@@ -1,7 +1,7 @@
 use Rattle.std.proofs.Common.{map, ap, sym, ◌∙◌}
 use Rattle.std.specs.Prelude.{filter}
 use Rattle.cpg_group.specs.Groups.{is_shown}
-use Rattle.cpg_group.specs.Standing.{names_of}
+use Rattle.cpg_record.specs.Named.{names_of}
 use Rattle.cpg_group.proofs.Kept.{keys_named, take_past}
 use Rattle.cpg_group.proofs.Shown.{shows_none}
 use Rattle.cpg_group.proofs.standing.Groups.shows_any.Goals as goal

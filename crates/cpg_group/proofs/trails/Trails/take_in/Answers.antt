@@ -3,7 +3,7 @@ use Rattle.std.specs.Map.{lookup}
 use Rattle.cpg_record.specs.declared.connections.ConnId.{ConnId}
 use Rattle.cpg_record.specs.Connections.{conn_of, is_conn}
 use Rattle.cpg_group.specs.Trails.{or_no_trail, IsTrail}
-use Rattle.cpg_group.proofs.Kept.{on_ok, on_err}
+use Rattle.cpg_record.proofs.Named.{on_ok, on_err}
 use Rattle.cpg_group.proofs.Stops.{AreTrails-same, AreTrails-set}
 use Rattle.cpg_group.proofs.trails.Trails.take_in.Goals as goal
 

@@ -1,9 +1,10 @@
-use Rattle.std.proofs.Common.{◌≡◌, bytes_eq, List, ℕ, [], ◌∷◌, ◌++◌, ap, ◌∙◌}
+use Rattle.std.proofs.Common.{◌≡◌, bytes_eq, List, ℕ, [], ◌∷◌, ◌++◌, refl, sym, ap, ◌∙◌}
 use Rattle.std.specs.Map.{lookup}
 use Rattle.indexmap.proofs.CallerLemmas.{insert_entry-new}
 use Rattle.cpg_record.specs.Judging.{judged}
-use Rattle.cpg_judge.specs.Texts.{KeptTexts, named, no_text, kept_text, told_text, with_place}
-use Rattle.cpg_judge.proofs.Keeping.{found_alike, text_begun, made_named}
+use Rattle.cpg_record.specs.Named.{named, found_or}
+use Rattle.cpg_judge.specs.Texts.{KeptTexts, TextValue, no_text, kept_text, told_text, with_place}
+use Rattle.cpg_record.proofs.Named.{found_alike, kept_added, kept_grown, named-push}
 use Rattle.cpg_judge.proofs.texts.Texts.begin.Goals as goal
 
 pub returns-clause-ok : goal.returns-clause-ok
@@ -14,5 +15,8 @@ returns-clause-ok c =
     let first : c.put_place.new.self ≡ with_place c.args.past.now line no_text = c.in_ok-put_place.ensures.ok ∙ ap (with_place c.args.past.now line) c.in_ok-text.ensures.ok in
     let grown : named c.insert.new.self.entries ≡ c.args.self.now ++ (c.args.name.now, with_place c.args.past.now line no_text) ∷ [] =
     ap named (c.in_ok-insert.ensures.entries ∙ insert_entry-new _ c.self.inside.kept c.in_ok-key.key c.put_place.new.self lacking)
-    ∙ made_named entries c.args.self.now c.args.name.now c.in_ok-key.key c.put_place.new.self (with_place c.args.past.now line no_text) c.self.view_is c.in_ok-key.ensures.items first in
-    λ g. ap (λ (kept : KeptTexts). kept_text kept g) grown ∙ text_begun c.args.self.now c.args.name.now g (with_place c.args.past.now line) c.requires.lacking
+    ∙ named-push entries c.args.self.now c.args.name.now c.in_ok-key.key c.put_place.new.self c.self.view_is c.in_ok-key.ensures.items
+    ∙ ap (λ (value : TextValue). c.args.self.now ++ (c.args.name.now, value) ∷ []) first in
+    λ g. ap (λ (kept : KeptTexts). kept_text kept g) grown
+    ∙ kept_added no_text c.args.self.now c.args.name.now (with_place c.args.past.now line no_text) g c.requires.lacking
+    ∙ kept_grown no_text c.args.self.now c.args.name.now g no_text (with_place c.args.past.now line no_text) (with_place c.args.past.now line) (sym (ap (found_or no_text) c.requires.lacking)) refl

@@ -2,7 +2,7 @@ use Rattle.std.proofs.Common.{Some, ap, sym, ◌∙◌}
 use Rattle.cpg_record.specs.Judging.{judged}
 use Rattle.cpg_judge.specs.Texts.{TextValue, told_text}
 use Rattle.cpg_judge.proofs.Gathered as gathered
-use Rattle.cpg_judge.proofs.Keeping.{on_ok}
+use Rattle.cpg_record.proofs.Named.{on_ok}
 use Rattle.cpg_judge.proofs.Shown as shown
 use Rattle.cpg_judge.proofs.texts.Texts.put_place.Goals as goal
 
@@ -14,8 +14,9 @@ pub returns-in-None-clause-shown : goal.returns-in-None-clause-shown
 returns-in-None-clause-shown c =
     on_ok c.put_audit.result (λ put. shown.without_group c.args.policy.now c.args.place c.args.past.now c.requires.place.0 c.requires.stands c.args.self.now c.requires.shown c.in-None.is) c.put_audit.ensures.ok
 
-pub put_allowed-requires-clause-group : goal.put_allowed-requires-clause-group
-put_allowed-requires-clause-group c = c.in-Some.is ∙ ap Some (sym c.as_slice-name.ensures)
+pub put_allowed-requires-clause-allowed : goal.put_allowed-requires-clause-allowed
+put_allowed-requires-clause-allowed c =
+    (c.requires.place.0, c.requires.place.1, c.requires.stands, c.in-Some.is ∙ ap Some (sym c.as_slice-name.ensures), sym c.is_allowed.ensures ∙ c.if-is_allowed.true)
 
 pub put_allowed-requires-clause-members : goal.put_allowed-requires-clause-members
 put_allowed-requires-clause-members c =

@@ -1,13 +1,13 @@
--- What a value that is set, or a key that is new, does to what is found in a map of texts.
+-- What a value that is set, or a name that is new, does to what is kept for names.
 use Rattle.std.proofs.Common.{◌≡◌, ℕ, nat_eq, Bool, true, false, cond, List, [], ◌∷◌, ◌++◌, refl, sym, ap, ◌∙◌, Option, Some, None}
-use Rattle.std.specs.Prelude.{◌↔◌, is_some, Result, Ok, Err, OnOk}
+use Rattle.std.specs.Prelude.{◌↔◌, is_some, Result, Ok, Err, OnOk, OnErr}
 use Rattle.std.specs.Cmp.Lexicographic.{pointwise}
 use Rattle.std.specs.Map.{lookup, set_value}
 use Rattle.std.specs.Str.{bytes_eq}
 use Rattle.std.specs.declared.vec.Vec.{Vec}
 use Rattle.std.proofs.lemmas.List.{map-append}
 use Rattle.std.proofs.lemmas.Slice.Eq.{bytes_eq-Decides}
-use Rattle.cpg_judge.specs.Texts.{TextValue, KeptTexts, named, or_no_text, no_text, kept_text}
+use Rattle.cpg_record.specs.Named.{Named, named, found_or, kept_or}
 
 module _ {K X : Type 0} (eq : K → K → Bool) (decides : (x y : K) → (eq x y ≡ true) ↔ (x ≡ y)) where
   -- the value that is set at a key that is there is found for it, and nothing else changes
@@ -65,68 +65,74 @@ module _ {K X : Type 0} (eq : K → K → Bool) (decides : (x y : K) → (eq x y
       by_case false false true ka qa kq others h = others h ∙ ap (λ (x : Bool). cond x (Some w) (lookup (eq q) es)) kq
       by_case false false false ka qa kq others h = others h ∙ ap (λ (x : Bool). cond x (Some w) (lookup (eq q) es)) kq
 
--- ---- groups by names
+-- ---- by names
 
--- a group is found among the entries as among the names
-pub found_alike : {Z : Type 0} (name : List ℕ) (entries : List (Vec ℕ Z × TextValue)) →
+-- what is kept is found among the entries as among the names
+pub found_alike : {X Z : Type 0} (name : List ℕ) (entries : List (Vec ℕ Z × X)) →
     lookup (λ key. pointwise nat_eq name key.items) entries ≡ lookup (bytes_eq name) (named entries)
 found_alike name [] = refl
 found_alike name (entry ∷ entries) = ap (cond (bytes_eq name entry.0.items) (Some entry.1)) (found_alike name entries)
 
 -- and is set there as here
-pub set_alike : {Z : Type 0} (name : List ℕ) (entries : List (Vec ℕ Z × TextValue)) (w : TextValue) →
+pub set_alike : {X Z : Type 0} (name : List ℕ) (entries : List (Vec ℕ Z × X)) (w : X) →
     named (set_value (λ key. pointwise nat_eq name key.items) entries w) ≡ set_value (bytes_eq name) (named entries) w
 set_alike name [] w = refl
-set_alike {Z} name (entry ∷ entries) w = by_case (bytes_eq name entry.0.items) (set_alike name entries w)
+set_alike {X} {Z} name (entry ∷ entries) w = by_case (bytes_eq name entry.0.items) (set_alike name entries w)
   where
     by_case : (b : Bool) → named (set_value (λ key. pointwise nat_eq name key.items) entries w) ≡ set_value (bytes_eq name) (named entries) w →
         named (cond b ((entry.0, w) ∷ entries) (entry ∷ set_value (λ key. pointwise nat_eq name key.items) entries w))
         ≡ cond b ((entry.0.items, w) ∷ named entries) ((entry.0.items, entry.1) ∷ set_value (bytes_eq name) (named entries) w)
     by_case true rest = refl
-    by_case false rest = ap (λ (kept : KeptTexts). (entry.0.items, entry.1) ∷ kept) rest
+    by_case false rest = ap (λ (kept : Named X). (entry.0.items, entry.1) ∷ kept) rest
 
--- a place that was made is at the end
-pub named-push : {Z : Type 0} (entries : List (Vec ℕ Z × TextValue)) (key : Vec ℕ Z) (group : TextValue) → named (entries ++ (key, group) ∷ []) ≡ named entries ++ (key.items, group) ∷ []
-named-push entries key group = map-append _ entries ((key, group) ∷ [])
+-- an entry at the end is kept at the end, for the name that its key spells
+pub named-push : {X Z : Type 0} (entries : List (Vec ℕ Z × X)) (kept : Named X) (name : List ℕ) (key : Vec ℕ Z) (w : X) → named entries ≡ kept → key.items ≡ name →
+    named (entries ++ (key, w) ∷ []) ≡ kept ++ (name, w) ∷ []
+named-push {X} entries kept name key w same spelled =
+    map-append _ entries ((key, w) ∷ [])
+    ∙ ap (λ (front : Named X). front ++ (key.items, w) ∷ []) same
+    ∙ ap (λ (bytes : List ℕ). kept ++ (bytes, w) ∷ []) spelled
 
-pub made_named : {Z : Type 0} (entries : List (Vec ℕ Z × TextValue)) (kept : KeptTexts) (name : List ℕ) (key : Vec ℕ Z) (group w : TextValue) →
-    named entries ≡ kept → key.items ≡ name → group ≡ w → named (entries ++ (key, group) ∷ []) ≡ kept ++ (name, w) ∷ []
-made_named entries kept name key group w same spelled is =
-    named-push entries key group
-    ∙ ap (λ (front : KeptTexts). front ++ (key.items, group) ∷ []) same
-    ∙ ap (λ (bytes : List ℕ). kept ++ (bytes, group) ∷ []) spelled
-    ∙ ap (λ (g : TextValue). kept ++ (name, g) ∷ []) is
+module _ {X : Type 0} (other : X) where
+  found_by : (b : Bool) (w : X) (o : Option X) → found_or other (cond b (Some w) o) ≡ cond b w (found_or other o)
+  found_by true w o = refl
+  found_by false w o = refl
 
--- which has what is made of no texts
-pub text_begun : (kept : KeptTexts) (name g : List ℕ) (grow : TextValue → TextValue) → lookup (bytes_eq name) kept ≡ None →
-    kept_text (kept ++ (name, grow no_text) ∷ []) g ≡ cond (bytes_eq name g) (grow (kept_text kept g)) (kept_text kept g)
-text_begun kept name g grow none =
-    ap or_no_text (lookup-push bytes_eq bytes_eq-Decides kept name (grow no_text) g none) ∙ by_case (bytes_eq name g) refl
-  where
-    by_case : (b : Bool) → bytes_eq name g ≡ b → or_no_text (cond b (Some (grow no_text)) (lookup (bytes_eq g) kept)) ≡ cond b (grow (kept_text kept g)) (kept_text kept g)
-    by_case false is = refl
-    by_case true is = sym (ap (λ (o : Option TextValue). grow (or_no_text o)) (ap (λ (n : List ℕ). lookup (bytes_eq n) kept) (sym ((bytes_eq-Decides name g).0 is)) ∙ none))
+  -- what is kept for a name that had nothing is kept for that name alone
+  pub kept_added : (kept : Named X) (name : List ℕ) (w : X) (g : List ℕ) → lookup (bytes_eq name) kept ≡ None →
+      kept_or other (kept ++ (name, w) ∷ []) g ≡ cond (bytes_eq name g) w (kept_or other kept g)
+  kept_added kept name w g none =
+      ap (found_or other) (lookup-push bytes_eq bytes_eq-Decides kept name w g none) ∙ found_by (bytes_eq name g) w (lookup (bytes_eq g) kept)
 
--- a group that is there and set
-pub text_set : (kept : KeptTexts) (name : List ℕ) (w : TextValue) (g : List ℕ) → is_some (lookup (bytes_eq name) kept) ≡ true →
-    kept_text (set_value (bytes_eq name) kept w) g ≡ cond (bytes_eq name g) w (kept_text kept g)
-text_set kept name w g there =
-    ap or_no_text (lookup-set bytes_eq bytes_eq-Decides kept name w g there) ∙ by_case (bytes_eq name g)
-  where
-    by_case : (b : Bool) → or_no_text (cond b (Some w) (lookup (bytes_eq g) kept)) ≡ cond b w (or_no_text (lookup (bytes_eq g) kept))
-    by_case true = refl
-    by_case false = refl
+  -- what is set for a name that has something is set for that name alone
+  pub kept_set : (kept : Named X) (name : List ℕ) (w : X) (g : List ℕ) → is_some (lookup (bytes_eq name) kept) ≡ true →
+      kept_or other (set_value (bytes_eq name) kept w) g ≡ cond (bytes_eq name g) w (kept_or other kept g)
+  kept_set kept name w g there =
+      ap (found_or other) (lookup-set bytes_eq bytes_eq-Decides kept name w g there) ∙ found_by (bytes_eq name g) w (lookup (bytes_eq g) kept)
 
--- set texts are their name's
-pub text_changed : (kept : KeptTexts) (name g : List ℕ) (x w : TextValue) (grow : TextValue → TextValue) → x ≡ kept_text kept name → w ≡ grow x →
-    cond (bytes_eq name g) w (kept_text kept g) ≡ cond (bytes_eq name g) (grow (kept_text kept g)) (kept_text kept g)
-text_changed kept name g x w grow found is = by_case (bytes_eq name g) refl
-  where
-    by_case : (b : Bool) → bytes_eq name g ≡ b → cond b w (kept_text kept g) ≡ cond b (grow (kept_text kept g)) (kept_text kept g)
-    by_case false at = refl
-    by_case true at = is ∙ ap grow (found ∙ ap (kept_text kept) ((bytes_eq-Decides name g).0 at))
+  -- what grew of what was kept for a name grew for that name alone
+  pub kept_grown : (kept : Named X) (name g : List ℕ) (x w : X) (grow : X → X) → x ≡ kept_or other kept name → w ≡ grow x →
+      cond (bytes_eq name g) w (kept_or other kept g) ≡ cond (bytes_eq name g) (grow (kept_or other kept g)) (kept_or other kept g)
+  kept_grown kept name g x w grow found is = by_case (bytes_eq name g) refl
+    where
+      by_case : (b : Bool) → bytes_eq name g ≡ b → cond b w (kept_or other kept g) ≡ cond b (grow (kept_or other kept g)) (kept_or other kept g)
+      by_case false at = refl
+      by_case true at = is ∙ ap grow (found ∙ ap (kept_or other kept) ((bytes_eq-Decides name g).0 at))
 
--- what holds after success, or after a refusal, as it follows from what does
+  -- what is set as it was changes nothing
+  pub kept_same : (kept : Named X) (name g : List ℕ) (w : X) → w ≡ kept_or other kept name → cond (bytes_eq name g) w (kept_or other kept g) ≡ kept_or other kept g
+  kept_same kept name g w is = by_case (bytes_eq name g) refl
+    where
+      by_case : (b : Bool) → bytes_eq name g ≡ b → cond b w (kept_or other kept g) ≡ kept_or other kept g
+      by_case false at = refl
+      by_case true at = is ∙ ap (kept_or other kept) ((bytes_eq-Decides name g).0 at)
+
+-- ---- what holds after success, or after a refusal, as it follows from what does
+
 pub on_ok : {X E : Type 0} (r : Result X E) {P Q : Type 0} → (P → Q) → OnOk r P → OnOk r Q
 on_ok (Ok x) f p = f p
 on_ok (Err e) f p = tt
+
+pub on_err : {X E : Type 0} (r : Result X E) {P Q : Type 0} → (P → Q) → OnErr r P → OnErr r Q
+on_err (Ok x) f p = tt
+on_err (Err e) f p = f p
