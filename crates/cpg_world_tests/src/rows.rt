@@ -10,11 +10,11 @@ use std::alloc::Global;
 /// Credentials of user 7 in group 100.
 const USER: Cred = Cred { uid: 7, gid: 100 };
 
-fn join(alloc: Global, node: NodeId) -> Result<WorldEvent, Refusal> {
+fn submit_join(alloc: Global, node: NodeId) -> Result<WorldEvent, Refusal> {
     Ok(WorldEvent::Submit(node, 1, join_db(alloc)?))
 }
 
-fn say_hi(alloc: Global, node: NodeId) -> Result<WorldEvent, Refusal> {
+fn submit_hi(alloc: Global, node: NodeId) -> Result<WorldEvent, Refusal> {
     Ok(WorldEvent::Submit(node, 1, say_hi(alloc)?))
 }
 
@@ -27,8 +27,8 @@ fn put_joins(
 ) -> Result<(), Refusal> {
     events.push(WorldEvent::Connect(one, 40, USER))?;
     events.push(WorldEvent::Connect(two, 50, USER))?;
-    events.push(join(alloc, one)?)?;
-    events.push(join(alloc, two)?)?;
+    events.push(submit_join(alloc, one)?)?;
+    events.push(submit_join(alloc, two)?)?;
     events.push(WorldEvent::Frame(one, 1))?;
     events.push(WorldEvent::Frame(two, 2))?;
     events.push(WorldEvent::Frame(two, 3))?;
@@ -46,7 +46,7 @@ fn put_deliveries(
     for node in [one, one, two, two] {
         events.push(WorldEvent::Deliver(node))?;
     }
-    events.push(say_hi(alloc, one)?)?;
+    events.push(submit_hi(alloc, one)?)?;
     events.push(WorldEvent::Frame(one, 5))?;
     events.push(WorldEvent::Frame(two, 6))?;
     for node in [one, two, two] {
