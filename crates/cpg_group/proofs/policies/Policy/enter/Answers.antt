@@ -11,12 +11,11 @@ pub enter-requires-clause-entry : goal.enter-requires-clause-entry
 enter-requires-clause-entry c =
     let here : c.len.result + 1 ≡ length c.self.inside.records.items + 1 = omega arith in
     let lent = sym (c.as_slice-records.ensures.value ∙ c.reserve.ensures.items) in
-    let P : List Record → Type 0 = λ (rs : List Record). (g : List ℕ) → CanTake g (kept_group c.self.inside.groups g) (c.len.result + 1, record_of rs c.draft_of-past.result.entry) in
-    (
+    let P : List Record → Type 0 = λ (rs : List Record). (g : List ℕ) → CanTake g (kept_group c.self.inside.groups g) (c.len.result + 1, record_of rs c.draft_of-past.result.entry) in (
       c.draft_of-past.ensures.members,
       subst (AreStanding c.self.inside.groups) lent c.self.invariant.1,
       subst P lent
-      (can_take c.self.inside.groups c.self.inside.records.items (record_of c.self.inside.records.items c.draft_of-past.result.entry) (c.len.result + 1) c.self.invariant.1 c.self.invariant.0.1 here refl),
+          (can_take c.self.inside.groups c.self.inside.records.items (record_of c.self.inside.records.items c.draft_of-past.result.entry) (c.len.result + 1) c.self.invariant.1 c.self.invariant.0.1 here refl),
     )
 
 pub invariant_of-self-in-Ok : goal.invariant_of-self-in-Ok
