@@ -134,21 +134,6 @@ fn wait_looks<B: HistoryName, G, H: Wait + Clock>(
     Ok(Reply::Nothing(session.seat().len()))
 }
 
-/// The same, noted.
-fn look_noted<B: HistoryName, G, H: Wait>(
-    rt: &H,
-    running: &Running<B, G>,
-    session: &mut Session<B>,
-    looked: &mut bool,
-) -> Option<Result<Event, Refusal>>
-    requires { session.old.who.id.node ≤ running.now.nodes }
-    ensures told { IsPolled session.old result session.new }
-    ensures noted { looked.new ≡ true }
-{
-    *looked = true;
-    look(rt, running, session)
-}
-
 /// Whether so much time went by since the start, as far as the clock tells.
 fn is_over<H: Clock>(rt: &H, start: &Instant, time: Duration) -> bool {
     match start.elapsed(rt) {
@@ -184,7 +169,9 @@ fn wait_within<B: HistoryName, G, H: Wait + Clock>(
     ensures seats { SeatsOn B.cells result }
 {
     for number in 0..u64::MAX {
-        match look_noted(rt, running, session, looked) {
+        let told = look(rt, running, session);
+        *looked = true;
+        match told {
             None => {
                 if rest_within(rt, number, start, time) {
                     return Ok(Reply::Nothing(session.seat().len()));
