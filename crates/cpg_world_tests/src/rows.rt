@@ -3,7 +3,7 @@
 use crate::short::{Short, answers, settings};
 use cpg_cred::{AcceptList, Cred, NodeId, Refusal};
 use cpg_node::Settings;
-use cpg_short::{ALLOWED, Told, join_db, list_of, say_hi};
+use cpg_short::{ALLOWED, join_db, list_of, say_hi};
 use cpg_world::{World, WorldEvent};
 use std::alloc::Global;
 
@@ -95,15 +95,15 @@ fn expected(one: NodeId) -> [Short; 28] {
         Short::Delivered(Some(3)),
         Short::Delivered(Some(3)),
         Short::Delivered(None),
-        Short::Told(Told::Verdict(1, ALLOWED)),
-        Short::Told(Told::Change(1, 1, 0, 1)),
-        Short::Told(Told::Change(2, 2, 0, 1)),
-        Short::Told(Told::Verdict(3, ALLOWED)),
-        Short::Told(Told::Message(3, one, 40)),
+        Short::Verdict(1, ALLOWED),
+        Short::Change(1, 1, 0, 1),
+        Short::Change(2, 2, 0, 1),
+        Short::Verdict(3, ALLOWED),
+        Short::Message(3, one, 40),
         Short::NoEvent,
-        Short::Told(Told::Verdict(2, ALLOWED)),
-        Short::Told(Told::Change(2, 2, 0, 1)),
-        Short::Told(Told::Message(3, one, 40)),
+        Short::Verdict(2, ALLOWED),
+        Short::Change(2, 2, 0, 1),
+        Short::Message(3, one, 40),
         Short::NoEvent,
     ]
 }

@@ -1,11 +1,11 @@
 //! What a world answers, in short.
 
-use cpg_cred::Refusal;
+use cpg_cred::{NodeId, Refusal};
 use cpg_node::Settings;
-use cpg_short::Told;
+use cpg_record::{Event, Verdict};
 use cpg_world::{Reply, World, WorldEvent};
 
-/// A reply in short: of a listing how many it lists.
+/// A reply in short: of an event its place, of a listing how many it lists.
 #[derive(Debug, Clone, Copy, PartialEq, Eq)]
 pub enum Short {
     Connected(u16),
@@ -13,11 +13,39 @@ pub enum Short {
     Closed,
     Sent(usize),
     Delivered(Option<u32>),
-    /// An event.
-    Told(Told),
+    Verdict(u32, Verdict),
+    Message(u32, NodeId, u32),
+    /// How many members, leavers and joiners.
+    Change(u32, usize, usize, usize),
+    Rules(u32),
     NoEvent,
     Listed(usize),
     Refused(Refusal),
+}
+
+fn event_in_short(event: &Event) -> Short {
+    match event {
+        Event::Verdict { place, verdict } => Short::Verdict(*place, *verdict),
+        Event::Message {
+            place,
+            node,
+            pid,
+            ..
+        } => Short::Message(*place, *node, *pid),
+        Event::Change {
+            place,
+            members,
+            left,
+            joined,
+            ..
+        } => Short::Change(
+            *place,
+            members.as_slice().len(),
+            left.as_slice().len(),
+            joined.as_slice().len(),
+        ),
+        Event::RulesChanged { place, .. } => Short::Rules(*place),
+    }
 }
 
 fn reply_in_short(reply: &Reply) -> Short {
@@ -28,7 +56,7 @@ fn reply_in_short(reply: &Reply) -> Short {
         Reply::Sent(count) => Short::Sent(*count),
         Reply::Delivered(place) => Short::Delivered(*place),
         Reply::Took(None) => Short::NoEvent,
-        Reply::Took(Some(event)) => Short::Told(cpg_short::in_short(event)),
+        Reply::Took(Some(event)) => event_in_short(event),
         Reply::Members(list) => Short::Listed(list.as_slice().len()),
         Reply::Groups(names) => Short::Listed(names.as_slice().len()),
     }
