@@ -1,8 +1,8 @@
 //! Calls in short words.
 
 use crate::short::Short;
-use cpg_entry::{Cred, Entry, Refusal};
-use cpg_short::{node, op};
+use cpg_entry::{Call, Cred, Entry, Message, Op, Refusal, Rule};
+use cpg_short::{name, node};
 use std::alloc::Global;
 
 /// A connection with its process and credentials.
@@ -14,8 +14,39 @@ pub struct Source {
     pub uid: u32,
 }
 
-/// What a connection asks, with names that are constants.
-pub type Ask = cpg_short::Ask<'static>;
+/// What a connection asks, with the names as text.
+#[derive(Clone, Copy)]
+pub enum Ask {
+    Join(&'static str),
+    Leave,
+    Send(&'static str),
+    /// To put the rule into the group's table at that index.
+    Insert(&'static str, u8, Rule),
+    /// To take the rule of that id out of the group's table.
+    Remove(&'static str, u32),
+    /// Nothing more: the connection has ended.
+    Gone,
+}
+
+/// The call that asks it; Range for the end of a connection, which is none.
+pub fn call(alloc: Global, ask: &Ask) -> Result<Call, Refusal> {
+    Ok(match ask {
+        Ask::Join(group) => Call::Join(name(alloc, group)?),
+        Ask::Leave => Call::Leave,
+        Ask::Send(text) => Call::Send(Message::from_slice(alloc, text.as_bytes())?),
+        Ask::Insert(group, index, rule) => Call::Insert(name(alloc, group)?, *index, *rule),
+        Ask::Remove(group, id) => Call::Remove(name(alloc, group)?, *id),
+        Ask::Gone => return Err(Refusal::Range),
+    })
+}
+
+/// The op that asks it.
+fn op(alloc: Global, ask: &Ask) -> Result<Op, Refusal> {
+    match ask {
+        Ask::Gone => Ok(Op::Gone),
+        _ => Ok(Op::Act(call(alloc, ask)?)),
+    }
+}
 
 /// The credentials of the user, in group 100; of user 0 in group 0.
 pub fn cred(uid: u32) -> Cred {

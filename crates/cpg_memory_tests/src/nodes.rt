@@ -1,14 +1,14 @@
 //! Rows of one node: its full queue, frames that nobody sent, and listings over what it heard.
 
 use crate::again::{Row, Stop, Tried, ends, plays};
-use crate::entering::{Ask, cred};
+use crate::entering::{Ask, call, cred};
 use crate::frames::{FIRST, JOIN_APP, JOIN_DB};
 use crate::short::Short;
 use cpg_cred::{By, Refusal, Refused};
 use cpg_entry::Call;
 use cpg_node::{Node, Record, Settings};
 use cpg_record::Verdict;
-use cpg_short::{Told, call, in_short, list_of, node};
+use cpg_short::{Told, in_short, list_of, node};
 use std::alloc::Global;
 use std::test::Fail;
 

@@ -5,14 +5,14 @@ ghost use Rattle.std.specs.Prelude.{◌≡◌, ◌≤◌, IfOk};
 ghost use Rattle.cpg_history.specs.Histories.{first_world};
 
 use crate::again::Stop;
-use crate::entering::{Ask, cred};
+use crate::entering::{Ask, call, cred};
 use crate::short::Short;
 use cpg_board::Board;
 use cpg_cred::{AcceptList, NodeId, Refusal};
 use cpg_daemon::{Beginning, Cluster, HistoryName, Opened, PassAll, Running, Session};
 use cpg_entry::Call;
 use cpg_node::Settings;
-use cpg_short::{ALLOWED, Told, call, in_short, node};
+use cpg_short::{ALLOWED, Told, in_short, node};
 use std::alloc::Global;
 use std::marker::Brand;
 use std::sync::Wait;

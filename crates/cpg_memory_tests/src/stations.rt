@@ -5,14 +5,14 @@ ghost use Rattle.cpg_board.specs.Seats.{IsSeatOf};
 ghost use Rattle.cpg_station.specs.Stations.{audit_of};
 
 use crate::again::{Row, Stop, Tried, goes_on, plays};
-use crate::entering::{Ask, cred};
+use crate::entering::{Ask, call, cred};
 use crate::frames::FIRST;
 use crate::nodes::submitted;
 use crate::short::Short;
 use cpg_board::{Board, Seat};
 use cpg_cred::{AcceptList, NodeId, Refusal};
 use cpg_node::{Node, Settings};
-use cpg_short::{ALLOWED, Told, call, in_short};
+use cpg_short::{ALLOWED, Told, in_short};
 use cpg_station::{BoardName, Station};
 use std::alloc::Global;
 use std::marker::Brand;

@@ -1,11 +1,11 @@
 //! Rows of a world, event by event.
 
 use crate::again::{Row, Stop, Tried, goes_on, plays};
-use crate::entering::{Ask, cred};
+use crate::entering::{Ask, call, cred};
 use crate::short::Short;
 use cpg_cred::{NodeId, Refusal};
 use cpg_node::Settings;
-use cpg_short::{ALLOWED, Told, call, in_short, list_of, name, node};
+use cpg_short::{ALLOWED, Told, in_short, list_of, name, node};
 use cpg_world::{Reply, World, WorldEvent};
 use std::alloc::Global;
 use std::test::Fail;
