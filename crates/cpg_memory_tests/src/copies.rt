@@ -1,13 +1,13 @@
 //! Copies of what entries, frames, records and lists hold, and lists made of slices.
 
 use crate::again::{Row, Stop, Tried, ends, plays};
+use crate::entering::node;
 use crate::policies::left_and_denied;
 use crate::short::Short;
 use crate::tables::MEMBER;
 use cpg_cred::{AcceptList, Cred, Refusal, Via};
 use cpg_entry::{Entry, Message, Name, Packet, Places, Token};
 use cpg_group::{ConnId, Events, Members, Policy, Record};
-use cpg_short::node;
 use std::alloc::Global;
 use std::test::Fail;
 

@@ -1,8 +1,9 @@
 //! Calls in short words.
 
+ghost use Rattle.std.specs.Prelude.{◌≡◌, IfOk};
+
 use crate::short::Short;
-use cpg_entry::{Call, Cred, Entry, Message, Op, Refusal, Rule};
-use cpg_short::{name, node};
+use cpg_entry::{Call, Cred, Entry, Message, Name, NodeId, Op, Refusal, Rule};
 use std::alloc::Global;
 
 /// A connection with its process and credentials.
@@ -28,6 +29,11 @@ pub enum Ask {
     Gone,
 }
 
+/// The name of those characters.
+pub fn name(alloc: Global, text: &str) -> Result<Name, Refusal> {
+    Name::from_slice(alloc, text.as_bytes())
+}
+
 /// The call that asks it; Range for the end of a connection, which is none.
 pub fn call(alloc: Global, ask: &Ask) -> Result<Call, Refusal> {
     Ok(match ask {
@@ -46,6 +52,13 @@ fn op(alloc: Global, ask: &Ask) -> Result<Op, Refusal> {
         Ask::Gone => Ok(Op::Gone),
         _ => Ok(Op::Act(call(alloc, ask)?)),
     }
+}
+
+/// The node of that number; `Range` where there is none.
+pub fn node(number: u8) -> Result<NodeId, Refusal>
+    ensures { IfOk result (λ node. node ≡ number) }
+{
+    NodeId::new(number).ok_or(Refusal::Range)
 }
 
 /// The credentials of the user, in group 100; of user 0 in group 0.

@@ -1,14 +1,13 @@
 //! Rows of one node: its full queue, frames that nobody sent, and listings over what it heard.
 
 use crate::again::{Row, Stop, Tried, ends, plays};
-use crate::entering::{Ask, call, cred};
+use crate::entering::{Ask, call, cred, node};
 use crate::frames::{FIRST, JOIN_APP, JOIN_DB};
-use crate::short::Short;
-use cpg_cred::{By, Refusal, Refused};
+use crate::short::{Short, event_in_short};
+use cpg_cred::{AcceptList, By, Refusal, Refused};
 use cpg_entry::Call;
 use cpg_node::{Node, Record, Settings};
 use cpg_record::Verdict;
-use cpg_short::{Told, in_short, list_of, node};
 use std::alloc::Global;
 use std::test::Fail;
 
@@ -101,7 +100,7 @@ fn judge_and_commit(alloc: Global, one: &mut Node) -> Result<Short, Refusal> {
 
 fn take(one: &mut Node, conn: u16) -> Result<Short, Refusal> {
     match one.take(conn)? {
-        Some(event) => Ok(Short::Told(in_short(&event))),
+        Some(event) => Ok(event_in_short(&event)),
         None => Ok(Short::NoEvent),
     }
 }
@@ -142,6 +141,15 @@ impl Tried for Node {
     fn looks(&self, alloc: Global) -> Result<String, Refusal> {
         Ok(format!(in alloc; "{self:?}")?)
     }
+}
+
+/// A list of those users.
+fn list_of(alloc: Global, users: &[u32]) -> Result<AcceptList, Refusal> {
+    let mut list = AcceptList::new(alloc);
+    for uid in users {
+        list.add_uid(*uid)?;
+    }
+    Ok(list)
 }
 
 /// A new node of that number in a ring of so many, which lets users 7 and 8 in.
@@ -275,9 +283,9 @@ impl Row for Frames {
             (Step::JudgeAndCommit, Short::Delivered(None)),
             (
                 Step::Take(1),
-                Short::Told(Told::Verdict(1, Verdict::Allowed(By::Default))),
+                Short::Verdict(1, Verdict::Allowed(By::Default)),
             ),
-            (Step::Take(1), Short::Told(Told::Change(1, 1, 0, 1))),
+            (Step::Take(1), Short::Change(1, 1, 0, 1)),
             (Step::Take(1), Short::NoEvent),
         ];
         ends(new_node(alloc, 1, 1)?, alloc, steps.as_slice())

@@ -1,14 +1,13 @@
 //! Rows of a policy.
 
 use crate::again::{Row, Stop, Tried, ends, plays};
-use crate::entering::{Ask, Source, entry, short_of_entry};
+use crate::entering::{Ask, Source, entry, node, short_of_entry};
 use crate::short::Short;
 use crate::tables::{MEMBER, ROOT, deny, let_edit, member_by};
 use cpg_cred::{By, Cred, NodeId, Refusal};
 use cpg_entry::Entry;
 use cpg_group::{ConnId, MOST_PLACES, Policy, Reason, Record, Verdict, verify};
 use cpg_rules::{Asker, Right, Who};
-use cpg_short::node;
 use std::alloc::Global;
 use std::test::Fail;
 

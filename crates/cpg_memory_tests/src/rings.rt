@@ -1,14 +1,13 @@
 //! Rows of a node's ring alone.
 
 use crate::again::{Row, Stop, Tried, goes_on, plays};
-use crate::entering::{Ask, entry, short_of_entry};
+use crate::entering::{Ask, entry, node, short_of_entry};
 use crate::frames::{FIRST, JOIN_APP, JOIN_DB};
 use crate::short::Short;
 use crate::tables::MEMBER;
 use cpg_cred::{Refusal, Refused};
 use cpg_entry::{Entry, Frame, Packet};
 use cpg_ring::{Ring, Settings, Visit};
-use cpg_short::node;
 use cpg_wire::decode;
 use std::alloc::Global;
 use std::test::Fail;

@@ -5,14 +5,14 @@ ghost use Rattle.std.specs.Prelude.{◌≡◌, ◌≤◌, IfOk};
 ghost use Rattle.cpg_history.specs.Histories.{first_world};
 
 use crate::again::Stop;
-use crate::entering::{Ask, call, cred};
-use crate::short::Short;
+use crate::entering::{Ask, call, cred, node};
+use crate::short::{Short, event_in_short};
 use cpg_board::Board;
-use cpg_cred::{AcceptList, NodeId, Refusal};
+use cpg_cred::{AcceptList, By, NodeId, Refusal};
 use cpg_daemon::{Beginning, Cluster, HistoryName, Opened, PassAll, Running, Session};
 use cpg_entry::Call;
 use cpg_node::Settings;
-use cpg_short::{ALLOWED, Told, in_short, node};
+use cpg_record::Verdict;
 use std::alloc::Global;
 use std::marker::Brand;
 use std::sync::Wait;
@@ -35,6 +35,8 @@ const SETTINGS: Settings = Settings {
     places: 100,
     hops: 1 << 62,
 };
+
+const ALLOWED: Verdict = Verdict::Allowed(By::Default);
 
 /// A session of the process, which belongs to user 0.
 fn connected<B: HistoryName, R: Wait>(
@@ -114,7 +116,7 @@ fn told_once<B: HistoryName, R: Wait>(
 {
     match running.take(rt, session) {
         Ok(None) | Err(Refusal::Memory | Refusal::Behind(_)) => Ok(Short::NoEvent),
-        Ok(Some(event)) => Ok(Short::Told(in_short(&event))),
+        Ok(Some(event)) => Ok(event_in_short(&event)),
         Err(_) => Err(Stop::Refused),
     }
 }
@@ -263,15 +265,9 @@ fn serves<B: HistoryName, R: Wait>(
     requires { id ≤ running.now.nodes }
 {
     let mut session = connected(rt, running, id, 40)?;
-    let joined = [
-        Short::Told(Told::Verdict(1, ALLOWED)),
-        Short::Told(Told::Change(1, 1, 0, 1)),
-    ];
+    let joined = [Short::Verdict(1, ALLOWED), Short::Change(1, 1, 0, 1)];
     goes_on(rt, alloc, running, &mut session, &Ask::Join("db"), joined)?;
-    let said = [
-        Short::Told(Told::Verdict(2, ALLOWED)),
-        Short::Told(Told::Message(2, id, 40)),
-    ];
+    let said = [Short::Verdict(2, ALLOWED), Short::Message(2, id, 40)];
     goes_on(rt, alloc, running, &mut session, &Ask::Send("hi"), said)?;
     lists_one(rt, running, &mut session)?;
     tells_all(running, &session, connected(rt, running, id, 50)?)?;

@@ -1,10 +1,9 @@
 //! What calls are answered, in short.
 
-use cpg_cred::{Refusal, Via};
-use cpg_record::Verdict;
-use cpg_short::Told;
+use cpg_cred::{NodeId, Refusal, Via};
+use cpg_record::{Event, Verdict};
 
-/// An answer in short: of a listing how many it lists.
+/// An answer in short: of an event its place, of a listing how many it lists.
 #[derive(Clone, Copy, PartialEq, Eq)]
 pub enum Short {
     Done,
@@ -13,8 +12,11 @@ pub enum Short {
     Count(usize),
     Delivered(Option<u32>),
     Judged(Verdict),
-    /// An event.
-    Told(Told),
+    Verdict(u32, Verdict),
+    Message(u32, NodeId, u32),
+    /// How many members, leavers and joiners.
+    Change(u32, usize, usize, usize),
+    Rules(u32),
     NoEvent,
     Is(bool),
     /// What lets somebody in.
@@ -24,4 +26,30 @@ pub enum Short {
     Refused(Refusal),
     /// What was given back is not what was handed in.
     Lost,
+}
+
+/// The event in short.
+pub fn event_in_short(event: &Event) -> Short {
+    match event {
+        Event::Verdict { place, verdict } => Short::Verdict(*place, *verdict),
+        Event::Message {
+            place,
+            node,
+            pid,
+            ..
+        } => Short::Message(*place, *node, *pid),
+        Event::Change {
+            place,
+            members,
+            left,
+            joined,
+            ..
+        } => Short::Change(
+            *place,
+            members.as_slice().len(),
+            left.as_slice().len(),
+            joined.as_slice().len(),
+        ),
+        Event::RulesChanged { place, .. } => Short::Rules(*place),
+    }
 }

@@ -8,11 +8,11 @@ use crate::again::{Row, Stop, Tried, goes_on, plays};
 use crate::entering::{Ask, call, cred};
 use crate::frames::FIRST;
 use crate::nodes::submitted;
-use crate::short::Short;
+use crate::short::{Short, event_in_short};
 use cpg_board::{Board, Seat};
-use cpg_cred::{AcceptList, NodeId, Refusal};
+use cpg_cred::{AcceptList, By, NodeId, Refusal};
 use cpg_node::{Node, Settings};
-use cpg_short::{ALLOWED, Told, in_short};
+use cpg_record::Verdict;
 use cpg_station::{BoardName, Station};
 use std::alloc::Global;
 use std::marker::Brand;
@@ -72,7 +72,7 @@ fn submit<B: BoardName>(
 
 fn take<B: BoardName>(station: &mut Station<B>) -> Result<Short, Refusal> {
     match station.take(1)? {
-        Some(event) => Ok(Short::Told(in_short(&event))),
+        Some(event) => Ok(event_in_short(&event)),
         None => Ok(Short::NoEvent),
     }
 }
@@ -206,11 +206,13 @@ const PLACED: [(Step, Short); 5] = [
     (Step::Frame(&FIRST), Short::Count(3)),
 ];
 
+const ALLOWED: Verdict = Verdict::Allowed(By::Default);
+
 /// What it is told of them, and what it lists.
 const TOLD: [(Step, Short); 7] = [
-    (Step::Take, Short::Told(Told::Verdict(1, ALLOWED))),
-    (Step::Take, Short::Told(Told::Change(1, 1, 0, 1))),
-    (Step::Take, Short::Told(Told::Verdict(2, ALLOWED))),
+    (Step::Take, Short::Verdict(1, ALLOWED)),
+    (Step::Take, Short::Change(1, 1, 0, 1)),
+    (Step::Take, Short::Verdict(2, ALLOWED)),
     (Step::List("db"), Short::Count(1)),
     (Step::Groups, Short::Count(1)),
     (Step::End, Short::Done),

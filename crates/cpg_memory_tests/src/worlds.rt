@@ -1,11 +1,11 @@
 //! Rows of a world, event by event.
 
 use crate::again::{Row, Stop, Tried, goes_on, plays};
-use crate::entering::{Ask, call, cred};
-use crate::short::Short;
-use cpg_cred::{NodeId, Refusal};
+use crate::entering::{Ask, call, cred, name, node};
+use crate::short::{Short, event_in_short};
+use cpg_cred::{AcceptList, By, NodeId, Refusal};
 use cpg_node::Settings;
-use cpg_short::{ALLOWED, Told, in_short, list_of, name, node};
+use cpg_record::Verdict;
 use cpg_world::{Reply, World, WorldEvent};
 use std::alloc::Global;
 use std::test::Fail;
@@ -74,7 +74,7 @@ pub fn reply_in_short(reply: &Reply) -> Short {
         Reply::Sent(count) => Short::Count(*count),
         Reply::Delivered(place) => Short::Delivered(*place),
         Reply::Took(None) => Short::NoEvent,
-        Reply::Took(Some(event)) => Short::Told(in_short(event)),
+        Reply::Took(Some(event)) => event_in_short(event),
         Reply::Members(list) => Short::Count(list.as_slice().len()),
         Reply::Groups(names) => Short::Count(names.as_slice().len()),
     }
@@ -112,6 +112,18 @@ impl Tried for World {
     }
 }
 
+/// A list of user 7.
+fn list_of_seven(alloc: Global) -> Result<AcceptList, Refusal> {
+    let mut list = AcceptList::new(alloc);
+    match list.add_uid(7) {
+        Ok(()) => Ok(list),
+        Err(refusal) => {
+            drop(list);
+            Err(refusal)
+        }
+    }
+}
+
 /// A new world of so many nodes, of ring 1 with 100 places and 100 hops, that lets user 7 in.
 pub fn new_world(alloc: Global, nodes: u8) -> Result<World, Refusal> {
     let settings = Settings {
@@ -120,7 +132,7 @@ pub fn new_world(alloc: Global, nodes: u8) -> Result<World, Refusal> {
         places: 100,
         hops: 100,
     };
-    let list = list_of(alloc, [7].as_slice())?;
+    let list = list_of_seven(alloc)?;
     let world = World::new(alloc, settings, &list);
     drop(list);
     world
@@ -133,6 +145,8 @@ fn play(alloc: Global, nodes: u8, steps: &[(Step, Short)]) -> Result<(), Stop> {
     drop(world);
     ended
 }
+
+const ALLOWED: Verdict = Verdict::Allowed(By::Default);
 
 /// The joins of both nodes are placed, and heard by both.
 pub const JOINS: [(Step, Short); 12] = [
@@ -157,8 +171,8 @@ pub const MESSAGE: [(Step, Short); 8] = [
     (Step::Frame(2, 6), Short::Count(0)),
     (Step::Deliver(2), Short::Delivered(Some(3))),
     (Step::Deliver(2), Short::Delivered(None)),
-    (Step::Take(2), Short::Told(Told::Verdict(2, ALLOWED))),
-    (Step::Take(2), Short::Told(Told::Change(2, 2, 0, 1))),
+    (Step::Take(2), Short::Verdict(2, ALLOWED)),
+    (Step::Take(2), Short::Change(2, 2, 0, 1)),
     (Step::List(2), Short::Count(2)),
 ];
 
