@@ -1,7 +1,8 @@
 -- whether a place tells a connection anything
-use Rattle.std.proofs.Common.{◌≡◌, ◌≢◌, ◌+◌, ◌&&◌, ℕ, Bool, true, false, List, [], ◌∷◌, ◌++◌, length, Option, Some, None, refl, ap, ◌∙◌, sym}
+use Rattle.std.proofs.Common.{◌≡◌, ◌≢◌, ◌+◌, ◌<◌, ◌&&◌, ℕ, zero, suc, Bool, true, false, List, [], ◌∷◌, ◌++◌, length, Option, Some, None, refl, ap, ◌∙◌, sym, arith}
 use Rattle.std.specs.Prelude.{if◌then◌else◌, is_some, option_to_list}
 use Rattle.std.specs.Int.{from_bool}
+use Rattle.std.specs.List.{slice_get}
 use Rattle.cpg_entry.specs.declared.calls.Call.TheVariants.{Join, Leave, Send, Insert, Remove}
 use Rattle.cpg_entry.specs.declared.calls.Op.{Op}
 use Rattle.cpg_entry.specs.declared.calls.Op.TheVariants.{Act, Gone}
@@ -88,3 +89,50 @@ pub events_counted : (records : List Record) (place : ℕ) (conn : ConnId) (r : 
 events_counted records place conn r there =
     ap length (ap (events_by place (records_before records place) conn) there)
     ∙ both_counted (is_conn conn (conn_of r.entry)) (Verdict place r.verdict) (news place (records_before records place) r conn r.group)
+
+-- ---- each of them
+
+-- the verdict, if the connection made the entry, and the news, if there is any
+verdict_and_news : (records : List Record) (place : ℕ) (conn : ConnId) (r : Record) → record_at records place ≡ Some r
+    → events records place conn ≡ (if is_conn conn (conn_of r.entry) then Verdict place r.verdict ∷ [] else []) ++ option_to_list (news place (records_before records place) r conn r.group)
+verdict_and_news records place conn r there = ap (events_by place (records_before records place) conn) there
+
+front_of : (own : Bool) (verdict : Event) (said : Option Event) (i : ℕ) → i < from_bool own → slice_get ((if own then verdict ∷ [] else []) ++ option_to_list said) i ≡ Some verdict
+front_of true verdict said zero h = refl
+front_of true verdict said (suc i) h = absurd (omega arith)
+front_of false verdict said i h = absurd (omega arith)
+
+behind : (own : Bool) (verdict : Event) (said : Option Event) → slice_get ((if own then verdict ∷ [] else []) ++ option_to_list said) (from_bool own) ≡ said
+behind true verdict None = refl
+behind true verdict (Some event) = refl
+behind false verdict None = refl
+behind false verdict (Some event) = refl
+
+past_all : (own : Bool) (verdict : Event) (said : Option Event) (i : ℕ) → from_bool own < i → slice_get ((if own then verdict ∷ [] else []) ++ option_to_list said) i ≡ None
+past_all true verdict None zero h = absurd (omega arith)
+past_all true verdict None (suc i) h = refl
+past_all true verdict (Some event) zero h = absurd (omega arith)
+past_all true verdict (Some event) (suc zero) h = absurd (omega arith)
+past_all true verdict (Some event) (suc (suc i)) h = refl
+past_all false verdict None i h = refl
+past_all false verdict (Some event) zero h = absurd (omega arith)
+past_all false verdict (Some event) (suc i) h = refl
+
+pub verdict_first : (records : List Record) (place : ℕ) (conn : ConnId) (r : Record) (index : ℕ) → record_at records place ≡ Some r
+    → index < from_bool (is_conn conn (conn_of r.entry)) → slice_get (events records place conn) index ≡ Some (Verdict place r.verdict)
+verdict_first records place conn r index there h =
+    ap (λ list. slice_get list index) (verdict_and_news records place conn r there)
+    ∙ front_of (is_conn conn (conn_of r.entry)) (Verdict place r.verdict) (news place (records_before records place) r conn r.group) index h
+
+pub news_behind : (records : List Record) (place : ℕ) (conn : ConnId) (r : Record) (index : ℕ) → record_at records place ≡ Some r
+    → index ≡ from_bool (is_conn conn (conn_of r.entry)) → slice_get (events records place conn) index ≡ news place (records_before records place) r conn r.group
+news_behind records place conn r index there h =
+    ap (λ list. slice_get list index) (verdict_and_news records place conn r there)
+    ∙ ap (slice_get ((if is_conn conn (conn_of r.entry) then Verdict place r.verdict ∷ [] else []) ++ option_to_list (news place (records_before records place) r conn r.group))) h
+    ∙ behind (is_conn conn (conn_of r.entry)) (Verdict place r.verdict) (news place (records_before records place) r conn r.group)
+
+pub none_behind : (records : List Record) (place : ℕ) (conn : ConnId) (r : Record) (index : ℕ) → record_at records place ≡ Some r
+    → from_bool (is_conn conn (conn_of r.entry)) < index → slice_get (events records place conn) index ≡ None
+none_behind records place conn r index there h =
+    ap (λ list. slice_get list index) (verdict_and_news records place conn r there)
+    ∙ past_all (is_conn conn (conn_of r.entry)) (Verdict place r.verdict) (news place (records_before records place) r conn r.group) index h

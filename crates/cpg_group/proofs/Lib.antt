@@ -4,6 +4,7 @@ mod Kept
 mod Entered
 mod Indexed
 mod Applying
+mod Between
 mod Stops
 mod Latest
 pub mod Counted

@@ -1,5 +1,6 @@
 pub mod Entering
 pub mod Groups
+pub mod Heard
 pub mod Processes
 pub mod Standing
 pub mod Telling

@@ -1,5 +1,5 @@
 -- how the groups stand, as it is kept beside the records
-use Rattle.std.specs.Prelude.{ℕ, ◌≡◌, true, ◌&&◌, List, [], ◌∷◌, ◌++◌, map, Option, Some, None, if◌then◌else◌}
+use Rattle.std.specs.Prelude.{ℕ, ◌≡◌, true, ◌&&◌, List, [], ◌∷◌, ◌++◌, Option, Some, None, if◌then◌else◌}
 use Rattle.cpg_rules.specs.Tables.{Rules}
 use Rattle.cpg_record.specs.declared.memberships.Member.{Member}
 use Rattle.cpg_record.specs.declared.records.Record.{Record}

@@ -6,6 +6,7 @@
 #![tactic(auto)]
 
 mod entering;
+mod heard;
 mod judging;
 mod listing;
 mod nexts;
@@ -22,6 +23,7 @@ pub use cpg_record::{
     Cause, ConnId, Event, Events, MOST_MEMBERS, MOST_PLACES, Member, Members, Move, Moves, Reason,
     Record, Records, Verdict,
 };
+pub use heard::Heard;
 pub use listing::{Names, Processes};
 pub use policies::Policy;
 pub use told::count_upto;

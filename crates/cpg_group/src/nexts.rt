@@ -1,19 +1,28 @@
 //! The next place that tells a connection anything: the sooner of its next own place and the next place of an
 //! allowed entry of the group that it is in. One search of each list suffices, since it stays in its group up
-//! to its next own place.
+//! to its next own place; so the group that it is in before the next place is known with it.
 
-ghost use Rattle.std.specs.Prelude.{◌≡◌, MatchOption};
+ghost use Rattle.std.specs.Prelude.{◌≡◌, IfSome, MatchOption};
 ghost use Rattle.std.specs.Option.{option_copied};
+ghost use Rattle.cpg_record.specs.Membership.{group_of};
 ghost use Rattle.cpg_record.specs.Nexts.{reaches, IsNextTold, TellsNoMore};
-ghost use Rattle.cpg_record.specs.Places.{sooner, IsNextOf};
+ghost use Rattle.cpg_record.specs.Places.{records_before, sooner, IsNextOf};
 ghost use Rattle.cpg_group.specs.Standing.{AreStanding};
-ghost use Rattle.cpg_group.specs.Trails.{IsTrail};
+ghost use Rattle.cpg_group.specs.Trails.{group_at, IsTrail};
 
 use crate::places::next_in;
 use crate::standing::Groups;
-use crate::trails::{Stop, find_group, next_own};
+use crate::trails::{Stop, count_own, find_joined, join_past, own_at};
 use cpg_entry::Name;
 use cpg_record::{ConnId, Record};
+
+/// A place that tells a connection something, and the place of the join by which the connection is in a group
+/// before it: 0 where it is in none.
+#[derive(Debug, Clone, Copy)]
+pub(crate) struct Next {
+    pub(crate) place: u32,
+    pub(crate) join: u32,
+}
 
 /// The lesser of the places that are there.
 fn sooner_of(place: Option<u32>, other: Option<u32>) -> Option<u32>
@@ -50,12 +59,17 @@ pub(crate) fn find_next(
     trail: &[Stop],
     conn: &ConnId,
     after: usize,
-) -> Option<u32>
+) -> Option<Next>
     requires groups { AreStanding groups.now records.now }
     requires trail { IsTrail records.now conn.now trail.now }
-    ensures { MatchOption result (TellsNoMore records.now after conn.now) (IsNextTold records.now after conn.now) }
+    ensures told { MatchOption result (TellsNoMore records.now after conn.now) (λ next. IsNextTold records.now after conn.now next.place) }
+    ensures join { IfSome result (λ next. group_at records.now next.join ≡ group_of (records_before records.now next.place) conn.now) }
 {
-    let group = find_group(records, trail, after);
-    let own = next_own(trail, after);
-    sooner_of(own, next_heard(records, groups, group, after))
+    let passed = count_own(trail, after);
+    let join = join_past(trail, passed);
+    let heard = next_heard(records, groups, find_joined(records, join), after);
+    match sooner_of(own_at(trail, passed), heard) {
+        None => None,
+        Some(place) => Some(Next { place, join }),
+    }
 }

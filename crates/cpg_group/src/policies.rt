@@ -1,6 +1,6 @@
 //! The judged entries, and what they come to.
 
-ghost use Rattle.std.specs.Prelude.{◌≡◌, ◌≢◌, ◌<◌, ◌≤◌, ◌++◌, ◌∷◌, [], None, length, OnOk, OnErr, IfOk, IfErr, MatchOption, IsOkUnless};
+ghost use Rattle.std.specs.Prelude.{◌≡◌, ◌≢◌, ◌<◌, ◌≤◌, ◌++◌, ◌∷◌, [], None, length, OnOk, OnErr, IfOk, IfErr, IfSome, MatchOption, IsOkUnless};
 ghost use Rattle.cpg_entry.specs.declared.calls.Op.TheVariants.{Gone};
 ghost use Rattle.cpg_record.specs.Connections.{conn_of, conns_of};
 ghost use Rattle.cpg_record.specs.Events.{events};
@@ -12,6 +12,7 @@ ghost use Rattle.cpg_record.specs.Places.{places_of};
 ghost use Rattle.cpg_record.specs.RuleTables.{rules_of};
 ghost use Rattle.cpg_group.specs.Telling.{told};
 
+use crate::heard::Heard;
 use crate::listing::{self, Names, Processes};
 use crate::standing::Groups;
 use crate::trails::{Trail, Trails};
@@ -248,18 +249,29 @@ impl Policy {
         telling::count_events(self.records.as_slice(), self.trails.of(&conn), place, &conn)
     }
 
+    /// The least judged place above `after` that tells the connection anything, if there is one, looked up once
+    /// for all that is asked of it. Takes no memory, and searches by halving.
+    pub fn next_heard(&self, after: u32, conn: ConnId) -> Option<Heard<'_>>
+        ensures next { MatchOption result (TellsNoMore (judged self.now) after conn) (λ heard. IsNextTold (judged self.now) after conn heard.place) }
+        ensures value { IfSome result (λ heard. heard ≡ record { records = judged self.now; conn = conn; place = heard.place }) }
+    {
+        let records = self.records.as_slice();
+        let trail = self.trails.of(&conn);
+        match nexts::find_next(records, &self.groups, trail, &conn, after as usize) {
+            None => None,
+            Some(next) => Some(Heard::of(records, &self.groups, conn, next)),
+        }
+    }
+
     /// The least judged place above `after` that tells the connection anything, if there is one. Takes no
     /// memory, and searches by halving.
     pub fn next_event(&self, after: u32, conn: ConnId) -> Option<u32>
         ensures { MatchOption result (TellsNoMore (judged self.now) after conn) (IsNextTold (judged self.now) after conn) }
     {
-        nexts::find_next(
-            self.records.as_slice(),
-            &self.groups,
-            self.trails.of(&conn),
-            &conn,
-            after as usize,
-        )
+        match self.next_heard(after, conn) {
+            None => None,
+            Some(heard) => Some(heard.place()),
+        }
     }
 
     /// What a judged place, from 1, tells each of those of its group who are told of it; the verdict is told

@@ -1,6 +1,7 @@
 //! What places tell connections.
 
-ghost use Rattle.std.specs.Prelude.{◌≡◌, ◌≢◌, ◌≤◌, [], None, is_some, length, IfOk, OnErr, IsOkUnless};
+ghost use Rattle.std.specs.Prelude.{◌≡◌, ◌≢◌, ◌≤◌, [], None, is_some, length, IfOk, IsSome, OnErr, IsOkUnless};
+ghost use Rattle.std.specs.List.{slice_get};
 ghost use Rattle.std.specs.Option.{option_copied};
 ghost use Rattle.cpg_record.specs.Connections.{conn_of};
 ghost use Rattle.cpg_record.specs.Events.{events, hears_change, moves_of, news, news_by};
@@ -188,20 +189,66 @@ fn has_news(
     }
 }
 
-/// How many events the place has for the connection of the trail.
+/// How many events the place has for a connection of the group `earlier`.
 #[tactic(auto, using(crate::proofs::Passed::record_at_index, crate::proofs::Hearing::events_counted))]
-pub(crate) fn count_events(records: &[Record], trail: &[Stop], place: u32, conn: &ConnId) -> usize
+pub(crate) fn count_for(
+    records: &[Record],
+    place: u32,
+    conn: &ConnId,
+    earlier: Option<&Name>,
+) -> usize
     requires place { (1 ≤ place) × (place ≤ length records.now) }
-    requires judged { AreJudged records.now }
-    requires trail { IsTrail records.now conn.now trail.now }
+    requires earlier { option_copied earlier ≡ group_of (records_before records.now place) conn.now }
     ensures { result ≡ length (events records.now place conn.now) }
 {
-    let index = place as usize - 1;
-    let past = &records[index];
-    let earlier = find_group(records, trail, index);
+    let past = &records[place as usize - 1];
     let own = conn.is(&ConnId::of(&past.entry));
     let heard = has_news(records, place, past, conn, earlier);
     usize::from(own) + usize::from(heard)
+}
+
+/// How many events the place has for the connection of the trail.
+pub(crate) fn count_events(records: &[Record], trail: &[Stop], place: u32, conn: &ConnId) -> usize
+    requires place { (1 ≤ place) × (place ≤ length records.now) }
+    requires trail { IsTrail records.now conn.now trail.now }
+    ensures { result ≡ length (events records.now place conn.now) }
+{
+    let earlier = find_group(records, trail, place as usize - 1);
+    count_for(records, place, conn, earlier)
+}
+
+/// The event of that index, from 0, that the place has for a connection of the group `earlier`: the verdict is
+/// told first, to the maker alone. Memory is asked for only where the event is there.
+#[tactic(auto, using(crate::proofs::Passed::record_at_index, crate::proofs::Hearing::verdict_first, crate::proofs::Hearing::news_behind, crate::proofs::Hearing::none_behind))]
+pub(crate) fn event_for(
+    alloc: Global,
+    records: &[Record],
+    groups: &Groups,
+    place: u32,
+    conn: &ConnId,
+    earlier: Option<&Name>,
+    index: usize,
+) -> Result<Option<Event>, Refusal>
+    requires place { (1 ≤ place) × (place ≤ length records.now) }
+    requires judged { AreJudged records.now }
+    requires groups { AreStanding groups.now records.now }
+    requires earlier { option_copied earlier ≡ group_of (records_before records.now place) conn.now }
+    ensures ok { IfOk result (λ event. event ≡ slice_get (events records.now place conn.now) index) }
+    ensures memory { IsOkUnless result Refusal.Memory }
+    ensures some { OnErr result (IsSome (slice_get (events records.now place conn.now) index)) }
+{
+    let past = &records[place as usize - 1];
+    let own = usize::from(conn.is(&ConnId::of(&past.entry)));
+    if index < own {
+        return Ok(Some(Event::Verdict {
+            place,
+            verdict: past.verdict,
+        }));
+    }
+    if own < index {
+        return Ok(None);
+    }
+    tell_news(alloc, records, groups, place, past, conn, earlier)
 }
 
 /// The events of a place for the connection of the trail.

@@ -12,7 +12,7 @@ ghost use Rattle.cpg_record.specs.declared.records.Record.{Record};
 ghost use Rattle.cpg_record.specs.Connections.{conn_of, is_conn};
 ghost use Rattle.cpg_record.specs.Membership.{group_of};
 ghost use Rattle.cpg_record.specs.Nexts.{is_made_by};
-ghost use Rattle.cpg_record.specs.Places.{places_of, IsNextOf};
+ghost use Rattle.cpg_record.specs.Places.{places_of};
 ghost use Rattle.cpg_group.specs.Standing.{kept_group, group_past, CanTake};
 ghost use Rattle.cpg_group.specs.Trails.{kept_trail, group_at, join_after, joined_by, AreTrails, IsTrail, StandsBy};
 
@@ -49,9 +49,26 @@ impl Placed for Stop {
     }
 }
 
+/// How many own places the connection of the trail has up to the last place, by a binary search.
+pub(crate) fn count_own(trail: &[Stop], last: usize) -> usize
+    ensures { (records : List Record) (conn : ConnId) → IsTrail records conn trail.now → result ≡ length (places_of (is_made_by conn) (take last records)) }
+{
+    cut_upto(trail, last)
+}
+
+/// The own place of that index, from 0, of the connection of the trail.
+pub(crate) fn own_at(trail: &[Stop], index: usize) -> Option<u32>
+    ensures { (records : List Record) (conn : ConnId) → IsTrail records conn trail.now → result ≡ slice_get (places_of (is_made_by conn) records) index }
+{
+    match trail.get(index) {
+        None => None,
+        Some(stop) => Some(stop.place),
+    }
+}
+
 /// The place of the join by which the connection is in a group after the last place up to which it has as many
 /// own places, 0 where it is in none.
-fn join_past(trail: &[Stop], count: usize) -> u32
+pub(crate) fn join_past(trail: &[Stop], count: usize) -> u32
     ensures early { (records : List Record) (conn : ConnId) (last : ℕ) → IsTrail records conn trail.now → count ≡ length (places_of (is_made_by conn) (take last records)) → result ≤ last }
     ensures group { (records : List Record) (conn : ConnId) (last : ℕ) → IsTrail records conn trail.now → count ≡ length (places_of (is_made_by conn) (take last records)) → group_at records result ≡ group_of (take last records) conn }
 {
@@ -69,7 +86,7 @@ fn join_upto(trail: &[Stop], last: usize) -> u32
     ensures early { (records : List Record) (conn : ConnId) → IsTrail records conn trail.now → result ≤ last }
     ensures group { (records : List Record) (conn : ConnId) → IsTrail records conn trail.now → group_at records result ≡ group_of (take last records) conn }
 {
-    join_past(trail, cut_upto(trail, last))
+    join_past(trail, count_own(trail, last))
 }
 
 /// The place of the join by which the connection is in a group after all records, 0 where it is in none: its
@@ -95,7 +112,7 @@ fn group_joined(past: &Record) -> Option<&Name>
 }
 
 /// The group that the record at the place joins, if it joins one.
-fn find_joined(records: &[Record], place: u32) -> Option<&Name>
+pub(crate) fn find_joined(records: &[Record], place: u32) -> Option<&Name>
     ensures { option_copied result ≡ group_at records.now place }
 {
     match find_record(records, place) {
@@ -116,18 +133,6 @@ pub(crate) fn group_now<'a>(records: &'a [Record], trail: &[Stop]) -> Option<&'a
     ensures { (conn : ConnId) → IsTrail records.now conn trail.now → option_copied result ≡ group_of records.now conn }
 {
     find_joined(records, join_last(trail))
-}
-
-/// The next own place of the connection of the trail above the last one, by a binary search.
-pub(crate) fn next_own(trail: &[Stop], last: usize) -> Option<u32>
-    ensures { (records : List Record) (conn : ConnId) → IsTrail records conn trail.now → IsNextOf (is_made_by conn) records last result }
-{
-    let passed = cut_upto(trail, last);
-    if passed < trail.len() {
-        Some(trail[passed].place)
-    } else {
-        None
-    }
 }
 
 /// The place of the join by which a connection is in a group after its record at the place, where it stood by
@@ -235,10 +240,7 @@ impl<'a> Trail<'a> {
     pub fn own(&self, index: usize) -> Option<u32>
         ensures { result ≡ slice_get (places_of (is_made_by self.now.conn) self.now.records) index }
     {
-        match self.stops.get(index) {
-            None => None,
-            Some(stop) => Some(stop.place),
-        }
+        own_at(self.stops, index)
     }
 
     /// The group that the connection is in after its first own places, as many as are counted. Takes no memory.

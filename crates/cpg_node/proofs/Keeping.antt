@@ -265,10 +265,15 @@ is_next x policy next same sound h =
     let n = next_of x next h in
     (can_judge x policy n.entry same sound n.held, n.made ∙ (ap (λ (e : Entry). record_of (judged (delivered_entries x.state)) e) (sym (ap (λ (r : Record). r.entry) n.made)) ∙ ap (λ l. record_of (judged l) next.entry) (sym same)))
 
+-- an entry that was held is judged as the last of those that were delivered
+pub delivered_next : (x : RingNode) (policy : List Entry) (e : Entry) → policy ≡ delivered_entries x.state → IsSound x → next_entry x.state ≡ Some e → IsSound (with_state x (after_delivery x.state)) × (policy ++ e ∷ [] ≡ delivered_entries (after_delivery x.state))
+delivered_next x policy e same sound held = (sound_delivery x e sound held, ap (λ l. l ++ e ∷ []) same ∙ sym (delivered_more x.state e held))
+
 pub committed : (x : RingNode) (policy : List Entry) (next : Record) → policy ≡ delivered_entries x.state → IsSound x → option_map (record_of (judged (delivered_entries x.state))) (next_entry x.state) ≡ Some next → IsSound (with_state x (after_delivery x.state)) × (policy ++ next.entry ∷ [] ≡ delivered_entries (after_delivery x.state))
 committed x policy next same sound h =
     let n = next_of x next h in
-    (sound_delivery x n.entry sound n.held, ap (λ l. l ++ next.entry ∷ []) same ∙ (ap (λ e. delivered_entries x.state ++ e ∷ []) (ap (λ (r : Record). r.entry) n.made) ∙ sym (delivered_more x.state n.entry n.held)))
+    let into = delivered_next x policy n.entry same sound n.held in
+    (into.0, ap (λ e. policy ++ e ∷ []) (ap (λ (r : Record). r.entry) n.made) ∙ into.1)
 
 -- each place that was delivered has its entry
 delivered_all : (held : HeldPlaces) (d : ℕ) → AllHeld held d → length (filter_map (get held) (up_to d)) ≡ d

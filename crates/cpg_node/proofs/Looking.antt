@@ -1,11 +1,10 @@
 -- Seeking from a cursor on, and that cursors stay right while more is judged.
-use Rattle.std.proofs.Common.{get_or, ◌≡◌, ℕ, zero, suc, ◌+◌, ◌-◌, ◌<◌, ◌≤◌, List, [], ◌∷◌, ◌++◌, length, take, Some, None, Result, Ok, Err, OnErr, refl, sym, ap, ◌∙◌, subst, arith, All, length-append}
-use Rattle.std.specs.Prelude.{OnOk, IsSome}
+use Rattle.std.proofs.Common.{get_or, ◌≡◌, ℕ, Bool, true, false, zero, suc, ◌+◌, ◌-◌, ◌<◌, ◌≤◌, List, [], ◌∷◌, ◌++◌, length, take, Some, None, Result, Ok, Err, OnErr, refl, sym, ap, ◌∙◌, subst, arith, All, length-append}
+use Rattle.std.specs.Prelude.{OnOk, IsSome, if◌then◌else◌}
 use Rattle.std.specs.List.{flat_map, range_with_len, slice_get}
 use Rattle.std.proofs.lemmas.List.{take-append-le}
 use Rattle.std.proofs.lemmas.List.Sums.{fold-append}
 use Rattle.std.proofs.lemmas.Option.{slice_get_past}
-use Rattle.cpg_cred.specs.declared.refusals.Refused.{Refused}
 use Rattle.cpg_entry.specs.declared.entries.Entry.{Entry}
 use Rattle.cpg_record.specs.declared.connections.ConnId.{ConnId}
 use Rattle.cpg_record.specs.declared.events.Event.{Event}
@@ -61,7 +60,7 @@ cursors_on entries more e cursors is right = λ k d within.
     (cursor_on (judged entries) (record_of (judged entries) e ∷ []) (get_or cursors k d) (right k d within))
 
 -- what an entry that is taken in, or refused, leaves of the cursors, and of how many entries there are
-pub taken_in : (old new : List Entry) (e : Entry) (cursors : List Cursor) (result : Result Unit (Refused Record)) → length old < most_places
+pub taken_in : {E : Type 0} (old new : List Entry) (e : Entry) (cursors : List Cursor) (result : Result Unit E) → length old < most_places
     → (length old ≤ most_places) × All (IsCursor (judged old)) cursors → OnOk result (new ≡ old ++ e ∷ []) → OnErr result (new ≡ old)
     → (length new ≤ most_places) × All (IsCursor (judged new)) cursors
 taken_in old new e cursors (Ok u) room kept ok err =
@@ -141,3 +140,8 @@ none_left rs cursor index right no_more before =
     quiet_to (λ p. events rs p cursor.conn) cursor.place (length rs) right.within (λ p above within. no_more p above) in
     let all : length (inbox rs cursor.conn) ≡ cursor.told = ap length same ∙ sym right.counted in
     sym (slice_get_past (inbox rs cursor.conn) index (omega (arith, all, before)))
+
+-- a cursor that goes past a place once its last event was told, else stays, is right
+pub cursor_behind : (rs : List Record) (last : Bool) (cursor past : Cursor) → IsCursor rs cursor → IsCursor rs past → IsCursor rs (if last then past else cursor)
+cursor_behind rs true cursor past right further = further
+cursor_behind rs false cursor past right further = right

@@ -1,6 +1,6 @@
 //! Up to where connections' inboxes were looked through.
 
-ghost use Rattle.std.specs.Prelude.{◌≡◌, ◌+◌, ◌≤◌};
+ghost use Rattle.std.specs.Prelude.{◌≡◌, ◌+◌, ◌<◌, ◌≤◌, ◌==◌, if◌then◌else◌};
 
 use cpg_record::ConnId;
 
@@ -34,6 +34,20 @@ impl Cursor {
             conn: self.conn,
             place,
             told: self.told + events,
+        }
+    }
+
+    /// The cursor once the event of that index, of so many at a later place, was told, where none between tells
+    /// any: past the place where it was the last one there.
+    pub fn behind(self, place: u32, events: usize, index: usize) -> Cursor
+        requires few { self.told + events ≤ 4294967295 }
+        requires index { index < events }
+        ensures { result ≡ (if (index + 1) == events then record { conn = self.conn; place = place; told = self.told + events } else self) }
+    {
+        if index + 1 == events {
+            self.past(place, events)
+        } else {
+            self
         }
     }
 }

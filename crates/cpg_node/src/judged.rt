@@ -1,14 +1,15 @@
 //! The judged entries of a node, with its connections' cursors.
 
-ghost use Rattle.std.specs.Prelude.{◌≡◌, ◌≤◌, ◌<◌, ◌++◌, ◌∷◌, [], IsSome, OnOk, OnErr, IfOk, IfErr, IsOkUnless};
+ghost use Rattle.std.specs.Prelude.{◌≡◌, ◌≤◌, ◌<◌, ◌++◌, ◌∷◌, [], length, IsSome, OnOk, OnErr, IfOk, IfErr, IsOkUnless};
 ghost use Rattle.std.specs.List.{slice_get};
 ghost use Rattle.cpg_record.specs.Events.{inbox};
-ghost use Rattle.cpg_record.specs.Judging.{judged, IsNext};
+ghost use Rattle.cpg_record.specs.Judging.{judged, most_places, IsNext};
 ghost use Rattle.cpg_node.specs.Cursors.{IsCursor};
 
 use crate::cursors::Cursor;
 use crate::inboxes::seek;
 use cpg_cred::{Refusal, Refused};
+use cpg_entry::Entry;
 use cpg_group::{Event, Policy, Record};
 use cpg_record::ConnId;
 use std::alloc::Global;
@@ -62,6 +63,16 @@ impl Judged {
         ensures err { IfErr result (λ refused. refused ≡ record { refusal = Refusal.Memory; back = next }) }
     {
         self.policy.apply(next)
+    }
+
+    /// Judges the entry and puts it last. A refusal changes nothing and gives the entry back.
+    pub fn enter(&mut self, entry: Entry) -> Result<(), Refused<Entry>>
+        requires { length self.old < most_places }
+        ensures ok { OnOk result (self.new ≡ self.old ++ entry ∷ []) }
+        ensures unchanged { OnErr result (self.new ≡ self.old) }
+        ensures err { IfErr result (λ refused. refused ≡ record { refusal = Refusal.Memory; back = entry }) }
+    {
+        self.policy.enter(entry)
     }
 
     /// Makes a cursor for a new connection.

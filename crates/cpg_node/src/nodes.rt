@@ -292,12 +292,16 @@ impl Node {
         ensures memory { IsOkUnless result Refusal.Memory }
         ensures none { place_to_deliver self.old ≡ None → result ≡ Ok None }
     {
-        match self.judge_next()? {
-            None => Ok(None),
-            Some(next) => match self.commit(next) {
-                Ok(()) => Ok(Some(self.ring.delivered())),
-                Err(refused) => Err(refused.into_refusal()),
-            },
+        let Some(entry) = self.ring.next_place() else {
+            return Ok(None);
+        };
+        let entry = entry.copy(self.alloc)?;
+        match self.judged.enter(entry) {
+            Ok(()) => {
+                self.ring.advance();
+                Ok(Some(self.ring.delivered()))
+            }
+            Err(refused) => Err(refused.refusal),
         }
     }
 

@@ -1,19 +1,25 @@
-use Rattle.std.proofs.Common.{ℕ, Option, sym, subst}
-use Rattle.std.specs.Prelude.{MatchOption}
+use Rattle.std.proofs.Common.{None, Some}
 use Rattle.std.specs.Option.{option_copied}
-use Rattle.cpg_record.specs.Nexts.{is_made_by, reaches, IsNextTold, TellsNoMore}
-use Rattle.cpg_record.specs.Places.{sooner}
-use Rattle.cpg_record.proofs.Nexts.{next_of_either, next_told}
+use Rattle.cpg_group.proofs.Between.{group_before, next_is}
 use Rattle.cpg_group.proofs.nexts.find_next.Goals as goal
 
-pub returns : goal.returns
-returns c =
-    let rs = c.args.records.now in
-    let conn = c.args.conn.now in
-    let after = c.args.after in
-    let group = option_copied c.find_group-group.result in
-    subst (λ (next : Option ℕ). MatchOption next (TellsNoMore c.args.records.now c.args.after c.args.conn.now) (IsNextTold c.args.records.now c.args.after c.args.conn.now)) (sym c.sooner_of.ensures)
-    (next_told c.args.records.now c.args.conn.now c.args.after (option_copied c.find_group-group.result) (sym (c.find_group-group.ensures c.args.conn.now c.requires.trail))
-    (sooner c.next_own-own.result c.next_heard.result)
-    (next_of_either (is_made_by c.args.conn.now) (reaches (option_copied c.find_group-group.result)) c.args.records.now c.args.after c.next_own-own.result c.next_heard.result
-    (c.next_own-own.ensures c.args.records.now c.args.conn.now c.requires.trail) c.next_heard.ensures))
+pub returns-in-None-clause-told : goal.returns-in-None-clause-told
+returns-in-None-clause-told c =
+    let counted = c.count_own-passed.ensures c.args.records.now c.args.conn.now c.requires.trail in
+    next_is c.args.records.now c.args.conn.now c.args.after c.count_own-passed.result c.join_past-join.result c.own_at.result c.next_heard-heard.result (option_copied c.find_joined.result) counted
+    (c.own_at.ensures c.args.records.now c.args.conn.now c.requires.trail) (c.join_past-join.ensures.group c.args.records.now c.args.conn.now c.args.after c.requires.trail counted) c.find_joined.ensures c.next_heard-heard.ensures
+    None c.in-None.ensures
+
+pub returns-in-Some-clause-told : goal.returns-in-Some-clause-told
+returns-in-Some-clause-told c =
+    let counted = c.count_own-passed.ensures c.args.records.now c.args.conn.now c.requires.trail in
+    next_is c.args.records.now c.args.conn.now c.args.after c.count_own-passed.result c.join_past-join.result c.own_at.result c.next_heard-heard.result (option_copied c.find_joined.result) counted
+    (c.own_at.ensures c.args.records.now c.args.conn.now c.requires.trail) (c.join_past-join.ensures.group c.args.records.now c.args.conn.now c.args.after c.requires.trail counted) c.find_joined.ensures c.next_heard-heard.ensures
+    (Some c.in-Some.place) c.in-Some.ensures
+
+pub returns-in-Some-clause-join : goal.returns-in-Some-clause-join
+returns-in-Some-clause-join c =
+    let counted = c.count_own-passed.ensures c.args.records.now c.args.conn.now c.requires.trail in
+    group_before c.args.records.now c.args.conn.now c.args.after c.count_own-passed.result c.join_past-join.result c.own_at.result c.next_heard-heard.result (option_copied c.find_joined.result) counted
+    (c.own_at.ensures c.args.records.now c.args.conn.now c.requires.trail) (c.join_past-join.ensures.group c.args.records.now c.args.conn.now c.args.after c.requires.trail counted) c.find_joined.ensures c.next_heard-heard.ensures
+    c.in-Some.place c.in-Some.ensures

@@ -1,94 +1,109 @@
-use Rattle.std.proofs.Common.{◌≡◌, ℕ, ◌+◌, ◌<◌, ◌-◌, length, None, Some, refl, sym, ap, ◌∙◌, subst, arith}
+use Rattle.std.proofs.Common.{◌≡◌, ℕ, ◌+◌, ◌<◌, ◌≤◌, ◌-◌, List, length, None, Some, refl, sym, ap, ◌∙◌, subst, arith}
 use Rattle.std.specs.Prelude.{IsSome}
 use Rattle.std.specs.List.{slice_get}
 use Rattle.cpg_record.specs.declared.connections.ConnId.{ConnId}
+use Rattle.cpg_entry.specs.declared.entries.Entry.{Entry}
 use Rattle.cpg_record.specs.Events.{events, inbox}
+use Rattle.cpg_record.specs.Nexts.{IsNextTold}
 use Rattle.cpg_record.specs.Judging.{judged}
 use Rattle.cpg_record.proofs.Denials.{each_entry_is_judged}
+use Rattle.cpg_group.specs.Heard.{HeardValue}
 use Rattle.cpg_node.specs.Cursors.{IsCursor}
 use Rattle.cpg_node.specs.declared.cursors.Cursor.{Cursor}
-use Rattle.cpg_node.proofs.Looking.{cursor_past, item_at, item_there, whatever, few_at, next_within, none_left}
+use Rattle.cpg_node.proofs.Looking.{cursor_behind, cursor_past, item_at, item_there, whatever, few_at, none_left}
 use Rattle.cpg_node.proofs.inboxes.seek.Goals as goal
 
-pub count_at-count-requires : goal.count_at-count-requires
-count_at-count-requires c = next_within c.args.policy.now c.loop-place.cursor.place c.loop-place.cursor.conn c.in-Some.place c.in-Some.ensures
+-- what is asked of a place that was found is of the records
+listed : (now : List Entry) (conn : ConnId) (heard : HeardValue) → heard ≡ record { records = judged now; conn = conn; place = heard.place } →
+    events heard.records heard.place heard.conn ≡ events (judged now) heard.place conn
+listed now conn heard is = ap (λ (h : HeardValue). events h.records h.place h.conn) is
 
-pub event_at-requires-clause-place : goal.event_at-requires-clause-place
-event_at-requires-clause-place c = next_within c.args.policy.now c.loop-place.cursor.place c.loop-place.cursor.conn c.in-Some.place c.in-Some.ensures
+-- a cursor past the place, by what was asked of it
+past_is : (now : List Entry) (cursor : Cursor) (heard : HeardValue) (place count : ℕ) → heard ≡ record { records = judged now; conn = cursor.conn; place = heard.place } →
+    place ≡ heard.place → count ≡ length (events heard.records heard.place heard.conn) → IsCursor (judged now) cursor → IsNextTold (judged now) cursor.place cursor.conn heard.place →
+    IsCursor (judged now) (record { conn = cursor.conn; place = place; told = cursor.told + count })
+past_is now cursor heard place count is at counted right next =
+    let list = events (judged now) heard.place cursor.conn in
+    let all : count ≡ length list = counted ∙ ap length (listed now cursor.conn heard is) in
+    subst (λ (p : ℕ). IsCursor (judged now) (record { conn = cursor.conn; place = p; told = cursor.told + count })) (sym at)
+    (subst (λ (n : ℕ). IsCursor (judged now) (record { conn = cursor.conn; place = heard.place; told = cursor.told + n })) (sym all) (cursor_past now cursor heard.place list right next refl))
 
-pub event_at-requires-clause-index : goal.event_at-requires-clause-index
-event_at-requires-clause-index c =
-    let inside = c.if-index-cursor.true in
-    let count = c.count_at-count.ensures in
-    omega (arith, inside, count)
+-- what the places up to it tell are few enough to count
+few : (now : List Entry) (cursor : Cursor) (heard : HeardValue) (count : ℕ) → heard ≡ record { records = judged now; conn = cursor.conn; place = heard.place } →
+    count ≡ length (events heard.records heard.place heard.conn) → IsCursor (judged now) cursor → IsNextTold (judged now) cursor.place cursor.conn heard.place → length now ≤ 1048576 →
+    cursor.told + count ≤ 2097152
+few now cursor heard count is counted right next all =
+    let two = few_at (judged now) cursor.conn heard.place (events (judged now) heard.place cursor.conn) refl in
+    let same = counted ∙ ap length (listed now cursor.conn heard is) in
+    let so_far = right.few in
+    let above = next.above in
+    let most = next.within in
+    let each = (each_entry_is_judged now).0 in
+    omega (arith, two, same, so_far, above, most, all, each)
 
-pub returns-in_err-event-clause-some : goal.returns-in_err-event-clause-some
-returns-in_err-event-clause-some c =
-    let now = c.args.policy.now in
-    let cursor = c.loop-place.cursor in
-    let place = c.in-Some.place in
-    let within : c.args.index - cursor.told < length (events (judged now) place cursor.conn) =
-    let inside = c.if-index-cursor.true in
-    let count = c.count_at-count.ensures in
-    omega (arith, inside, count) in
-    let at = item_at now cursor place c.args.index c.loop-place.invariant.right c.in-Some.ensures c.loop-place.invariant.before within in
-    let there : IsSome (slice_get (inbox (judged now) cursor.conn) c.args.index) =
-    subst IsSome at (item_there (events (judged now) place cursor.conn) (c.args.index - cursor.told) within) in
-    whatever c.from_residual.result (subst (λ (conn : ConnId). IsSome (slice_get (inbox (judged now) conn) c.args.index)) c.loop-place.invariant.conn there)
-
-pub returns-then-index-cursor-clause-event : goal.returns-then-index-cursor-clause-event
-returns-then-index-cursor-clause-event c =
-    let now = c.args.policy.now in
-    let cursor = c.loop-place.cursor in
-    let place = c.in-Some.place in
-    let within : c.args.index - cursor.told < length (events (judged now) place cursor.conn) =
-    let inside = c.if-index-cursor.true in
-    let count = c.count_at-count.ensures in
-    omega (arith, inside, count) in
-    let at = item_at now cursor place c.args.index c.loop-place.invariant.right c.in-Some.ensures c.loop-place.invariant.before within in
-    subst (λ (conn : ConnId). Some c.in_ok-event.event ≡ slice_get (inbox (judged now) conn) c.args.index) c.loop-place.invariant.conn
-    (c.in_ok-event.ensures.ok ∙ at)
-
-pub returns-then-index-cursor-clause-few : goal.returns-then-index-cursor-clause-few
-returns-then-index-cursor-clause-few c = λ h.
-    let few = few_at (judged c.args.policy.now) c.loop-place.cursor.conn c.in-Some.place (events (judged c.args.policy.now) c.in-Some.place c.loop-place.cursor.conn) refl in
-    let count = c.count_at-count.ensures in
-    let so_far = c.loop-place.invariant.right.few in
-    let above = c.in-Some.ensures.above in
-    let most = c.in-Some.ensures.within in
-    let inside = c.if-index-cursor.true in
-    let all = c.requires.few in
-    let each = (each_entry_is_judged c.args.policy.now).0 in
-    omega (arith, few, count, so_far, above, most, inside, all, each)
+-- the item that is sought is one of its events
+item_is : (now : List Entry) (cursor : Cursor) (heard : HeardValue) (count index : ℕ) → heard ≡ record { records = judged now; conn = cursor.conn; place = heard.place } →
+    count ≡ length (events heard.records heard.place heard.conn) → IsCursor (judged now) cursor → IsNextTold (judged now) cursor.place cursor.conn heard.place →
+    cursor.told ≤ index → index - cursor.told < count →
+    slice_get (events heard.records heard.place heard.conn) (index - cursor.told) ≡ slice_get (inbox (judged now) cursor.conn) index
+item_is now cursor heard count index is counted right next before within =
+    let list = listed now cursor.conn heard is in
+    let same = counted ∙ ap length list in
+    ap (λ events. slice_get events (index - cursor.told)) list
+    ∙ item_at now cursor heard.place index right next before (omega (arith, within, same))
 
 pub past-cursor-requires : goal.past-cursor-requires
 past-cursor-requires c =
-    let few = few_at (judged c.args.policy.now) c.loop-place.cursor.conn c.in-Some.place (events (judged c.args.policy.now) c.in-Some.place c.loop-place.cursor.conn) refl in
-    let count = c.count_at-count.ensures in
-    let so_far = c.loop-place.invariant.right.few in
-    let above = c.in-Some.ensures.above in
-    let most = c.in-Some.ensures.within in
-    let all = c.requires.few in
-    let each = (each_entry_is_judged c.args.policy.now).0 in
-    omega (arith, few, count, so_far, above, most, all, each)
+    let most = few c.args.policy.now c.loop-heard.cursor c.in-Some.heard c.count-count.result c.in-Some.ensures.value c.count-count.ensures c.loop-heard.invariant.right c.in-Some.ensures.next c.requires.few in
+    omega (arith, most)
 
-pub loop-place-preserved : goal.loop-place-preserved
-loop-place-preserved c =
+pub behind-requires-clause-few : goal.behind-requires-clause-few
+behind-requires-clause-few c =
+    let most = few c.args.policy.now c.loop-heard.cursor c.in-Some.heard c.count-count.result c.in-Some.ensures.value c.count-count.ensures c.loop-heard.invariant.right c.in-Some.ensures.next c.requires.few in
+    omega (arith, most)
+
+pub returns-in_err-event-clause-some : goal.returns-in_err-event-clause-some
+returns-in_err-event-clause-some c =
+    let cursor = c.loop-heard.cursor in
+    let at = item_is c.args.policy.now cursor c.in-Some.heard c.count-count.result c.args.index c.in-Some.ensures.value c.count-count.ensures c.loop-heard.invariant.right c.in-Some.ensures.next c.loop-heard.invariant.before c.if-at-count.true in
+    let within = c.if-at-count.true in
+    let count = c.count-count.ensures in
+    let there : IsSome (slice_get (inbox (judged c.args.policy.now) cursor.conn) c.args.index) =
+    subst IsSome at (item_there (events c.in-Some.heard.records c.in-Some.heard.place c.in-Some.heard.conn) (c.args.index - cursor.told) (omega (arith, within, count))) in
+    whatever c.from_residual.result (subst (λ (conn : ConnId). IsSome (slice_get (inbox (judged c.args.policy.now) conn) c.args.index)) c.loop-heard.invariant.conn there)
+
+pub returns-then-at-count-clause-event : goal.returns-then-at-count-clause-event
+returns-then-at-count-clause-event c =
+    let at = item_is c.args.policy.now c.loop-heard.cursor c.in-Some.heard c.count-count.result c.args.index c.in-Some.ensures.value c.count-count.ensures c.loop-heard.invariant.right c.in-Some.ensures.next c.loop-heard.invariant.before c.if-at-count.true in
+    c.in_ok-event.ensures.ok ∙ at ∙ ap (λ (conn : ConnId). slice_get (inbox (judged c.args.policy.now) conn) c.args.index) c.loop-heard.invariant.conn
+
+pub returns-then-at-count-clause-cursor : goal.returns-then-at-count-clause-cursor
+returns-then-at-count-clause-cursor c =
     let now = c.args.policy.now in
-    let cursor = c.loop-place.cursor in
-    let outside = c.if-index-cursor.false in
-    let before = c.loop-place.invariant.before in
-    let list = events (judged now) c.in-Some.place cursor.conn in
-    let past = c.past-cursor.ensures
-    ∙ ap (λ (count : ℕ). record { conn = cursor.conn; place = c.in-Some.place; told = cursor.told + count }) c.count_at-count.ensures in
+    let cursor = c.loop-heard.cursor in
+    let further = past_is now cursor c.in-Some.heard c.place-place.result c.count-count.result c.in-Some.ensures.value c.place-place.ensures c.count-count.ensures c.loop-heard.invariant.right c.in-Some.ensures.next in
+    subst (IsCursor (judged now)) (sym c.behind.ensures) (cursor_behind (judged now) _ cursor _ c.loop-heard.invariant.right further)
+
+pub returns-then-at-count-clause-few : goal.returns-then-at-count-clause-few
+returns-then-at-count-clause-few c = λ some.
+    let most = few c.args.policy.now c.loop-heard.cursor c.in-Some.heard c.count-count.result c.in-Some.ensures.value c.count-count.ensures c.loop-heard.invariant.right c.in-Some.ensures.next c.requires.few in
+    let within = c.if-at-count.true in
+    omega (arith, most, within)
+
+pub loop-heard-preserved : goal.loop-heard-preserved
+loop-heard-preserved c =
+    let now = c.args.policy.now in
+    let cursor = c.loop-heard.cursor in
+    let outside = c.if-at-count.false in
+    let before = c.loop-heard.invariant.before in
+    let further = past_is now cursor c.in-Some.heard c.place-place.result c.count-count.result c.in-Some.ensures.value c.place-place.ensures c.count-count.ensures c.loop-heard.invariant.right c.in-Some.ensures.next in
     record {
-      right = subst (IsCursor (judged now)) (sym past)
-          (cursor_past now cursor c.in-Some.place list c.loop-place.invariant.right c.in-Some.ensures refl);
-      conn = ap (λ (cursor : Cursor). cursor.conn) past ∙ c.loop-place.invariant.conn;
+      right = subst (IsCursor (judged now)) (sym c.past-cursor.ensures) further;
+      conn = ap (λ (cursor : Cursor). cursor.conn) c.past-cursor.ensures ∙ c.loop-heard.invariant.conn;
       before = let told = ap (λ (cursor : Cursor). cursor.told) c.past-cursor.ensures in omega (arith, told, outside, before);
     }
 
 pub returns-clause-event : goal.returns-clause-event
 returns-clause-event c =
-    subst (λ (conn : ConnId). None ≡ slice_get (inbox (judged c.args.policy.now) conn) c.args.index) c.loop-place.invariant.conn
-    (none_left (judged c.args.policy.now) c.loop-place.cursor c.args.index c.loop-place.invariant.right c.in_default.ensures c.loop-place.invariant.before)
+    subst (λ (conn : ConnId). None ≡ slice_get (inbox (judged c.args.policy.now) conn) c.args.index) c.loop-heard.invariant.conn
+    (none_left (judged c.args.policy.now) c.loop-heard.cursor c.args.index c.loop-heard.invariant.right c.in_default.ensures.next c.loop-heard.invariant.before)
