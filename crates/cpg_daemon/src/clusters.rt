@@ -8,7 +8,6 @@ ghost use Rattle.cpg_daemon.specs.Clusters.{IsUnstarted};
 ghost use Rattle.cpg_daemon.specs.Links.{peers_of, links_of};
 
 use crate::beginning::begin_all;
-use crate::bells::{Bell, new_bells};
 use crate::gates::Gate;
 use crate::lines::Lines;
 use crate::making::{first_token, new_links, new_locks, new_room, new_spares, peers, put_first};
@@ -17,7 +16,7 @@ use crate::stopping::{Begun, Room, gather, pair, take_out};
 use cpg_board::Board;
 use cpg_cred::{AcceptList, Refusal};
 use cpg_history::{Beginning, Front, History, HistoryName, Member, Opened, Parcel};
-use cpg_link::{LinkRx, LinkTx};
+use cpg_link::{Bell, LinkRx, LinkTx, new_bells};
 use cpg_ring::are_settings;
 use std::alloc::Global;
 use std::marker::Model;

@@ -6,7 +6,6 @@
 #![tactic(auto)]
 
 mod beginning;
-mod bells;
 mod clusters;
 mod gates;
 mod lines;

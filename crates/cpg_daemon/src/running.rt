@@ -5,10 +5,10 @@ ghost use Rattle.cpg_board.specs.Seats.{IsSeatOf};
 ghost use Rattle.cpg_history.specs.Members.{IsSafeAt};
 ghost use Rattle.cpg_daemon.specs.Links.{next_of};
 
-use crate::bells::{Bell, News};
 use cpg_board::{Board, Seat};
 use cpg_cred::{AcceptList, NodeId};
 use cpg_history::{History, HistoryName, Member, Parcel};
+use cpg_link::{Bell, News};
 use std::marker::Model;
 use std::sync::atomic::{AtomicBool, AtomicU64, Ordering};
 use std::sync::{Mutex, Wait};

@@ -2,12 +2,12 @@
 
 ghost use Rattle.std.specs.Prelude.{◌≡◌, ◌≤◌, ◌+◌, IfSome, IsTrue, vec_len};
 
-use crate::bells::{Bell, Depth, News};
 use crate::gates::Gate;
 use crate::lines::{Incoming, Lines, Outgoing};
 use crate::running::Running;
 use cpg_cred::NodeId;
 use cpg_history::{History, HistoryName, Member, Parcel, Parcels};
+use cpg_link::{Bell, Depth, News};
 use std::sync::Wait;
 use std::thread;
 

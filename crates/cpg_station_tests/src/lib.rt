@@ -1,7 +1,9 @@
-//! Tests of boards, links and stations, each alone or two that are fed by hand. Nothing here is used by the other
+//! Tests of bells, boards, links and stations, each alone or two that are fed by hand. Nothing here is used by the other
 //! crates.
 #![tactic(auto)]
 
+#[cfg(test)]
+mod bells;
 #[cfg(test)]
 mod boards;
 #[cfg(test)]

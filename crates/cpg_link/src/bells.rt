@@ -5,7 +5,8 @@
 //! ringer sees the sleep announced, or the turn sees the news: no wake-up is lost. All orderings are SeqCst, which lets
 //! both agree on what came first. A time limit ends each sleep nevertheless.
 
-ghost use Rattle.std.specs.Prelude.{◌≡◌, ◌⊎◌, IfOk, IsOkUnless, IsTrue, vec_len};
+ghost use Rattle.std.specs.Prelude.{◌≡◌, IfOk, IsOkUnless, vec_len};
+ghost use Rattle.cpg_link.specs.Sleeps.{ends_by};
 
 use cpg_cred::Refusal;
 use std::alloc::Global;
@@ -24,7 +25,7 @@ const YIELD_LOOKS: u32 = 16;
 
 /// How deep a thread sleeps.
 #[derive(Debug, Clone, Copy, PartialEq, Eq)]
-pub(crate) enum Depth {
+pub enum Depth {
     /// Not at all.
     Awake,
     /// Until a frame comes: the ring is at work.
@@ -35,7 +36,7 @@ pub(crate) enum Depth {
 
 /// What a thread is woken for.
 #[derive(Debug, Clone, Copy, PartialEq, Eq)]
-pub(crate) enum News {
+pub enum News {
     /// A token came.
     Token,
     /// Data came.
@@ -47,22 +48,23 @@ pub(crate) enum News {
 }
 
 impl Depth {
-    /// Whether the news end a sleep of that depth.
+    /// Whether the news end a sleep of that depth: all but a call a light one, all but a token a deep one.
     pub fn ends_by(self, news: News) -> bool
-        ensures light { self ≡ Depth.Light → IsTrue result ⊎ (news ≡ News.Call) }
-        ensures deep { self ≡ Depth.Deep → IsTrue result ⊎ (news ≡ News.Token) }
+        ensures { result ≡ ends_by self news }
     {
-        match self {
-            Depth::Awake => false,
-            Depth::Light => news != News::Call,
-            Depth::Deep => news != News::Token,
+        match (self, news) {
+            (Depth::Awake, _) => false,
+            (Depth::Light, News::Call) => false,
+            (Depth::Light, _) => true,
+            (Depth::Deep, News::Token) => false,
+            (Depth::Deep, _) => true,
         }
     }
 }
 
 /// The bell of a node's thread.
 #[derive(Drop)]
-pub(crate) struct Bell {
+pub struct Bell {
     parker: Parker,
     /// Whether a light sleep is announced, and whether a deep one is.
     light: AtomicBool,
@@ -96,7 +98,7 @@ impl Bell {
         self.deep.store(depth == Depth::Deep, Ordering::SeqCst);
     }
 
-    /// Wakes the thread, if these news end the sleep that it announced.
+    /// Wakes the thread, if these news end the sleep that it announced. A sleep that begins afterwards ends at once.
     pub fn ring(&self, news: News) {
         if self.announced().ends_by(news) {
             self.announce(Depth::Awake);
@@ -128,7 +130,7 @@ impl Bell {
 }
 
 /// A bell for each node's thread, in their order.
-pub(crate) fn new_bells(alloc: Global, nodes: u8) -> Result<Vec<Bell>, Refusal>
+pub fn new_bells(alloc: Global, nodes: u8) -> Result<Vec<Bell>, Refusal>
     ensures ok { IfOk result (λ bells. vec_len bells ≡ nodes) }
     ensures memory { IsOkUnless result Refusal.Memory }
 {

@@ -1,5 +1,5 @@
 use Rattle.std.proofs.Common.{◌≡◌, vec_len}
-use Rattle.cpg_daemon.proofs.bells.new_bells.Given as goal
+use Rattle.cpg_link.proofs.bells.new_bells.Given as goal
 
 abbrev pub invariant-loop : goal.invariant-loop
 invariant-loop l = vec_len l.bells ≡ l.counter
