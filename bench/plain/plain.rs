@@ -7,10 +7,13 @@
 //!
 //! Usage: plain NODES MESSAGES SIZE             a cluster at full load, as bench/load runs it with --beside
 //!        plain full NODES MESSAGES SIZE WINDOW the same, with at most WINDOW messages of a client in flight (0: any)
+//!        plain step [--ring R] [--nodes N] [--places P] [--hops H] [uid:N | gid:N]...
+//!        plain judge                           what `cpgring` prints of the same script, for bench/all --beside
 
 use std::collections::{HashMap, VecDeque};
 use std::env;
 use std::hint::spin_loop;
+use std::io::{self, BufRead, Read, Write};
 use std::process::exit;
 use std::sync::atomic::{AtomicBool, AtomicU32, AtomicU8, AtomicUsize, Ordering};
 use std::sync::mpsc::{sync_channel, Receiver, SyncSender};
@@ -1140,7 +1143,6 @@ struct Door {
 
 /// What all threads of a cluster share.
 struct Shared {
-    nodes: u8,
     doors: Vec<Door>,
     /// How many threads are at rest.
     resting: AtomicUsize,
@@ -1155,7 +1157,6 @@ impl Shared {
             bell: Bell { depth: AtomicU8::new(AWAKE), thread: OnceLock::new() },
         };
         Shared {
-            nodes,
             doors: (0..nodes).map(door).collect(),
             resting: AtomicUsize::new(0),
             halted: AtomicBool::new(false),
@@ -1777,14 +1778,1142 @@ fn read_load(words: &[String]) -> Option<Load> {
     }
 }
 
+// Words and numbers as they are read.
+
+const MOST_SCRIPT: usize = 16_777_216;
+
+/// The words of the longest line, and one more.
+const MOST_WORDS: usize = 10;
+
+/// A fault of a script, by its number and name.
+enum Fault {
+    Read,
+    BadCommand(usize),
+    Write,
+}
+
+fn read_all() -> Result<Vec<u8>, Fault> {
+    let mut script = Vec::new();
+    let most = MOST_SCRIPT as u64 + 1;
+    match io::stdin().take(most).read_to_end(&mut script) {
+        Ok(count) if count <= MOST_SCRIPT => Ok(script),
+        _ => Err(Fault::Read),
+    }
+}
+
+/// The first line, without its line feed, and what follows it.
+fn split_line(text: &[u8]) -> (&[u8], &[u8]) {
+    let mut rest = text;
+    let count = rest.skip_until(b'\n').unwrap_or(text.len());
+    let line = &text[..count];
+    (line.strip_suffix(b"\n").unwrap_or(line), rest)
+}
+
+fn is_blank(byte: u8) -> bool {
+    byte == b' ' || byte == b'\t'
+}
+
+fn trim(mut line: &[u8]) -> &[u8] {
+    while let Some((byte, rest)) = line.split_first() {
+        if !is_blank(*byte) && *byte != b'\r' {
+            break;
+        }
+        line = rest;
+    }
+    while let Some((byte, rest)) = line.split_last() {
+        if !is_blank(*byte) && *byte != b'\r' {
+            break;
+        }
+        line = rest;
+    }
+    line
+}
+
+/// How many bytes stand before the first that the test finds; many are tested at once.
+fn run_before<F: Fn(u8) -> bool>(text: &[u8], test: F) -> usize {
+    let mut passed = 0;
+    for piece in text.chunks(32) {
+        if piece.iter().fold(false, |found, byte| found | test(*byte)) {
+            return passed + piece.iter().position(|byte| test(*byte)).unwrap_or(0);
+        }
+        passed += piece.len();
+    }
+    passed
+}
+
+/// The words of a line, as many as there is room for.
+struct Words<'a> {
+    words: [&'a [u8]; MOST_WORDS],
+    count: usize,
+}
+
+impl<'a> Words<'a> {
+    fn of(mut line: &'a [u8]) -> Words<'a> {
+        let mut words = Words { words: [&[]; MOST_WORDS], count: 0 };
+        while words.count < MOST_WORDS {
+            while !line.is_empty() && is_blank(line[0]) {
+                line = &line[1..];
+            }
+            if line.is_empty() {
+                break;
+            }
+            let (word, rest) = line.split_at(run_before(line, is_blank));
+            words.words[words.count] = word;
+            words.count += 1;
+            line = rest;
+        }
+        words
+    }
+
+    fn as_slice(&self) -> &[&'a [u8]] {
+        &self.words[..self.count]
+    }
+}
+
+fn read_number(low: u64, high: u64, word: &[u8]) -> Option<u64> {
+    let mut number = 0u64;
+    for byte in word {
+        if !byte.is_ascii_digit() {
+            return None;
+        }
+        number = number.checked_mul(10)?.checked_add(u64::from(byte - b'0'))?;
+    }
+    if word.is_empty() || number < low || number > high {
+        None
+    } else {
+        Some(number)
+    }
+}
+
+fn read_u32(word: &[u8]) -> Option<u32> {
+    read_number(0, u64::from(u32::MAX), word).map(|number| number as u32)
+}
+
+fn read_node(nodes: u8, word: &[u8]) -> Option<u8> {
+    read_number(1, u64::from(nodes), word).map(|number| number as u8)
+}
+
+fn read_conn(word: &[u8]) -> Option<u16> {
+    read_number(1, MOST_CONNECTIONS as u64, word).map(|number| number as u16)
+}
+
+fn digit_of(byte: u8) -> Option<u8> {
+    char::from(byte).to_digit(16).map(|digit| digit as u8)
+}
+
+/// The message that a word spells.
+fn read_text(word: &[u8]) -> Option<Bytes> {
+    if word == b"-" {
+        return Some(Bytes::copy_of(&[]));
+    }
+    if !word.contains(&b'%') {
+        return Some(Bytes::copy_of(word));
+    }
+    let mut message = Vec::with_capacity(word.len());
+    let mut rest = word;
+    while !rest.is_empty() {
+        if rest[0] == b'%' {
+            if rest.len() < 3 {
+                return None;
+            }
+            message.push(digit_of(rest[1])? * 16 + digit_of(rest[2])?);
+            rest = &rest[3..];
+        } else {
+            let (run, after) = rest.split_at(run_before(rest, |byte| byte == b'%'));
+            message.extend_from_slice(run);
+            rest = after;
+        }
+    }
+    Some(Bytes::copy_of(&message))
+}
+
+/// The number of a condition of that name at the front of those that are left, which it is taken from.
+fn take_condition<'a>(name: &[u8], low: u64, high: u64, left: &mut Option<&'a [u8]>) -> Option<u64> {
+    let conditions = (*left)?;
+    let end = conditions.iter().position(|byte| *byte == b'+');
+    let first = &conditions[..end.unwrap_or(conditions.len())];
+    let number = read_number(low, high, first.strip_prefix(name)?)?;
+    *left = end.map(|end| &conditions[end + 1..]);
+    Some(number)
+}
+
+fn read_who(word: &[u8]) -> Option<Who> {
+    if word == b"any" {
+        return Some(Who { uid: None, gid: None, node: None });
+    }
+    let most = u64::from(u32::MAX);
+    let mut left = Some(word);
+    let uid = take_condition(b"uid:", 0, most, &mut left).map(|number| number as u32);
+    let gid = take_condition(b"gid:", 0, most, &mut left).map(|number| number as u32);
+    let node = take_condition(b"node:", 1, u64::from(MOST_NODES), &mut left).map(|number| number as u8);
+    match left {
+        None => Some(Who { uid, gid, node }),
+        Some(_) => None,
+    }
+}
+
+fn read_rule(effect: &[u8], right: &[u8], who: &[u8]) -> Option<Rule> {
+    let effect = match effect {
+        b"allow" => Effect::Allow,
+        b"deny" => Effect::Deny,
+        _ => return None,
+    };
+    let right = match right {
+        b"join" => Right::Join,
+        b"send" => Right::Send,
+        b"list" => Right::List,
+        b"edit" => Right::Edit,
+        _ => return None,
+    };
+    Some(Rule { effect, right, who: read_who(who)? })
+}
+
+fn read_call(words: &[&[u8]]) -> Option<Op> {
+    match words {
+        [b"join", group] => Some(Op::Join(Box::new(Bytes::copy_of(group)))),
+        [b"leave"] => Some(Op::Leave),
+        [b"send", text] => Some(Op::Send(read_text(text)?)),
+        [b"insert", group, position, effect, right, who] => {
+            let group = Bytes::copy_of(group);
+            let position = read_number(0, 255, position)? as u8;
+            let rule = read_rule(effect, right, who)?;
+            Some(Op::Insert(Box::new(Insertion { group, position, rule })))
+        }
+        [b"remove", group, id] => {
+            let group = Bytes::copy_of(group);
+            Some(Op::Remove(Box::new(Removal { group, id: read_u32(id)? })))
+        }
+        _ => None,
+    }
+}
+
+/// The items that the lines of a script say, of which none may say nothing.
+fn read_items<T, F: Fn(usize, &[&[u8]]) -> Option<T>>(script: &[u8], read: F) -> Result<Vec<T>, Fault> {
+    let mut items = Vec::new();
+    let mut rest = script;
+    let mut number = 0;
+    while !rest.is_empty() {
+        let (line, after) = split_line(rest);
+        rest = after;
+        number += 1;
+        let line = trim(line);
+        if line.is_empty() || line[0] == b'#' {
+            continue;
+        }
+        match read(items.len(), Words::of(line).as_slice()) {
+            None => return Err(Fault::BadCommand(number)),
+            Some(item) => items.push(item),
+        }
+    }
+    Ok(items)
+}
+
+// What is printed.
+
+/// Text that is gathered, and written many lines at a time.
+struct Output {
+    text: Vec<u8>,
+}
+
+/// How many bytes are written together, at least, but at the end.
+const MUCH: usize = 65_536;
+
+impl Output {
+    fn new() -> Output {
+        Output { text: Vec::with_capacity(2 * MUCH) }
+    }
+
+    fn flush(&mut self) -> Result<(), Fault> {
+        let written = io::stdout().write_all(&self.text).and_then(|_| io::stdout().flush());
+        self.text.clear();
+        written.map_err(|_| Fault::Write)
+    }
+
+    fn flush_much(&mut self) -> Result<(), Fault> {
+        if self.text.len() >= MUCH {
+            self.flush()
+        } else {
+            Ok(())
+        }
+    }
+}
+
+fn put_number(out: &mut Vec<u8>, mut number: u64) {
+    let mut digits = [0; 20];
+    let mut at = digits.len();
+    loop {
+        at -= 1;
+        digits[at] = b'0' + (number % 10) as u8;
+        number /= 10;
+        if number == 0 {
+            break;
+        }
+    }
+    out.extend_from_slice(&digits[at..]);
+}
+
+fn put_u32(out: &mut Vec<u8>, number: u32) {
+    put_number(out, u64::from(number));
+}
+
+fn put(out: &mut Vec<u8>, text: &str) {
+    out.extend_from_slice(text.as_bytes());
+}
+
+/// Puts text, and a number after it.
+fn put_with(out: &mut Vec<u8>, text: &str, number: u64) {
+    put(out, text);
+    put_number(out, number);
+}
+
+fn is_escaped(byte: u8) -> bool {
+    byte < 0x21 || byte > 0x7e || byte == b'%'
+}
+
+fn put_text(out: &mut Vec<u8>, message: &[u8]) {
+    if message.is_empty() {
+        return put(out, "-");
+    }
+    if message == b"-" {
+        return put(out, "%2D");
+    }
+    let mut rest = message;
+    while !rest.is_empty() {
+        let (run, after) = rest.split_at(run_before(rest, is_escaped));
+        out.extend_from_slice(run);
+        rest = after;
+        while let Some((byte, after)) = rest.split_first() {
+            if !is_escaped(*byte) {
+                break;
+            }
+            let digits = b"0123456789ABCDEF";
+            out.extend_from_slice(&[b'%', digits[usize::from(byte / 16)], digits[usize::from(byte % 16)]]);
+            rest = after;
+        }
+    }
+}
+
+fn put_who(out: &mut Vec<u8>, who: &Who) {
+    let conditions = [("uid:", who.uid), ("gid:", who.gid), ("node:", who.node.map(u32::from))];
+    let mut first = true;
+    for (name, value) in &conditions {
+        if let Some(value) = value {
+            put(out, if first { "" } else { "+" });
+            put_with(out, name, u64::from(*value));
+            first = false;
+        }
+    }
+    if first {
+        put(out, "any");
+    }
+}
+
+fn put_rule_words(out: &mut Vec<u8>, rule: &Rule) {
+    put(out, if rule.effect == Effect::Allow { "allow " } else { "deny " });
+    put(
+        out,
+        match rule.right {
+            Right::Join => "join ",
+            Right::Send => "send ",
+            Right::List => "list ",
+            Right::Edit => "edit ",
+        },
+    );
+    put_who(out, &rule.who);
+}
+
+fn put_op(out: &mut Vec<u8>, op: &Op) {
+    match op {
+        Op::Join(group) => {
+            put(out, "join ");
+            out.extend_from_slice(group.as_slice());
+        }
+        Op::Leave => put(out, "leave"),
+        Op::Send(message) => {
+            put(out, "send ");
+            put_text(out, message.as_slice());
+        }
+        Op::Insert(insertion) => {
+            put(out, "insert ");
+            out.extend_from_slice(insertion.group.as_slice());
+            put_with(out, " ", u64::from(insertion.position));
+            put(out, " ");
+            put_rule_words(out, &insertion.rule);
+        }
+        Op::Remove(removal) => {
+            put(out, "remove ");
+            out.extend_from_slice(removal.group.as_slice());
+            put_with(out, " ", u64::from(removal.id));
+        }
+        Op::Gone => put(out, "gone"),
+    }
+}
+
+fn put_conn(out: &mut Vec<u8>, node: u8, conn: u16) {
+    put_u32(out, u32::from(node));
+    put_with(out, ".", u64::from(conn));
+}
+
+/// Puts the place, the connection, its process and what it does.
+fn put_entry(out: &mut Vec<u8>, place: u32, entry: &Entry) {
+    put_u32(out, place);
+    put(out, " ");
+    put_conn(out, entry.node, entry.conn);
+    put_with(out, " ", u64::from(entry.pid));
+    put_with(out, " ", u64::from(entry.cred.uid));
+    put_with(out, " ", u64::from(entry.cred.gid));
+    put(out, " ");
+    put_op(out, &entry.op);
+}
+
+fn put_verdict(out: &mut Vec<u8>, verdict: Verdict) {
+    match verdict {
+        Verdict::AllowedRule(id) => put_with(out, "allowed rule ", u64::from(id)),
+        Verdict::AllowedDefault => put(out, "allowed default"),
+        Verdict::AllowedRoot => put(out, "allowed root"),
+        Verdict::AllowedFree => put(out, "allowed free"),
+        Verdict::DeniedRule(id) => put_with(out, "denied rule ", u64::from(id)),
+        Verdict::DeniedDefault => put(out, "denied default"),
+        Verdict::DeniedClosed => put(out, "denied closed"),
+        Verdict::DeniedJoined => put(out, "denied joined"),
+        Verdict::DeniedTwice => put(out, "denied twice"),
+        Verdict::DeniedFull => put(out, "denied full"),
+        Verdict::DeniedPosition => put(out, "denied position"),
+        Verdict::DeniedTableFull => put(out, "denied tablefull"),
+        Verdict::DeniedAbsent => put(out, "denied absent"),
+    }
+}
+
+fn put_process(out: &mut Vec<u8>, member: &Member) {
+    put_u32(out, u32::from(member.node));
+    put_with(out, "/", u64::from(member.pid));
+}
+
+fn put_members(out: &mut Vec<u8>, members: &[Member]) {
+    if members.is_empty() {
+        put(out, "-");
+    }
+    for (index, member) in members.iter().enumerate() {
+        if index > 0 {
+            out.push(b',');
+        }
+        put_process(out, member);
+    }
+}
+
+/// Puts the end of an audit line: the verdict, and the group with its members, whose text is given.
+fn put_outcome(out: &mut Vec<u8>, verdict: Verdict, group: Option<(&[u8], &[u8])>) {
+    put(out, " -> ");
+    put_verdict(out, verdict);
+    if let Some((name, members)) = group {
+        put(out, " group ");
+        out.extend_from_slice(name);
+        put(out, " members ");
+        out.extend_from_slice(members);
+    }
+    out.push(b'\n');
+}
+
+fn put_verdict_event(out: &mut Vec<u8>, place: u32, verdict: Verdict) {
+    put_with(out, "event ", u64::from(place));
+    put(out, " verdict ");
+    put_verdict(out, verdict);
+    out.push(b'\n');
+}
+
+fn put_message_event(out: &mut Vec<u8>, place: u32, group: &[u8], node: u8, pid: u32, text: &[u8]) {
+    put_with(out, "event ", u64::from(place));
+    put(out, " message ");
+    out.extend_from_slice(group);
+    put_with(out, " ", u64::from(node));
+    put_with(out, " ", u64::from(pid));
+    put(out, " ");
+    put_text(out, text);
+    out.push(b'\n');
+}
+
+fn put_change_event(out: &mut Vec<u8>, place: u32, group: &[u8], members: &[u8], member: &Member, cause: Cause) {
+    put_with(out, "event ", u64::from(place));
+    put(out, " change ");
+    out.extend_from_slice(group);
+    put(out, " members ");
+    out.extend_from_slice(members);
+    put(out, if cause == Cause::Join { " left - joined " } else { " left " });
+    put_process(out, member);
+    put(
+        out,
+        match cause {
+            Cause::Join => ":join\n",
+            Cause::Leave => ":leave joined -\n",
+            Cause::Down => ":down joined -\n",
+        },
+    );
+}
+
+fn put_rules_event(out: &mut Vec<u8>, place: u32, group: &[u8]) {
+    put_with(out, "event ", u64::from(place));
+    put(out, " rules ");
+    out.extend_from_slice(group);
+    out.push(b'\n');
+}
+
+fn put_event(out: &mut Vec<u8>, event: &Event) {
+    let place = event.place;
+    match &event.told {
+        Told::Verdict(verdict) => put_verdict_event(out, place, *verdict),
+        Told::Message(message) => {
+            let (group, text) = (message.group.as_slice(), message.text.as_slice());
+            put_message_event(out, place, group, message.node, message.pid, text);
+        }
+        Told::Change(change) => {
+            let mut members = Vec::new();
+            put_members(&mut members, &change.members);
+            put_change_event(out, place, change.group.as_slice(), &members, &change.member, change.cause);
+        }
+        Told::RulesChanged(group) => put_rules_event(out, place, group.as_slice()),
+    }
+}
+
+fn put_refusal(out: &mut Vec<u8>, refusal: Refusal) {
+    put(out, "refused ");
+    match refusal {
+        Refusal::Access => put(out, "2 Access"),
+        Refusal::NoConnection => put(out, "3 NoConnection"),
+        Refusal::BadName => put(out, "4 BadName"),
+        Refusal::TooLong => put(out, "5 TooLong"),
+        Refusal::QueueFull => put(out, "6 QueueFull"),
+        Refusal::ConnectionsFull => put(out, "7 ConnectionsFull"),
+        Refusal::Foreign => put(out, "8 Foreign"),
+        Refusal::NotMine => put(out, "9 NotMine"),
+        Refusal::Stale => put(out, "10 Stale"),
+        Refusal::Implausible => put(out, "11 Implausible"),
+        Refusal::Held => put(out, "12 Held"),
+        Refusal::FarAhead => put(out, "13 FarAhead"),
+        Refusal::Malformed => put(out, "14 Malformed"),
+        Refusal::RingEnd => put(out, "15 RingEnd"),
+        Refusal::NoFrame => put(out, "16 NoFrame"),
+        Refusal::Denied(id) => put_with(out, "21 Denied rule ", u64::from(id)),
+    }
+    out.push(b'\n');
+}
+
+fn put_places(out: &mut Vec<u8>, places: &[u32]) {
+    if places.is_empty() {
+        put(out, "-");
+    }
+    for (index, place) in places.iter().enumerate() {
+        if index > 0 {
+            out.push(b',');
+        }
+        put_u32(out, *place);
+    }
+}
+
+fn put_frame(out: &mut Vec<u8>, frame: &Frame) {
+    match read_frame(frame) {
+        None => put_refusal(out, Refusal::Malformed),
+        Some(Heard::Packet(packet)) => {
+            put(out, "data ");
+            put_entry(out, packet.place, &packet.entry);
+            out.push(b'\n');
+        }
+        Some(Heard::Token(token)) => {
+            put_with(out, "token hop ", token.hop);
+            put_with(out, " seq ", u64::from(token.seq));
+            put_with(out, " aru ", u64::from(token.aru));
+            match token.aru_id {
+                None => put(out, " id none rtr "),
+                Some(node) => {
+                    put_with(out, " id ", u64::from(node));
+                    put(out, " rtr ");
+                }
+            }
+            put_places(out, &token.rtr);
+            out.push(b'\n');
+        }
+    }
+}
+
+// The command `step`: a world of nodes, one event at a time.
+
+/// Whom a node lets in.
+struct AcceptList {
+    uids: Vec<u32>,
+    gids: Vec<u32>,
+}
+
+impl AcceptList {
+    fn accepts(&self, cred: Cred) -> bool {
+        cred.uid == 0 || cred.gid == 0 || self.uids.contains(&cred.uid) || self.gids.contains(&cred.gid)
+    }
+
+    /// Adds what a word `uid:N` or `gid:N` says.
+    fn add(&mut self, word: &[u8]) -> bool {
+        if let Some(uid) = word.strip_prefix(b"uid:").and_then(read_u32) {
+            self.uids.push(uid);
+            return true;
+        }
+        if let Some(gid) = word.strip_prefix(b"gid:").and_then(read_u32) {
+            self.gids.push(gid);
+            return true;
+        }
+        false
+    }
+}
+
+enum Command {
+    Connect(u8, u32, Cred),
+    Call(u8, u16, Op),
+    Disconnect(u8, u16),
+    Frame(u8, u64),
+    Timer(u8),
+    Deliver(u8),
+    Take(u8, u16),
+    List(u8, u16, Bytes),
+    Groups(u8, u16),
+    Show(u64),
+    Audit(u8),
+    Rules(u8, Bytes),
+    Safe(u8),
+}
+
+fn read_command(nodes: u8, words: &[&[u8]]) -> Option<Command> {
+    let node = |word: &[u8]| read_node(nodes, word);
+    match words {
+        [b"connect", at, pid, uid, gid] => {
+            let (at, pid) = (node(at)?, read_u32(pid)?);
+            Some(Command::Connect(at, pid, Cred { uid: read_u32(uid)?, gid: read_u32(gid)? }))
+        }
+        [b"call", at, conn, call @ ..] => Some(Command::Call(node(at)?, read_conn(conn)?, read_call(call)?)),
+        [b"disconnect", at, conn] => Some(Command::Disconnect(node(at)?, read_conn(conn)?)),
+        [b"frame", at, number] => Some(Command::Frame(node(at)?, read_number(0, u64::MAX, number)?)),
+        [b"timer", at] => Some(Command::Timer(node(at)?)),
+        [b"deliver", at] => Some(Command::Deliver(node(at)?)),
+        [b"take", at, conn] => Some(Command::Take(node(at)?, read_conn(conn)?)),
+        [b"list", at, conn, group] => Some(Command::List(node(at)?, read_conn(conn)?, Bytes::copy_of(group))),
+        [b"groups", at, conn] => Some(Command::Groups(node(at)?, read_conn(conn)?)),
+        [b"show", number] => Some(Command::Show(read_number(0, u64::MAX, number)?)),
+        [b"audit", at] => Some(Command::Audit(node(at)?)),
+        [b"rules", at, group] => Some(Command::Rules(node(at)?, Bytes::copy_of(group))),
+        [b"safe", at] => Some(Command::Safe(node(at)?)),
+        _ => None,
+    }
+}
+
+/// A connection of a node of the world.
+struct Connection {
+    pid: u32,
+    cred: Cred,
+    is_open: bool,
+    events: VecDeque<Event>,
+}
+
+/// A node of the world, with its connections and what waits.
+struct Host {
+    node: Node,
+    connections: Vec<Connection>,
+    waiting: VecDeque<Entry>,
+    /// How many of what waits are ends of connections.
+    ends: usize,
+}
+
+impl Host {
+    fn new(settings: Settings, id: u8) -> Host {
+        Host { node: Node::new(settings, id), connections: Vec::new(), waiting: VecDeque::new(), ends: 0 }
+    }
+
+    /// The open connection of that number.
+    fn open(&mut self, conn: u16) -> Result<&mut Connection, Refusal> {
+        match self.connections.get_mut(usize::from(conn) - 1) {
+            Some(connection) if connection.is_open => Ok(connection),
+            _ => Err(Refusal::NoConnection),
+        }
+    }
+
+    fn entry(&mut self, conn: u16, op: Op) -> Result<Entry, Refusal> {
+        let node = self.node.id;
+        let connection = self.open(conn)?;
+        Ok(Entry { node, conn, pid: connection.pid, cred: connection.cred, op })
+    }
+
+    fn connect(&mut self, list: &AcceptList, pid: u32, cred: Cred) -> Result<usize, Refusal> {
+        if !list.accepts(cred) {
+            return Err(Refusal::Access);
+        }
+        if self.connections.len() >= MOST_CONNECTIONS {
+            return Err(Refusal::ConnectionsFull);
+        }
+        self.connections.push(Connection { pid, cred, is_open: true, events: VecDeque::new() });
+        Ok(self.connections.len())
+    }
+
+    fn submit(&mut self, conn: u16, op: Op) -> Result<(), Refusal> {
+        let refusal = call_refusal(&op);
+        let entry = self.entry(conn, op)?;
+        if let Some(refusal) = refusal {
+            return Err(refusal);
+        }
+        if self.waiting.len() - self.ends >= MOST_WAITING {
+            return Err(Refusal::QueueFull);
+        }
+        self.waiting.push_back(entry);
+        Ok(())
+    }
+
+    fn disconnect(&mut self, conn: u16) -> Result<(), Refusal> {
+        let entry = self.entry(conn, Op::Gone)?;
+        self.open(conn)?.is_open = false;
+        self.waiting.push_back(entry);
+        self.ends += 1;
+        Ok(())
+    }
+
+    /// Hears a frame, and puts those that it sends.
+    fn hear(&mut self, frame: &Frame, sent: &mut Vec<Frame>) -> Result<(), Refusal> {
+        let token = match read_frame(frame) {
+            None => return Err(Refusal::Malformed),
+            Some(Heard::Packet(packet)) => return self.node.hear_packet(packet),
+            Some(Heard::Token(token)) => token,
+        };
+        if let Some(refusal) = self.node.token_refusal(&token) {
+            return Err(refusal);
+        }
+        let count = self.node.room(&token).min(self.waiting.len());
+        let mut placed: Vec<Entry> = self.waiting.drain(..count).collect();
+        self.ends -= placed.iter().filter(|entry| op_number(&entry.op) == 6).count();
+        self.node.visit(&token, &mut placed, sent);
+        Ok(())
+    }
+
+    fn deliver(&mut self, told: &mut Vec<(u16, Event)>) -> Option<u32> {
+        if !self.node.deliver(told) {
+            return None;
+        }
+        for (conn, event) in told.drain(..) {
+            if let Ok(connection) = self.open(conn) {
+                connection.events.push_back(event);
+            }
+        }
+        Some(self.node.delivered())
+    }
+
+    fn list(&mut self, conn: u16, name: &[u8]) -> Result<Members, Refusal> {
+        let cred = self.open(conn)?.cred;
+        match self.node.policy.find(name) {
+            None => Ok(Members::default()),
+            Some(group) => match group.decide(Right::List, self.node.id, cred) {
+                Some((Effect::Deny, id)) => Err(Refusal::Denied(id)),
+                _ => Ok(group.members.clone()),
+            },
+        }
+    }
+
+    fn groups(&mut self, conn: u16) -> Result<Vec<&[u8]>, Refusal> {
+        let cred = self.open(conn)?.cred;
+        let node = self.node.id;
+        let may_list = |group: &&Group| match group.decide(Right::List, node, cred) {
+            Some((Effect::Deny, _)) => false,
+            _ => !group.members.is_empty(),
+        };
+        let mut names: Vec<&[u8]> =
+            self.node.policy.groups.iter().filter(may_list).map(|group| group.name.as_slice()).collect();
+        names.sort();
+        Ok(names)
+    }
+
+    fn put_audit(&self, out: &mut Vec<u8>) {
+        let mut members = Vec::new();
+        for (index, record) in self.node.records.iter().enumerate() {
+            put_entry(out, index as u32 + 1, &record.entry);
+            members.clear();
+            let group = match &record.members {
+                None => None,
+                Some(list) => {
+                    put_members(&mut members, list);
+                    let group = &self.node.policy.groups[record.group as usize];
+                    Some((group.name.as_slice(), members.as_slice()))
+                }
+            };
+            put_outcome(out, record.verdict, group);
+        }
+        put_with(out, "records ", u64::from(self.node.delivered()));
+        out.push(b'\n');
+    }
+
+    fn put_rules(&self, out: &mut Vec<u8>, name: &[u8]) {
+        let none = Vec::new();
+        let table = self.node.policy.find(name).map_or(&none, |group| &group.table);
+        for (id, rule) in table {
+            put_u32(out, *id);
+            put(out, " ");
+            put_rule_words(out, rule);
+            out.push(b'\n');
+        }
+        put_with(out, "rules ", table.len() as u64);
+        out.push(b'\n');
+    }
+}
+
+/// All nodes, and all frames ever sent.
+struct World {
+    hosts: Vec<Host>,
+    sent: Vec<Frame>,
+    list: AcceptList,
+    told: Vec<(u16, Event)>,
+}
+
+/// The bytes that a number's line has.
+fn put_line(out: &mut Vec<u8>, text: &str, number: u64) {
+    put_with(out, text, number);
+    out.push(b'\n');
+}
+
+impl World {
+    fn new(settings: Settings, list: AcceptList) -> World {
+        let mut hosts: Vec<Host> = (1..settings.nodes + 1).map(|id| Host::new(settings, id)).collect();
+        let sent = hosts.last_mut().and_then(|host| host.node.timer()).into_iter().collect();
+        World { hosts, sent, list, told: Vec::new() }
+    }
+
+    fn host(&mut self, node: u8) -> &mut Host {
+        &mut self.hosts[usize::from(node) - 1]
+    }
+
+    fn frame(&self, number: u64) -> Option<&Frame> {
+        self.sent.get((number as usize).wrapping_sub(1))
+    }
+
+    /// A frame comes to a node; gives how many it sends.
+    fn bring(&mut self, node: u8, number: u64) -> Result<usize, Refusal> {
+        let frame = self.frame(number).cloned().ok_or(Refusal::NoFrame)?;
+        let before = self.sent.len();
+        self.hosts[usize::from(node) - 1].hear(&frame, &mut self.sent)?;
+        Ok(self.sent.len() - before)
+    }
+
+    fn send_again(&mut self, node: u8) -> usize {
+        match self.host(node).node.timer() {
+            None => 0,
+            Some(frame) => {
+                self.sent.push(frame);
+                1
+            }
+        }
+    }
+
+    fn put_delivered(&mut self, out: &mut Vec<u8>, node: u8) {
+        match self.hosts[usize::from(node) - 1].deliver(&mut self.told) {
+            None => put(out, "delivered none\n"),
+            Some(place) => put_line(out, "delivered ", u64::from(place)),
+        }
+    }
+
+    fn put_taken(&mut self, out: &mut Vec<u8>, node: u8, conn: u16) -> Result<(), Refusal> {
+        match self.host(node).open(conn)?.events.pop_front() {
+            None => put(out, "none\n"),
+            Some(event) => put_event(out, &event),
+        }
+        Ok(())
+    }
+
+    fn put_listed(&mut self, out: &mut Vec<u8>, node: u8, conn: u16, name: &[u8]) -> Result<(), Refusal> {
+        let members = self.host(node).list(conn, name)?;
+        put(out, "members ");
+        put_members(out, &members);
+        out.push(b'\n');
+        Ok(())
+    }
+
+    fn put_groups(&mut self, out: &mut Vec<u8>, node: u8, conn: u16) -> Result<(), Refusal> {
+        let names = self.host(node).groups(conn)?;
+        put(out, "groups");
+        for name in names {
+            out.push(b' ');
+            out.extend_from_slice(name);
+        }
+        out.push(b'\n');
+        Ok(())
+    }
+
+    /// Does what the command says, and puts its lines; but not that of a refusal.
+    fn answer(&mut self, out: &mut Vec<u8>, command: Command) -> Result<(), Refusal> {
+        match command {
+            Command::Connect(node, pid, cred) => {
+                let conn = self.hosts[usize::from(node) - 1].connect(&self.list, pid, cred)?;
+                put_line(out, "connected ", conn as u64);
+            }
+            Command::Call(node, conn, op) => {
+                self.host(node).submit(conn, op)?;
+                put(out, "admitted\n");
+            }
+            Command::Disconnect(node, conn) => {
+                self.host(node).disconnect(conn)?;
+                put(out, "closed\n");
+            }
+            Command::Frame(node, number) => {
+                let count = self.bring(node, number)?;
+                put_line(out, "sent ", count as u64);
+            }
+            Command::Timer(node) => {
+                let count = self.send_again(node);
+                put_line(out, "sent ", count as u64);
+            }
+            Command::Deliver(node) => self.put_delivered(out, node),
+            Command::Take(node, conn) => self.put_taken(out, node, conn)?,
+            Command::List(node, conn, name) => self.put_listed(out, node, conn, name.as_slice())?,
+            Command::Groups(node, conn) => self.put_groups(out, node, conn)?,
+            Command::Show(number) => put_frame(out, self.frame(number).ok_or(Refusal::NoFrame)?),
+            Command::Audit(node) => self.host(node).put_audit(out),
+            Command::Rules(node, name) => self.host(node).put_rules(out, name.as_slice()),
+            Command::Safe(node) => put_line(out, "safe ", u64::from(self.host(node).node.safe())),
+        }
+        Ok(())
+    }
+}
+
+fn run_step(settings: Settings, list: AcceptList) -> Result<(), Fault> {
+    let script = read_all()?;
+    let commands = read_items(&script, |_, words| read_command(settings.nodes, words))?;
+    let mut world = World::new(settings, list);
+    let mut out = Output::new();
+    for command in commands {
+        if let Err(refusal) = world.answer(&mut out.text, command) {
+            put_refusal(&mut out.text, refusal);
+        }
+        out.flush_much()?;
+    }
+    out.flush()
+}
+
+/// The settings and the accept list that the words after `step` ask for, if they do.
+fn read_step(words: &[String]) -> Option<(Settings, AcceptList)> {
+    let mut settings = Settings { ring: 1, nodes: 2, places: 4_096, hops: MOST_HOPS };
+    let mut list = AcceptList { uids: Vec::new(), gids: Vec::new() };
+    let mut words = words.iter();
+    while let Some(word) = words.next() {
+        let mut parts = word.splitn(2, '=');
+        let name = parts.next()?;
+        if !name.starts_with("--") {
+            if !list.add(word.as_bytes()) {
+                return None;
+            }
+            continue;
+        }
+        let value = match parts.next() {
+            Some(value) => value.as_bytes(),
+            None => words.next()?.as_bytes(),
+        };
+        match name {
+            "--ring" => settings.ring = read_u32(value)?,
+            "--nodes" => settings.nodes = read_node(MOST_NODES, value)?,
+            "--places" => settings.places = read_number(1, u64::from(MOST_PLACES), value)? as u32,
+            "--hops" => settings.hops = read_number(1, MOST_HOPS, value)?,
+            _ => return None,
+        }
+    }
+    Some((settings, list))
+}
+
+// The command `judge`: a script of agreed entries.
+
+/// A connection's verdict, and the lines of its group's text that it is told after that.
+struct Piece {
+    place: u32,
+    verdict: Verdict,
+    group: u32,
+    from: usize,
+    to: usize,
+}
+
+/// What is told up to the end of the group's text.
+const OPEN: usize = usize::MAX;
+
+struct JudgedInbox {
+    node: u8,
+    conn: u16,
+    pieces: Vec<Piece>,
+}
+
+/// What a group's members are told, one line after the other, and the text of its members.
+struct GroupText {
+    members: Vec<u8>,
+    lines: Vec<u8>,
+}
+
+struct Judging {
+    policy: Policy,
+    texts: Vec<GroupText>,
+    inboxes: Vec<JudgedInbox>,
+    /// The inbox of each connection of each node, or `NO_INBOX`.
+    found: Vec<Vec<u32>>,
+}
+
+const NO_INBOX: u32 = u32::MAX;
+
+fn read_entry(before: usize, words: &[&[u8]]) -> Option<Entry> {
+    let (at, pid, uid, gid, call) = match words {
+        [at, pid, uid, gid, call @ ..] => (at, pid, uid, gid, call),
+        _ => return None,
+    };
+    let dot = at.iter().position(|byte| *byte == b'.')?;
+    let (node, conn) = (read_node(MOST_NODES, &at[..dot])?, read_conn(&at[dot + 1..])?);
+    let (pid, cred) = (read_u32(pid)?, Cred { uid: read_u32(uid)?, gid: read_u32(gid)? });
+    let op = match call {
+        [b"gone"] => Op::Gone,
+        call => read_call(call)?,
+    };
+    if call_refusal(&op).is_some() || before >= MOST_PLACES as usize {
+        return None;
+    }
+    Some(Entry { node, conn, pid, cred, op })
+}
+
+impl Judging {
+    fn new() -> Judging {
+        let found = (0..MOST_NODES).map(|_| Vec::new()).collect();
+        Judging { policy: Policy::new(0), texts: Vec::new(), inboxes: Vec::new(), found }
+    }
+
+    /// The number of the connection's inbox, which is made where there is none.
+    fn inbox_of(&mut self, node: u8, conn: u16) -> usize {
+        let conns = &mut self.found[usize::from(node) - 1];
+        let at = usize::from(conn);
+        if conns.len() <= at {
+            conns.resize(at + 1, NO_INBOX);
+        }
+        if conns[at] == NO_INBOX {
+            conns[at] = self.inboxes.len() as u32;
+            self.inboxes.push(JudgedInbox { node, conn, pieces: Vec::new() });
+        }
+        conns[at] as usize
+    }
+
+    /// The length of what the group's members are told so far.
+    fn end_of(&self, group: u32) -> usize {
+        self.texts.get(group as usize).map_or(0, |text| text.lines.len())
+    }
+
+    /// Puts what an allowed entry tells its group.
+    fn tell(&mut self, place: u32, entry: &Entry, judged: &Judged) {
+        let group = &self.policy.groups[judged.group as usize];
+        let text = &mut self.texts[judged.group as usize];
+        let name = group.name.as_slice();
+        match (&entry.op, judged.moved) {
+            (Op::Send(message), _) => {
+                put_message_event(&mut text.lines, place, name, entry.node, entry.pid, message.as_slice());
+            }
+            (_, Some((member, cause))) => {
+                text.members.clear();
+                put_members(&mut text.members, &group.members);
+                put_change_event(&mut text.lines, place, name, &text.members, &member, cause);
+            }
+            _ => put_rules_event(&mut text.lines, place, name),
+        }
+    }
+
+    /// The piece of the connection's inbox that begins with its own entry: the group that it is in then tells it what
+    /// comes from there on; one that it left tells it that.
+    fn piece(&self, place: u32, entry: &Entry, judged: &Judged, before: usize) -> Piece {
+        let is_told = judged.verdict.is_allowed() && judged.group != NO_GROUP;
+        let after = self.policy.standing_of(entry.node, entry.conn);
+        let (group, from, to) = if after == NO_GROUP && is_told && judged.moved.is_some() {
+            (judged.group, before, self.end_of(judged.group))
+        } else if after == judged.group && is_told {
+            (after, before, OPEN)
+        } else {
+            (after, self.end_of(after), OPEN)
+        };
+        Piece { place, verdict: judged.verdict, group, from, to }
+    }
+
+    fn enter(&mut self, out: &mut Vec<u8>, place: u32, entry: &Entry) {
+        let inbox = self.inbox_of(entry.node, entry.conn);
+        let joined = self.policy.standing_of(entry.node, entry.conn);
+        let end = self.end_of(joined);
+        if let Some(piece) = self.inboxes[inbox].pieces.last_mut().filter(|piece| piece.to == OPEN) {
+            piece.to = end;
+        }
+        let judged = self.policy.enter(place, entry);
+        while self.texts.len() < self.policy.groups.len() {
+            self.texts.push(GroupText { members: vec![b'-'], lines: Vec::new() });
+        }
+        let before = self.end_of(judged.group);
+        if judged.verdict.is_allowed() && judged.group != NO_GROUP {
+            self.tell(place, entry, &judged);
+        }
+        let piece = self.piece(place, entry, &judged, before);
+        self.inboxes[inbox].pieces.push(piece);
+        put_entry(out, place, entry);
+        let group = self.policy.groups.get(judged.group as usize);
+        let shown = group.map(|group| (group.name.as_slice(), &self.texts[judged.group as usize].members[..]));
+        put_outcome(out, judged.verdict, shown);
+    }
+
+    fn put_inbox(&self, out: &mut Output, inbox: &JudgedInbox) -> Result<(), Fault> {
+        put(&mut out.text, "inbox ");
+        put_conn(&mut out.text, inbox.node, inbox.conn);
+        out.text.push(b'\n');
+        for piece in &inbox.pieces {
+            put_verdict_event(&mut out.text, piece.place, piece.verdict);
+            if let Some(text) = self.texts.get(piece.group as usize) {
+                let to = piece.to.min(text.lines.len());
+                out.text.extend_from_slice(&text.lines[piece.from.min(to)..to]);
+            }
+            out.flush_much()?;
+        }
+        Ok(())
+    }
+}
+
+fn run_judge() -> Result<(), Fault> {
+    let script = read_all()?;
+    let entries = read_items(&script, read_entry)?;
+    drop(script);
+    let count = entries.len();
+    let mut judging = Judging::new();
+    let mut out = Output::new();
+    for (index, entry) in entries.into_iter().enumerate() {
+        judging.enter(&mut out.text, index as u32 + 1, &entry);
+        out.flush_much()?;
+    }
+    put_line(&mut out.text, "records ", count as u64);
+    for inbox in &judging.inboxes {
+        judging.put_inbox(&mut out, inbox)?;
+    }
+    out.flush()
+}
+
+fn end_with(result: Result<(), Fault>) {
+    match result {
+        Ok(()) => return,
+        Err(Fault::Read) => eprintln!("cpgring: 42 Read"),
+        Err(Fault::BadCommand(line)) => eprintln!("cpgring: 41 BadCommand {}", line),
+        Err(Fault::Write) => eprintln!("cpgring: 43 Write"),
+    }
+    exit(1);
+}
+
+fn refuse_words() {
+    eprintln!("plain: not such words");
+    exit(2);
+}
+
+fn load_or_refuse(words: &[String]) {
+    match read_load(words) {
+        Some(load) => run_load(load),
+        None => refuse_words(),
+    }
+}
+
 fn main() {
     let words: Vec<String> = env::args().skip(1).collect();
-    let numbers = if words.first().map_or(false, |word| word == "full") { &words[1..] } else { &words[..] };
-    match read_load(numbers) {
-        Some(load) => run_load(load),
-        None => {
-            eprintln!("plain: not such words");
-            exit(2);
-        }
+    match words.first().map(|word| word.as_str()) {
+        Some("judge") if words.len() == 1 => end_with(run_judge()),
+        Some("step") => match read_step(&words[1..]) {
+            Some((settings, list)) => end_with(run_step(settings, list)),
+            None => refuse_words(),
+        },
+        Some("full") => load_or_refuse(&words[1..]),
+        _ => load_or_refuse(&words),
     }
 }
