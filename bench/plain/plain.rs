@@ -7,10 +7,12 @@
 //!
 //! Usage: plain NODES MESSAGES SIZE             a cluster at full load, as bench/load runs it with --beside
 //!        plain full NODES MESSAGES SIZE WINDOW the same, with at most WINDOW messages of a client in flight (0: any)
+//!        plain rest NODES ROUNDS               a cluster that rests for a second, and then answers a call, so often
 //!        plain step [--ring R] [--nodes N] [--places P] [--hops H] [uid:N | gid:N]...
-//!        plain judge                           what `cpgring` prints of the same script, for bench/all --beside
+//!        plain judge
+//!        plain accept                          what `cpgring` prints of the same script, for bench/all --beside
 
-use std::collections::{HashMap, VecDeque};
+use std::collections::{HashMap, HashSet, VecDeque};
 use std::env;
 use std::hint::spin_loop;
 use std::io::{self, BufRead, Read, Write};
@@ -1078,18 +1080,20 @@ const LINK_ROOM: usize = 64;
 const IDLE_TURNS: u32 = 64;
 
 /// For how many idle turns in a row a thread only spins, and until which it yields; after that it sleeps.
-const SPUN_TURNS: u32 = 16;
-const YIELDED_TURNS: u32 = 40;
+const SPUN_TURNS: u32 = 4;
+const YIELDED_TURNS: u32 = 6;
 const SPINS: u32 = 16;
 
 /// For how many microseconds a thread sleeps at most until a frame comes, times the tokens sent again up to a limit.
 const LIGHT_MICROS: u64 = 50;
 const SLOWEST: u64 = 16;
 
-/// After how many tokens in a row that brought and took nothing a thread yields between its turns; after how many the
-/// ring is at rest, and for how many microseconds a thread of it then sleeps at most until a call or data come.
+/// After how many tokens in a row that brought and took nothing a thread yields between its turns; after how many, and
+/// these hops more, the ring is at rest, and for how many microseconds a thread of it then sleeps at most until a call or
+/// data come.
 const CALM_TOKENS: u32 = 4;
-const REST_TOKENS: u32 = 64;
+const REST_TOKENS: u32 = 8;
+const REST_HOPS: u32 = 64;
 const DEEP_MICROS: u64 = 50_000;
 
 const AWAKE: u8 = 0;
@@ -1265,13 +1269,18 @@ struct Worker {
     placed: Vec<Entry>,
     frames: Vec<Frame>,
     told: Vec<(u16, Event)>,
+    /// How many of the last turns were idle since a token was sent again.
     idle: u32,
+    /// How many tokens in a row brought and took nothing; and how many of these let the ring rest.
     quiet: u32,
+    rest_tokens: u32,
+    /// How often a token was sent again since a frame came.
     resent: u64,
 }
 
 impl Worker {
     fn new(shared: Arc<Shared>, node: Node) -> Worker {
+        let rest_tokens = REST_TOKENS + REST_HOPS / u32::from(node.settings.nodes);
         Worker {
             shared,
             node,
@@ -1283,6 +1292,7 @@ impl Worker {
             told: Vec::new(),
             idle: 0,
             quiet: 0,
+            rest_tokens,
             resent: 0,
         }
     }
@@ -1455,8 +1465,8 @@ impl Worker {
     /// What is done between two turns.
     fn rest(&mut self) {
         match self.idle {
-            _ if self.quiet >= REST_TOKENS => self.rest_deep(),
-            _ if self.quiet >= CALM_TOKENS => thread::yield_now(),
+            _ if self.quiet >= self.rest_tokens => self.rest_deep(),
+            0 if self.quiet >= CALM_TOKENS => thread::yield_now(),
             0 => {}
             idle if idle <= SPUN_TURNS => (0..SPINS).for_each(|_| spin_loop()),
             idle if idle <= YIELDED_TURNS => thread::yield_now(),
@@ -1757,6 +1767,32 @@ fn run_load(load: Load) {
     print_rounds(&cluster.stop(), &load);
 }
 
+/// How long a call takes to its verdict after a second's rest, at the last node; so many times.
+fn run_rest(nodes: u8, rounds: u32) {
+    let cluster = Cluster::start(Settings { ring: 1, nodes, places: 4_096, hops: MOST_HOPS });
+    let root = Cred { uid: 0, gid: 0 };
+    if let Ok(mut session) = Session::connect(&cluster.shared, nodes, 40, root) {
+        for _ in 0..rounds {
+            thread::sleep(Duration::from_secs(1));
+            let start = Instant::now();
+            let admitted = session.submit(Op::Leave).is_ok();
+            while admitted && session.take().is_none() {
+                thread::yield_now();
+            }
+            println!("{} {}", admitted, start.elapsed().as_micros());
+        }
+    }
+    cluster.stop();
+}
+
+/// NODES and ROUNDS.
+fn read_rest(words: &[String]) -> Option<(u8, u32)> {
+    match words {
+        [nodes, rounds] => Some((read_node(MOST_NODES, nodes.as_bytes())?, read_u32(rounds.as_bytes())?)),
+        _ => None,
+    }
+}
+
 /// The load that NODES MESSAGES SIZE ask for, and WINDOW where it is there.
 fn read_load(words: &[String]) -> Option<Load> {
     let number = |at: usize| words.get(at)?.parse::<u32>().ok();
@@ -1785,11 +1821,13 @@ const MOST_SCRIPT: usize = 16_777_216;
 /// The words of the longest line, and one more.
 const MOST_WORDS: usize = 10;
 
-/// A fault of a script, by its number and name.
+/// A fault of a script.
 enum Fault {
     Read,
     BadCommand(usize),
     Write,
+    /// A fault of the text of a part of that number, as it is printed, with its line if it has one.
+    Part(usize, &'static str, Option<usize>),
 }
 
 fn read_all() -> Result<Vec<u8>, Fault> {
@@ -2337,12 +2375,27 @@ fn put_frame(out: &mut Vec<u8>, frame: &Frame) {
 // The command `step`: a world of nodes, one event at a time.
 
 /// Whom a node lets in.
+#[derive(Default)]
 struct AcceptList {
-    uids: Vec<u32>,
-    gids: Vec<u32>,
+    uids: HashSet<u32>,
+    gids: HashSet<u32>,
 }
 
 impl AcceptList {
+    fn answer(&self, cred: Cred) -> &'static str {
+        if cred.uid == 0 {
+            "accepted root-user\n"
+        } else if cred.gid == 0 {
+            "accepted root-group\n"
+        } else if self.uids.contains(&cred.uid) {
+            "accepted user\n"
+        } else if self.gids.contains(&cred.gid) {
+            "accepted group\n"
+        } else {
+            "refused 2 Access\n"
+        }
+    }
+
     fn accepts(&self, cred: Cred) -> bool {
         cred.uid == 0 || cred.gid == 0 || self.uids.contains(&cred.uid) || self.gids.contains(&cred.gid)
     }
@@ -2350,11 +2403,11 @@ impl AcceptList {
     /// Adds what a word `uid:N` or `gid:N` says.
     fn add(&mut self, word: &[u8]) -> bool {
         if let Some(uid) = word.strip_prefix(b"uid:").and_then(read_u32) {
-            self.uids.push(uid);
+            self.uids.insert(uid);
             return true;
         }
         if let Some(gid) = word.strip_prefix(b"gid:").and_then(read_u32) {
-            self.gids.push(gid);
+            self.gids.insert(gid);
             return true;
         }
         false
@@ -2688,7 +2741,7 @@ fn run_step(settings: Settings, list: AcceptList) -> Result<(), Fault> {
 /// The settings and the accept list that the words after `step` ask for, if they do.
 fn read_step(words: &[String]) -> Option<(Settings, AcceptList)> {
     let mut settings = Settings { ring: 1, nodes: 2, places: 4_096, hops: MOST_HOPS };
-    let mut list = AcceptList { uids: Vec::new(), gids: Vec::new() };
+    let mut list = AcceptList::default();
     let mut words = words.iter();
     while let Some(word) = words.next() {
         let mut parts = word.splitn(2, '=');
@@ -2883,12 +2936,212 @@ fn run_judge() -> Result<(), Fault> {
     out.flush()
 }
 
+// The command `accept`: names, lists of whom to let in, and questions.
+
+#[derive(Clone, Copy, PartialEq)]
+enum PartKind {
+    Names,
+    Conf,
+    Ask,
+}
+
+fn part_head(line: &[u8]) -> Option<PartKind> {
+    match line {
+        b"%names" => Some(PartKind::Names),
+        b"%conf" => Some(PartKind::Conf),
+        b"%ask" => Some(PartKind::Ask),
+        _ => None,
+    }
+}
+
+/// The numbers of names, of users and of groups.
+#[derive(Default)]
+struct Names<'a> {
+    users: HashMap<&'a [u8], u32>,
+    groups: HashMap<&'a [u8], u32>,
+}
+
+/// What a fault of a part's text is called; each has its line.
+type LineFault = &'static str;
+
+const BAD_LINE: LineFault = "31 BadLine";
+const UNOPENED: LineFault = "32 Unopened";
+const UNCLOSED: LineFault = "33 Unclosed";
+const BAD_ITEM: LineFault = "34 BadItem";
+const BAD_VALUE: LineFault = "35 BadValue";
+const UNKNOWN_NAME: LineFault = "36 UnknownName";
+
+impl<'a> Names<'a> {
+    fn read(&mut self, line: &'a [u8]) -> Result<(), LineFault> {
+        let (kept, name, number) = match Words::of(line).as_slice() {
+            [b"user", name, number] => (&mut self.users, *name, *number),
+            [b"group", name, number] => (&mut self.groups, *name, *number),
+            _ => return Err(BAD_LINE),
+        };
+        let number = read_u32(number).ok_or(BAD_VALUE)?;
+        kept.entry(name).or_insert(number);
+        Ok(())
+    }
+}
+
+/// What is open of a conf text.
+#[derive(Default)]
+struct Sections {
+    depth: usize,
+    /// Whether the section that is open at the top is one of users and groups.
+    is_listing: bool,
+}
+
+fn is_number(word: &[u8]) -> bool {
+    !word.is_empty() && word.iter().all(|byte| byte.is_ascii_digit())
+}
+
+/// The number that the value of an item says, by its digits or by a name.
+fn read_value(value: &[u8], names: &HashMap<&[u8], u32>) -> Result<u32, LineFault> {
+    if value.is_empty() || is_number(value) {
+        return read_u32(value).ok_or(BAD_VALUE);
+    }
+    names.get(value).cloned().ok_or(UNKNOWN_NAME)
+}
+
+impl Sections {
+    fn close(&mut self) -> Result<(), LineFault> {
+        if self.depth == 0 {
+            return Err(UNOPENED);
+        }
+        self.depth -= 1;
+        Ok(())
+    }
+
+    fn open(&mut self, name: &[u8]) {
+        if self.depth == 0 {
+            self.is_listing = name == b"uidgid";
+        }
+        self.depth += 1;
+    }
+
+    fn read_item(&self, key: &[u8], value: &[u8], names: &Names, list: &mut AcceptList) -> Result<(), LineFault> {
+        if self.depth != 1 || !self.is_listing {
+            return Ok(());
+        }
+        match key {
+            b"uid" => list.uids.insert(read_value(value, &names.users)?),
+            b"gid" => list.gids.insert(read_value(value, &names.groups)?),
+            _ => return Err(BAD_ITEM),
+        };
+        Ok(())
+    }
+
+    fn read(&mut self, line: &[u8], names: &Names, list: &mut AcceptList) -> Result<(), LineFault> {
+        if line == b"}" {
+            return self.close();
+        }
+        let opened = line.strip_suffix(b"{").map(trim).filter(|name| !name.is_empty());
+        if let Some(name) = opened {
+            self.open(name);
+            return Ok(());
+        }
+        let colon = line.iter().position(|byte| *byte == b':').ok_or(BAD_LINE)?;
+        self.read_item(trim(&line[..colon]), trim(&line[colon + 1..]), names, list)
+    }
+}
+
+/// A script of parts as far as it was read.
+struct Accepting<'a> {
+    kind: Option<PartKind>,
+    /// The number of the part, and of its first line.
+    part: usize,
+    head: usize,
+    names: Names<'a>,
+    sections: Sections,
+    list: AcceptList,
+    answers: Vec<u8>,
+}
+
+impl<'a> Accepting<'a> {
+    fn new() -> Accepting<'a> {
+        Accepting {
+            kind: None,
+            part: 0,
+            head: 0,
+            names: Names::default(),
+            sections: Sections::default(),
+            list: AcceptList::default(),
+            answers: Vec::new(),
+        }
+    }
+
+    fn end_part(&self) -> Result<(), Fault> {
+        if self.kind == Some(PartKind::Conf) && self.sections.depth > 0 {
+            Err(Fault::Part(self.part, UNCLOSED, None))
+        } else {
+            Ok(())
+        }
+    }
+
+    fn begin_part(&mut self, kind: PartKind, number: usize) -> Result<(), Fault> {
+        self.end_part()?;
+        self.kind = Some(kind);
+        self.part += 1;
+        self.head = number;
+        match kind {
+            PartKind::Names => self.names = Names::default(),
+            PartKind::Conf => self.sections = Sections::default(),
+            PartKind::Ask => {}
+        }
+        Ok(())
+    }
+
+    fn ask(&mut self, line: &[u8]) -> Option<()> {
+        let cred = match Words::of(line).as_slice() {
+            [uid, gid] => Cred { uid: read_u32(uid)?, gid: read_u32(gid)? },
+            _ => return None,
+        };
+        put(&mut self.answers, self.list.answer(cred));
+        Some(())
+    }
+
+    /// Takes in a trimmed line of that number that is not ignored.
+    fn read(&mut self, number: usize, line: &'a [u8]) -> Result<(), Fault> {
+        if let Some(kind) = part_head(line) {
+            return self.begin_part(kind, number);
+        }
+        let read = match self.kind {
+            None => return Err(Fault::BadCommand(number)),
+            Some(PartKind::Ask) => return self.ask(line).ok_or(Fault::BadCommand(number)),
+            Some(PartKind::Names) => self.names.read(line),
+            Some(PartKind::Conf) => self.sections.read(line, &self.names, &mut self.list),
+        };
+        read.map_err(|name| Fault::Part(self.part, name, Some(number - self.head)))
+    }
+}
+
+fn run_accept() -> Result<(), Fault> {
+    let script = read_all()?;
+    let mut accepting = Accepting::new();
+    let mut rest = &script[..];
+    let mut number = 0;
+    while !rest.is_empty() {
+        let (line, after) = split_line(rest);
+        rest = after;
+        number += 1;
+        let line = trim(line);
+        if !line.is_empty() && line[0] != b'#' {
+            accepting.read(number, line)?;
+        }
+    }
+    accepting.end_part()?;
+    Output { text: accepting.answers }.flush()
+}
+
 fn end_with(result: Result<(), Fault>) {
     match result {
         Ok(()) => return,
         Err(Fault::Read) => eprintln!("cpgring: 42 Read"),
         Err(Fault::BadCommand(line)) => eprintln!("cpgring: 41 BadCommand {}", line),
         Err(Fault::Write) => eprintln!("cpgring: 43 Write"),
+        Err(Fault::Part(part, name, None)) => eprintln!("cpgring: part {}: {}", part, name),
+        Err(Fault::Part(part, name, Some(line))) => eprintln!("cpgring: part {}: {} {}", part, name, line),
     }
     exit(1);
 }
@@ -2909,8 +3162,13 @@ fn main() {
     let words: Vec<String> = env::args().skip(1).collect();
     match words.first().map(|word| word.as_str()) {
         Some("judge") if words.len() == 1 => end_with(run_judge()),
+        Some("accept") if words.len() == 1 => end_with(run_accept()),
         Some("step") => match read_step(&words[1..]) {
             Some((settings, list)) => end_with(run_step(settings, list)),
+            None => refuse_words(),
+        },
+        Some("rest") => match read_rest(&words[1..]) {
+            Some((nodes, rounds)) => run_rest(nodes, rounds),
             None => refuse_words(),
         },
         Some("full") => load_or_refuse(&words[1..]),
