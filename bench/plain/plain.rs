@@ -47,11 +47,7 @@ const INSIDE: usize = 22;
 #[derive(Clone)]
 enum Bytes {
     Short(u8, [u8; INSIDE]),
-    Long {
-        text: Arc<Vec<u8>>,
-        start: u16,
-        length: u32,
-    },
+    Long { text: Arc<Vec<u8>>, start: u16, length: u32 },
 }
 
 impl Bytes {
@@ -1089,8 +1085,8 @@ const LIGHT_MICROS: u64 = 50;
 const SLOWEST: u64 = 16;
 
 /// After how many tokens in a row that brought and took nothing a thread yields between its turns; after how many, and
-/// these hops more, the ring is at rest, and for how many microseconds a thread of it then sleeps at most until a call or
-/// data come.
+/// these hops more, the ring is at rest; and for how many microseconds a thread of it then sleeps at most, until a call
+/// or data come.
 const CALM_TOKENS: u32 = 4;
 const REST_TOKENS: u32 = 8;
 const REST_HOPS: u32 = 64;
@@ -1160,11 +1156,7 @@ impl Shared {
             count: AtomicUsize::new(0),
             bell: Bell { depth: AtomicU8::new(AWAKE), thread: OnceLock::new() },
         };
-        Shared {
-            doors: (0..nodes).map(door).collect(),
-            resting: AtomicUsize::new(0),
-            halted: AtomicBool::new(false),
-        }
+        Shared { doors: (0..nodes).map(door).collect(), resting: AtomicUsize::new(0), halted: AtomicBool::new(false) }
     }
 
     fn door(&self, node: u8) -> &Door {
@@ -1709,11 +1701,8 @@ impl Client {
 
 /// All clients, each in a thread of its own.
 fn run_clients(shared: &Arc<Shared>, load: Load) -> Vec<Option<Ended>> {
-    let signals = Arc::new(Signals {
-        entered: AtomicU32::new(0),
-        failed: AtomicBool::new(false),
-        start: Instant::now(),
-    });
+    let signals =
+        Arc::new(Signals { entered: AtomicU32::new(0), failed: AtomicBool::new(false), start: Instant::now() });
     let root = Cred { uid: 0, gid: 0 };
     let begin = |node| {
         let (shared, signals) = (shared.clone(), signals.clone());
@@ -1726,7 +1715,12 @@ fn run_clients(shared: &Arc<Shared>, load: Load) -> Vec<Option<Ended>> {
     threads.into_iter().map(|thread| thread.join().unwrap()).collect()
 }
 
-fn print_ends(load: &Load, ends: &[Option<Ended>]) {
+/// Prints the text; whoever no longer reads it does not matter.
+fn print_all(text: &str) {
+    let _ = io::stdout().write_all(text.as_bytes()).and_then(|_| io::stdout().flush());
+}
+
+fn ends_line(load: &Load, ends: &[Option<Ended>]) -> String {
     let ended: Vec<&Ended> = ends.iter().flat_map(|end| end).collect();
     let begin = ended.iter().map(|end| end.begin).min().unwrap_or_default();
     let end = ended.iter().map(|end| end.end).max().unwrap_or_default();
@@ -1734,16 +1728,13 @@ fn print_ends(load: &Load, ends: &[Option<Ended>]) {
     let agree = ended.len() == ends.len() && ended.iter().all(|end| Some(end.tally.order) == order);
     let micros = (end.as_micros() as u64).saturating_sub(begin.as_micros() as u64).max(1);
     let rate = u64::from(load.total()) * 1_000_000 / micros;
-    println!(
-        "load nodes {} messages {} size {} ordered {} agree {} micros {} per_second {}",
-        load.nodes,
-        load.messages,
-        load.size,
-        load.total(),
-        if agree { "yes" } else { "NO" },
-        micros,
-        rate
-    );
+    let agree = if agree { "yes" } else { "NO" };
+    let Load { nodes, messages, size, .. } = *load;
+    let total = load.total();
+    format!(
+        "load nodes {nodes} messages {messages} size {size} ordered {total} agree {agree} \
+         micros {micros} per_second {rate}\n"
+    )
 }
 
 /// How often the token went round: by the last token that a node sent.
@@ -1752,10 +1743,10 @@ fn rounds_of(workers: &[Worker], nodes: u8) -> u64 {
     workers.iter().map(hop_of).max().unwrap_or(0) / u64::from(nodes)
 }
 
-fn print_rounds(workers: &[Worker], load: &Load) {
+fn rounds_line(workers: &[Worker], load: &Load) -> String {
     let rounds = rounds_of(workers, load.nodes);
     let tenths = u64::from(load.total()) * 10 / rounds.max(1);
-    println!("rounds {} messages_a_round {}.{}", rounds, tenths / 10, tenths % 10);
+    format!("rounds {} messages_a_round {}.{}\n", rounds, tenths / 10, tenths % 10)
 }
 
 fn run_load(load: Load) {
@@ -1763,8 +1754,8 @@ fn run_load(load: Load) {
     let settings = Settings { ring: 1, nodes: load.nodes, places, hops: MOST_HOPS };
     let cluster = Cluster::start(settings);
     let ends = run_clients(&cluster.shared, load);
-    print_ends(&load, &ends);
-    print_rounds(&cluster.stop(), &load);
+    print_all(&ends_line(&load, &ends));
+    print_all(&rounds_line(&cluster.stop(), &load));
 }
 
 /// How long a call takes to its verdict after a second's rest, at the last node; so many times.
@@ -1779,7 +1770,7 @@ fn run_rest(nodes: u8, rounds: u32) {
             while admitted && session.take().is_none() {
                 thread::yield_now();
             }
-            println!("{} {}", admitted, start.elapsed().as_micros());
+            print_all(&format!("{} {}\n", admitted, start.elapsed().as_micros()));
         }
     }
     cluster.stop();
