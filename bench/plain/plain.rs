@@ -1075,7 +1075,8 @@ const LINK_ROOM: usize = 64;
 /// After how many idle turns in a row a node sends its last token again.
 const IDLE_TURNS: u32 = 64;
 
-/// For how many idle turns in a row a thread only spins, and until which it yields; after that it sleeps.
+/// For how many idle turns in a row a thread only spins, and until which it yields; after that it sleeps until a frame
+/// comes. Where the nodes share processors with others, sleeping soon is what lets the one with the token run.
 const SPUN_TURNS: u32 = 4;
 const YIELDED_TURNS: u32 = 6;
 const SPINS: u32 = 16;
@@ -1244,9 +1245,11 @@ struct Outgoing {
 /// What a turn did.
 #[derive(Clone, Copy, PartialEq)]
 enum Turn {
+    /// It took no frame.
     Idle,
-    /// It passed a token on, which brought nothing and took nothing along.
+    /// It passed a token on, which brought nothing and took nothing along; or a token was refused.
     Quiet,
+    /// It took or sent data.
     Busy,
 }
 
@@ -1301,7 +1304,7 @@ impl Worker {
         door.count.store(desk.waiting.len(), Ordering::SeqCst);
     }
 
-    /// Sends the packets to all others, and the last frame, a token, to the next node.
+    /// Sends the packets to all others, and the last frame, a token, to the next node. What finds a link full is lost.
     fn send_all(&mut self) {
         let packets = self.frames.len() - 1;
         for end in &self.outgoing {
