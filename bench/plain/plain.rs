@@ -3,6 +3,11 @@
 //! there is no board. What it does is what the proved nodes do: tokens and bursts, frames spelled out and read, bounded
 //! links, a judged record of each entry at each node, and events for each session.
 //!
+//! Where it goes its own way for speed: a session's calls wait, and its events are put when they are delivered, behind
+//! locks of their own and not the node's; short frames and messages are copied, long ones shared; the members of a group
+//! are one list that its records share until they change. It leaves out frames of version 1, gates, and in the running
+//! cluster listings, ends of sessions and all but root in its accept list. Want of memory ends it.
+//!
 //! Build: rustc -O -C target-cpu=x86-64 bench/plain/plain.rs -o /tmp/plain
 //!
 //! Usage: plain NODES MESSAGES SIZE             a cluster at full load, as bench/load runs it with --beside
