@@ -1,3 +1,4 @@
 pub mod Clusters
 pub mod Links
 pub mod Sessions
+pub mod Taking

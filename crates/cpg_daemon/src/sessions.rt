@@ -1,11 +1,12 @@
 //! Sessions: a process at a node, with what it has seen.
 
-ghost use Rattle.std.specs.Prelude.{◌≡◌, ◌≤◌, ◌<◌, [], length, Ok, IfOk, IfErr, OnOk, OnErr, IsOkUnless, IsOk};
+ghost use Rattle.std.specs.Prelude.{◌≡◌, ◌≤◌, ◌<◌, [], length, Ok, Err, IfOk, IfErr, OnOk, OnErr, IsOkUnless, IsOk};
 ghost use Rattle.cpg_cred.specs.declared.refusals.Refusal.TheVariants.{Memory, Stopped};
 ghost use Rattle.cpg_record.specs.Places.{Begins};
 ghost use Rattle.cpg_board.specs.Seats.{IsSeatOf, IsLonger};
 ghost use Rattle.cpg_station.specs.Serving.{SubmitRefuses, moved_on};
 ghost use Rattle.cpg_daemon.specs.Sessions.{IsNew, ConnectRefuses, IsTaken, IsListed, AreNamed, IsClosed, IsEndRefusal};
+ghost use Rattle.cpg_daemon.specs.Taking.{TakesOne, TakesNext, IsTakenMany};
 ghost use Rattle.cpg_history.specs.Members.{Told, RefusalTold};
 ghost use mathlib.Core.List.{IsPrefix};
 ghost use Rattle.cpg_world_laws.specs.declared.events.WorldEvent.TheVariants as events;
@@ -15,7 +16,7 @@ use crate::running::Running;
 use cpg_board::Seat;
 use cpg_cred::{Cred, NodeId, Refusal, Refused};
 use cpg_entry::Call;
-use cpg_history::{Front, HistoryName};
+use cpg_history::{Front, HistoryName, Member};
 use cpg_node::{Connection, Event, Names, Processes};
 use std::marker::{Brand, Model};
 use std::sync::Wait;
@@ -109,7 +110,6 @@ impl<B: HistoryName, G> Running<B, G> {
 
     /// The next event of the session, if there is one. Refused with Stopped; with Behind where its node has
     /// delivered fewer places than the session has seen; with Memory.
-    #[tactic(auto, using(crate::proofs::Answering::taken))]
     pub fn take<R: Wait>(&self, rt: &R, session: &mut Session<B>) -> Result<Option<Event>, Refusal>
         requires { session.old.who.id.node ≤ self.now.nodes }
         ensures answer { IsTaken session.old session.new.seat result }
@@ -118,13 +118,70 @@ impl<B: HistoryName, G> Running<B, G> {
         ensures err { OnErr result ((session.new.who ≡ session.old.who) × (session.new.seen ≡ session.old.seen)) }
         ensures seat { Begins session.old.seat session.new.seat }
     {
-        self.station(session.who.id.node).lock(rt).take_for(
+        let mut station = self.station(session.who.id.node).lock(rt);
+        self.take_from(&mut station, session)
+    }
+
+    /// The next event of the session, if there is one, from its station, whose lock is held.
+    fn take_from(
+        &self,
+        station: &mut Member<B>,
+        session: &mut Session<B>,
+    ) -> Result<Option<Event>, Refusal>
+        ensures { TakesOne B.start session.old result session.new }
+    {
+        station.take_for(
             &self.history,
             &mut session.front,
             &self.board,
             &mut session.who,
             &mut session.seat,
         )
+    }
+
+    /// Takes an event more, and puts it behind those of the list. Says whether there was one. Room for it is made
+    /// first, so that none is taken that can't be given. Refused as `take` is; then the list is as it was.
+    fn take_onto(
+        &self,
+        station: &mut Member<B>,
+        session: &mut Session<B>,
+        events: &mut Vec<Event>,
+    ) -> Result<bool, Refusal>
+        ensures ok { IfOk result (λ more. TakesNext B.start session.old events.old.items more events.new.items session.new) }
+        ensures err { IfErr result (λ why. TakesOne B.start session.old (Err why) session.new × (events.new.items ≡ events.old.items)) }
+    {
+        events.reserve(1)?;
+        match self.take_from(station, session)? {
+            Some(event) => {
+                events.push_reserved(event);
+                Ok(true)
+            }
+            None => Ok(false),
+        }
+    }
+
+    /// The session's next events, behind those of the list: one after the other under one lock, as if by `take`, until so
+    /// many were taken or there is none. Gives how many. Refused as `take` is, and with Memory where the list has to grow;
+    /// the events that were taken before stand in the list then, too.
+    pub fn take_many<R: Wait>(
+        &self,
+        rt: &R,
+        session: &mut Session<B>,
+        events: &mut Vec<Event>,
+        most: usize,
+    ) -> Result<usize, Refusal>
+        requires { session.old.who.id.node ≤ self.now.nodes }
+        ensures events { IsTakenMany B.start most session.old events.old.items result events.new.items session.new }
+        ensures same { session.new.who.id ≡ session.old.who.id }
+        ensures seat { Begins session.old.seat session.new.seat }
+    {
+        let mut station = self.station(session.who.id.node).lock(rt);
+        for taken in 0..most {
+            if !self.take_onto(&mut station, session, events)? {
+                return Ok(taken);
+            }
+        }
+        Ok(most)
     }
 
     /// The members of a group. Refused with Stopped; Behind; with Denied where the group's rules deny the

@@ -1,5 +1,5 @@
-//! Tests of a cluster, with its threads: what sessions are told, what a stopped cluster answers, that two nodes
-//! run at once, settings out of their ranges; what each turn sends in rings of 1 to 8 nodes, how the gate is
+//! Tests of a cluster, with its threads: what sessions are told, one by one and in goes, what a stopped cluster answers,
+//! that two nodes run at once, settings out of their ranges; what each turn sends in rings of 1 to 8 nodes, how the gate is
 //! obeyed, and what a stopped cluster leaves; and links of each size. Nothing here is used by the other crates.
 #![tactic(auto)]
 
@@ -21,6 +21,8 @@ mod sharing;
 mod stepping;
 #[cfg(test)]
 mod steps;
+#[cfg(test)]
+mod taking;
 #[cfg(test)]
 mod threads;
 

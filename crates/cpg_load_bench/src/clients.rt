@@ -14,8 +14,8 @@ use std::sync::Wait;
 use std::thread;
 use std::time::{Clock, Instant};
 
-/// How many events a client takes in a row at most before it submits again.
-const MOST_TAKES: u32 = 256;
+/// How many events a client takes in one go at most before it submits again.
+const MOST_TAKES: usize = 256;
 
 /// How a client ended, with its times in nanoseconds since the start.
 #[derive(Debug, Clone, Copy)]
@@ -107,19 +107,22 @@ fn submit_all<B: HistoryName, R: Wait>(
     Ok(tally)
 }
 
-/// Takes until there is no event, or so many in a row were taken.
+/// Takes in one go until there is no event, or so many were taken. The list, which is empty, lends its room.
 fn take_all<B: HistoryName, R: Wait>(
     rt: &R,
     running: &Running<B, Deaf>,
     session: &mut Session<B>,
+    taken: &mut Vec<Event>,
     mut tally: Tally,
 ) -> Result<Tally, Refusal> {
-    for _ in 0..MOST_TAKES {
-        let Some(event) = take(rt, running, session)? else {
-            break;
-        };
-        tally = tally.after(&event).ok_or(Refusal::Stopped)?;
+    if !is_here(running, session) {
+        return Err(Refusal::Range);
     }
+    running.take_many(rt, session, taken, MOST_TAKES)?;
+    for event in taken.iter() {
+        tally = tally.after(event).ok_or(Refusal::Stopped)?;
+    }
+    taken.clear();
     Ok(tally)
 }
 
@@ -131,13 +134,14 @@ fn step<B: HistoryName, R: Wait>(
     load: Load,
     signals: &Signals,
     outbox: &mut Outbox,
+    taken: &mut Vec<Event>,
     before: Tally,
 ) -> Result<Tally, Refusal> {
     let mut tally = before;
     if !signals.is_over() {
         tally = submit_all(rt, running, session, load, outbox, tally)?;
     }
-    tally = take_all(rt, running, session, tally)?;
+    tally = take_all(rt, running, session, taken, tally)?;
     if tally == before {
         thread::yield_now();
     }
@@ -152,6 +156,7 @@ fn send_and_take<B: HistoryName, R: Wait>(
     load: Load,
     signals: &Signals,
     outbox: &mut Outbox,
+    taken: &mut Vec<Event>,
     index: usize,
 ) -> Result<Tally, Refusal> {
     let mut tally = Tally::NONE;
@@ -162,7 +167,7 @@ fn send_and_take<B: HistoryName, R: Wait>(
         if load.is_done(tally, signals.is_over()) {
             break;
         }
-        tally = step(rt, running, session, load, signals, outbox, tally)?;
+        tally = step(rt, running, session, load, signals, outbox, taken, tally)?;
         signals.tell(index, tally.told);
         if load.together && tally.sent >= load.messages {
             signals.end();
@@ -237,7 +242,17 @@ fn serve<B: HistoryName, R: Wait + Clock>(
     enter(rt, running, session, load, signals, join)?;
     let begin = nanos_since(rt, start);
     let mut outbox = Outbox::new(alloc, load.size)?;
-    let tally = send_and_take(rt, running, session, load, signals, &mut outbox, index)?;
+    let mut taken = Vec::new(alloc);
+    let tally = send_and_take(
+        rt,
+        running,
+        session,
+        load,
+        signals,
+        &mut outbox,
+        &mut taken,
+        index,
+    )?;
     Ok(Ended {
         begin,
         end: nanos_since(rt, start),
