@@ -27,6 +27,7 @@ use cpg_world::World;
 use std::alloc::Global;
 
 /// Puts the lines of what is looked at at the lines' end.
+#[inline(never)]
 pub fn put_look(
     alloc: Global,
     lines: &mut Vec<u8>,

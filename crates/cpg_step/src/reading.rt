@@ -1,6 +1,7 @@
 //! Commands from words.
 //!
-//! Proved: each function reads what the definition in `specs/Commands.antt` says, in a ring of so many nodes.
+//! Proved: each function reads what the definition in `specs/Commands.antt` says, in a ring of so many nodes. Those that
+//! make much, or are seldom called, stand apart (`inline(never)`), so that other lines don't pay for the room of their values.
 
 ghost use Rattle.std.specs.Prelude.{◌≡◌, ◌≤◌, Some, IfOk, IfSome, option_map};
 ghost use Rattle.cpg_text.specs.Lines.{words_of};
@@ -73,6 +74,7 @@ fn read_node_and_conn(nodes: u8, words: &[&[u8]]) -> Option<(NodeId, u16)>
     }
 }
 
+#[inline(never)]
 fn read_connect(nodes: u8, words: &[&[u8]]) -> Option<WorldEvent>
     ensures event { result ≡ connect_of nodes (texts words.now) }
     ensures within { IfSome result (λ event. node_in event ≤ nodes) }
@@ -89,6 +91,7 @@ fn read_connect(nodes: u8, words: &[&[u8]]) -> Option<WorldEvent>
     }
 }
 
+#[inline(never)]
 fn read_submit(alloc: Global, nodes: u8, words: &[&[u8]]) -> Result<Option<WorldEvent>, Refusal>
     ensures event { IfOk result (λ found. found ≡ submit_of nodes (texts words.now)) }
     ensures within { IfOk result (λ found. IfSome found (λ event. node_in event ≤ nodes)) }
@@ -137,6 +140,7 @@ fn read_frame(nodes: u8, words: &[&[u8]]) -> Option<WorldEvent>
     }
 }
 
+#[inline(never)]
 fn read_list(alloc: Global, nodes: u8, words: &[&[u8]]) -> Result<Option<WorldEvent>, Refusal>
     ensures event { IfOk result (λ found. found ≡ list_of nodes (texts words.now)) }
     ensures within { IfOk result (λ found. IfSome found (λ event. node_in event ≤ nodes)) }
@@ -274,6 +278,7 @@ fn read_safe(nodes: u8, words: &[&[u8]]) -> Option<Look>
 }
 
 /// What the words after the first word of a command that only looks are after.
+#[inline(never)]
 fn read_look(
     alloc: Global,
     nodes: u8,

@@ -1,4 +1,4 @@
-//! One event at its node.
+//! One event at its node. Each kind stands apart (`inline(never)`), so that none pays for the room of another's values.
 
 ghost use Rattle.std.specs.Prelude.{◌≡◌, ◌∷◌, [], suc, length, Result};
 ghost use Rattle.cpg_world_laws.specs.declared.events.WorldEvent.TheVariants as events;
@@ -11,6 +11,7 @@ use cpg_node::Node;
 use cpg_wire::reads_what_is_spelled;
 use cpg_world_laws::{Reply, WorldEvent};
 
+#[inline(never)]
 fn meet_connect(
     node: &mut Node,
     id: NodeId,
@@ -24,6 +25,7 @@ fn meet_connect(
     Ok(Reply::Connected(conn))
 }
 
+#[inline(never)]
 fn meet_submit(
     node: &mut Node,
     id: NodeId,
@@ -39,6 +41,7 @@ fn meet_submit(
     }
 }
 
+#[inline(never)]
 fn meet_disconnect(
     node: &mut Node,
     id: NodeId,
@@ -51,6 +54,7 @@ fn meet_disconnect(
     Ok(Reply::Closed)
 }
 
+#[inline(never)]
 fn meet_deliver(node: &mut Node, id: NodeId, sent: &Vec<Bytes>) -> Result<Reply, Refusal>
     ensures { IsMet (frames_of sent.now.items) (events.Deliver id) node.old result node.new (frames_of sent.now.items) }
 {
@@ -58,6 +62,7 @@ fn meet_deliver(node: &mut Node, id: NodeId, sent: &Vec<Bytes>) -> Result<Reply,
     Ok(Reply::Delivered(place))
 }
 
+#[inline(never)]
 fn meet_take(node: &mut Node, id: NodeId, conn: u16, sent: &Vec<Bytes>) -> Result<Reply, Refusal>
     ensures { IsMet (frames_of sent.now.items) (events.Take id conn) node.old result node.new (frames_of sent.now.items) }
 {
@@ -65,6 +70,7 @@ fn meet_take(node: &mut Node, id: NodeId, conn: u16, sent: &Vec<Bytes>) -> Resul
     Ok(Reply::Took(event))
 }
 
+#[inline(never)]
 fn meet_list(
     node: &Node,
     id: NodeId,
@@ -78,6 +84,7 @@ fn meet_list(
     Ok(Reply::Members(list))
 }
 
+#[inline(never)]
 fn meet_groups(node: &Node, id: NodeId, conn: u16, sent: &Vec<Bytes>) -> Result<Reply, Refusal>
     ensures { IsMet (frames_of sent.now.items) (events.Groups id conn) node.now result node.now (frames_of sent.now.items) }
 {
@@ -85,6 +92,7 @@ fn meet_groups(node: &Node, id: NodeId, conn: u16, sent: &Vec<Bytes>) -> Result<
     Ok(Reply::Groups(names))
 }
 
+#[inline(never)]
 fn meet_frame(
     node: &mut Node,
     id: NodeId,
@@ -112,6 +120,7 @@ fn meet_frame(
     Ok(Reply::Sent(count))
 }
 
+#[inline(never)]
 fn meet_timer(node: &mut Node, id: NodeId, sent: &mut Vec<Bytes>) -> Result<Reply, Refusal>
     requires spelled { AreSpelled sent.old.items }
     ensures met { IsMet (frames_of sent.old.items) (events.Timer id) node.old result node.new (frames_of sent.new.items) }
