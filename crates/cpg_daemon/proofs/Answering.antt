@@ -1,15 +1,14 @@
 -- What a station answers a session is what the session is to be answered, whatever the station was under its lock.
-use Rattle.std.proofs.Common.{ℕ, List, Option, Result, Ok, Err}
+use Rattle.std.proofs.Common.{ℕ, List, Result, Ok, Err}
 use Rattle.cpg_cred.specs.Listed.{Listed}
 use Rattle.cpg_cred.specs.declared.credentials.Cred.{Cred}
 use Rattle.cpg_cred.specs.declared.refusals.Refusal.{Refusal}
 use Rattle.cpg_cred.specs.declared.refusals.Refusal.TheVariants as refusal
-use Rattle.cpg_record.specs.declared.events.Event.{Event}
 use Rattle.cpg_board.specs.Seats.{SeatValue}
 use Rattle.cpg_station.specs.Admitting.{AdmitsNot}
-use Rattle.cpg_station.specs.Serving.{GivesNot, IsTakeFor, IsListFor, IsGroupsFor}
+use Rattle.cpg_station.specs.Serving.{GivesNot, IsListFor, IsGroupsFor}
 use Rattle.cpg_station.specs.Stations.{StationValue}
-use Rattle.cpg_daemon.specs.Sessions.{SessionValue, ConnectRefuses, AnswersNot, IsTaken, IsListed, AreNamed}
+use Rattle.cpg_daemon.specs.Sessions.{SessionValue, ConnectRefuses, AnswersNot, IsListed, AreNamed}
 
 pub connect_refuses : (list : Listed) (node pid : ℕ) (cred : Cred) (old new : StationValue) (why : Refusal) → AdmitsNot list node pid cred old why new → ConnectRefuses list cred why
 connect_refuses list node pid cred old new refusal.Stopped not = tt
@@ -23,10 +22,6 @@ down s before refusal.Stopped is = tt
 down s before (refusal.Behind reached) is = is.2
 down s before refusal.Memory is = tt
 down s before why is = absurd is
-
-pub taken : (session : SessionValue) (s : StationValue) (seat : SeatValue) (result : Result (Option Event) Refusal) → IsTakeFor session.who session.seat s seat result → IsTaken session seat result
-taken session s seat (Ok event) is = is
-taken session s seat (Err why) is = down s session.seat why is
 
 pub listed : (session : SessionValue) (g : List ℕ) (s : StationValue) (seat : SeatValue) (result : Result (List (ℕ × ℕ)) Refusal) → IsListFor session.who g session.seat s seat result → IsListed session g seat result
 listed session g s seat (Ok list) is = is
