@@ -76,10 +76,13 @@ impl<W, E: Write, H: Clock> Counted<W, E, H> {
         }
     }
 
-    /// Counts the lines of what was taken of a piece.
+    /// Counts the lines of what was taken of a piece, where there is a stream to tell them on.
     fn count(&mut self, taken: usize, piece: &[u8])
         ensures { counted_of self.new ≡ counted_of self.old }
     {
+        if self.errors.is_none() {
+            return;
+        }
         let lines = piece
             .iter()
             .take(taken)

@@ -1,24 +1,24 @@
 -- commands done, one after the other
-use Rattle.std.proofs.Common.{◌≡◌, ℕ, ◌+◌, ◌<◌, List, [], ◌∷◌, ◌++◌, length, take, drop, get_or, Option, refl, sym, ap, subst, ◌∙◌, append_assoc, append-nil}
+use Rattle.std.proofs.Common.{◌≡◌, ℕ, Bool, true, false, IsTrue, ◌↔◌, Result, Ok, Err, OnOk, OnErr, inr, List, [], ◌∷◌, ◌++◌, length, Option, refl, sym, ap, subst, ◌∙◌, append_assoc, append-nil}
 use Rattle.std.specs.List.{concat}
 use Rattle.std.specs.Io.KnownBytes.{Appends}
 use Rattle.std.proofs.KnownBytes.{Appends-trans, Appends-nil}
-use Rattle.std.proofs.lemmas.List.{take_more}
 use Rattle.std.proofs.lemmas.List.Folds.{concat-append}
 use Rattle.cpg_cred.specs.declared.refusals.Refusal.{Refusal}
+use Rattle.cpg_cred.specs.declared.refusals.Refusal.TheVariants.{Memory}
 use Rattle.cpg_text.specs.Streams.{AppendsFront}
-use Rattle.cpg_script.proofs.Lined.{split_around}
 use Rattle.cpg_world_laws.specs.declared.events.WorldEvent.{WorldEvent}
 use Rattle.cpg_world_laws.specs.Worlds.{WorldValue, happens, runs}
 use Rattle.cpg_world_laws.specs.Replies.{Answer, IsReply, AreReplies}
 use Rattle.cpg_world_laws.proofs.Reached.{runs_on}
+use Rattle.cpg_world.specs.Runs.{IsStep}
 use Rattle.cpg_world.proofs.Running.{as_many_after}
 use Rattle.cpg_step.specs.declared.commands.Look.{Look as LookValue}
 use Rattle.cpg_step.specs.declared.commands.Command.{Command}
 use Rattle.cpg_step.specs.declared.commands.Command.TheVariants.{Act, Look}
 use Rattle.cpg_step.specs.Lines.{answer_line, look_lines}
 use Rattle.cpg_step.specs.Running.{events_in, after, lines_of, AreDone, IsWrittenInPart, LeavesOf, IsStopped}
-use Rattle.cpg_step.specs.Steps.{IsDone}
+use Rattle.cpg_step.specs.Steps.{IsDone, MayBeDone}
 
 -- an event that was answered
 pub act_done : (w : WorldValue) (e : WorldEvent) (a : Answer) (text : List ℕ) (v : WorldValue) → IsReply w e a → v ≡ happens w e → text ≡ answer_line a → IsDone w (Act e) text v
@@ -28,6 +28,27 @@ act_done w e a text v replied happened said = record {
   world_after = happened;
   said = said ∙ sym (append-nil (answer_line a));
 }
+
+-- true is not false
+differ : true ≡ false → ⊥
+differ is = cc
+
+-- an event that came to something other than want of memory
+stepped : (w : WorldValue) (e : WorldEvent) (a : Answer) (told : Bool) (v : WorldValue) → IsStep w e a v → (IsTrue told ↔ (a ≡ Err Memory)) → told ≡ false → IsReply w e a × (v ≡ happens w e)
+stepped w e a told v step is none = step.happened (λ memory. differ (sym (is.1 memory) ∙ none))
+
+-- Where its line was put it is done.
+pub step_done : (w : WorldValue) (e : WorldEvent) (a : Answer) (told : Bool) (v : WorldValue) (put : Result (Unit {0}) Refusal) (before text : List ℕ) → IsStep w e a v → (IsTrue told ↔ (a ≡ Err Memory)) → told ≡ false
+    → before ≡ [] → OnOk put (text ≡ before ++ answer_line a) → OnOk put (IsDone w (Act e) text v)
+step_done w e a told v (Ok done) before text step is none empty said =
+    let met = stepped w e a told v step is none in
+    act_done w e a text v met.0 met.1 (said ∙ ap (λ front. front ++ answer_line a) empty)
+step_done w e a told v (Err refused) before text step is none empty said = tt
+
+-- Whether or not, it happened.
+pub step_happened : (w : WorldValue) (e : WorldEvent) (a : Answer) (told : Bool) (v : WorldValue) → IsStep w e a v → (IsTrue told ↔ (a ≡ Err Memory)) → told ≡ false → (put : Result (Unit {0}) Refusal) → OnErr put (MayBeDone w (Act e) v)
+step_happened w e a told v step is none (Ok done) = tt
+step_happened w e a told v step is none (Err refused) = inr (stepped w e a told v step is none).1
 
 -- a look
 pub look_done : (w : WorldValue) (l : LookValue) (text : List ℕ) → text ≡ concat (look_lines w l) → IsDone w (Look l) text w
@@ -95,20 +116,14 @@ done_more w v u before more a b d first second = record {
     texts : concat (lines_of w (before ++ more) (first.answers ++ second.answers)) ≡ concat (lines_of w before first.answers) ++ concat (lines_of v more second.answers)
     texts = ap concat (lines_parted w before more first.answers second.answers first.replies) ∙ (concat-append (lines_of w before first.answers) (lines_of (after w before) more second.answers) ∙ ap (λ x. concat (lines_of w before first.answers) ++ concat (lines_of x more second.answers)) (sym first.world_after))
 
--- one command more of a list
-pub done_next : (w v u : WorldValue) (commands : List Command) (i : ℕ) (c : Command) (a b d : Option (List ℕ)) → i < length commands → get_or commands i c ≡ c
-    → AreDone w (take i commands) a b v → AreDone v (c ∷ []) b d u → AreDone w (take (i + 1) commands) a d u
-done_next w v u commands i c a b d within e first second =
-    subst (λ l. AreDone w l a d u) (sym (take_more commands i c within ∙ ap (λ x. take i commands ++ x ∷ []) e)) (done_more w v u (take i commands) (c ∷ []) a b d first second)
-
--- the command of a list that met a refusal
-pub stopped_at : (refused : Refusal) (w v u : WorldValue) (commands : List Command) (i : ℕ) (c : Command) (a b d : Option (List ℕ)) → i < length commands → get_or commands i c ≡ c
-    → AreDone w (take i commands) a b v → LeavesOf refused v c b d u → IsStopped refused w commands a d u
-stopped_at refused w v u commands i c a b d within e first left = record {
-  before = take i commands;
+-- the command after those that are done met a refusal
+pub stopped_after : (refused : Refusal) (w v u : WorldValue) (before : List Command) (c : Command) (later : List Command) (a b d : Option (List ℕ))
+    → AreDone w before a b v → LeavesOf refused v c b d u → (commands : List Command) → commands ≡ before ++ c ∷ later → IsStopped refused w commands a d u
+stopped_after refused w v u before c later a b d first left commands whole = record {
+  before = before;
   met = c;
-  later = drop (i + 1) commands;
-  whole = split_around commands i c within e;
+  later = later;
+  whole = whole;
   between = v;
   told = b;
   done = first;

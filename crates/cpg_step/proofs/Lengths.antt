@@ -1,26 +1,65 @@
 -- how many words there are, and whether they say a command
 use Rattle.std.proofs.Common.{◌≡◌, ℕ, List, [], ◌∷◌, take, true, Option, Some, None, is_some, refl, ◌∙◌}
+use Rattle.std.specs.Option.{option_and_then}
 use Rattle.cpg_print.specs.Rules.{rule_of}
 use Rattle.cpg_world_laws.specs.declared.events.WorldEvent.{WorldEvent}
 use Rattle.cpg_print.proofs.Somes.{mapped}
 use Rattle.cpg_step.specs.declared.commands.Look.{Look}
 use Rattle.cpg_step.specs.declared.commands.Command.TheVariants as command
-use Rattle.cpg_step.specs.Commands.{act_or_look, command_of}
+use Rattle.cpg_step.specs.Commands.{act_or_look, connect_of, frame_of, list_of, look_of, node_and_conn, submit_of}
+use Rattle.cpg_step.specs.Steps.{two}
 
--- no word after the tenth matters
-pub command_of_first : (nodes : ℕ) (words : List (List ℕ)) → command_of nodes (take 10 words) ≡ command_of nodes words
+-- no word after a call's eighth matters
+pub submit_of_first : (nodes : ℕ) (words : List (List ℕ)) → submit_of nodes (take 9 words) ≡ submit_of nodes words
 unfolding rule_of
-command_of_first nodes [] = refl
-command_of_first nodes (a ∷ []) = refl
-command_of_first nodes (a ∷ b ∷ []) = refl
-command_of_first nodes (a ∷ b ∷ c ∷ []) = refl
-command_of_first nodes (a ∷ b ∷ c ∷ d ∷ []) = refl
-command_of_first nodes (a ∷ b ∷ c ∷ d ∷ e ∷ []) = refl
-command_of_first nodes (a ∷ b ∷ c ∷ d ∷ e ∷ f ∷ []) = refl
-command_of_first nodes (a ∷ b ∷ c ∷ d ∷ e ∷ f ∷ g ∷ []) = refl
-command_of_first nodes (a ∷ b ∷ c ∷ d ∷ e ∷ f ∷ g ∷ h ∷ []) = refl
-command_of_first nodes (a ∷ b ∷ c ∷ d ∷ e ∷ f ∷ g ∷ h ∷ i ∷ []) = refl
-command_of_first nodes (a ∷ b ∷ c ∷ d ∷ e ∷ f ∷ g ∷ h ∷ i ∷ j ∷ more) = refl
+submit_of_first nodes [] = refl
+submit_of_first nodes (a ∷ []) = refl
+submit_of_first nodes (a ∷ b ∷ []) = refl
+submit_of_first nodes (a ∷ b ∷ c ∷ []) = refl
+submit_of_first nodes (a ∷ b ∷ c ∷ d ∷ []) = refl
+submit_of_first nodes (a ∷ b ∷ c ∷ d ∷ e ∷ []) = refl
+submit_of_first nodes (a ∷ b ∷ c ∷ d ∷ e ∷ f ∷ []) = refl
+submit_of_first nodes (a ∷ b ∷ c ∷ d ∷ e ∷ f ∷ g ∷ []) = refl
+submit_of_first nodes (a ∷ b ∷ c ∷ d ∷ e ∷ f ∷ g ∷ h ∷ []) = refl
+submit_of_first nodes (a ∷ b ∷ c ∷ d ∷ e ∷ f ∷ g ∷ h ∷ i ∷ more) = refl
+
+-- nor one after the fifth of a connect
+pub connect_of_first : (nodes : ℕ) (words : List (List ℕ)) → connect_of nodes (take 5 words) ≡ connect_of nodes words
+connect_of_first nodes [] = refl
+connect_of_first nodes (a ∷ []) = refl
+connect_of_first nodes (a ∷ b ∷ []) = refl
+connect_of_first nodes (a ∷ b ∷ c ∷ []) = refl
+connect_of_first nodes (a ∷ b ∷ c ∷ d ∷ []) = refl
+connect_of_first nodes (a ∷ b ∷ c ∷ d ∷ e ∷ more) = refl
+
+-- nor one after the fourth of a list
+pub list_of_first : (nodes : ℕ) (words : List (List ℕ)) → list_of nodes (take 4 words) ≡ list_of nodes words
+list_of_first nodes [] = refl
+list_of_first nodes (a ∷ []) = refl
+list_of_first nodes (a ∷ b ∷ []) = refl
+list_of_first nodes (a ∷ b ∷ c ∷ []) = refl
+list_of_first nodes (a ∷ b ∷ c ∷ d ∷ more) = refl
+
+-- nor one after the third of a look
+pub look_of_first : (nodes : ℕ) (word : List ℕ) (words : List (List ℕ)) → look_of nodes word (take 3 words) ≡ look_of nodes word words
+look_of_first nodes word [] = refl
+look_of_first nodes word (a ∷ []) = refl
+look_of_first nodes word (a ∷ b ∷ []) = refl
+look_of_first nodes word (a ∷ b ∷ c ∷ more) = refl
+
+-- a node and a connection are two words
+pub at_of_two : (nodes : ℕ) (words : List (List ℕ)) → node_and_conn nodes words ≡ option_and_then (λ at. node_and_conn nodes (at.0 ∷ at.1 ∷ [])) (two words)
+at_of_two nodes [] = refl
+at_of_two nodes (a ∷ []) = refl
+at_of_two nodes (a ∷ b ∷ []) = refl
+at_of_two nodes (a ∷ b ∷ c ∷ more) = refl
+
+-- and so are a node and the number of a frame
+pub frame_of_two : (nodes : ℕ) (words : List (List ℕ)) → frame_of nodes words ≡ option_and_then (λ at. frame_of nodes (at.0 ∷ at.1 ∷ [])) (two words)
+frame_of_two nodes [] = refl
+frame_of_two nodes (a ∷ []) = refl
+frame_of_two nodes (a ∷ b ∷ []) = refl
+frame_of_two nodes (a ∷ b ∷ c ∷ more) = refl
 
 -- where one acts there is a command
 pub act_there : (act : Option WorldEvent) (look : Option Look) → is_some act ≡ true → is_some (act_or_look act look) ≡ true

@@ -23,3 +23,8 @@ MayBeDone w command world = (world ≡ w) ⊎ (world ≡ after w (command ∷ []
 abbrev pub rule_line_of : Option (ℕ × Rule) → List ℕ
 rule_line_of None = []
 rule_line_of (Some rule) = rule_line rule
+
+-- two words that are all there are
+abbrev pub two : List (List ℕ) → Option (List ℕ × List ℕ)
+two (first ∷ second ∷ []) = Some (first, second)
+two _ = None

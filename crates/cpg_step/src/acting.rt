@@ -24,35 +24,37 @@ pub fn do_command(
     alloc: Global,
     lines: &mut Vec<u8>,
     world: &mut World,
-    command: &Command,
+    command: Command,
 ) -> Result<(), Refusal>
-    requires within { IsWithin (length world.old.nodes) command.now }
+    requires within { IsWithin (length world.old.nodes) command }
     requires none { lines.old.items ≡ [] }
-    ensures ok { OnOk result (IsDone world.old command.now lines.new.items world.new) }
-    ensures err { OnErr result (MayBeDone world.old command.now world.new) }
+    ensures ok { OnOk result (IsDone world.old command lines.new.items world.new) }
+    ensures err { OnErr result (MayBeDone world.old command world.new) }
     ensures memory { IsOkUnless result Refusal.Memory }
 {
     match command {
         Command::Act(event) => act(alloc, lines, world, event),
-        Command::Look(look) => put_look(alloc, lines, world, look),
+        Command::Look(look) => put_look(alloc, lines, world, &look),
     }
 }
 
-/// Brings the event about, and puts the line of its answer.
-#[tactic(auto, using(crate::proofs::Doing::act_done))]
+/// Brings the event about, and puts the line of its answer, which is looked at where it is: it is large to move.
 fn act(
     alloc: Global,
     line: &mut Vec<u8>,
     world: &mut World,
-    event: &WorldEvent,
+    event: WorldEvent,
 ) -> Result<(), Refusal>
-    requires within { node_in event.now ≤ length world.old.nodes }
+    requires within { node_in event ≤ length world.old.nodes }
     requires none { line.old.items ≡ [] }
-    ensures ok { OnOk result (IsDone world.old (commands.Act event.now) line.new.items world.new) }
-    ensures err { OnErr result (MayBeDone world.old (commands.Act event.now) world.new) }
+    ensures ok { OnOk result (IsDone world.old (commands.Act event) line.new.items world.new) }
+    ensures err { OnErr result (MayBeDone world.old (commands.Act event) world.new) }
     ensures memory { IsOkUnless result Refusal.Memory }
 {
-    let answer = answer_to(alloc, world, event)?;
+    let answer = world.step(event);
+    if is_memory(&answer) {
+        return Err(Refusal::Memory);
+    }
     put_answer(alloc, line, &answer)
 }
 

@@ -12,6 +12,7 @@ ghost use Rattle.cpg_world_laws.specs.Worlds.{node_in};
 ghost use Rattle.cpg_world_laws.specs.declared.events.WorldEvent.TheVariants.{Submit, Disconnect, Take, Groups, Timer, Deliver};
 ghost use Rattle.cpg_print.specs.Words.{texts};
 ghost use Rattle.cpg_step.specs.declared.commands.Look.TheVariants.{Audit, Safe};
+ghost use Rattle.cpg_step.specs.Steps.{two};
 ghost use Rattle.cpg_step.specs.Commands.{node_of, conn_of, u64_of, node_alone, node_and_conn, connect_of, submit_of, frame_of, list_of, event_of, show_of, rules_of, look_of, act_or_look, command_of, LooksWithin, IsWithin};
 
 use crate::commands::{Command, Look};
@@ -19,12 +20,12 @@ use cpg_cred::{Cred, MOST_NODES, NodeId, Refusal};
 use cpg_entry::{MOST_CONNECTIONS, Name};
 use cpg_print::read_call;
 use cpg_script::{is, read_u32};
-use cpg_text::{read_number, take_words};
+use cpg_text::{Words, read_number, take_words};
 use cpg_world::WorldEvent;
 use std::alloc::Global;
 
-/// The words of the longest line, and one more.
-const WORDS: usize = 10;
+/// The words after the first of the longest line, and one more.
+const WORDS: usize = 9;
 
 /// The node of a NODE, where the ring has it.
 pub fn read_node(nodes: u8, word: &[u8]) -> Option<NodeId>
@@ -59,23 +60,55 @@ pub fn read_node_alone(nodes: u8, words: &[&[u8]]) -> Option<NodeId>
     }
 }
 
-/// The node and the connection of NODE CONN, where there are no more words.
-fn read_node_and_conn(nodes: u8, words: &[&[u8]]) -> Option<(NodeId, u16)>
-    ensures at { result ≡ node_and_conn nodes (texts words.now) }
-    ensures within { IfSome result (λ at. at.0 ≤ nodes) }
+/// The node of a NODE, where no more words follow.
+fn read_last_node(nodes: u8, rest: &[u8]) -> Option<NodeId>
+    ensures node { result ≡ node_alone nodes (words_of rest.now) }
+    ensures within { IfSome result (λ node. node ≤ nodes) }
 {
-    match words {
-        [node, conn] => {
-            let node = read_node(nodes, node)?;
-            let conn = read_conn(conn)?;
-            Some((node, conn))
-        }
-        _ => None,
+    let mut words = Words::of(rest);
+    let node = words.next()?;
+    match words.next() {
+        None => read_node(nodes, node),
+        Some(_) => None,
     }
 }
 
+/// The two words that follow, where there are no more.
+fn last_two(rest: &[u8]) -> Option<(&[u8], &[u8])>
+    ensures { option_map (λ words. (words.0.now, words.1.now)) result ≡ two (words_of rest.now) }
+{
+    let mut words = Words::of(rest);
+    let first = words.next()?;
+    let second = words.next()?;
+    match words.next() {
+        None => Some((first, second)),
+        Some(_) => None,
+    }
+}
+
+/// The node and the connection of NODE CONN, where no more words follow.
+#[tactic(auto, using(crate::proofs::Lengths::at_of_two))]
+fn read_node_and_conn(nodes: u8, rest: &[u8]) -> Option<(NodeId, u16)>
+    ensures at { result ≡ node_and_conn nodes (words_of rest.now) }
+    ensures within { IfSome result (λ at. at.0 ≤ nodes) }
+{
+    let (node, conn) = last_two(rest)?;
+    let node = read_node(nodes, node)?;
+    let conn = read_conn(conn)?;
+    Some((node, conn))
+}
+
 #[inline(never)]
-fn read_connect(nodes: u8, words: &[&[u8]]) -> Option<WorldEvent>
+#[tactic(auto, using(crate::proofs::Lengths::connect_of_first))]
+fn read_connect(nodes: u8, rest: &[u8]) -> Option<WorldEvent>
+    ensures event { result ≡ connect_of nodes (words_of rest.now) }
+    ensures within { IfSome result (λ event. node_in event ≤ nodes) }
+{
+    let words = take_words::<5>(rest);
+    read_connect_by(nodes, words.as_slice())
+}
+
+fn read_connect_by(nodes: u8, words: &[&[u8]]) -> Option<WorldEvent>
     ensures event { result ≡ connect_of nodes (texts words.now) }
     ensures within { IfSome result (λ event. node_in event ≤ nodes) }
 {
@@ -92,7 +125,17 @@ fn read_connect(nodes: u8, words: &[&[u8]]) -> Option<WorldEvent>
 }
 
 #[inline(never)]
-fn read_submit(alloc: Global, nodes: u8, words: &[&[u8]]) -> Result<Option<WorldEvent>, Refusal>
+#[tactic(auto, using(crate::proofs::Lengths::submit_of_first))]
+fn read_submit(alloc: Global, nodes: u8, rest: &[u8]) -> Result<Option<WorldEvent>, Refusal>
+    ensures event { IfOk result (λ found. found ≡ submit_of nodes (words_of rest.now)) }
+    ensures within { IfOk result (λ found. IfSome found (λ event. node_in event ≤ nodes)) }
+    ensures memory { IsOkUnlessMemoryFor result (submit_of nodes (words_of rest.now)) }
+{
+    let words = take_words::<WORDS>(rest);
+    read_submit_at(alloc, nodes, words.as_slice())
+}
+
+fn read_submit_at(alloc: Global, nodes: u8, words: &[&[u8]]) -> Result<Option<WorldEvent>, Refusal>
     ensures event { IfOk result (λ found. found ≡ submit_of nodes (texts words.now)) }
     ensures within { IfOk result (λ found. IfSome found (λ event. node_in event ≤ nodes)) }
     ensures memory { IsOkUnlessMemoryFor result (submit_of nodes (texts words.now)) }
@@ -126,22 +169,29 @@ fn read_submit_by(
     }
 }
 
-fn read_frame(nodes: u8, words: &[&[u8]]) -> Option<WorldEvent>
-    ensures event { result ≡ frame_of nodes (texts words.now) }
+#[tactic(auto, using(crate::proofs::Lengths::frame_of_two))]
+fn read_frame(nodes: u8, rest: &[u8]) -> Option<WorldEvent>
+    ensures event { result ≡ frame_of nodes (words_of rest.now) }
     ensures within { IfSome result (λ event. node_in event ≤ nodes) }
 {
-    match words {
-        [node, number] => {
-            let node = read_node(nodes, node)?;
-            let number = read_number(0, u64::MAX, number)?;
-            Some(WorldEvent::Frame(node, number as usize))
-        }
-        _ => None,
-    }
+    let (node, number) = last_two(rest)?;
+    let node = read_node(nodes, node)?;
+    let number = read_number(0, u64::MAX, number)?;
+    Some(WorldEvent::Frame(node, number as usize))
 }
 
 #[inline(never)]
-fn read_list(alloc: Global, nodes: u8, words: &[&[u8]]) -> Result<Option<WorldEvent>, Refusal>
+#[tactic(auto, using(crate::proofs::Lengths::list_of_first))]
+fn read_list(alloc: Global, nodes: u8, rest: &[u8]) -> Result<Option<WorldEvent>, Refusal>
+    ensures event { IfOk result (λ found. found ≡ list_of nodes (words_of rest.now)) }
+    ensures within { IfOk result (λ found. IfSome found (λ event. node_in event ≤ nodes)) }
+    ensures memory { IsOkUnlessMemoryFor result (list_of nodes (words_of rest.now)) }
+{
+    let words = take_words::<4>(rest);
+    read_list_by(alloc, nodes, words.as_slice())
+}
+
+fn read_list_by(alloc: Global, nodes: u8, words: &[&[u8]]) -> Result<Option<WorldEvent>, Refusal>
     ensures event { IfOk result (λ found. found ≡ list_of nodes (texts words.now)) }
     ensures within { IfOk result (λ found. IfSome found (λ event. node_in event ≤ nodes)) }
     ensures memory { IsOkUnlessMemoryFor result (list_of nodes (texts words.now)) }
@@ -158,43 +208,43 @@ fn read_list(alloc: Global, nodes: u8, words: &[&[u8]]) -> Result<Option<WorldEv
     }
 }
 
-fn read_disconnect(nodes: u8, words: &[&[u8]]) -> Option<WorldEvent>
-    ensures event { result ≡ option_map (λ at. Disconnect at.0 at.1) (node_and_conn nodes (texts words.now)) }
+fn read_disconnect(nodes: u8, rest: &[u8]) -> Option<WorldEvent>
+    ensures event { result ≡ option_map (λ at. Disconnect at.0 at.1) (node_and_conn nodes (words_of rest.now)) }
     ensures within { IfSome result (λ event. node_in event ≤ nodes) }
 {
-    let (node, conn) = read_node_and_conn(nodes, words)?;
+    let (node, conn) = read_node_and_conn(nodes, rest)?;
     Some(WorldEvent::Disconnect(node, conn))
 }
 
-fn read_take(nodes: u8, words: &[&[u8]]) -> Option<WorldEvent>
-    ensures event { result ≡ option_map (λ at. Take at.0 at.1) (node_and_conn nodes (texts words.now)) }
+fn read_take(nodes: u8, rest: &[u8]) -> Option<WorldEvent>
+    ensures event { result ≡ option_map (λ at. Take at.0 at.1) (node_and_conn nodes (words_of rest.now)) }
     ensures within { IfSome result (λ event. node_in event ≤ nodes) }
 {
-    let (node, conn) = read_node_and_conn(nodes, words)?;
+    let (node, conn) = read_node_and_conn(nodes, rest)?;
     Some(WorldEvent::Take(node, conn))
 }
 
-fn read_groups(nodes: u8, words: &[&[u8]]) -> Option<WorldEvent>
-    ensures event { result ≡ option_map (λ at. Groups at.0 at.1) (node_and_conn nodes (texts words.now)) }
+fn read_groups(nodes: u8, rest: &[u8]) -> Option<WorldEvent>
+    ensures event { result ≡ option_map (λ at. Groups at.0 at.1) (node_and_conn nodes (words_of rest.now)) }
     ensures within { IfSome result (λ event. node_in event ≤ nodes) }
 {
-    let (node, conn) = read_node_and_conn(nodes, words)?;
+    let (node, conn) = read_node_and_conn(nodes, rest)?;
     Some(WorldEvent::Groups(node, conn))
 }
 
-fn read_timer(nodes: u8, words: &[&[u8]]) -> Option<WorldEvent>
-    ensures event { result ≡ option_map (λ n. Timer n) (node_alone nodes (texts words.now)) }
+fn read_timer(nodes: u8, rest: &[u8]) -> Option<WorldEvent>
+    ensures event { result ≡ option_map (λ n. Timer n) (node_alone nodes (words_of rest.now)) }
     ensures within { IfSome result (λ event. node_in event ≤ nodes) }
 {
-    let node = read_node_alone(nodes, words)?;
+    let node = read_last_node(nodes, rest)?;
     Some(WorldEvent::Timer(node))
 }
 
-fn read_deliver(nodes: u8, words: &[&[u8]]) -> Option<WorldEvent>
-    ensures event { result ≡ option_map (λ n. Deliver n) (node_alone nodes (texts words.now)) }
+fn read_deliver(nodes: u8, rest: &[u8]) -> Option<WorldEvent>
+    ensures event { result ≡ option_map (λ n. Deliver n) (node_alone nodes (words_of rest.now)) }
     ensures within { IfSome result (λ event. node_in event ≤ nodes) }
 {
-    let node = read_node_alone(nodes, words)?;
+    let node = read_last_node(nodes, rest)?;
     Some(WorldEvent::Deliver(node))
 }
 
@@ -203,30 +253,30 @@ fn read_event(
     alloc: Global,
     nodes: u8,
     word: &[u8],
-    arguments: &[&[u8]],
+    rest: &[u8],
 ) -> Result<Option<WorldEvent>, Refusal>
-    ensures event { IfOk result (λ found. found ≡ event_of nodes word.now (texts arguments.now)) }
+    ensures event { IfOk result (λ found. found ≡ event_of nodes word.now (words_of rest.now)) }
     ensures within { IfOk result (λ found. IfSome found (λ event. node_in event ≤ nodes)) }
-    ensures memory { IsOkUnlessMemoryFor result (event_of nodes word.now (texts arguments.now)) }
+    ensures memory { IsOkUnlessMemoryFor result (event_of nodes word.now (words_of rest.now)) }
 {
     if is(word, b"connect".as_slice()) {
-        Ok(read_connect(nodes, arguments))
+        Ok(read_connect(nodes, rest))
     } else if is(word, b"call".as_slice()) {
-        read_submit(alloc, nodes, arguments)
+        read_submit(alloc, nodes, rest)
     } else if is(word, b"disconnect".as_slice()) {
-        Ok(read_disconnect(nodes, arguments))
+        Ok(read_disconnect(nodes, rest))
     } else if is(word, b"frame".as_slice()) {
-        Ok(read_frame(nodes, arguments))
+        Ok(read_frame(nodes, rest))
     } else if is(word, b"timer".as_slice()) {
-        Ok(read_timer(nodes, arguments))
+        Ok(read_timer(nodes, rest))
     } else if is(word, b"deliver".as_slice()) {
-        Ok(read_deliver(nodes, arguments))
+        Ok(read_deliver(nodes, rest))
     } else if is(word, b"take".as_slice()) {
-        Ok(read_take(nodes, arguments))
+        Ok(read_take(nodes, rest))
     } else if is(word, b"list".as_slice()) {
-        read_list(alloc, nodes, arguments)
+        read_list(alloc, nodes, rest)
     } else if is(word, b"groups".as_slice()) {
-        Ok(read_groups(nodes, arguments))
+        Ok(read_groups(nodes, rest))
     } else {
         Ok(None)
     }
@@ -279,7 +329,17 @@ fn read_safe(nodes: u8, words: &[&[u8]]) -> Option<Look>
 
 /// What the words after the first word of a command that only looks are after.
 #[inline(never)]
-fn read_look(
+#[tactic(auto, using(crate::proofs::Lengths::look_of_first))]
+fn read_look(alloc: Global, nodes: u8, word: &[u8], rest: &[u8]) -> Result<Option<Look>, Refusal>
+    ensures look { IfOk result (λ found. found ≡ look_of nodes word.now (words_of rest.now)) }
+    ensures within { IfOk result (λ found. IfSome found (λ look. LooksWithin nodes look)) }
+    ensures memory { IsOkUnlessMemoryFor result (look_of nodes word.now (words_of rest.now)) }
+{
+    let arguments = take_words::<3>(rest);
+    read_look_by(alloc, nodes, word, arguments.as_slice())
+}
+
+fn read_look_by(
     alloc: Global,
     nodes: u8,
     word: &[u8],
@@ -302,34 +362,22 @@ fn read_look(
     }
 }
 
-/// The command of a line's words.
-fn read_command(alloc: Global, nodes: u8, words: &[&[u8]]) -> Result<Option<Command>, Refusal>
-    ensures command { IfOk result (λ found. found ≡ command_of nodes (texts words.now)) }
-    ensures within { IfOk result (λ found. IfSome found (λ command. IsWithin nodes command)) }
-    ensures memory { IsOkUnlessMemoryFor result (command_of nodes (texts words.now)) }
-{
-    match words {
-        [] => Ok(None),
-        [word, arguments @ ..] => read_named(alloc, nodes, word, arguments),
-    }
-}
-
 /// The command that acts, if there is one, and else the one that looks.
 #[tactic(auto, using(crate::proofs::Lengths::act_there, crate::proofs::Lengths::look_there))]
 fn read_named(
     alloc: Global,
     nodes: u8,
     word: &[u8],
-    arguments: &[&[u8]],
+    rest: &[u8],
 ) -> Result<Option<Command>, Refusal>
-    ensures command { IfOk result (λ found. found ≡ act_or_look (event_of nodes word.now (texts arguments.now)) (look_of nodes word.now (texts arguments.now))) }
+    ensures command { IfOk result (λ found. found ≡ act_or_look (event_of nodes word.now (words_of rest.now)) (look_of nodes word.now (words_of rest.now))) }
     ensures within { IfOk result (λ found. IfSome found (λ command. IsWithin nodes command)) }
-    ensures memory { IsOkUnlessMemoryFor result (act_or_look (event_of nodes word.now (texts arguments.now)) (look_of nodes word.now (texts arguments.now))) }
+    ensures memory { IsOkUnlessMemoryFor result (act_or_look (event_of nodes word.now (words_of rest.now)) (look_of nodes word.now (words_of rest.now))) }
 {
-    if let Some(event) = read_event(alloc, nodes, word, arguments)? {
+    if let Some(event) = read_event(alloc, nodes, word, rest)? {
         return Ok(Some(Command::Act(event)));
     }
-    match read_look(alloc, nodes, word, arguments)? {
+    match read_look(alloc, nodes, word, rest)? {
         None => Ok(None),
         Some(look) => Ok(Some(Command::Look(look))),
     }
@@ -337,12 +385,14 @@ fn read_named(
 
 /// The command of a line, in a ring of so many nodes, if it is one. That it is none is told whatever memory there
 /// is.
-#[tactic(auto, using(crate::proofs::Lengths::command_of_first))]
 pub fn command_in_line(alloc: Global, nodes: u8, line: &[u8]) -> Result<Option<Command>, Refusal>
     ensures command { IfOk result (λ found. found ≡ command_of nodes (words_of line.now)) }
     ensures within { IfOk result (λ found. IfSome found (λ command. IsWithin nodes command)) }
     ensures memory { IsOkUnlessMemoryFor result (command_of nodes (words_of line.now)) }
 {
-    let words = take_words::<WORDS>(line);
-    read_command(alloc, nodes, words.as_slice())
+    let mut words = Words::of(line);
+    match words.next() {
+        None => Ok(None),
+        Some(word) => read_named(alloc, nodes, word, words.rest),
+    }
 }

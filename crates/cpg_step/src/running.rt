@@ -59,7 +59,7 @@ fn run_whole<R: Read, W: Write>(
 {
     let script = read_whole(alloc, reader)?;
     let commands = read_commands(alloc, world.nodes(), script.as_slice())?;
-    run_commands(alloc, writer, world, commands.as_slice())
+    run_commands(alloc, writer, world, commands)
 }
 
 /// Runs the commands one after the other, and writes the lines of each.
@@ -67,11 +67,11 @@ fn run_commands<W: Write>(
     alloc: Global,
     writer: &mut W,
     world: &mut World,
-    commands: &[Command],
+    commands: Vec<Command>,
 ) -> Result<(), Refusal>
-    requires { All (λ command. IsWithin (length world.old.nodes) command) commands.now }
-    ensures ok { OnOk result (AreDone world.old commands.now (W.contents writer.old) (W.contents writer.new) world.new) }
-    ensures err { IfErr result (λ refusal. IsStopped refusal world.old commands.now (W.contents writer.old) (W.contents writer.new) world.new) }
+    requires { All (λ command. IsWithin (length world.old.nodes) command) commands.items }
+    ensures ok { OnOk result (AreDone world.old commands.items (W.contents writer.old) (W.contents writer.new) world.new) }
+    ensures err { IfErr result (λ refusal. IsStopped refusal world.old commands.items (W.contents writer.old) (W.contents writer.new) world.new) }
 {
     let mut lines = Vec::new(alloc);
     for command in commands {
@@ -90,11 +90,11 @@ fn run_command<W: Write>(
     writer: &mut W,
     lines: &mut Vec<u8>,
     world: &mut World,
-    command: &Command,
+    command: Command,
 ) -> Result<(), Refusal>
-    requires { IsWithin (length world.old.nodes) command.now }
-    ensures ok { OnOk result (AreDone world.old (command.now ∷ []) (W.contents writer.old) (W.contents writer.new) world.new) }
-    ensures err { IfErr result (λ refusal. LeavesOf refusal world.old command.now (W.contents writer.old) (W.contents writer.new) world.new) }
+    requires { IsWithin (length world.old.nodes) command }
+    ensures ok { OnOk result (AreDone world.old (command ∷ []) (W.contents writer.old) (W.contents writer.new) world.new) }
+    ensures err { IfErr result (λ refusal. LeavesOf refusal world.old command (W.contents writer.old) (W.contents writer.new) world.new) }
 {
     lines.clear();
     do_command(alloc, lines, world, command)?;

@@ -1,9 +1,11 @@
-use Rattle.std.proofs.Common.{◌≡◌, take, length}
+use Rattle.std.proofs.Common.{◌≡◌, ◌++◌, length}
+use Rattle.std.specs.Vec.Iter.{into_iter_items}
 use Rattle.cpg_step.specs.Running.{AreDone}
 use Rattle.cpg_step.proofs.running.run_commands.Given as goal
 
 abbrev pub invariant-loop-command : goal.invariant-loop-command
 invariant-loop-command g l = record {
-  done : AreDone l.initial.world (take l.command-index l.commands) (g.W.Write.contents l.initial.writer) (g.W.Write.contents l.writer) l.world;
+  done : AreDone l.initial.world l.yielded (g.W.Write.contents l.initial.writer) (g.W.Write.contents l.writer) l.world;
   nodes : length l.world.nodes ≡ length l.initial.world.nodes;
+  split : into_iter_items l.initial.command-iterator ≡ l.yielded ++ into_iter_items l.command-iterator;
 }
