@@ -147,6 +147,26 @@ fn add_each(numbers: &mut IndexSet<u32>, more: &[u32]) -> Result<(), Refusal>
     ensures memory { IsOkUnless result Refusal.Memory }
     ensures grows { OnErr result (with_numbers numbers.old.keys more.now ≢ numbers.old.keys) }
 {
+    make_room(numbers, more.len());
+    add_in_turn(numbers, more)
+}
+
+/// Asks an empty list's room for so many numbers at once. Where it is refused, each number asks for its own.
+fn make_room(numbers: &mut IndexSet<u32>, count: usize)
+    ensures { numbers.new.keys ≡ numbers.old.keys }
+{
+    if numbers.is_empty() {
+        let _ = numbers.reserve(count);
+    }
+}
+
+/// The same as `add_each`, in the room that there is or is asked for on the way.
+fn add_in_turn(numbers: &mut IndexSet<u32>, more: &[u32]) -> Result<(), Refusal>
+    ensures ok { OnOk result (numbers.new.keys ≡ with_numbers numbers.old.keys more.now) }
+    ensures err { OnErr result (numbers.new.keys ≡ numbers.old.keys) }
+    ensures memory { IsOkUnless result Refusal.Memory }
+    ensures grows { OnErr result (with_numbers numbers.old.keys more.now ≢ numbers.old.keys) }
+{
     let count = numbers.len();
     for number in more {
         match add(numbers, *number) {

@@ -3,7 +3,7 @@ use Rattle.std.proofs.lemmas.List.{drop_more, take-append-drop}
 use Rattle.std.specs.List.{list_any}
 use Rattle.cpg_cred.specs.Listed.{with_numbers}
 use Rattle.cpg_cred.proofs.Growing.{front_kept, grows_with}
-use Rattle.cpg_cred.proofs.admission.add_each.Goals as goal
+use Rattle.cpg_cred.proofs.admission.add_in_turn.Goals as goal
 
 pub returns-in-Err-clause-err : goal.returns-in-Err-clause-err
 returns-in-Err-clause-err c =
