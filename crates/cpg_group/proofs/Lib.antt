@@ -4,6 +4,7 @@ mod Kept
 mod Entered
 mod Indexed
 mod Applying
+mod Beside
 mod Between
 mod Stops
 mod Latest

@@ -1,6 +1,7 @@
 pub mod Entering
 pub mod Groups
 pub mod Heard
+pub mod Places
 pub mod Processes
 pub mod Standing
 pub mod Telling

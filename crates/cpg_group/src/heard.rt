@@ -10,7 +10,7 @@ ghost use Rattle.cpg_record.specs.Places.{records_before};
 ghost use Rattle.cpg_group.specs.Standing.{AreStanding};
 ghost use Rattle.cpg_group.specs.Trails.{group_at};
 
-use crate::nexts::Next;
+use crate::nexts::{Hint, Next};
 use crate::standing::Groups;
 use crate::telling;
 use crate::trails::find_joined;
@@ -72,6 +72,11 @@ impl<'a> Heard<'a> {
         ensures { result ≡ self.now.place }
     {
         self.next.place
+    }
+
+    /// Where the search for the place ended, for the search for the next one.
+    pub fn hint(&self) -> Hint {
+        self.next.hint
     }
 
     /// The group that the connection is in before the place.

@@ -25,6 +25,7 @@ pub use cpg_record::{
 };
 pub use heard::Heard;
 pub use listing::{Names, Processes};
+pub use nexts::Hint;
 pub use policies::Policy;
 pub use told::count_upto;
 pub use trails::Trail;

@@ -16,12 +16,24 @@ use crate::trails::{Stop, count_own, find_joined, join_past, own_at};
 use cpg_entry::Name;
 use cpg_record::{ConnId, Record};
 
+/// Where a search for the next place ended: at which index the connection's trail and its group are kept, and how
+/// many places of each were passed. It is a hint for the search from there on, which looks there first; of the
+/// connection it says nothing, and a wrong one costs time alone.
+#[derive(Debug, Clone, Copy, PartialEq, Eq, Default)]
+pub struct Hint {
+    pub(crate) trail: usize,
+    pub(crate) own: usize,
+    pub(crate) group: usize,
+    pub(crate) heard: usize,
+}
+
 /// A place that tells a connection something, and the place of the join by which the connection is in a group
-/// before it: 0 where it is in none.
+/// before it: 0 where it is in none; with where the search for it ended.
 #[derive(Debug, Clone, Copy)]
 pub(crate) struct Next {
     pub(crate) place: u32,
     pub(crate) join: u32,
+    pub(crate) hint: Hint,
 }
 
 /// The lesser of the places that are there.
@@ -41,35 +53,58 @@ fn sooner_of(place: Option<u32>, other: Option<u32>) -> Option<u32>
     }
 }
 
-/// The next place above the last one of an allowed entry of the group, if there is a group.
-fn next_heard(records: &[Record], groups: &Groups, group: Option<&Name>, last: usize) -> Option<u32>
+/// The next place above the last one of an allowed entry of the group, if there is a group, and where the search
+/// for it ended.
+#[inline(always)]
+fn next_heard(
+    records: &[Record],
+    groups: &Groups,
+    group: Option<&Name>,
+    last: usize,
+    hint: Hint,
+) -> (Option<u32>, Hint)
     requires { AreStanding groups.now records.now }
-    ensures { IsNextOf (reaches (option_copied group.entry)) records.now last result }
+    ensures { IsNextOf (reaches (option_copied group.entry)) records.now last result.0 }
 {
     match group {
-        None => None,
-        Some(name) => next_in(groups.of(name.as_slice()).places(), last),
+        None => (None, hint),
+        Some(name) => {
+            let (group, at) = groups.of_near(name.as_slice(), hint.group);
+            let (place, passed) = next_in(group.places(), last, hint.heard);
+            let hint = Hint {
+                group: at,
+                heard: passed,
+                ..hint
+            };
+            (place, hint)
+        }
     }
 }
 
-/// The next place above `after` that tells the connection of the trail anything.
+/// The next place above `after` that tells the connection of the trail anything, sought first where the hint says.
+#[inline(always)]
 pub(crate) fn find_next(
     records: &[Record],
     groups: &Groups,
     trail: &[Stop],
     conn: &ConnId,
     after: usize,
+    hint: Hint,
 ) -> Option<Next>
     requires groups { AreStanding groups.now records.now }
     requires trail { IsTrail records.now conn.now trail.now }
     ensures told { MatchOption result (TellsNoMore records.now after conn.now) (λ next. IsNextTold records.now after conn.now next.place) }
     ensures join { IfSome result (λ next. group_at records.now next.join ≡ group_of (records_before records.now next.place) conn.now) }
 {
-    let passed = count_own(trail, after);
+    let passed = count_own(trail, after, hint.own);
     let join = join_past(trail, passed);
-    let heard = next_heard(records, groups, find_joined(records, join), after);
+    let hint = Hint {
+        own: passed,
+        ..hint
+    };
+    let (heard, hint) = next_heard(records, groups, find_joined(records, join), after, hint);
     match sooner_of(own_at(trail, passed), heard) {
         None => None,
-        Some(place) => Some(Next { place, join }),
+        Some(place) => Some(Next { place, join, hint }),
     }
 }

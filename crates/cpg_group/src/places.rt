@@ -1,6 +1,7 @@
 //! Ascending places, and the records that stand at them.
 
-ghost use Rattle.std.specs.Prelude.{◌≡◌, ◌≤◌, ℕ, List, Bool, length, take, nat_le, true, false};
+ghost use Rattle.std.specs.Prelude.{◌≡◌, ◌≤◌, ℕ, List, Bool, length, take, nat_le, true, false, IsTrue};
+ghost use Rattle.std.specs.List.{slice_get};
 ghost use Rattle.std.specs.List.Sorted.{IsNonDecreasingBy, IsPartitionPoint};
 ghost use Rattle.std.specs.Option.{option_copied};
 ghost use Rattle.cpg_record.specs.declared.records.Record.{Record};
@@ -8,6 +9,7 @@ ghost use Rattle.cpg_record.specs.Judging.{AreJudged};
 ghost use Rattle.cpg_record.specs.Membership.{members};
 ghost use Rattle.cpg_record.specs.Nexts.{acts_in};
 ghost use Rattle.cpg_record.specs.Places.{places_of, record_at, IsNextOf};
+ghost use Rattle.cpg_group.specs.Places.{upto};
 ghost use Rattle.cpg_group.specs.Standing.{listed};
 
 use cpg_record::{Members, Record};
@@ -50,16 +52,62 @@ pub(crate) fn cut_upto<T: Placed>(items: &[T], last: usize) -> usize
     items.partition_point(|item| item.place() as usize <= last)
 }
 
-/// The first of the ascending places that is above the last one.
-pub(crate) fn next_in(places: &[u32], last: usize) -> Option<u32>
-    ensures { (test : Record → Bool) (records : List Record) → places.now ≡ places_of test records → IsNextOf test records last result }
+/// Whether the item at the index is there and stands at a place up to the last one.
+#[inline(always)]
+fn is_upto<T: Placed>(items: &[T], index: usize, last: usize) -> bool
+    ensures { result ≡ upto T.place_of last (slice_get items.now index) }
 {
-    let passed = cut_upto(places, last);
-    if passed < places.len() {
-        Some(places[passed])
-    } else {
-        None
+    match items.get(index) {
+        None => false,
+        Some(item) => item.place() as usize <= last,
     }
+}
+
+/// Whether those before the index come up to the last place and the others do not, by the two beside it.
+#[inline(always)]
+fn is_cut<T: Placed>(items: &[T], index: usize, last: usize) -> bool
+    ensures cut { IsTrue result → IsNonDecreasingBy T.place_of items.now → IsPartitionPoint (λ item. nat_le (T.place_of item) last ≡ true) (λ item. nat_le (T.place_of item) last ≡ false) items.now index }
+    ensures within { IsTrue result → index ≤ length items.now }
+{
+    if is_upto(items, index, last) {
+        return false;
+    }
+    index == 0 || is_upto(items, index - 1, last)
+}
+
+/// The same as `cut_upto`: at the hint or one behind it, where that is so, else by a binary search. A hint says
+/// nothing of the items; it saves the search where it is near.
+pub(crate) fn cut_near<T: Placed>(items: &[T], last: usize, hint: usize) -> usize
+    ensures within { result ≤ length items.now }
+    ensures cut { IsNonDecreasingBy T.place_of items.now → IsPartitionPoint (λ item. nat_le (T.place_of item) last ≡ true) (λ item. nat_le (T.place_of item) last ≡ false) items.now result }
+{
+    if is_cut(items, hint, last) {
+        return hint;
+    }
+    let next = hint.saturating_add(1);
+    if is_cut(items, next, last) {
+        return next;
+    }
+    cut_upto(items, last)
+}
+
+/// The one of the ascending places that follows the first so many.
+fn place_at(places: &[u32], index: usize) -> Option<u32>
+    ensures { result ≡ slice_get places.now index }
+{
+    match places.get(index) {
+        None => None,
+        Some(place) => Some(*place),
+    }
+}
+
+/// The first of the ascending places that is above the last one, and how many are before it: sought from a hint
+/// at how many these are.
+pub(crate) fn next_in(places: &[u32], last: usize, hint: usize) -> (Option<u32>, usize)
+    ensures { (test : Record → Bool) (records : List Record) → places.now ≡ places_of test records → IsNextOf test records last result.0 }
+{
+    let passed = cut_near(places, last, hint);
+    (place_at(places, passed), passed)
 }
 
 /// The members of a group after the last place, from the places of its allowed entries: the record at the

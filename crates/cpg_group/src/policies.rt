@@ -14,6 +14,7 @@ ghost use Rattle.cpg_group.specs.Telling.{told};
 
 use crate::heard::Heard;
 use crate::listing::{self, Names, Processes};
+use crate::nexts::Hint;
 use crate::standing::Groups;
 use crate::trails::{Trail, Trails};
 use crate::{entering, judging, nexts, telling, told};
@@ -131,6 +132,7 @@ impl Policy {
     }
 
     /// Judges the entry and puts it last, with its record. A refusal changes nothing and gives the entry back.
+    #[inline(always)]
     pub fn enter(&mut self, entry: Entry) -> Result<(), Refused<Entry>>
         requires { length self.old < most_places }
         ensures ok { OnOk result (self.new ≡ self.old ++ entry ∷ []) }
@@ -250,14 +252,17 @@ impl Policy {
     }
 
     /// The least judged place above `after` that tells the connection anything, if there is one, looked up once
-    /// for all that is asked of it. Takes no memory, and searches by halving.
-    pub fn next_heard(&self, after: u32, conn: ConnId) -> Option<Heard<'_>>
+    /// for all that is asked of it. Takes no memory. It is sought first where the hint says, which an earlier
+    /// search gave, else by halving.
+    #[inline(always)]
+    pub fn next_heard(&self, after: u32, conn: ConnId, hint: Hint) -> Option<Heard<'_>>
         ensures next { MatchOption result (TellsNoMore (judged self.now) after conn) (λ heard. IsNextTold (judged self.now) after conn heard.place) }
         ensures value { IfSome result (λ heard. heard ≡ record { records = judged self.now; conn = conn; place = heard.place }) }
     {
         let records = self.records.as_slice();
-        let trail = self.trails.of(&conn);
-        match nexts::find_next(records, &self.groups, trail, &conn, after as usize) {
+        let (trail, at) = self.trails.of_near(&conn, hint.trail);
+        let hint = Hint { trail: at, ..hint };
+        match nexts::find_next(records, &self.groups, trail, &conn, after as usize, hint) {
             None => None,
             Some(next) => Some(Heard::of(records, &self.groups, conn, next)),
         }
@@ -268,7 +273,7 @@ impl Policy {
     pub fn next_event(&self, after: u32, conn: ConnId) -> Option<u32>
         ensures { MatchOption result (TellsNoMore (judged self.now) after conn) (IsNextTold (judged self.now) after conn) }
     {
-        match self.next_heard(after, conn) {
+        match self.next_heard(after, conn, Hint::default()) {
             None => None,
             Some(heard) => Some(heard.place()),
         }

@@ -172,6 +172,27 @@ impl Groups {
         }
     }
 
+    /// The group of that name, and at which index it is kept: looked for first where the hint says.
+    #[inline(always)]
+    pub(crate) fn of_near(&self, name: &[u8], hint: usize) -> (&Group, usize)
+        ensures { result.0.now ≡ kept_group self.now name.now }
+    {
+        match self.kept.get_index(hint) {
+            Some((kept, group)) if kept.as_slice() == name => (group, hint),
+            _ => self.find(name),
+        }
+    }
+
+    /// The group of that name, and at which index it is kept.
+    fn find(&self, name: &[u8]) -> (&Group, usize)
+        ensures { result.0.now ≡ kept_group self.now name.now }
+    {
+        match self.kept.get_full(name) {
+            Some((index, _, group)) => (group, index),
+            None => (&self.none, 0),
+        }
+    }
+
     /// The group of that name, and one without rules, members and places where there is no name.
     pub(crate) fn of_name(&self, name: Option<&Name>) -> &Group
         ensures { result.now ≡ kept_for self.now (option_copied name.entry) }

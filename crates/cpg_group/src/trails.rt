@@ -16,7 +16,7 @@ ghost use Rattle.cpg_record.specs.Places.{places_of};
 ghost use Rattle.cpg_group.specs.Standing.{kept_group, group_past, CanTake};
 ghost use Rattle.cpg_group.specs.Trails.{kept_trail, group_at, join_after, joined_by, AreTrails, IsTrail, StandsBy};
 
-use crate::places::{Placed, cut_upto, find_record};
+use crate::places::{Placed, cut_near, find_record};
 use crate::standing::Groups;
 use cpg_cred::Refusal;
 use cpg_entry::{Call, Name, Op};
@@ -49,11 +49,12 @@ impl Placed for Stop {
     }
 }
 
-/// How many own places the connection of the trail has up to the last place, by a binary search.
-pub(crate) fn count_own(trail: &[Stop], last: usize) -> usize
+/// How many own places the connection of the trail has up to the last place, sought from a hint at how many these
+/// are.
+pub(crate) fn count_own(trail: &[Stop], last: usize, hint: usize) -> usize
     ensures { (records : List Record) (conn : ConnId) → IsTrail records conn trail.now → result ≡ length (places_of (is_made_by conn) (take last records)) }
 {
-    cut_upto(trail, last)
+    cut_near(trail, last, hint)
 }
 
 /// The own place of that index, from 0, of the connection of the trail.
@@ -86,7 +87,7 @@ fn join_upto(trail: &[Stop], last: usize) -> u32
     ensures early { (records : List Record) (conn : ConnId) → IsTrail records conn trail.now → result ≤ last }
     ensures group { (records : List Record) (conn : ConnId) → IsTrail records conn trail.now → group_at records result ≡ group_of (take last records) conn }
 {
-    join_past(trail, count_own(trail, last))
+    join_past(trail, count_own(trail, last, trail.len()))
 }
 
 /// The place of the join by which the connection is in a group after all records, 0 where it is in none: its
@@ -289,6 +290,27 @@ impl Trails {
         match self.kept.get(conn) {
             Some(trail) => trail.as_slice(),
             None => &[],
+        }
+    }
+
+    /// The trail of a connection, and at which index it is kept: looked for first where the hint says.
+    #[inline(always)]
+    pub(crate) fn of_near(&self, conn: &ConnId, hint: usize) -> (&[Stop], usize)
+        ensures { result.0.now ≡ kept_trail self.now.kept.entries conn.now }
+    {
+        match self.kept.get_index(hint) {
+            Some((kept, trail)) if *kept == *conn => (trail.as_slice(), hint),
+            _ => self.find(conn),
+        }
+    }
+
+    /// The trail of a connection, and at which index it is kept.
+    fn find(&self, conn: &ConnId) -> (&[Stop], usize)
+        ensures { result.0.now ≡ kept_trail self.now.kept.entries conn.now }
+    {
+        match self.kept.get_full(conn) {
+            Some((index, _, trail)) => (trail.as_slice(), index),
+            None => (&[], 0),
         }
     }
 

@@ -17,6 +17,7 @@ use Rattle.cpg_record.specs.Events.{inbox}
 use Rattle.cpg_record.specs.Nexts.{IsNextTold, TellsNoMore}
 use Rattle.cpg_record.proofs.Inboxes.{places_tell_at_most_two}
 use Rattle.cpg_node.specs.Cursors.{IsCursor, told_up_to}
+use Rattle.cpg_group.specs.declared.nexts.Hint.{Hint}
 use Rattle.cpg_node.specs.declared.cursors.Cursor.{Cursor}
 use Rattle.cpg_node.proofs.Telling.{counted_before, quiet_to, told_at, told_count}
 
@@ -69,8 +70,13 @@ taken_in old new e cursors (Ok u) room kept ok err =
 taken_in old new e cursors (Err why) room kept ok err = subst (λ (es : List Entry). (length es ≤ most_places) × All (IsCursor (judged es)) cursors) (sym err) kept
 
 -- a cursor before all places is right
-pub cursor_starts : (rs : List Record) (conn : ConnId) → IsCursor rs (record { conn = conn; place = 0; told = 0 })
-cursor_starts rs conn = record { within = omega arith; counted = refl; few = omega arith }
+pub cursor_starts : (rs : List Record) (cursor : Cursor) → cursor.place ≡ 0 → cursor.told ≡ 0 → IsCursor rs cursor
+cursor_starts rs cursor start none =
+    record {
+      within = omega (arith, start);
+      counted = none ∙ sym (ap (λ (place : ℕ). length (told_up_to rs cursor.conn place)) start);
+      few = omega (arith, start, none);
+    }
 
 -- ---- seeking
 
@@ -118,9 +124,9 @@ pub few_at : (rs : List Record) (conn : ConnId) (place : ℕ) (list : List Event
 few_at rs conn place list is = subst (λ (l : List Event). length l ≤ 2) (sym is) ((places_tell_at_most_two rs conn).0 place)
 
 -- the cursor past it
-pub cursor_past : (entries : List Entry) (cursor : Cursor) (place : ℕ) (list : List Event) → IsCursor (judged entries) cursor → IsNextTold (judged entries) cursor.place cursor.conn place
-    → list ≡ events (judged entries) place cursor.conn → IsCursor (judged entries) (record { conn = cursor.conn; place = place; told = cursor.told + length list })
-cursor_past entries cursor place list right next is =
+pub cursor_past : (entries : List Entry) (cursor : Cursor) (place : ℕ) (hint : Hint) (list : List Event) → IsCursor (judged entries) cursor → IsNextTold (judged entries) cursor.place cursor.conn place
+    → list ≡ events (judged entries) place cursor.conn → IsCursor (judged entries) (record { conn = cursor.conn; place = place; told = cursor.told + length list; hint = hint })
+cursor_past entries cursor place hint list right next is =
     let low = (next_within entries cursor.place cursor.conn place next).0 in
     let back : place - 1 + 1 ≡ place = omega (arith, low) in
     let few = few_at (judged entries) cursor.conn place list is in

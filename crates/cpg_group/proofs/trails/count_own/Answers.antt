@@ -6,5 +6,5 @@ use Rattle.cpg_group.proofs.trails.count_own.Goals as goal
 
 pub returns : goal.returns
 returns c =
-    λ rs conn are. count_there (is_made_by conn) rs c.args.last place_of c.args.trail.now are.0 c.cut_upto.result c.cut_upto.ensures.within (record { place = 0; join = 0 })
-    (c.cut_upto.ensures.cut (non_decreasing place_of c.args.trail.now (is_made_by conn) rs are.0))
+    λ rs conn are. count_there (is_made_by conn) rs c.args.last place_of c.args.trail.now are.0 c.cut_near.result c.cut_near.ensures.within (record { place = 0; join = 0 })
+    (c.cut_near.ensures.cut (non_decreasing place_of c.args.trail.now (is_made_by conn) rs are.0))

@@ -8,6 +8,7 @@ use Rattle.cpg_record.specs.Nexts.{IsNextTold}
 use Rattle.cpg_record.specs.Judging.{judged}
 use Rattle.cpg_record.proofs.Denials.{each_entry_is_judged}
 use Rattle.cpg_group.specs.Heard.{HeardValue}
+use Rattle.cpg_group.specs.declared.nexts.Hint.{Hint}
 use Rattle.cpg_node.specs.Cursors.{IsCursor}
 use Rattle.cpg_node.specs.declared.cursors.Cursor.{Cursor}
 use Rattle.cpg_node.proofs.Looking.{cursor_behind, cursor_past, item_at, item_there, whatever, few_at, none_left}
@@ -19,14 +20,14 @@ listed : (now : List Entry) (conn : ConnId) (heard : HeardValue) → heard ≡ r
 listed now conn heard is = ap (λ (h : HeardValue). events h.records h.place h.conn) is
 
 -- a cursor past the place, by what was asked of it
-past_is : (now : List Entry) (cursor : Cursor) (heard : HeardValue) (place count : ℕ) → heard ≡ record { records = judged now; conn = cursor.conn; place = heard.place } →
+past_is : (now : List Entry) (cursor : Cursor) (heard : HeardValue) (place count : ℕ) (hint : Hint) → heard ≡ record { records = judged now; conn = cursor.conn; place = heard.place } →
     place ≡ heard.place → count ≡ length (events heard.records heard.place heard.conn) → IsCursor (judged now) cursor → IsNextTold (judged now) cursor.place cursor.conn heard.place →
-    IsCursor (judged now) (record { conn = cursor.conn; place = place; told = cursor.told + count })
-past_is now cursor heard place count is at counted right next =
+    IsCursor (judged now) (record { conn = cursor.conn; place = place; told = cursor.told + count; hint = hint })
+past_is now cursor heard place count hint is at counted right next =
     let list = events (judged now) heard.place cursor.conn in
     let all : count ≡ length list = counted ∙ ap length (listed now cursor.conn heard is) in
-    subst (λ (p : ℕ). IsCursor (judged now) (record { conn = cursor.conn; place = p; told = cursor.told + count })) (sym at)
-    (subst (λ (n : ℕ). IsCursor (judged now) (record { conn = cursor.conn; place = heard.place; told = cursor.told + n })) (sym all) (cursor_past now cursor heard.place list right next refl))
+    subst (λ (p : ℕ). IsCursor (judged now) (record { conn = cursor.conn; place = p; told = cursor.told + count; hint = hint })) (sym at)
+    (subst (λ (n : ℕ). IsCursor (judged now) (record { conn = cursor.conn; place = heard.place; told = cursor.told + n; hint = hint })) (sym all) (cursor_past now cursor heard.place hint list right next refl))
 
 -- what the places up to it tell are few enough to count
 few : (now : List Entry) (cursor : Cursor) (heard : HeardValue) (count : ℕ) → heard ≡ record { records = judged now; conn = cursor.conn; place = heard.place } →
@@ -81,7 +82,7 @@ pub returns-then-at-count-clause-cursor : goal.returns-then-at-count-clause-curs
 returns-then-at-count-clause-cursor c =
     let now = c.args.policy.now in
     let cursor = c.loop-heard.cursor in
-    let further = past_is now cursor c.in-Some.heard c.place-place.result c.count-count.result c.in-Some.ensures.value c.place-place.ensures c.count-count.ensures c.loop-heard.invariant.right c.in-Some.ensures.next in
+    let further = past_is now cursor c.in-Some.heard c.place-place.result c.count-count.result c.hint-hint.result c.in-Some.ensures.value c.place-place.ensures c.count-count.ensures c.loop-heard.invariant.right c.in-Some.ensures.next in
     subst (IsCursor (judged now)) (sym c.behind.ensures) (cursor_behind (judged now) _ cursor _ c.loop-heard.invariant.right further)
 
 pub returns-then-at-count-clause-few : goal.returns-then-at-count-clause-few
@@ -96,7 +97,7 @@ loop-heard-preserved c =
     let cursor = c.loop-heard.cursor in
     let outside = c.if-at-count.false in
     let before = c.loop-heard.invariant.before in
-    let further = past_is now cursor c.in-Some.heard c.place-place.result c.count-count.result c.in-Some.ensures.value c.place-place.ensures c.count-count.ensures c.loop-heard.invariant.right c.in-Some.ensures.next in
+    let further = past_is now cursor c.in-Some.heard c.place-place.result c.count-count.result c.hint-hint.result c.in-Some.ensures.value c.place-place.ensures c.count-count.ensures c.loop-heard.invariant.right c.in-Some.ensures.next in
     record {
       right = subst (IsCursor (judged now)) (sym c.past-cursor.ensures) further;
       conn = ap (λ (cursor : Cursor). cursor.conn) c.past-cursor.ensures ∙ c.loop-heard.invariant.conn;
