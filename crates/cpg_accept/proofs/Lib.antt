@@ -1,3 +1,4 @@
 pub mod Answering
 pub mod Cutting
+pub mod Heads
 pub mod Stopping

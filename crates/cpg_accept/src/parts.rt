@@ -5,7 +5,7 @@
 
 ghost use Rattle.std.specs.Prelude.{◌≡◌, ◌<◌, ◌+◌, ◌∷◌, Some, length, IfSome};
 ghost use Rattle.std.specs.Iterator.{YieldsFirstBy, item_count};
-ghost use Rattle.cpg_text.specs.Lines.{lines_of};
+ghost use Rattle.cpg_text.specs.Lines.{lines_of, trimmed};
 ghost use Rattle.cpg_conf.specs.Names.{next_number};
 ghost use Rattle.cpg_accept.specs.Parts.{head_of, parts_from, text_before};
 ghost use Rattle.cpg_accept.specs.Steps.{len_after, parts_of_head, part_seen};
@@ -79,7 +79,7 @@ impl<'a> Cut<'a> {
         let mut end = 0;
         while let Some(line) = lines.next() {
             number = number.saturating_add(1);
-            if let Some(kind) = Kind::of(trim(line)) {
+            if let Some(kind) = head_in(line) {
                 return Cut {
                     before: &text[..end],
                     head: Some(Head {
@@ -95,6 +95,18 @@ impl<'a> Cut<'a> {
             before: text,
             head: None,
         }
+    }
+}
+
+/// The kind of part that a line begins, where it begins one. Most lines begin with a letter: a first byte past
+/// `%` is no edge, so that the line needs no trimming to be told from a head.
+#[tactic(auto, using(crate::proofs::Heads::no_head))]
+fn head_in(line: &[u8]) -> Option<Kind>
+    ensures { result ≡ head_of (trimmed line.now) }
+{
+    match line {
+        [first, ..] if *first > b'%' => None,
+        _ => Kind::of(trim(line)),
     }
 }
 

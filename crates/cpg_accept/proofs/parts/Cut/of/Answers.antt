@@ -1,6 +1,5 @@
-use Rattle.std.proofs.Common.{ap, sym, subst, ◌∙◌, option_map}
+use Rattle.std.proofs.Common.{sym, subst, ◌∙◌, option_map}
 use Rattle.cpg_text.specs.Lines.{lines_left}
-use Rattle.cpg_accept.specs.Parts.{head_of}
 use Rattle.cpg_accept.proofs.Cutting.{Passed, passed_line, cut_before, uncut_before, end_fits, shorter}
 use Rattle.cpg_accept.proofs.parts.Cut.of.Goals as goal
 
@@ -10,12 +9,12 @@ slice_bounds-result-end c =
     end_fits c.args.text.now c.args.lines_before c.in-Some.line.now left c.loop-line.number c.loop-line.end
     (subst (λ lines. Passed c.args.text.now c.args.lines_before lines c.loop-line.number c.loop-line.end) c.in-Some.ensures.steps c.loop-line.invariant.passed)
 
-pub returns-in-Some-of-clause-before : goal.returns-in-Some-of-clause-before
-returns-in-Some-of-clause-before c =
+pub returns-in-Some-head_in-clause-before : goal.returns-in-Some-head_in-clause-before
+returns-in-Some-head_in-clause-before c =
     let left = lines_left (option_map (λ rest. rest.now) c.next.new.self.rest) in
-    cut_before c.args.text.now c.args.lines_before c.in-Some.line.now left c.loop-line.number c.loop-line.end c.in-Some-of.kind
+    cut_before c.args.text.now c.args.lines_before c.in-Some.line.now left c.loop-line.number c.loop-line.end c.in-Some-head_in.kind
     (subst (λ lines. Passed c.args.text.now c.args.lines_before lines c.loop-line.number c.loop-line.end) c.in-Some.ensures.steps c.loop-line.invariant.passed)
-    (ap head_of (sym c.trim.ensures) ∙ sym c.of.ensures ∙ c.in-Some-of.is)
+    (sym c.head_in.ensures ∙ c.in-Some-head_in.is)
 
 pub end_before-end-requires : goal.end_before-end-requires
 end_before-end-requires c =
@@ -30,7 +29,7 @@ loop-line-preserved c = record {
       subst (λ number. Passed c.args.text.now c.args.lines_before (lines_left (option_map (λ rest. rest.now) c.next.new.self.rest)) number c.end_before-end.result) (sym c.saturating_add-number.ensures)
       (passed_line c.args.text.now c.args.lines_before c.in-Some.line.now c.next.new.self.rest c.loop-line.number c.loop-line.end c.end_before-end.result
       (subst (λ lines. Passed c.args.text.now c.args.lines_before lines c.loop-line.number c.loop-line.end) c.in-Some.ensures.steps c.loop-line.invariant.passed)
-      (ap head_of (sym c.trim.ensures) ∙ sym c.of.ensures ∙ c.in_default-of.is)
+      (sym c.head_in.ensures ∙ c.in_default-head_in.is)
       c.end_before-end.ensures);
 }
 
