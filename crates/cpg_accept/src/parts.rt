@@ -100,14 +100,23 @@ impl<'a> Cut<'a> {
 
 /// The kind of part that a line begins, where it begins one. Most lines begin with a letter: a first byte past
 /// `%` is no edge, so that the line needs no trimming to be told from a head.
+#[inline(always)]
 #[tactic(auto, using(crate::proofs::Heads::no_head))]
 fn head_in(line: &[u8]) -> Option<Kind>
     ensures { result ≡ head_of (trimmed line.now) }
 {
     match line {
         [first, ..] if *first > b'%' => None,
-        _ => Kind::of(trim(line)),
+        _ => trimmed_head(line),
     }
+}
+
+/// The same for any line.
+#[inline(never)]
+fn trimmed_head(line: &[u8]) -> Option<Kind>
+    ensures { result ≡ head_of (trimmed line.now) }
+{
+    Kind::of(trim(line))
 }
 
 /// How long the text is before its rest, and before the line feed between them where there is a rest.
