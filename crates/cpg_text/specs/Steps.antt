@@ -1,5 +1,5 @@
 -- steps of the reading functions, which no contract of a public function cites
-use Rattle.std.specs.Prelude.{◌≡◌, ⊤, Bool, false, not, ℕ, ◌+◌, ◌*◌, ◌-◌, ◌%◌, List, [], ◌∷◌, ◌++◌, length, ◌&&◌, nat_le, if◌then◌else◌, Option, Some, None, option_map}
+use Rattle.std.specs.Prelude.{◌≡◌, ⊤, Bool, false, not, ℕ, ◌+◌, ◌*◌, ◌-◌, List, [], ◌∷◌, ◌++◌, length, ◌&&◌, nat_le, if◌then◌else◌, Option, Some, None, option_map}
 use Rattle.std.specs.Char.{is_ascii_digit}
 use Rattle.cpg_text.specs.Lines.{is_blank}
 use Rattle.cpg_text.specs.Percent.{is_plain}
@@ -23,10 +23,6 @@ abbrev pub read_digits : Option ℕ → List ℕ → Option ℕ
 read_digits None word = None
 read_digits (Some number) [] = Some number
 read_digits (Some number) (byte ∷ word) = read_digits (one_digit number byte) word
-
--- the last digit of a number, where it is not 0
-abbrev pub last_digit : ℕ → List ℕ
-last_digit number = if nat_le 1 number then (48 + number % 10) ∷ [] else []
 
 -- bytes, and then what the rest stands for
 abbrev pub after : List ℕ → Option (List ℕ) → Option (List ℕ)

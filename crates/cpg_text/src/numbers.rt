@@ -3,15 +3,15 @@
 //! A number is ASCII digits alone, leading zeros allowed. Proved: `read_number` is the definition
 //! `number_in`, however long the word; `push_number` prints a number without leading zeros.
 
-ghost use Rattle.std.specs.Prelude.{◌≡◌, ◌+◌, ◌<◌, ◌≤◌, ◌++◌, length, decimal, Some, OnOk, IsOkUnless};
+ghost use Rattle.std.specs.Prelude.{◌≡◌, ◌+◌, ◌/◌, ◌%◌, ◌<◌, ◌≤◌, ◌++◌, length, decimal, Some, OnOk, IsOkUnless};
 ghost use Rattle.std.specs.Char.{is_ascii_digit};
 ghost use Rattle.std.specs.List.{list_all};
 ghost use Rattle.cpg_text.specs.Numbers.{is_number, number_in};
-ghost use Rattle.std.specs.Vec.{vec_len, vec_capacity};
-ghost use Rattle.cpg_text.specs.Steps.{last_digit, one_digit, one_more, read_digits, read_on};
+ghost use Rattle.cpg_text.specs.Steps.{one_digit, one_more, read_digits, read_on};
 
 use cpg_cred::Refusal;
 use itoa::Buffer;
+use std::alloc::AllocError;
 
 /// Whether the word is ASCII digits alone, one at least.
 pub fn is_number(word: &[u8]) -> bool
@@ -113,7 +113,8 @@ pub fn push_number(line: &mut Vec<u8>, number: u64) -> Result<(), Refusal>
     ensures memory { IsOkUnless result Refusal.Memory }
 {
     if number >= 100_000 {
-        return push_long(line, number);
+        push_long(line, number)?;
+        return Ok(());
     }
     if number >= 10 {
         return push_short(line, number as u32);
@@ -122,45 +123,71 @@ pub fn push_number(line: &mut Vec<u8>, number: u64) -> Result<(), Refusal>
     Ok(())
 }
 
-/// The same for two to five digits, as most numbers have: the highest first, with no buffer between.
-#[inline(never)]
+/// The same for two to five digits, as most numbers have.
+#[inline(always)]
 fn push_short(line: &mut Vec<u8>, number: u32) -> Result<(), Refusal>
     requires { (10 ≤ number) × (number < 100000) }
     ensures ok { OnOk result (line.new.items ≡ line.old.items ++ decimal number) }
     ensures memory { IsOkUnless result Refusal.Memory }
 {
-    let tens = number / 10;
-    let hundreds = tens / 10;
-    let thousands = hundreds / 10;
-    line.reserve(5)?;
-    push_last_digit(line, thousands / 10);
-    push_last_digit(line, thousands);
-    push_last_digit(line, hundreds);
-    push_last_digit(line, tens);
-    push_last_digit(line, number);
+    push_digits(line, number)?;
     Ok(())
 }
 
-/// Puts the last digit of the number at the line's end, which has room for it, where the number is not 0.
-#[inline(always)]
-fn push_last_digit(line: &mut Vec<u8>, number: u32)
-    requires { vec_len line.old < vec_capacity line.old }
-    ensures digit { line.new.items ≡ line.old.items ++ last_digit number }
-    ensures len { vec_len line.new ≤ vec_len line.old + 1 }
-    ensures capacity { vec_capacity line.new ≡ vec_capacity line.old }
+/// The same, all digits at once: a line with no room for five takes them by the buffer, so that it grows
+/// nowhere else.
+#[inline(never)]
+#[tactic(auto, using(crate::proofs::Decimals::two, crate::proofs::Decimals::three, crate::proofs::Decimals::four, crate::proofs::Decimals::five))]
+fn push_digits(line: &mut Vec<u8>, number: u32) -> Result<(), AllocError>
+    requires { (10 ≤ number) × (number < 100000) }
+    ensures { OnOk result (line.new.items ≡ line.old.items ++ decimal number) }
 {
-    if number > 0 {
-        line.push_reserved(b'0' + (number % 10) as u8);
+    if line.capacity() - line.len() < 5 {
+        return push_long(line, u64::from(number));
     }
+    let tens = number / 10;
+    let hundreds = tens / 10;
+    let thousands = hundreds / 10;
+    let first = thousands / 10;
+    if number < 100 {
+        line.extend_from_slice(&[b'0' + tens as u8, digit(number, tens)])
+    } else if number < 1_000 {
+        line.extend_from_slice(&[
+            b'0' + hundreds as u8,
+            digit(tens, hundreds),
+            digit(number, tens),
+        ])
+    } else if number < 10_000 {
+        line.extend_from_slice(&[
+            b'0' + thousands as u8,
+            digit(hundreds, thousands),
+            digit(tens, hundreds),
+            digit(number, tens),
+        ])
+    } else {
+        line.extend_from_slice(&[
+            b'0' + first as u8,
+            digit(thousands, first),
+            digit(hundreds, thousands),
+            digit(tens, hundreds),
+            digit(number, tens),
+        ])
+    }
+}
+
+/// The last digit of a number with so many tens.
+fn digit(number: u32, tens: u32) -> u8
+    requires { tens ≡ number / 10 }
+    ensures { result ≡ 48 + number % 10 }
+{
+    b'0' + (number - tens * 10) as u8
 }
 
 /// The same for any number, by a buffer.
 #[inline(never)]
-fn push_long(line: &mut Vec<u8>, number: u64) -> Result<(), Refusal>
-    ensures ok { OnOk result (line.new.items ≡ line.old.items ++ decimal number) }
-    ensures memory { IsOkUnless result Refusal.Memory }
+fn push_long(line: &mut Vec<u8>, number: u64) -> Result<(), AllocError>
+    ensures { OnOk result (line.new.items ≡ line.old.items ++ decimal number) }
 {
     let mut buffer = Buffer::new();
-    line.extend_from_slice(buffer.format(number).as_bytes())?;
-    Ok(())
+    line.extend_from_slice(buffer.format(number).as_bytes())
 }
