@@ -1,6 +1,6 @@
 //! Entries as lines, both ways: `NODE.CONN PID UID GID CALL`, or `gone` for CALL.
 
-ghost use Rattle.std.specs.Prelude.{◌≡◌, ◌++◌, codes, decimal, OnOk, IfOk, IsOkUnless, option_map};
+ghost use Rattle.std.specs.Prelude.{◌≡◌, ◌++◌, codes, decimal, OnOk, IfOk, IsOkUnless, MatchOption, None, option_map};
 ghost use Rattle.cpg_record.specs.Connections.{conn_of};
 ghost use Rattle.cpg_text.specs.Lines.{words_of};
 ghost use Rattle.cpg_text.specs.Memory.{IsOkUnlessMemoryFor};
@@ -12,11 +12,11 @@ use cpg_cred::{Cred, MOST_NODES, NodeId, Refusal};
 use cpg_entry::{Entry, MOST_CONNECTIONS, Op};
 use cpg_record::ConnId;
 use cpg_script::{cut, put_byte, read_u32};
-use cpg_text::{push_number, take_words};
+use cpg_text::{Words, push_number, take_words};
 use std::alloc::Global;
 
-/// The words of the longest line, and one more.
-const WORDS: usize = 11;
+/// The words of the longest op, and one more.
+const WORDS: usize = 7;
 
 /// Puts NODE.CONN at the line's end.
 pub fn put_conn(line: &mut Vec<u8>, conn: &ConnId) -> Result<(), Refusal>
@@ -68,30 +68,45 @@ struct Caller {
     cred: Cred,
 }
 
-/// The entry that a line's words say, with an op within its limits.
-#[tactic(auto, using(crate::proofs::Lengths::entry_of_short))]
-fn read_entry(alloc: Global, words: &[&[u8]]) -> Result<Option<Entry>, Refusal>
-    ensures ok { IfOk result (λ found. found ≡ entry_of (texts words.now)) }
-    ensures memory { IsOkUnlessMemoryFor result (entry_of (texts words.now)) }
+/// Who makes the entry of a line, by its first four words, and what follows them.
+fn take_caller(line: &[u8]) -> Option<(Caller, &[u8])>
+    ensures { MatchOption result (entry_of (words_of line.now) ≡ None) (λ parts. entry_of (words_of line.now) ≡ option_map (λ op. entry_by parts.0 op) (enterable_op (words_of parts.1.now))) }
 {
-    match words {
-        [conn, pid, uid, gid, op @ ..] => match read_caller(conn, pid, uid, gid) {
-            None => Ok(None),
-            Some(caller) => read_entry_by(alloc, caller, op),
-        },
-        _ => Ok(None),
+    let mut words = Words::of(line);
+    let conn = words.next()?;
+    let pid = words.next()?;
+    let uid = words.next()?;
+    let gid = words.next()?;
+    let caller = read_caller(conn, pid, uid, gid)?;
+    Some((caller, words.rest))
+}
+
+/// The entry of that caller whose op the text says.
+#[tactic(auto, using(crate::proofs::Somes::mapped))]
+fn read_entry_by(alloc: Global, caller: Caller, text: &[u8]) -> Result<Option<Entry>, Refusal>
+    ensures ok { IfOk result (λ found. found ≡ option_map (λ op. entry_by caller op) (enterable_op (words_of text.now))) }
+    ensures memory { IsOkUnlessMemoryFor result (option_map (λ op. entry_by caller op) (enterable_op (words_of text.now))) }
+{
+    match read_enterable_in(alloc, text)? {
+        None => Ok(None),
+        Some(op) => Ok(Some(entry_by(caller, op))),
     }
 }
 
-/// The entry of that caller whose op the words say.
-#[tactic(auto, using(crate::proofs::Somes::mapped))]
-fn read_entry_by(alloc: Global, caller: Caller, words: &[&[u8]]) -> Result<Option<Entry>, Refusal>
-    ensures ok { IfOk result (λ found. found ≡ option_map (λ op. entry_by caller op) (enterable_op (texts words.now))) }
-    ensures memory { IsOkUnlessMemoryFor result (option_map (λ op. entry_by caller op) (enterable_op (texts words.now))) }
+/// The op that a text says, within its limits. One word or two, which nearly every op is, are read where they stand.
+#[tactic(auto, using(crate::proofs::Lengths::enterable_of_first))]
+fn read_enterable_in(alloc: Global, text: &[u8]) -> Result<Option<Op>, Refusal>
+    ensures ok { IfOk result (λ found. found ≡ enterable_op (words_of text.now)) }
+    ensures memory { IsOkUnlessMemoryFor result (enterable_op (words_of text.now)) }
 {
-    match read_enterable(alloc, words)? {
-        None => Ok(None),
-        Some(op) => Ok(Some(entry_by(caller, op))),
+    let mut words = Words::of(text);
+    match (words.next(), words.next(), words.next()) {
+        (Some(word), None, _) => read_enterable(alloc, &[word]),
+        (Some(word), Some(argument), None) => read_enterable(alloc, &[word, argument]),
+        _ => {
+            let words = take_words::<WORDS>(text);
+            read_enterable(alloc, words.as_slice())
+        }
     }
 }
 
@@ -162,11 +177,12 @@ fn read_conn(word: &[u8]) -> Option<ConnId>
 }
 
 /// The entry of a line, if it is one. That it is none is told whatever memory there is.
-#[tactic(auto, using(crate::proofs::Lengths::entry_of_first))]
 pub fn entry_in_line(alloc: Global, line: &[u8]) -> Result<Option<Entry>, Refusal>
     ensures ok { IfOk result (λ found. found ≡ entry_of (words_of line.now)) }
     ensures memory { IsOkUnlessMemoryFor result (entry_of (words_of line.now)) }
 {
-    let words = take_words::<WORDS>(line);
-    read_entry(alloc, words.as_slice())
+    match take_caller(line) {
+        None => Ok(None),
+        Some((caller, text)) => read_entry_by(alloc, caller, text),
+    }
 }
