@@ -4,6 +4,7 @@
 //! definition in `specs/` that it names, and what is spelled of a message is read as that message again.
 #![tactic(auto)]
 
+mod first_numbers;
 mod laws;
 mod lines;
 mod numbers;
@@ -13,6 +14,7 @@ mod runs;
 mod streams;
 mod words;
 
+pub use first_numbers::take_number;
 pub use laws::reads_what_is_spelled;
 pub use lines::{Lines, is_ignored, trim};
 pub use numbers::{is_number, push_number, read_number};

@@ -43,7 +43,7 @@ impl<'a> Iterator for Words<'a> {
 }
 
 /// The first word, and what follows it.
-fn first_word(line: &[u8]) -> Option<(&[u8], &[u8])>
+pub(crate) fn first_word(line: &[u8]) -> Option<(&[u8], &[u8])>
     ensures { MatchOption result (words_of line.now ≡ []) (λ parts. words_of line.now ≡ parts.0.now ∷ words_of parts.1.now) }
 {
     let line = skip_blanks(line);
@@ -57,7 +57,7 @@ fn first_word(line: &[u8]) -> Option<(&[u8], &[u8])>
 }
 
 /// The line from its first byte that is not blank.
-fn skip_blanks(line: &[u8]) -> &[u8]
+pub(crate) fn skip_blanks(line: &[u8]) -> &[u8]
     ensures same { words_of result.now ≡ words_of line.now }
     ensures start { StartsWord result.now }
 {
