@@ -1,4 +1,5 @@
 pub mod CallWords
+pub mod Callers
 pub mod Conditions
 pub mod EntryWords
 pub mod Lengths

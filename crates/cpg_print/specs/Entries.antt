@@ -1,5 +1,5 @@
 -- entries as lines, both ways: `NODE.CONN PID UID GID CALL`, with `gone` for CALL where the connection ends
-use Rattle.std.specs.Prelude.{ℕ, List, ◌∷◌, ◌++◌, codes, decimal, Option, Some, None, option_map, if◌then◌else◌}
+use Rattle.std.specs.Prelude.{ℕ, List, [], ◌∷◌, ◌++◌, codes, decimal, Option, Some, None, option_map, if◌then◌else◌}
 use Rattle.cpg_cred.specs.declared.nodes.TheConstants.{MOST_NODES}
 use Rattle.cpg_entry.specs.declared.ranges.TheConstants.{MOST_CONNECTIONS}
 use Rattle.cpg_entry.specs.declared.calls.Op.{Op}
@@ -31,6 +31,11 @@ conn_in_parts parts = do
 -- the connection of NODE.CONN
 abbrev pub conn_of_word : List ℕ → Option ConnId
 conn_of_word word = cut_at 46 word >>= conn_in_parts
+
+-- the connection of the first word, and the words after it
+abbrev pub first_conn : List (List ℕ) → Option (ConnId × List (List ℕ))
+first_conn [] = None
+first_conn (word ∷ words) = option_map (λ conn. (conn, words)) (conn_of_word word)
 
 -- who makes an entry, by NODE.CONN PID UID GID
 abbrev pub caller_of : List ℕ → List ℕ → List ℕ → List ℕ → Option Caller

@@ -4,7 +4,7 @@ ghost use Rattle.std.specs.Prelude.{◌≡◌, ◌++◌, codes, decimal, OnOk, I
 ghost use Rattle.cpg_record.specs.Connections.{conn_of};
 ghost use Rattle.cpg_text.specs.Lines.{words_of};
 ghost use Rattle.cpg_text.specs.Memory.{IsOkUnlessMemoryFor};
-ghost use Rattle.cpg_print.specs.Entries.{conn_text, entry_text, conn_of_word, caller_of, entry_by, enterable_op, entry_of};
+ghost use Rattle.cpg_print.specs.Entries.{conn_text, entry_text, conn_of_word, first_conn, entry_by, enterable_op, entry_of};
 ghost use Rattle.cpg_print.specs.Words.{texts};
 
 use crate::calls::{is_enterable, keeps_limits, put_op, read_op};
@@ -12,7 +12,7 @@ use cpg_cred::{Cred, MOST_NODES, NodeId, Refusal};
 use cpg_entry::{Entry, MOST_CONNECTIONS, Op};
 use cpg_record::ConnId;
 use cpg_script::{cut, put_byte, read_u32};
-use cpg_text::{Words, push_number, take_words};
+use cpg_text::{Words, push_number, take_number, take_words};
 use std::alloc::Global;
 
 /// The words of the longest op, and one more.
@@ -69,16 +69,27 @@ struct Caller {
 }
 
 /// Who makes the entry of a line, by its first four words, and what follows them.
+#[tactic(auto, using(crate::proofs::Callers::no_conn, crate::proofs::Callers::no_pid, crate::proofs::Callers::no_uid, crate::proofs::Callers::no_gid))]
 fn take_caller(line: &[u8]) -> Option<(Caller, &[u8])>
     ensures { MatchOption result (entry_of (words_of line.now) ≡ None) (λ parts. entry_of (words_of line.now) ≡ option_map (λ op. entry_by parts.0 op) (enterable_op (words_of parts.1.now))) }
 {
+    let Some((conn, rest)) = take_conn(line) else {
+        return None;
+    };
+    let (pid, rest) = take_number(rest)?;
+    let (uid, rest) = take_number(rest)?;
+    let (gid, rest) = take_number(rest)?;
+    let cred = Cred { uid, gid };
+    Some((Caller { conn, pid, cred }, rest))
+}
+
+/// The connection of a line's first word, and what follows it.
+fn take_conn(line: &[u8]) -> Option<(ConnId, &[u8])>
+    ensures { option_map (λ found. (found.0, words_of found.1.now)) result ≡ first_conn (words_of line.now) }
+{
     let mut words = Words::of(line);
-    let conn = words.next()?;
-    let pid = words.next()?;
-    let uid = words.next()?;
-    let gid = words.next()?;
-    let caller = read_caller(conn, pid, uid, gid)?;
-    Some((caller, words.rest))
+    let conn = read_conn(words.next()?)?;
+    Some((conn, words.rest))
 }
 
 /// The entry of that caller whose op the text says.
@@ -132,21 +143,6 @@ fn read_enterable(alloc: Global, words: &[&[u8]]) -> Result<Option<Op>, Refusal>
             }
         }
     }
-}
-
-/// Who makes an entry, by the words before its op.
-fn read_caller(conn: &[u8], pid: &[u8], uid: &[u8], gid: &[u8]) -> Option<Caller>
-    ensures { result ≡ caller_of conn.now pid.now uid.now gid.now }
-{
-    let conn = read_conn(conn)?;
-    let pid = read_u32(0, u32::MAX, pid)?;
-    let uid = read_u32(0, u32::MAX, uid)?;
-    let gid = read_u32(0, u32::MAX, gid)?;
-    Some(Caller {
-        conn,
-        pid,
-        cred: Cred { uid, gid },
-    })
 }
 
 fn entry_by(caller: Caller, op: Op) -> Entry
