@@ -1,5 +1,5 @@
 -- A run of bytes that pass a test, seen a block at a time through the mask of those that fail it.
-use Rattle.std.proofs.Common.{◌≡◌, ◌≢◌, Some, ℕ, ◌+◌, ◌*◌, ◌<◌, ◌≤◌, Bool, true, false, not, cond, eqb, List, [], ◌∷◌, map, length, drop, refl, sym, ap, ap₂, ◌∙◌, arith}
+use Rattle.std.proofs.Common.{◌≡◌, ◌≢◌, Some, ℕ, zero, suc, not-suc-le-zero, ◌+◌, ◌*◌, ◌<◌, ◌≤◌, Bool, true, false, not, cond, eqb, List, [], ◌∷◌, map, length, drop, refl, sym, ap, ap₂, ◌∙◌, arith}
 use Rattle.std.proofs.lemmas.Simd.{chunk-drop, length-chunk, leading_from_mask_l, trailing_mask_l}
 use Rattle.std.proofs.lemmas.List.{length-drop}
 use Rattle.std.proofs.lemmas.List.Folds.{prefix_len-append}
@@ -17,6 +17,17 @@ not-not false = refl
 
 pub run_bound : (q : ℕ → Bool) (d : List ℕ) (i : ℕ) → i ≤ length d → i + prefix_len q (drop i d) ≤ length d
 run_bound q d i h = omega (arith, prefix_len-le-length q (drop i d), length-drop i d)
+
+-- a run is what was passed of it, and the run that stands there
+pub run_further : (q : ℕ → Bool) (d : List ℕ) (i : ℕ) → i ≤ prefix_len q d → prefix_len q d ≡ i + prefix_len q (drop i d)
+run_further q d zero h = omega arith
+run_further q [] (suc i) h = absurd (not-suc-le-zero h)
+run_further q (x ∷ xs) (suc i) h = by_test (q x) h (run_further q xs i)
+  where
+    by_test : (b : Bool) → suc i ≤ cond b (1 + prefix_len q xs) 0 → (i ≤ prefix_len q xs → prefix_len q xs ≡ i + prefix_len q (drop i xs))
+        → cond b (1 + prefix_len q xs) 0 ≡ suc i + prefix_len q (drop i xs)
+    by_test true le more = omega (arith, more (omega (arith, le)))
+    by_test false le more = absurd (not-suc-le-zero le)
 
 none_fails : (b : Bool) (n l m : ℕ) → n ≤ l → cond (not b) (1 + n) 0 ≡ 1 + l → (n ≡ l → m ≡ 0) → cond b 1 0 + 2 * m ≡ 0
 none_fails true n l m le e ih = let no : ⊥ = omega arith in absurd no

@@ -21,6 +21,11 @@ run_spelled (b ∷ bs) = by_test (is_plain b) refl (run_spelled bs)
     by_test false e front = rw e refl
     by_test true e front = let one : 1 + prefix_len is_plain bs ≡ suc (prefix_len is_plain bs) = omega arith in rw one (ap (λ (rest : List ℕ). b ∷ rest) front)
 
+-- a message that is plain throughout is spelled by itself
+pub all_spelled : (bytes : List ℕ) → prefix_len is_plain bytes ≡ length bytes → encoded bytes ≡ bytes
+all_spelled bytes whole =
+    run_spelled bytes ∙ ap₂ (λ (front rest : List ℕ). front ++ encoded rest) (take_all (prefix_len is_plain bytes) bytes (omega (arith, whole))) (drop_all (prefix_len is_plain bytes) bytes (omega (arith, whole))) ∙ append-nil bytes
+
 -- the plain front was put, and what follows is still to come
 pub run_put : (old new message run rest : List ℕ) (n : ℕ) → new ≡ old ++ run → run ≡ take n message → rest ≡ drop n message → n ≡ prefix_len is_plain message
     → new ++ encoded rest ≡ old ++ encoded message

@@ -192,13 +192,32 @@ pub fn push_message(line: &mut Vec<u8>, message: &[u8]) -> Result<(), Refusal>
     }
 }
 
-/// Puts each byte as itself or escaped at the line's end.
+/// Puts each byte as itself or escaped at the line's end: all at once where none is escaped.
+#[tactic(auto, using(crate::proofs::Plain::all_spelled))]
+#[inline(always)]
 fn push_encoded(line: &mut Vec<u8>, message: &[u8]) -> Result<(), Refusal>
     ensures ok { OnOk result (line.new.items ≡ line.old.items ++ encoded message.now) }
     ensures memory { IsOkUnless result Refusal.Memory }
 {
+    let run = plain_run(message);
+    if run == message.len() {
+        line.extend_from_slice(message)?;
+        return Ok(());
+    }
+    push_mixed(line, message, run)
+}
+
+/// Puts the plain bytes in front of the message, which are so many, and then each byte as itself or escaped,
+/// at the line's end. It stands apart, since few messages need it.
+#[inline(never)]
+fn push_mixed(line: &mut Vec<u8>, message: &[u8], run: usize) -> Result<(), Refusal>
+    requires counted { run ≡ prefix_len is_plain message.now }
+    requires within { run ≤ length message.now }
+    ensures ok { OnOk result (line.new.items ≡ line.old.items ++ encoded message.now) }
+    ensures memory { IsOkUnless result Refusal.Memory }
+{
     line.reserve(message.len())?;
-    let mut rest = message;
+    let mut rest = push_run(line, message, run)?;
     while !rest.is_empty() {
         rest = push_front(line, rest)?;
     }
@@ -217,7 +236,7 @@ fn push_front<'a>(line: &mut Vec<u8>, message: &'a [u8]) -> Result<&'a [u8], Ref
         [] => Ok(message),
         [byte, rest @ ..] => {
             if is_plain(*byte) {
-                return push_run(line, message);
+                return push_run(line, message, plain_run(message));
             }
             push_escape(line, *byte)?;
             Ok(rest)
@@ -225,15 +244,18 @@ fn push_front<'a>(line: &mut Vec<u8>, message: &'a [u8]) -> Result<&'a [u8], Ref
     }
 }
 
-/// Puts the plain bytes in front of the message at the line's end, and tells what follows.
+/// Puts the plain bytes in front of the message, which are so many, at the line's end, and tells what follows.
 #[tactic(auto, using(crate::proofs::Plain::run_put))]
-fn push_run<'a>(line: &mut Vec<u8>, message: &'a [u8]) -> Result<&'a [u8], Refusal>
+#[inline(always)]
+fn push_run<'a>(line: &mut Vec<u8>, message: &'a [u8], run: usize) -> Result<&'a [u8], Refusal>
+    requires counted { run ≡ prefix_len is_plain message.now }
+    requires within { run ≤ length message.now }
     ensures ok { IfOk result (λ rest. line.new.items ++ encoded rest.now ≡ line.old.items ++ encoded message.now) }
-    ensures shorter { IfOk result (λ rest. length rest.now + prefix_len is_plain message.now ≡ length message.now) }
+    ensures shorter { IfOk result (λ rest. length rest.now + run ≡ length message.now) }
     ensures memory { IsOkUnless result Refusal.Memory }
 {
-    let (run, rest) = message.split_at(plain_run(message));
-    line.extend_from_slice(run)?;
+    let (plain, rest) = message.split_at(run);
+    line.extend_from_slice(plain)?;
     Ok(rest)
 }
 

@@ -15,15 +15,64 @@ pub fn plain_run(text: &[u8]) -> usize
     ensures value { result ≡ prefix_len is_plain text.now }
     ensures within { result ≤ length text.now }
 {
+    match text.len() {
+        0..4 => run_slowly(text),
+        4..8 => run_of_short::<4>(text),
+        8..16 => run_of_short::<8>(text),
+        _ => run_of_long(text),
+    }
+}
+
+/// The same of a text that two blocks cover.
+#[inline(always)]
+fn run_of_short<const N: usize>(text: &[u8]) -> usize
+    requires few { N ≤ 64 }
+    requires room { N ≤ length text.now }
+    requires covered { length text.now ≤ N + N }
+    ensures value { result ≡ prefix_len is_plain text.now }
+    ensures within { result ≤ length text.now }
+{
+    let odd = odd_of(Simd::<u8, N>::from_slice(text));
+    if odd != 0 {
+        return odd.trailing_zeros() as usize;
+    }
+    end_of_run::<N>(text)
+}
+
+/// The same of a longer text.
+#[inline(always)]
+fn run_of_long(text: &[u8]) -> usize
+    requires { 16 ≤ length text.now }
+    ensures value { result ≡ prefix_len is_plain text.now }
+    ensures within { result ≤ length text.now }
+{
     let mut run = 0;
-    while text.len() - run >= 16 {
-        let odd = odd_of_16(u8x16::from_slice(&text[run..]));
+    while text.len() - run > 16 {
+        let odd = odd_of(u8x16::from_slice(&text[run..]));
         if odd != 0 {
             return run + odd.trailing_zeros() as usize;
         }
         run = skip_plain(text, run + 16);
     }
-    run_slowly(text, run)
+    end_of_run::<16>(text)
+}
+
+/// The same of a text that is plain up to its last block. This may overlap those that were looked at.
+#[inline(always)]
+fn end_of_run<const N: usize>(text: &[u8]) -> usize
+    requires few { N ≤ 64 }
+    requires room { N ≤ length text.now }
+    requires plain { length text.now ≤ N + prefix_len is_plain text.now }
+    ensures value { result ≡ prefix_len is_plain text.now }
+    ensures within { result ≤ length text.now }
+{
+    let last = text.len() - N;
+    let odd = odd_of(Simd::<u8, N>::from_slice(&text[last..]));
+    if odd == 0 {
+        text.len()
+    } else {
+        last + odd.trailing_zeros() as usize
+    }
 }
 
 /// The place past the blocks of 64 plain bytes that stand there.
@@ -36,7 +85,7 @@ fn skip_plain(text: &[u8], from: usize) -> usize
 {
     let mut place = from;
     while text.len() - place >= 64 {
-        let odd = odd_of_64(u8x64::from_slice(&text[place..]));
+        let odd = odd_of(u8x64::from_slice(&text[place..]));
         if odd != 0 {
             return place;
         }
@@ -45,14 +94,13 @@ fn skip_plain(text: &[u8], from: usize) -> usize
     place
 }
 
-/// Where the run ends that goes on from there, byte by byte.
+/// How many bytes stand before the first that is not plain, byte by byte.
 #[inline(always)]
-fn run_slowly(text: &[u8], from: usize) -> usize
-    requires { from ≤ length text.now }
-    ensures value { result ≡ from + prefix_len is_plain (drop from text.now) }
+fn run_slowly(text: &[u8]) -> usize
+    ensures value { result ≡ prefix_len is_plain text.now }
     ensures within { result ≤ length text.now }
 {
-    let mut place = from;
+    let mut place = 0;
     while place < text.len() && is_plain(text[place]) {
         place += 1;
     }
@@ -61,20 +109,12 @@ fn run_slowly(text: &[u8], from: usize) -> usize
 
 /// A bit for each byte that is not plain, the first lowest.
 #[inline(always)]
-fn odd_of_16(block: u8x16) -> u64
-    ensures { result ≡ mask_l (map is_odd block) }
+fn odd_of<const N: usize>(block: Simd<u8, N>) -> u64
+    requires { N ≤ 64 }
+    ensures { result ≡ mask_l (map is_odd block.entry) }
 {
-    ((block - u8x16::splat(b'!')).simd_ge(u8x16::splat(94))
-        | block.simd_eq(u8x16::splat(b'%'))).to_bitmask()
-}
-
-/// The same for a longer block.
-#[inline(always)]
-fn odd_of_64(block: u8x64) -> u64
-    ensures { result ≡ mask_l (map is_odd block) }
-{
-    ((block - u8x64::splat(b'!')).simd_ge(u8x64::splat(94))
-        | block.simd_eq(u8x64::splat(b'%'))).to_bitmask()
+    let shifted = block - Simd::splat(b'!');
+    (shifted.simd_ge(Simd::splat(94)) | shifted.simd_eq(Simd::splat(4))).to_bitmask()
 }
 
 /// Whether the byte stands for itself.

@@ -5,7 +5,7 @@ use Rattle.cpg_text.proofs.runs.run_slowly.Given as goal
 
 abbrev pub invariant-loop-place : goal.invariant-loop-place
 invariant-loop-place l =
-    (l.from + prefix_len is_plain (drop l.from l.text) ≡ l.place + prefix_len is_plain (drop l.place l.text)) × (l.place ≤ length l.text)
+    (prefix_len is_plain l.text ≡ l.place + prefix_len is_plain (drop l.place l.text)) × (l.place ≤ length l.text)
 
 abbrev pub decreases-loop-place : goal.decreases-loop-place
 decreases-loop-place l = length l.text - l.place

@@ -6,5 +6,5 @@ use Rattle.cpg_text.proofs.runs.skip_plain.Goals as goal
 
 pub loop-place-preserved : goal.loop-place-preserved
 loop-place-preserved c =
-    let run = run_through is_odd is_plain (λ x. not-not (is_plain x)) c.args.text.now c.loop-place.place 64 (omega arith) (omega (arith, c.odd_of_64-odd.ensures)) in
+    let run = run_through is_odd is_plain (λ x. not-not (is_plain x)) c.args.text.now c.loop-place.place 64 (omega arith) (omega (arith, c.odd_of-odd.ensures)) in
     record { so_far = omega (arith, run, c.loop-place.invariant.so_far); forth = omega arith; within = omega arith }

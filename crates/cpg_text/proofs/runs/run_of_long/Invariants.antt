@@ -1,7 +1,7 @@
 use Rattle.std.proofs.Common.{◌≡◌, ◌+◌, ◌-◌, ◌≤◌, length, drop}
 use Rattle.std.specs.List.{prefix_len}
 use Rattle.cpg_text.specs.Percent.{is_plain}
-use Rattle.cpg_text.proofs.runs.plain_run.Given as goal
+use Rattle.cpg_text.proofs.runs.run_of_long.Given as goal
 
 abbrev pub invariant-loop-run : goal.invariant-loop-run
 invariant-loop-run l = record {
