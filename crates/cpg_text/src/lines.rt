@@ -93,7 +93,7 @@ fn is_edge(byte: u8) -> bool
 pub fn is_blank(byte: u8) -> bool
     ensures { result ≡ is_blank byte }
 {
-    byte == b' ' || (byte < b' ' && is_tab(byte))
+    byte <= b' ' && (byte == b' ' || is_tab(byte))
 }
 
 /// It stands apart, so that most bytes are told by one comparison.
