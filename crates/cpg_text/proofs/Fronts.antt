@@ -1,5 +1,5 @@
 -- A run of bytes that pass a test, seen a block at a time through the mask of those that fail it.
-use Rattle.std.proofs.Common.{◌≡◌, ◌≢◌, Some, ℕ, zero, suc, not-suc-le-zero, ◌+◌, ◌*◌, ◌<◌, ◌≤◌, Bool, true, false, not, cond, eqb, List, [], ◌∷◌, map, length, drop, refl, sym, ap, ap₂, ◌∙◌, arith}
+use Rattle.std.proofs.Common.{◌≡◌, ◌≢◌, Some, ℕ, zero, suc, not-suc-le-zero, ◌+◌, ◌-◌, ◌*◌, ◌<◌, ◌≤◌, Bool, true, false, not, cond, eqb, List, [], ◌∷◌, map, length, take, drop, ◌++◌, refl, sym, ap, ap₂, ◌∙◌, arith}
 use Rattle.std.proofs.lemmas.Simd.{chunk-drop, length-chunk, leading_from_mask_l, trailing_mask_l}
 use Rattle.std.proofs.lemmas.List.{length-drop}
 use Rattle.std.proofs.lemmas.List.Folds.{prefix_len-append}
@@ -7,6 +7,8 @@ use Rattle.std.proofs.lemmas.List.Sums.{prefix_len-le-length}
 use Rattle.std.proofs.lemmas.Bool.{eq-eqb, ne_eqb}
 use Rattle.std.proofs.lemmas.Bool.Decides.{nat_tests}
 use Rattle.std.specs.List.{position, position_or_len, prefix_len}
+use Rattle.cpg_text.specs.Percent.{is_plain}
+use Rattle.cpg_text.specs.Steps.{is_odd}
 use lib.Lanes.{chunk, mask_l}
 use lib.Count.{count_trailing_zeros}
 
@@ -58,6 +60,29 @@ module _ (p q : ℕ → Bool) (opposite : (x : ℕ) → q x ≡ not (p x)) where
       let c = chunk i n d in
       split d i n ∙ ap (λ b. cond b (length c + prefix_len q (drop (i + n) d)) (prefix_len q c)) (ne_eqb _ _ (λ (e : prefix_len q c ≡ length c). omega (arith, all_pass c (sym (same_run c) ∙ e))))
       ∙ same_run c ∙ sym (trailing_mask_l p 64 c (omega (arith, length-chunk i n d room)) some)
+
+-- no bit in two blocks is none in either
+none_apart : (xs ys : List ℕ) → mask_l (map is_odd (xs ++ ys)) ≡ 0 → (mask_l (map is_odd xs) ≡ 0) × (mask_l (map is_odd ys) ≡ 0)
+none_apart [] ys e = (refl, e)
+none_apart (x ∷ xs) ys e = by_test (is_odd x) e (none_apart xs ys)
+  where
+    by_test : (b : Bool) → cond b 1 0 + 2 * mask_l (map is_odd (xs ++ ys)) ≡ 0 → (mask_l (map is_odd (xs ++ ys)) ≡ 0 → (mask_l (map is_odd xs) ≡ 0) × (mask_l (map is_odd ys) ≡ 0))
+        → (cond b 1 0 + 2 * mask_l (map is_odd xs) ≡ 0) × (mask_l (map is_odd ys) ≡ 0)
+    by_test true f more = absurd (omega (arith, f))
+    by_test false f more = let h = more (omega (arith, f)) in (omega (arith, h.0), h.1)
+
+-- both ends of a text have no bit, and they meet
+pub ends_meet : (d : List ℕ) (n : ℕ) → n ≤ length d → length d ≤ n + n → mask_l (map is_odd (take n d ++ take n (drop (length d - n) d))) ≡ 0 → prefix_len is_plain d ≡ length d
+ends_meet d n room meet none =
+    let first = take n d in
+    let last = take n (drop (length d - n) d) in
+    let long : length first ≡ n = length-chunk 0 n d (omega (arith, room)) in
+    let long-last : length last ≡ n = length-chunk (length d - n) n d (omega (arith, room)) in
+    let both = none_apart first last none in
+    let front = run_through is_odd is_plain (λ x. not-not (is_plain x)) d 0 n (omega (arith, room)) both.0 in
+    let back = run_through is_odd is_plain (λ x. not-not (is_plain x)) d (length d - n) n (omega (arith, room)) both.1 in
+    let further = run_further is_plain d (length d - n) (omega (arith, front, meet)) in
+    omega (arith, further, back, room, prefix_len-le-length is_plain d)
 
 -- a bit for the places of a first block: the lowest is the first place
 pub near_place : (p : ℕ → Bool) (d : List ℕ) (n : ℕ) → n ≤ length d → n ≤ 64 → 0 < mask_l (map p (chunk 0 n d)) → position p d ≡ Some (count_trailing_zeros 64 (mask_l (map p (chunk 0 n d))))

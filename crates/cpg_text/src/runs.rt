@@ -2,7 +2,7 @@
 //!
 //! Proved: a run ends where the first byte stands that can't stand for itself.
 
-ghost use Rattle.std.specs.Prelude.{◌≡◌, ◌+◌, ◌≤◌, length, drop, map};
+ghost use Rattle.std.specs.Prelude.{◌≡◌, ◌+◌, ◌-◌, ◌≤◌, ◌<◌, ◌++◌, IsTrue, length, take, drop, map};
 ghost use Rattle.std.specs.List.{prefix_len};
 ghost use Rattle.std.specs.Simd.Lanes.{mask_l};
 ghost use Rattle.cpg_text.specs.Percent.{is_plain};
@@ -11,36 +11,55 @@ ghost use Rattle.cpg_text.specs.Steps.{is_odd};
 use std::simd::prelude::*;
 
 /// How many bytes stand before the text's first that is not plain.
+#[inline(always)]
 pub fn plain_run(text: &[u8]) -> usize
     ensures value { result ≡ prefix_len is_plain text.now }
     ensures within { result ≤ length text.now }
 {
-    match text.len() {
-        0..4 => run_slowly(text),
-        4..8 => run_of_short::<4>(text),
-        8..16 => run_of_short::<8>(text),
-        _ => run_of_long(text),
+    if text.len() >= 16 {
+        return run_of_long(text);
     }
+    if has_plain_ends(text) {
+        return text.len();
+    }
+    run_slowly(text)
 }
 
-/// The same of a text that two blocks cover.
+/// Whether a text of 4 to 15 bytes is known to be plain, by its first and its last bytes, which meet.
 #[inline(always)]
-fn run_of_short<const N: usize>(text: &[u8]) -> usize
-    requires few { N ≤ 64 }
-    requires room { N ≤ length text.now }
-    requires covered { length text.now ≤ N + N }
-    ensures value { result ≡ prefix_len is_plain text.now }
-    ensures within { result ≤ length text.now }
+fn has_plain_ends(text: &[u8]) -> bool
+    requires { length text.now < 16 }
+    ensures { IsTrue result → prefix_len is_plain text.now ≡ length text.now }
 {
-    let odd = odd_of(Simd::<u8, N>::from_slice(text));
-    if odd != 0 {
-        return odd.trailing_zeros() as usize;
+    match text.len() {
+        0..4 => false,
+        4..8 => odd_of(ends_of_4(text)) == 0,
+        _ => odd_of(ends_of_8(text)) == 0,
     }
-    end_of_run::<N>(text)
 }
 
-/// The same of a longer text.
+/// The first four bytes and the last four.
 #[inline(always)]
+fn ends_of_4(text: &[u8]) -> u8x8
+    requires { 4 ≤ length text.now }
+    ensures { result ≡ take 4 text.now ++ take 4 (drop (length text.now - 4) text.now) }
+{
+    let last = u8x4::from_slice(&text[text.len() - 4..]);
+    u8x4::from_slice(text).shuffle(last, [0, 1, 2, 3, 4, 5, 6, 7])
+}
+
+/// The first eight bytes and the last eight.
+#[inline(always)]
+fn ends_of_8(text: &[u8]) -> u8x16
+    requires { 8 ≤ length text.now }
+    ensures { result ≡ take 8 text.now ++ take 8 (drop (length text.now - 8) text.now) }
+{
+    let last = u8x8::from_slice(&text[text.len() - 8..]);
+    u8x8::from_slice(text).shuffle(last, [0, 1, 2, 3, 4, 5, 6, 7, 8, 9, 10, 11, 12, 13, 14, 15])
+}
+
+/// The same of a text of at least a block. It stands apart, since most texts are short.
+#[inline(never)]
 fn run_of_long(text: &[u8]) -> usize
     requires { 16 ≤ length text.now }
     ensures value { result ≡ prefix_len is_plain text.now }
@@ -54,20 +73,19 @@ fn run_of_long(text: &[u8]) -> usize
         }
         run = skip_plain(text, run + 16);
     }
-    end_of_run::<16>(text)
+    end_of_run(text)
 }
 
-/// The same of a text that is plain up to its last block. This may overlap those that were looked at.
+/// The same of a text that is plain up to its last block, which may overlap those that were looked at.
 #[inline(always)]
-fn end_of_run<const N: usize>(text: &[u8]) -> usize
-    requires few { N ≤ 64 }
-    requires room { N ≤ length text.now }
-    requires plain { length text.now ≤ N + prefix_len is_plain text.now }
+fn end_of_run(text: &[u8]) -> usize
+    requires room { 16 ≤ length text.now }
+    requires plain { length text.now ≤ 16 + prefix_len is_plain text.now }
     ensures value { result ≡ prefix_len is_plain text.now }
     ensures within { result ≤ length text.now }
 {
-    let last = text.len() - N;
-    let odd = odd_of(Simd::<u8, N>::from_slice(&text[last..]));
+    let last = text.len() - 16;
+    let odd = odd_of(u8x16::from_slice(&text[last..]));
     if odd == 0 {
         text.len()
     } else {
