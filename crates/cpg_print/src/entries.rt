@@ -173,6 +173,7 @@ fn read_conn(word: &[u8]) -> Option<ConnId>
 }
 
 /// The entry of a line, if it is one. That it is none is told whatever memory there is.
+#[inline(always)]
 pub fn entry_in_line(alloc: Global, line: &[u8]) -> Result<Option<Entry>, Refusal>
     ensures ok { IfOk result (λ found. found ≡ entry_of (words_of line.now)) }
     ensures memory { IsOkUnlessMemoryFor result (entry_of (words_of line.now)) }
