@@ -11,7 +11,7 @@ use cpg_board::Board;
 use cpg_cred::{AcceptList, By, NodeId, Refusal};
 use cpg_daemon::{Beginning, Cluster, HistoryName, Opened, PassAll, Running, Session};
 use cpg_entry::Call;
-use cpg_node::Settings;
+use cpg_node::{Event, Settings};
 use cpg_record::Verdict;
 use std::alloc::Global;
 use std::marker::Brand;
@@ -162,6 +162,55 @@ fn goes_on<B: HistoryName, R: Wait>(
     Ok(())
 }
 
+/// Takes the session's next events together, behind those of the list, until it has two. What is refused memory
+/// leaves those that were taken before.
+fn told_together<B: HistoryName, R: Wait>(
+    rt: &R,
+    running: &Running<B, PassAll>,
+    session: &mut Session<B>,
+    events: &mut Vec<Event>,
+) -> Result<(), Stop>
+    requires { session.old.who.id.node ≤ running.now.nodes }
+    ensures { session.new.who.id.node ≡ session.old.who.id.node }
+{
+    for _ in 0..MOST_ASKS {
+        let wanted = 2usize.saturating_sub(events.len());
+        match running.take_many(rt, session, events, wanted) {
+            Ok(_) | Err(Refusal::Memory | Refusal::Behind(_)) => (),
+            Err(_) => return Err(Stop::Refused),
+        }
+        if events.len() >= 2 {
+            return Ok(());
+        }
+        thread::yield_now();
+    }
+    Err(Stop::Memory)
+}
+
+/// The process leaves, and is told the two events together.
+fn leaves<B: HistoryName, R: Wait>(
+    rt: &R,
+    alloc: Global,
+    running: &Running<B, PassAll>,
+    session: &mut Session<B>,
+) -> Result<(), Stop>
+    requires { session.old.who.id.node ≤ running.now.nodes }
+    ensures { session.new.who.id.node ≡ session.old.who.id.node }
+{
+    submitted(rt, alloc, running, session, &Ask::Leave)?;
+    let mut events = Vec::new(alloc);
+    told_together(rt, running, session, &mut events)?;
+    match events.as_slice() {
+        [verdict, change]
+            if event_in_short(verdict) == Short::Verdict(3, Verdict::Allowed(By::Free))
+                && event_in_short(change) == Short::Change(3, 0, 1, 0) =>
+        {
+            Ok(())
+        }
+        _ => Err(Stop::Wrong(4)),
+    }
+}
+
 /// How many members `db` has, as the session may list them; none where memory is refused.
 fn members_listed<B: HistoryName, R: Wait>(
     rt: &R,
@@ -255,7 +304,7 @@ fn closed<B: HistoryName, R: Wait>(
     Err(Stop::Memory)
 }
 
-/// A process joins `db`, says `hi`, lists, and leaves; another one sees what it saw.
+/// A process joins `db`, says `hi`, lists, and leaves, which it is told together; another one sees what it saw.
 fn serves<B: HistoryName, R: Wait>(
     rt: &R,
     alloc: Global,
@@ -271,6 +320,7 @@ fn serves<B: HistoryName, R: Wait>(
     goes_on(rt, alloc, running, &mut session, &Ask::Send("hi"), said)?;
     lists_one(rt, running, &mut session)?;
     tells_all(running, &session, connected(rt, running, id, 50)?)?;
+    leaves(rt, alloc, running, &mut session)?;
     closed(rt, running, session)
 }
 
