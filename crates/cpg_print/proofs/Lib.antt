@@ -2,6 +2,7 @@ pub mod CallWords
 pub mod Callers
 pub mod Conditions
 pub mod EntryWords
+pub mod FirstConns
 pub mod Lengths
 pub mod Limits
 pub mod Numerals

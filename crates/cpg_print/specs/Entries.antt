@@ -1,5 +1,5 @@
 -- entries as lines, both ways: `NODE.CONN PID UID GID CALL`, with `gone` for CALL where the connection ends
-use Rattle.std.specs.Prelude.{ℕ, List, [], ◌∷◌, ◌++◌, codes, decimal, Option, Some, None, option_map, if◌then◌else◌}
+use Rattle.std.specs.Prelude.{ℕ, List, [], ◌∷◌, ◌++◌, codes, decimal, Option, Some, None, option_map, ◌&&◌, nat_le, if◌then◌else◌}
 use Rattle.cpg_cred.specs.declared.nodes.TheConstants.{MOST_NODES}
 use Rattle.cpg_entry.specs.declared.ranges.TheConstants.{MOST_CONNECTIONS}
 use Rattle.cpg_entry.specs.declared.calls.Op.{Op}
@@ -31,6 +31,13 @@ conn_in_parts parts = do
 -- the connection of NODE.CONN
 abbrev pub conn_of_word : List ℕ → Option ConnId
 conn_of_word word = cut_at 46 word >>= conn_in_parts
+
+-- the connection of two numbers, where each is from 1 to its most
+abbrev pub conn_in_limits : ℕ → ℕ → Option ConnId
+conn_in_limits node conn =
+    if (nat_le 1 node && nat_le node MOST_NODES) && (nat_le 1 conn && nat_le conn MOST_CONNECTIONS)
+    then Some (record { node = node; conn = conn })
+    else None
 
 -- the connection of the first word, and the words after it
 abbrev pub first_conn : List (List ℕ) → Option (ConnId × List (List ℕ))

@@ -4,7 +4,7 @@ ghost use Rattle.std.specs.Prelude.{◌≡◌, ◌++◌, codes, decimal, OnOk, I
 ghost use Rattle.cpg_record.specs.Connections.{conn_of};
 ghost use Rattle.cpg_text.specs.Lines.{words_of};
 ghost use Rattle.cpg_text.specs.Memory.{IsOkUnlessMemoryFor};
-ghost use Rattle.cpg_print.specs.Entries.{conn_text, entry_text, conn_of_word, first_conn, entry_by, enterable_op, entry_of};
+ghost use Rattle.cpg_print.specs.Entries.{conn_text, entry_text, conn_of_word, first_conn, conn_in_limits, entry_by, enterable_op, entry_of};
 ghost use Rattle.cpg_print.specs.Words.{texts};
 
 use crate::calls::{is_enterable, keeps_limits, put_op, read_op};
@@ -12,7 +12,7 @@ use cpg_cred::{Cred, MOST_NODES, NodeId, Refusal};
 use cpg_entry::{Entry, MOST_CONNECTIONS, Op};
 use cpg_record::ConnId;
 use cpg_script::{cut, put_byte, read_u32};
-use cpg_text::{Words, push_number, take_number, take_words};
+use cpg_text::{Words, first_digits, push_number, take_number, take_words};
 use std::alloc::Global;
 
 /// The words of the longest op, and one more.
@@ -83,13 +83,45 @@ fn take_caller(line: &[u8]) -> Option<(Caller, &[u8])>
     Some((Caller { conn, pid, cred }, rest))
 }
 
-/// The connection of a line's first word, and what follows it.
+/// The connection of a line's first word, and what follows it. Where the line begins with a short number and a
+/// dot, both numbers are read where they stand.
 fn take_conn(line: &[u8]) -> Option<(ConnId, &[u8])>
+    ensures { option_map (λ found. (found.0, words_of found.1.now)) result ≡ first_conn (words_of line.now) }
+{
+    let (node, dot) = first_digits(line);
+    if dot == 0 || line.len() - dot < 2 || line[dot] != b'.' || !line[dot + 1].is_ascii_digit() {
+        return take_conn_slowly(line);
+    }
+    let (conn, rest) = take_number(&line[dot + 1..])?;
+    let conn = conn_in_limits(node, conn)?;
+    Some((conn, rest))
+}
+
+/// The same for any word: it is found first, and then read.
+#[inline(never)]
+fn take_conn_slowly(line: &[u8]) -> Option<(ConnId, &[u8])>
     ensures { option_map (λ found. (found.0, words_of found.1.now)) result ≡ first_conn (words_of line.now) }
 {
     let mut words = Words::of(line);
     let conn = read_conn(words.next()?)?;
     Some((conn, words.rest))
+}
+
+/// The connection of such numbers, where both are within their limits.
+fn conn_in_limits(node: u32, conn: u32) -> Option<ConnId>
+    ensures { result ≡ conn_in_limits node conn }
+{
+    if conn < 1 || conn > u32::from(MOST_CONNECTIONS) {
+        return None;
+    }
+    if node < 1 || node > u32::from(MOST_NODES) {
+        return None;
+    }
+    let node = NodeId::new(node as u8)?;
+    Some(ConnId {
+        node,
+        conn: conn as u16,
+    })
 }
 
 /// The entry of that caller whose op the text says.

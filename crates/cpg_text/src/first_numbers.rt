@@ -31,7 +31,7 @@ pub fn take_number(line: &[u8]) -> Option<(u32, &[u8])>
 
 /// The number that the digits at the line's front write, nine at most, and where they end.
 #[inline(always)]
-fn first_digits(line: &[u8]) -> (u32, usize)
+pub fn first_digits(line: &[u8]) -> (u32, usize)
     ensures digits { list_all is_ascii_digit (take result.1 line.now) ≡ true }
     ensures value { result.0 ≡ value_of (take result.1 line.now) }
     ensures small { result.0 < 1000000000 }

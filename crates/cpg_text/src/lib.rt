@@ -14,7 +14,7 @@ mod runs;
 mod streams;
 mod words;
 
-pub use first_numbers::take_number;
+pub use first_numbers::{first_digits, take_number};
 pub use laws::reads_what_is_spelled;
 pub use lines::{Lines, is_ignored, trim};
 pub use numbers::{is_number, push_number, read_number};
