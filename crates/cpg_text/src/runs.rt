@@ -58,7 +58,8 @@ fn ends_of_8(text: &[u8]) -> u8x16
     u8x8::from_slice(text).shuffle(last, [0, 1, 2, 3, 4, 5, 6, 7, 8, 9, 10, 11, 12, 13, 14, 15])
 }
 
-/// The same of a text of at least a block. It stands apart, since most texts are short.
+/// How many bytes stand before the first that is not plain, by blocks. It stands apart, since most texts are
+/// short.
 #[inline(never)]
 fn run_of_long(text: &[u8]) -> usize
     requires { 16 ≤ length text.now }
@@ -76,7 +77,7 @@ fn run_of_long(text: &[u8]) -> usize
     end_of_run(text)
 }
 
-/// The same of a text that is plain up to its last block, which may overlap those that were looked at.
+/// The same where the text is plain up to its last block, which may overlap those that were looked at.
 #[inline(always)]
 fn end_of_run(text: &[u8]) -> usize
     requires room { 16 ≤ length text.now }
