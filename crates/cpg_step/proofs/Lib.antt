@@ -1,3 +1,4 @@
 pub mod Doing
+pub mod Firsts
 pub mod Lengths
 pub mod Listing
