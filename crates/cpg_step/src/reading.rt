@@ -252,7 +252,6 @@ fn read_list_by(alloc: Global, nodes: u8, words: &[&[u8]]) -> Result<Option<Worl
     }
 }
 
-#[inline(never)]
 fn read_disconnect(nodes: u8, rest: &[u8]) -> Option<WorldEvent>
     ensures event { result ≡ option_map (λ at. Disconnect at.0 at.1) (node_and_conn nodes (words_of rest.now)) }
     ensures within { IfSome result (λ event. node_in event ≤ nodes) }
@@ -269,7 +268,6 @@ fn read_take(nodes: u8, rest: &[u8]) -> Option<WorldEvent>
     Some(WorldEvent::Take(node, conn))
 }
 
-#[inline(never)]
 fn read_groups(nodes: u8, rest: &[u8]) -> Option<WorldEvent>
     ensures event { result ≡ option_map (λ at. Groups at.0 at.1) (node_and_conn nodes (words_of rest.now)) }
     ensures within { IfSome result (λ event. node_in event ≤ nodes) }
@@ -278,7 +276,6 @@ fn read_groups(nodes: u8, rest: &[u8]) -> Option<WorldEvent>
     Some(WorldEvent::Groups(node, conn))
 }
 
-#[inline(never)]
 fn read_timer(nodes: u8, rest: &[u8]) -> Option<WorldEvent>
     ensures event { result ≡ option_map (λ n. Timer n) (node_alone nodes (words_of rest.now)) }
     ensures within { IfSome result (λ event. node_in event ≤ nodes) }
