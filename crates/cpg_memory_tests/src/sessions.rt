@@ -203,10 +203,7 @@ fn leaves<B: HistoryName, R: Wait>(
     match events.as_slice() {
         [verdict, change]
             if event_in_short(verdict) == Short::Verdict(3, Verdict::Allowed(By::Free))
-                && event_in_short(change) == Short::Change(3, 0, 1, 0) =>
-        {
-            Ok(())
-        }
+                && event_in_short(change) == Short::Change(3, 0, 1, 0) => { Ok(()) }
         _ => Err(Stop::Wrong(4)),
     }
 }
