@@ -19,6 +19,7 @@ use std::alloc::Global;
 const WORDS: usize = 7;
 
 /// Puts NODE.CONN at the line's end.
+#[inline(always)]
 pub fn put_conn(line: &mut Vec<u8>, conn: &ConnId) -> Result<(), Refusal>
     ensures ok { OnOk result (line.new.items ≡ line.old.items ++ conn_text conn.now) }
     ensures memory { IsOkUnless result Refusal.Memory }

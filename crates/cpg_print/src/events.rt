@@ -236,6 +236,7 @@ pub fn put_rules_line(line: &mut Vec<u8>, place: u32, group: &[u8]) -> Result<()
 }
 
 /// Puts the word `event` and the place at the line's end.
+#[inline(always)]
 fn put_place(line: &mut Vec<u8>, place: u32) -> Result<(), Refusal>
     ensures ok { OnOk result (line.new.items ≡ line.old.items ++ codes "event " ++ decimal place) }
     ensures memory { IsOkUnless result Refusal.Memory }

@@ -26,6 +26,7 @@ pub fn put_audit(line: &mut Vec<u8>, place: u32, past: &Record) -> Result<(), Re
 }
 
 /// Puts PLACE, the entry and an arrow at the line's end.
+#[inline(always)]
 fn put_asked(line: &mut Vec<u8>, place: u32, entry: &Entry) -> Result<(), Refusal>
     ensures ok { OnOk result (line.new.items ≡ line.old.items ++ decimal place ++ codes " " ++ entry_text entry.now ++ codes " -> ") }
     ensures memory { IsOkUnless result Refusal.Memory }

@@ -10,6 +10,7 @@ use cpg_script::put;
 use cpg_text::push_number;
 
 /// Puts the verdict at the line's end.
+#[inline(always)]
 pub fn put_verdict(line: &mut Vec<u8>, verdict: Verdict) -> Result<(), Refusal>
     ensures ok { OnOk result (line.new.items ≡ line.old.items ++ verdict_text verdict) }
     ensures memory { IsOkUnless result Refusal.Memory }
@@ -35,6 +36,7 @@ fn put_allowed(line: &mut Vec<u8>, by: By) -> Result<(), Refusal>
     }
 }
 
+#[inline(never)]
 fn put_denied(line: &mut Vec<u8>, reason: Reason) -> Result<(), Refusal>
     ensures ok { OnOk result (line.new.items ≡ line.old.items ++ codes "denied " ++ reason_text reason) }
     ensures memory { IsOkUnless result Refusal.Memory }
