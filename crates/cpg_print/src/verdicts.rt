@@ -36,6 +36,7 @@ fn put_allowed(line: &mut Vec<u8>, by: By) -> Result<(), Refusal>
     }
 }
 
+/// Puts why an entry was denied at the line's end: seldom, so that it stays out of what puts the allowed.
 #[inline(never)]
 fn put_denied(line: &mut Vec<u8>, reason: Reason) -> Result<(), Refusal>
     ensures ok { OnOk result (line.new.items ≡ line.old.items ++ codes "denied " ++ reason_text reason) }
