@@ -1,11 +1,13 @@
 -- how many words there are, and whether they say a command
 use Rattle.std.proofs.Common.{◌≡◌, ℕ, List, [], ◌∷◌, take, true, Option, Some, None, is_some, refl, ◌∙◌}
+use Rattle.std.specs.Option.{option_and_then}
 use Rattle.cpg_print.specs.Rules.{rule_of}
 use Rattle.cpg_world_laws.specs.declared.events.WorldEvent.{WorldEvent}
 use Rattle.cpg_print.proofs.Somes.{mapped}
 use Rattle.cpg_step.specs.declared.commands.Look.{Look}
 use Rattle.cpg_step.specs.declared.commands.Command.TheVariants as command
-use Rattle.cpg_step.specs.Commands.{act_or_look, connect_of, list_of, look_of, submit_of}
+use Rattle.cpg_step.specs.Commands.{act_or_look, connect_of, frame_of, list_of, look_of, node_and_conn, submit_of}
+use Rattle.cpg_step.specs.Steps.{two}
 
 -- no word after a call's ninth matters
 pub submit_of_first : (nodes : ℕ) (words : List (List ℕ)) → submit_of nodes (take 9 words) ≡ submit_of nodes words
@@ -44,6 +46,20 @@ look_of_first nodes word [] = refl
 look_of_first nodes word (a ∷ []) = refl
 look_of_first nodes word (a ∷ b ∷ []) = refl
 look_of_first nodes word (a ∷ b ∷ c ∷ more) = refl
+
+-- a node and a connection are two words
+pub at_of_two : (nodes : ℕ) (words : List (List ℕ)) → node_and_conn nodes words ≡ option_and_then (λ at. node_and_conn nodes (at.0 ∷ at.1 ∷ [])) (two words)
+at_of_two nodes [] = refl
+at_of_two nodes (a ∷ []) = refl
+at_of_two nodes (a ∷ b ∷ []) = refl
+at_of_two nodes (a ∷ b ∷ c ∷ more) = refl
+
+-- and so are a node and the number of a frame
+pub frame_of_two : (nodes : ℕ) (words : List (List ℕ)) → frame_of nodes words ≡ option_and_then (λ at. frame_of nodes (at.0 ∷ at.1 ∷ [])) (two words)
+frame_of_two nodes [] = refl
+frame_of_two nodes (a ∷ []) = refl
+frame_of_two nodes (a ∷ b ∷ []) = refl
+frame_of_two nodes (a ∷ b ∷ c ∷ more) = refl
 
 -- where one acts there is a command
 pub act_there : (act : Option WorldEvent) (look : Option Look) → is_some act ≡ true → is_some (act_or_look act look) ≡ true

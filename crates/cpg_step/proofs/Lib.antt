@@ -1,4 +1,3 @@
 pub mod Doing
-pub mod Firsts
 pub mod Lengths
 pub mod Listing

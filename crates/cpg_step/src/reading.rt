@@ -12,15 +12,15 @@ ghost use Rattle.cpg_world_laws.specs.Worlds.{node_in};
 ghost use Rattle.cpg_world_laws.specs.declared.events.WorldEvent.TheVariants.{Submit, Disconnect, Take, Groups, Timer, Deliver};
 ghost use Rattle.cpg_print.specs.Words.{texts};
 ghost use Rattle.cpg_step.specs.declared.commands.Look.TheVariants.{Audit, Safe};
-ghost use Rattle.cpg_step.specs.Steps.{are_none, first_node, first_within, number_alone};
-ghost use Rattle.cpg_step.specs.Commands.{in_ring, node_of, conn_of, u64_of, node_alone, node_and_conn, connect_of, submit_of, frame_of, list_of, event_of, show_of, rules_of, look_of, act_or_look, command_of, LooksWithin, IsWithin};
+ghost use Rattle.cpg_step.specs.Steps.{two};
+ghost use Rattle.cpg_step.specs.Commands.{node_of, conn_of, u64_of, node_alone, node_and_conn, connect_of, submit_of, frame_of, list_of, event_of, show_of, rules_of, look_of, act_or_look, command_of, LooksWithin, IsWithin};
 
 use crate::commands::{Command, Look};
 use cpg_cred::{Cred, MOST_NODES, NodeId, Refusal};
 use cpg_entry::{MOST_CONNECTIONS, Name};
 use cpg_print::read_call;
 use cpg_script::{is, read_u32};
-use cpg_text::{Words, read_number, take_number, take_words};
+use cpg_text::{Words, read_number, take_words};
 use cpg_world::WorldEvent;
 use std::alloc::Global;
 
@@ -33,16 +33,7 @@ pub fn read_node(nodes: u8, word: &[u8]) -> Option<NodeId>
     ensures within { IfSome result (λ node. node ≤ nodes) }
 {
     let number = read_u32(1, u32::from(MOST_NODES), word)?;
-    node_in_ring(nodes, number as u8)
-}
-
-/// The node of that number, where the ring has it.
-fn node_in_ring(nodes: u8, number: u8) -> Option<NodeId>
-    requires { (1 ≤ number) × (number ≤ MOST_NODES) }
-    ensures node { result ≡ in_ring nodes number }
-    ensures within { IfSome result (λ node. node ≤ nodes) }
-{
-    let node = NodeId::new(number)?;
+    let node = NodeId::new(number as u8)?;
     if node.get() <= nodes {
         Some(node)
     } else {
@@ -69,76 +60,42 @@ pub fn read_node_alone(nodes: u8, words: &[&[u8]]) -> Option<NodeId>
     }
 }
 
-/// The number from `low` to `high` that the first word writes, and what follows that word.
-#[tactic(auto, using(crate::proofs::Firsts::within_of_first))]
-fn take_within(low: u32, high: u32, rest: &[u8]) -> Option<(u32, &[u8])>
-    ensures { option_map (λ found. (found.0, words_of found.1.now)) result ≡ first_within low high (words_of rest.now) }
-{
-    let (number, rest) = take_number(rest)?;
-    if low <= number && number <= high {
-        Some((number, rest))
-    } else {
-        None
-    }
-}
-
-/// The node of a NODE that is the first word, where the ring has it, and what follows that word.
-fn take_node(nodes: u8, rest: &[u8]) -> Option<(NodeId, &[u8])>
-    ensures node { option_map (λ found. (found.0, words_of found.1.now)) result ≡ first_node nodes (words_of rest.now) }
-    ensures within { IfSome result (λ found. found.0 ≤ nodes) }
-{
-    let (number, rest) = take_within(1, u32::from(MOST_NODES), rest)?;
-    let node = node_in_ring(nodes, number as u8)?;
-    Some((node, rest))
-}
-
-/// Whether no more words follow. Most often the line has ended, and none is looked for.
-fn is_end(rest: &[u8]) -> bool
-    ensures { result ≡ are_none (words_of rest.now) }
-{
-    rest.is_empty() || Words::of(rest).next().is_none()
-}
-
 /// The node of a NODE, where no more words follow.
-#[tactic(auto, using(crate::proofs::Firsts::alone_in_turn))]
 fn read_last_node(nodes: u8, rest: &[u8]) -> Option<NodeId>
     ensures node { result ≡ node_alone nodes (words_of rest.now) }
     ensures within { IfSome result (λ node. node ≤ nodes) }
 {
-    let Some((node, rest)) = take_node(nodes, rest) else {
-        return None;
-    };
-    if is_end(rest) { Some(node) } else { None }
+    let mut words = Words::of(rest);
+    let node = words.next()?;
+    match words.next() {
+        None => read_node(nodes, node),
+        Some(_) => None,
+    }
 }
 
-/// The number of a K, where no more words follow.
-fn read_last_number(rest: &[u8]) -> Option<u64>
-    ensures { result ≡ number_alone (words_of rest.now) }
+/// The two words that follow, where there are no more.
+fn last_two(rest: &[u8]) -> Option<(&[u8], &[u8])>
+    ensures { option_map (λ words. (words.0.now, words.1.now)) result ≡ two (words_of rest.now) }
 {
     let mut words = Words::of(rest);
-    let number = words.next()?;
-    if is_end(words.rest) {
-        read_number(0, u64::MAX, number)
-    } else {
-        None
+    let first = words.next()?;
+    let second = words.next()?;
+    match words.next() {
+        None => Some((first, second)),
+        Some(_) => None,
     }
 }
 
 /// The node and the connection of NODE CONN, where no more words follow.
-#[tactic(auto, using(crate::proofs::Firsts::conn_in_turn))]
+#[tactic(auto, using(crate::proofs::Lengths::at_of_two))]
 fn read_node_and_conn(nodes: u8, rest: &[u8]) -> Option<(NodeId, u16)>
     ensures at { result ≡ node_and_conn nodes (words_of rest.now) }
     ensures within { IfSome result (λ at. at.0 ≤ nodes) }
 {
-    let Some((node, rest)) = take_node(nodes, rest) else {
-        return None;
-    };
-    let (conn, rest) = take_within(1, u32::from(MOST_CONNECTIONS), rest)?;
-    if is_end(rest) {
-        Some((node, conn as u16))
-    } else {
-        None
-    }
+    let (node, conn) = last_two(rest)?;
+    let node = read_node(nodes, node)?;
+    let conn = read_conn(conn)?;
+    Some((node, conn))
 }
 
 #[inline(never)]
@@ -212,15 +169,14 @@ fn read_submit_by(
     }
 }
 
-#[tactic(auto, using(crate::proofs::Firsts::frame_in_turn))]
+#[tactic(auto, using(crate::proofs::Lengths::frame_of_two))]
 fn read_frame(nodes: u8, rest: &[u8]) -> Option<WorldEvent>
     ensures event { result ≡ frame_of nodes (words_of rest.now) }
     ensures within { IfSome result (λ event. node_in event ≤ nodes) }
 {
-    let Some((node, rest)) = take_node(nodes, rest) else {
-        return None;
-    };
-    let number = read_last_number(rest)?;
+    let (node, number) = last_two(rest)?;
+    let node = read_node(nodes, node)?;
+    let number = read_number(0, u64::MAX, number)?;
     Some(WorldEvent::Frame(node, number as usize))
 }
 
