@@ -162,8 +162,25 @@ fn goes_on<B: HistoryName, R: Wait>(
     Ok(())
 }
 
-/// Takes the session's next events together, behind those of the list, until it has two. What is refused memory
-/// leaves those that were taken before.
+/// Takes the session's next events together, at most so many, behind those of the list. What is refused memory leaves
+/// those that were taken before.
+fn taken_once<B: HistoryName, R: Wait>(
+    rt: &R,
+    running: &Running<B, PassAll>,
+    session: &mut Session<B>,
+    events: &mut Vec<Event>,
+    most: usize,
+) -> Result<(), Stop>
+    requires { session.old.who.id.node ≤ running.now.nodes }
+    ensures { session.new.who.id.node ≡ session.old.who.id.node }
+{
+    match running.take_many(rt, session, events, most) {
+        Ok(_) | Err(Refusal::Memory | Refusal::Behind(_)) => Ok(()),
+        Err(_) => Err(Stop::Refused),
+    }
+}
+
+/// The same until the list has two.
 fn told_together<B: HistoryName, R: Wait>(
     rt: &R,
     running: &Running<B, PassAll>,
@@ -175,10 +192,7 @@ fn told_together<B: HistoryName, R: Wait>(
 {
     for _ in 0..MOST_ASKS {
         let wanted = 2usize.saturating_sub(events.len());
-        match running.take_many(rt, session, events, wanted) {
-            Ok(_) | Err(Refusal::Memory | Refusal::Behind(_)) => (),
-            Err(_) => return Err(Stop::Refused),
-        }
+        taken_once(rt, running, session, events, wanted)?;
         if events.len() >= 2 {
             return Ok(());
         }
