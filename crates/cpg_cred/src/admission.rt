@@ -130,6 +130,7 @@ impl AcceptList {
 }
 
 /// Puts the number at the list's end, if the list lacks it.
+#[inline(always)]
 fn add(numbers: &mut IndexSet<u32>, number: u32) -> Result<(), Refusal>
     ensures ok { OnOk result (numbers.new.keys ≡ with_number numbers.old.keys number) }
     ensures err { OnErr result (numbers.new.keys ≡ numbers.old.keys) }

@@ -15,6 +15,7 @@ use crate::words::{first_word, skip_blanks};
 
 /// The number of at most 4294967295 that the first word of the line writes, and what follows that word. There
 /// is none where there is no word, or where it writes no such number.
+#[inline(always)]
 pub fn take_number(line: &[u8]) -> Option<(u32, &[u8])>
     ensures { option_map (λ found. (found.0, words_of found.1.now)) result ≡ first_number (words_of line.now) }
 {
