@@ -33,6 +33,7 @@ fn is_upto(places: &[u32], index: usize, last: u32) -> bool
 
 /// How many of a group's places come up to the last one, where so many come up to one before it. Most often
 /// that is none or one more; else they are searched by halving.
+#[inline(always)]
 fn count_on(places: &[u32], passed: usize, last: u32) -> usize
     ensures { (test : Record → Bool) (records : List Record) (after : ℕ) → places.now ≡ places_of test records → passed ≡ length (places_of test (take after records)) → after ≤ last → last ≤ length records → result ≡ length (places_of test (take last records)) }
 {
@@ -81,6 +82,7 @@ impl<'a> Told<'a> {
     }
 
     /// The same, with the places up to the last one passed.
+    #[inline(always)]
     fn brought_to(&self, last: u32) -> Told<'a>
         ensures { (records : List Record) (after : ℕ) → IsPast records after self.now → after ≤ last → last ≤ length records → (result.group ≡ self.now.group) × IsPast records last result }
     {
@@ -93,6 +95,7 @@ impl<'a> Told<'a> {
     }
 
     /// What the places tell the group, from those that an earlier one had passed on, as one text.
+    #[inline(always)]
     fn since(&self, passed: usize) -> &'a [u8]
         ensures { (records : List Record) (after last : ℕ) → IsPast records last self.now → passed ≡ count_at records self.now.group after → after ≤ last → last ≤ length records → result.now ≡ told_between records self.now.group after last }
     {
@@ -200,6 +203,7 @@ impl<'a> Inbox<'a> {
     }
 
     /// The same, from what was looked up before the place where it is of that group.
+    #[inline(always)]
     fn told_of(&self, before: &Option<Told<'a>>, group: &'a [u8], place: u32) -> Told<'a>
         requires before { IfSome before.now (IsPast (judged self.now.entries) (place - 1)) }
         requires place { place ≤ length (judged self.now.entries) }
@@ -220,6 +224,7 @@ impl<'a> Inbox<'a> {
 
     /// What the group tells that the connection is in after the place, up to which it made so many entries, if it
     /// is in one, with the places up to there passed: what was looked up before, where it is of that group.
+    #[inline(always)]
     pub(crate) fn told_after(
         &self,
         before: &Option<Told<'a>>,
@@ -315,6 +320,7 @@ impl<'a> Inbox<'a> {
 
     /// What the place tells the connection that made its entry beside the verdict: the line that it tells its
     /// group, where the connection hears it.
+    #[inline(always)]
     pub(crate) fn own_line(
         &self,
         before: &Option<Told<'a>>,
@@ -344,6 +350,7 @@ impl<'a> Inbox<'a> {
 
 /// The lines of the places above those that were passed up to the last one, at which the connection made no
 /// entry, as one text: they are lines that its group was told one after the other. These places are passed then.
+#[inline(always)]
 pub(crate) fn pass<'a>(told: Option<Told<'a>>, last: u32) -> (&'a [u8], Option<Told<'a>>)
     ensures text { (records : List Record) (conn : ConnId) (after : ℕ) → IsHeard records conn after told.entry → after ≤ last → last ≤ length records → MakesNone records conn after last → result.0.now ≡ concat (lines_between records conn after last) }
     ensures told { (records : List Record) (after : ℕ) → IfSome told.entry (IsPast records after) → after ≤ last → last ≤ length records → IfSome result.1 (IsPast records last) }

@@ -25,6 +25,7 @@ use std::io::Write;
 
 /// Puts what a place tells the connection that made its entry at the lines' end: the verdict, and what it tells
 /// its group.
+#[inline(always)]
 fn put_own(lines: &mut Vec<u8>, inbox: &Inbox<'_>, line: &[u8], place: u32) -> Result<(), Refusal>
     requires line { line.now ≡ concat (drop 1 (lines_at (judged inbox.now.entries) inbox.now.conn place)) }
     requires own { Makes (judged inbox.now.entries) inbox.now.conn place }
@@ -38,6 +39,7 @@ fn put_own(lines: &mut Vec<u8>, inbox: &Inbox<'_>, line: &[u8], place: u32) -> R
 }
 
 /// Writes what a place tells the connection that made its entry.
+#[inline(always)]
 fn write_own<W: Write>(
     writer: &mut W,
     lines: &mut Vec<u8>,
@@ -56,6 +58,7 @@ fn write_own<W: Write>(
 
 /// Writes what the places above `after` tell the connection, up to the next at which it made the entry: the text
 /// of those between, and its own place.
+#[inline(always)]
 fn write_upto<W: Write>(
     writer: &mut W,
     lines: &mut Vec<u8>,

@@ -48,6 +48,7 @@ fn join_of(past: &Record) -> Move
 /// Puts the line that the allowed record of the place tells its group at the line's end, from the text of its
 /// members where it moves one. But for an end of a membership, whose member is sought among the group's, it is put
 /// from the record.
+#[inline(always)]
 fn put_told(
     line: &mut Vec<u8>,
     policy: &Policy,
@@ -144,6 +145,7 @@ impl Text {
 
     /// Takes in the allowed record of the place, of the group of that name: its members where it moves one, and
     /// what the place tells the group.
+    #[inline(always)]
     fn take_in(
         &mut self,
         policy: &Policy,
@@ -263,7 +265,8 @@ impl Texts {
     }
 
     /// Keeps the texts of the group of that name, which has none, with the place as its first, and puts the audit
-    /// line of the place.
+    /// line of the place. It stands apart, since most groups have texts already.
+    #[inline(never)]
     fn begin(
         &mut self,
         lines: &mut Vec<u8>,
@@ -288,6 +291,7 @@ impl Texts {
     }
 
     /// Takes in the allowed record of the place, of the group of that name, and puts the audit line of the place.
+    #[inline(always)]
     fn put_allowed(
         &mut self,
         lines: &mut Vec<u8>,

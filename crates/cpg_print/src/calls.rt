@@ -17,6 +17,7 @@ use cpg_text::{message_length, plain_message, push_message, push_number, read_me
 use std::alloc::Global;
 
 /// Puts a space and CALL, or `gone`, at the line's end.
+#[inline(always)]
 pub fn put_op(line: &mut Vec<u8>, op: &Op) -> Result<(), Refusal>
     ensures ok { OnOk result (line.new.items ≡ line.old.items ++ codes " " ++ op_text op.now) }
     ensures memory { IsOkUnless result Refusal.Memory }
@@ -127,6 +128,7 @@ fn read_leave(arguments: &[&[u8]]) -> Option<Call>
     }
 }
 
+#[inline(always)]
 fn read_send(alloc: Global, arguments: &[&[u8]]) -> Result<Option<Call>, Refusal>
     ensures ok { IfOk result (λ found. found ≡ send_of (texts arguments.now)) }
     ensures memory { IsOkUnlessMemoryFor result (send_of (texts arguments.now)) }
@@ -138,6 +140,7 @@ fn read_send(alloc: Global, arguments: &[&[u8]]) -> Result<Option<Call>, Refusal
 }
 
 /// The send of the message that the word spells.
+#[inline(always)]
 #[tactic(auto, using(crate::proofs::Somes::mapped))]
 fn read_sent(alloc: Global, text: &[u8]) -> Result<Option<Call>, Refusal>
     ensures ok { IfOk result (λ found. found ≡ option_map (λ message. Send message) (message_of text.now)) }
@@ -147,6 +150,7 @@ fn read_sent(alloc: Global, text: &[u8]) -> Result<Option<Call>, Refusal>
 }
 
 /// The message that the word spells, copied at once where it does so by its own bytes.
+#[inline(always)]
 fn read_text(alloc: Global, text: &[u8]) -> Result<Option<Message>, Refusal>
     ensures ok { IfOk result (λ found. found ≡ message_of text.now) }
     ensures memory { IsOkUnlessMemoryFor result (message_of text.now) }

@@ -41,6 +41,7 @@ pub fn put_entry(line: &mut Vec<u8>, entry: &Entry) -> Result<(), Refusal>
 }
 
 /// Puts NODE.CONN PID at the line's end.
+#[inline(always)]
 fn put_caller(line: &mut Vec<u8>, entry: &Entry) -> Result<(), Refusal>
     ensures ok { OnOk result (line.new.items ≡ line.old.items ++ conn_text (conn_of entry.now) ++ codes " " ++ decimal entry.now.pid) }
     ensures memory { IsOkUnless result Refusal.Memory }
@@ -51,6 +52,7 @@ fn put_caller(line: &mut Vec<u8>, entry: &Entry) -> Result<(), Refusal>
 }
 
 /// Puts a space, UID and GID at the line's end.
+#[inline(always)]
 fn put_cred(line: &mut Vec<u8>, cred: Cred) -> Result<(), Refusal>
     ensures ok { OnOk result (line.new.items ≡ line.old.items ++ codes " " ++ decimal cred.uid ++ codes " " ++ decimal cred.gid) }
     ensures memory { IsOkUnless result Refusal.Memory }
@@ -70,6 +72,7 @@ struct Caller {
 }
 
 /// Who makes the entry of a line, by its first four words, and what follows them.
+#[inline(always)]
 #[tactic(auto, using(crate::proofs::Callers::no_conn, crate::proofs::Callers::no_pid, crate::proofs::Callers::no_uid, crate::proofs::Callers::no_gid))]
 fn take_caller(line: &[u8]) -> Option<(Caller, &[u8])>
     ensures { MatchOption result (entry_of (words_of line.now) ≡ None) (λ parts. entry_of (words_of line.now) ≡ option_map (λ op. entry_by parts.0 op) (enterable_op (words_of parts.1.now))) }
@@ -86,6 +89,7 @@ fn take_caller(line: &[u8]) -> Option<(Caller, &[u8])>
 
 /// The connection of a line's first word, and what follows it. Where the line begins with a short number and a
 /// dot, both numbers are read where they stand.
+#[inline(always)]
 fn take_conn(line: &[u8]) -> Option<(ConnId, &[u8])>
     ensures { option_map (λ found. (found.0, words_of found.1.now)) result ≡ first_conn (words_of line.now) }
 {
@@ -109,6 +113,7 @@ fn take_conn_slowly(line: &[u8]) -> Option<(ConnId, &[u8])>
 }
 
 /// The connection of such numbers, where both are within their limits.
+#[inline(always)]
 fn conn_in_limits(node: u32, conn: u32) -> Option<ConnId>
     ensures { result ≡ conn_in_limits node conn }
 {
@@ -126,6 +131,7 @@ fn conn_in_limits(node: u32, conn: u32) -> Option<ConnId>
 }
 
 /// The entry of that caller whose op the text says.
+#[inline(always)]
 #[tactic(auto, using(crate::proofs::Somes::mapped))]
 fn read_entry_by(alloc: Global, caller: Caller, text: &[u8]) -> Result<Option<Entry>, Refusal>
     ensures ok { IfOk result (λ found. found ≡ option_map (λ op. entry_by caller op) (enterable_op (words_of text.now))) }
@@ -178,6 +184,7 @@ fn read_enterable(alloc: Global, words: &[&[u8]]) -> Result<Option<Op>, Refusal>
     }
 }
 
+#[inline(always)]
 fn entry_by(caller: Caller, op: Op) -> Entry
     ensures { result ≡ entry_by caller op }
 {

@@ -96,6 +96,7 @@ pub fn put_message_line(
     put_byte(line, b'\n')
 }
 
+#[inline(always)]
 #[tactic(auto, unfolding(crate::specs::Events::news_text))]
 fn put_message(
     line: &mut Vec<u8>,
@@ -115,6 +116,7 @@ fn put_message(
 }
 
 /// Puts who sent a message, and the message, at the line's end.
+#[inline(always)]
 fn put_sent(line: &mut Vec<u8>, node: NodeId, pid: u32, message: &[u8]) -> Result<(), Refusal>
     ensures ok { OnOk result (line.new.items ≡ line.old.items ++ codes " " ++ decimal node ++ codes " " ++ decimal pid ++ codes " " ++ text_of message.now) }
     ensures memory { IsOkUnless result Refusal.Memory }
@@ -124,6 +126,7 @@ fn put_sent(line: &mut Vec<u8>, node: NodeId, pid: u32, message: &[u8]) -> Resul
     push_message(line, message)
 }
 
+#[inline(always)]
 fn put_sender(line: &mut Vec<u8>, node: NodeId, pid: u32) -> Result<(), Refusal>
     ensures ok { OnOk result (line.new.items ≡ line.old.items ++ codes " " ++ decimal node ++ codes " " ++ decimal pid) }
     ensures memory { IsOkUnless result Refusal.Memory }

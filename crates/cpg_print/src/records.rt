@@ -78,6 +78,7 @@ pub fn put_audit_with(
     put_byte(line, b'\n')
 }
 
+#[inline(always)]
 fn put_group_with(line: &mut Vec<u8>, past: &Record, members: &[u8]) -> Result<(), Refusal>
     requires { members.now ≡ members_text past.now.members }
     ensures ok { OnOk result (line.new.items ≡ line.old.items ++ group_text past.now.group past.now.members) }

@@ -21,6 +21,7 @@ pub fn put_verdict(line: &mut Vec<u8>, verdict: Verdict) -> Result<(), Refusal>
     }
 }
 
+#[inline(always)]
 fn put_allowed(line: &mut Vec<u8>, by: By) -> Result<(), Refusal>
     ensures ok { OnOk result (line.new.items ≡ line.old.items ++ codes "allowed " ++ by_text by) }
     ensures memory { IsOkUnless result Refusal.Memory }

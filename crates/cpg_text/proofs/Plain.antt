@@ -123,3 +123,14 @@ pub percent_found : (text : List ℕ) (end : ℕ) → position (λ byte. byte ==
 percent_found text end e =
     let first = position-Some (λ byte. byte == 37) text end 0 e in
     percent_decoded text (list_all_at (λ byte. not (byte == 37)) text end 0 first.0 (ap not first.1))
+
+-- a text that is plain throughout stands for itself
+pub plain_whole : (text : List ℕ) → prefix_len is_plain text ≡ length text → decoded text ≡ Some text
+plain_whole [] e = refl
+plain_whole (b ∷ bs) e = by_test (is_plain b) refl (plain_whole bs) e
+  where
+    by_test : (p : Bool) → is_plain b ≡ p → (prefix_len is_plain bs ≡ length bs → decoded bs ≡ Some bs) → cond p (1 + prefix_len is_plain bs) 0 ≡ suc (length bs) → decoded (b ∷ bs) ≡ Some (b ∷ bs)
+    by_test false plain rest whole = absurd (cc)
+    by_test true plain rest whole =
+        let percent : (b == 37) ≡ false = grind (arith, nat_tests) in
+        plain_first b bs percent ∙ ap (before b) (rest (omega (arith, whole)))

@@ -108,6 +108,7 @@ fn one_more(most: u64, number: u64, byte: u8) -> Option<u64>
 
 /// Puts the number at the line's end, without leading zeros.
 #[tactic(auto, using(std::proofs::lemmas::Fmt::decimal_digit))]
+#[inline(always)]
 pub fn push_number(line: &mut Vec<u8>, number: u64) -> Result<(), Refusal>
     ensures ok { OnOk result (line.new.items ≡ line.old.items ++ decimal number) }
     ensures memory { IsOkUnless result Refusal.Memory }

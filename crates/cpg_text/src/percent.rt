@@ -28,6 +28,7 @@ pub fn read_message(alloc: Global, word: &[u8]) -> Result<Option<Vec<u8>>, Refus
 }
 
 /// The message that the word spells, where that is the word itself. Takes no memory.
+#[inline(always)]
 pub fn plain_message(word: &[u8]) -> Option<&[u8]>
     ensures { MatchOption result (message_of word.now ≢ Some word.now) (λ message. (message.now ≡ word.now) × (message_of word.now ≡ Some word.now)) }
 {
@@ -37,11 +38,15 @@ pub fn plain_message(word: &[u8]) -> Option<&[u8]>
     }
 }
 
-/// The text, where it stands for its own bytes.
-#[tactic(auto, using(crate::proofs::Plain::run_whole))]
+/// The text, where it stands for its own bytes. A short one, as most are, does so where all its bytes are plain.
+#[inline(always)]
+#[tactic(auto, using(crate::proofs::Plain::run_whole, crate::proofs::Plain::plain_whole))]
 fn plain_text(text: &[u8]) -> Option<&[u8]>
     ensures { MatchOption result (decoded text.now ≢ Some text.now) (λ bytes. (bytes.now ≡ text.now) × (decoded text.now ≡ Some text.now)) }
 {
+    if text.len() < 32 && plain_run(text) == text.len() {
+        return Some(text);
+    }
     match place_of(b'%', text) {
         None => Some(text),
         Some(_) => None,
