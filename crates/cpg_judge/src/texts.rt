@@ -2,14 +2,15 @@
 //! so that the lines of places that follow each other in a group are one slice. The text of a group's members
 //! stands beside it, and is put again where a record moves one.
 
-ghost use Rattle.std.specs.Prelude.{true, ◌≡◌, ◌≤◌, ◌+◌, ◌-◌, ◌++◌, ℕ, List, [], Some, length, take, drop, if◌then◌else◌, IfOk, OnOk, IsOkUnless};
-ghost use Rattle.std.specs.List.{concat};
+ghost use Rattle.std.specs.Prelude.{true, ◌≡◌, ◌≤◌, ◌+◌, ◌-◌, ◌++◌, ℕ, List, [], Some, length, take, drop, if◌then◌else◌, IfOk, MatchOption, OnOk, IsOkUnless};
+ghost use Rattle.std.specs.List.{concat, slice_get};
 ghost use Rattle.std.specs.Str.{bytes_eq};
 ghost use Rattle.cpg_entry.specs.Entries.{is_move};
 ghost use Rattle.cpg_record.specs.declared.moves.Cause.TheVariants as Cause;
 ghost use Rattle.cpg_record.specs.declared.records.Record.{Record};
 ghost use Rattle.cpg_record.specs.Connections.{member_of};
 ghost use Rattle.cpg_record.specs.Judging.{judged};
+ghost use Rattle.cpg_record.specs.Named.{names_of};
 ghost use Rattle.cpg_record.specs.Places.{record_at};
 ghost use Rattle.cpg_print.specs.Records.{audit_line, members_text};
 ghost use Rattle.cpg_judge.specs.Texts.{kept_text, no_text, showing, told_text, with_place, AreShown, AreTexts, HoldsTexts, LacksText, StandsAllowed};
@@ -226,6 +227,8 @@ impl Text {
 pub(crate) struct Texts {
     kept: IndexMap<Vec<u8>, Text>,
     none: Text,
+    // Where the texts of the place before are kept. They are believed only where their group has the wanted name.
+    last: usize,
 }
 
 impl Model for Texts {
@@ -251,6 +254,7 @@ impl Texts {
         Ok(Texts {
             kept: IndexMap::new(alloc),
             none: Text::new(alloc)?,
+            last: 0,
         })
     }
 
@@ -261,6 +265,21 @@ impl Texts {
         match self.kept.get(name) {
             Some(text) => text,
             None => &self.none,
+        }
+    }
+
+    /// The index at which the texts of the group of that name are kept. Those of the place before are looked at first,
+    /// as most places are of the same group as that one, and then no name is hashed.
+    #[inline(always)]
+    fn index_of(&self, name: &[u8]) -> Option<usize>
+        ensures { MatchOption result (LacksText self.now name.now) (λ index. slice_get (names_of self.now) index ≡ Some name.now) }
+    {
+        match self.kept.get_index(self.last) {
+            Some((kept, _)) if kept.as_slice() == name => Some(self.last),
+            _ => match self.kept.get_full(name) {
+                Some((index, _, _)) => Some(index),
+                None => None,
+            },
         }
     }
 
@@ -286,6 +305,7 @@ impl Texts {
         let key = Vec::from_slice(alloc, name)?;
         let mut text = Text::with_room(alloc)?;
         text.put_place(lines, policy, place, past, name)?;
+        self.last = self.kept.len();
         self.kept.insert(key, text)?;
         Ok(())
     }
@@ -306,8 +326,12 @@ impl Texts {
         ensures line { OnOk result (lines.new.items ≡ lines.old.items ++ audit_line place past.now) }
         ensures memory { IsOkUnless result Refusal.Memory }
     {
-        match self.kept.get_mut(name) {
-            Some(text) => text.put_place(lines, policy, place, past, name),
+        match self.index_of(name) {
+            Some(index) => {
+                self.last = index;
+                let (_, text) = self.kept.pair_mut(index);
+                text.put_place(lines, policy, place, past, name)
+            }
             None => self.begin(lines, policy, place, past, name),
         }
     }
