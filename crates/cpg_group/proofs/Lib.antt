@@ -1,6 +1,7 @@
 mod Passed
 mod Shown
 mod Kept
+mod Placed
 mod Entered
 mod Indexed
 mod Applying

@@ -1,18 +1,21 @@
 -- What the trails of connections tell, and what one record more does to them.
 use Rattle.std.proofs.Common.{◌≡◌, ℕ, zero, suc, ◌+◌, ◌-◌, ◌≤◌, leb, Bool, true, false, ◌&&◌, cond, List, [], ◌∷◌, ◌++◌, length, map, take, get_or, All, Option, Some, None, refl, sym, ap, subst, ◌∙◌, arith}
 use Rattle.std.specs.Prelude.{◌↔◌, is_some, option_map}
-use Rattle.std.specs.List.{fold, slice_get}
+use Rattle.std.specs.Cmp.{IsEquivalence}
+use Rattle.std.specs.List.{fold, slice_get, IsDistinct}
 use Rattle.std.specs.List.Sorted.{IsPartitionPoint}
 use Rattle.std.specs.Map.{keys_of, lookup, set_value}
+use Rattle.std.specs.Option.{unwrap_or}
 use Rattle.smallvec.specs.SmallVec.{SmallVec}
 use Rattle.std.proofs.lemmas.Bool.{le-leb}
 use Rattle.std.proofs.lemmas.List.{append-nil, map-append, take-append-le, take_all}
 use Rattle.std.proofs.lemmas.List.Elements.{All-append, All-cons}
 use Rattle.std.proofs.lemmas.List.Sums.{fold_push}
 use Rattle.std.proofs.lemmas.Map.{keys-set_value}
+use Rattle.std.proofs.lemmas.Map.Entries.{lookup_from_place}
 use Rattle.std.proofs.lemmas.Map.Made.{is_some-lookup}
 use Rattle.std.proofs.lemmas.Option.{slice_get-map, slice_get-get_or, slice_get_within, get_or_from_slice_get, none-some}
-use Rattle.indexmap.specs.IndexMap.{IndexMap, insert_entry}
+use Rattle.indexmap.specs.IndexMap.{IndexMap, insert_entry, set_value_at}
 use Rattle.indexmap.proofs.CallerLemmas.{insert_entry-new}
 use Rattle.cpg_entry.specs.declared.calls.Call.TheVariants.{Join, Leave, Send, Insert, Remove}
 use Rattle.cpg_entry.specs.declared.calls.Op.{Op}
@@ -33,6 +36,7 @@ use Rattle.cpg_record.proofs.Lasting.{is_conn-itself}
 use Rattle.cpg_group.specs.declared.trails.Stop.{Stop}
 use Rattle.cpg_group.specs.Trails.{group_at, join_after, join_by, joined_by, joined_in, kept_trail, or_no_trail, AreTrails, IsTrail, KeptTrails, StandsBy}
 use Rattle.cpg_record.proofs.Named.{lookup-push, lookup-set}
+use Rattle.cpg_group.proofs.Placed.{key_at, set_at}
 
 abbrev pub place_of : Stop → ℕ
 place_of stop = stop.place
@@ -236,6 +240,22 @@ flipped a b = by_case (is_conn a b) (is_conn b a) refl refl
     by_case false true p q =
         let t : is_conn a b ≡ true = (is_conn-Decides a b).1 (sym ((is_conn-Decides b a).0 q)) in
         absurd (cc)
+
+is_conn-laws : IsEquivalence is_conn
+is_conn-laws = record { refl = is_conn-itself; symm = flipped; congr = λ a b c same. ap (λ (conn : ConnId). is_conn conn c) ((is_conn-Decides a b).0 same) }
+
+module _ (kept : KeptTrails) (i : ℕ) (conn k : ConnId) (v : SmallVec Stop)
+    (apart : IsDistinct is_conn (keys_of kept)) (at : slice_get kept i ≡ Some (k, v)) (here : slice_get (keys_of kept) i ≡ Some conn) where
+  meant : k ≡ conn
+  meant = ap (λ o. unwrap_or o conn) (sym (key_at kept i k v at) ∙ here)
+
+  -- the trail at the index of a connection is the one that is found for it
+  pub trail_there : lookup (is_conn conn) kept ≡ Some v
+  trail_there = ap (λ c. lookup (is_conn c) kept) (sym meant) ∙ lookup_from_place is_conn-laws kept i k v apart at
+
+  -- and what is set there is set for the connection
+  pub trail_set_there : (w : SmallVec Stop) → set_value_at kept i w ≡ set_value (is_conn conn) kept w
+  trail_set_there w = set_at is_conn-laws kept i k v w apart at ∙ ap (λ c. set_value (is_conn c) kept w) meant
 
 -- the connections stay where a trail is set
 conns_set : (kept : KeptTrails) (conn : ConnId) (w : SmallVec Stop) → is_some (lookup (is_conn conn) kept) ≡ true →

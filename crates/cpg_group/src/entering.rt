@@ -1,5 +1,5 @@
 //! An entry judged and put among the records in one go: the trail of its connection and its group are each
-//! looked up once, where they are kept.
+//! looked up once, where they are kept, and first where those of the entry before are.
 
 ghost use Rattle.std.specs.Prelude.{◌≡◌, ◌+◌, ◌++◌, ◌∷◌, [], ℕ, List, length, true, None, if◌then◌else◌, OnOk, OnErr, IsOkUnless};
 ghost use Rattle.std.specs.Map.{lookup};
@@ -92,8 +92,12 @@ fn enter_groups(
     let joined = group_now(records, trail);
     match judging::find_entry_group(records, joined, &next.entry) {
         None => judging::judge_draft_in(alloc, records, &groups.none, joined, next),
-        Some(name) => match groups.kept.get_mut(name.as_slice()) {
-            Some(group) => enter_group(alloc, group, records, joined, place, next),
+        Some(name) => match groups.index_of(name.as_slice()) {
+            Some(index) => {
+                groups.last = index;
+                let (_, group) = groups.kept.pair_mut(index);
+                enter_group(alloc, group, records, joined, place, next)
+            }
             None => enter_apart(alloc, groups, records, trail, place, next),
         },
     }
@@ -155,6 +159,7 @@ fn enter_first(
     trails.kept.reserve(1)?;
     let mut trail = Stops::new(*trails.kept.allocator());
     enter_trail(&mut trail, groups, records, place, next)?;
+    trails.last = trails.kept.len();
     trails.kept.insert(ConnId::of(&next.entry), trail)?;
     Ok(())
 }
@@ -180,8 +185,12 @@ pub(crate) fn enter(
     ensures err { OnErr result (next.new.entry ≡ next.old.entry) }
     ensures memory { IsOkUnless result Refusal.Memory }
 {
-    match trails.kept.get_mut(&ConnId::of(&next.entry)) {
-        Some(trail) => enter_trail(trail, groups, records, place, next),
+    match trails.index_of(&ConnId::of(&next.entry)) {
+        Some(index) => {
+            trails.last = index;
+            let (_, trail) = trails.kept.pair_mut(index);
+            enter_trail(trail, groups, records, place, next)
+        }
         None => enter_first(trails, groups, records, place, next),
     }
 }

@@ -1,7 +1,7 @@
 //! How the groups stand, kept beside the records: each one's table, members and places.
 
-ghost use Rattle.std.specs.Prelude.{◌≡◌, List, ℕ, [], true, false, None, if◌then◌else◌, OnOk, OnErr, IfOk, IsOkUnless};
-ghost use Rattle.std.specs.List.{IsDistinct};
+ghost use Rattle.std.specs.Prelude.{◌≡◌, List, ℕ, [], true, false, None, Some, if◌then◌else◌, OnOk, OnErr, IfOk, MatchOption, IsOkUnless};
+ghost use Rattle.std.specs.List.{slice_get, IsDistinct};
 ghost use Rattle.std.specs.Map.{lookup};
 ghost use Rattle.std.specs.Option.{option_copied};
 ghost use Rattle.std.specs.Str.{bytes_eq};
@@ -137,6 +137,8 @@ impl Group {
 pub(crate) struct Groups {
     pub(crate) kept: IndexMap<Vec<u8>, Group>,
     pub(crate) none: Group,
+    // Where the group of the entry before is kept. It is believed only where that group has the wanted name.
+    pub(crate) last: usize,
 }
 
 impl Model for Groups {
@@ -159,6 +161,7 @@ impl Groups {
         Groups {
             kept: IndexMap::new(alloc),
             none: Group::new(alloc),
+            last: 0,
         }
     }
 
@@ -166,10 +169,7 @@ impl Groups {
     pub(crate) fn of(&self, name: &[u8]) -> &Group
         ensures { result.now ≡ kept_group self.now name.now }
     {
-        match self.kept.get(name) {
-            Some(group) => group,
-            None => &self.none,
-        }
+        self.find(name).0
     }
 
     /// The group of that name, and at which index it is kept: looked for first where the hint says.
@@ -190,6 +190,21 @@ impl Groups {
         match self.kept.get_full(name) {
             Some((index, _, group)) => (group, index),
             None => (&self.none, 0),
+        }
+    }
+
+    /// The index at which the group of that name is kept. The group of the entry before is looked at first, as
+    /// most entries are of the same group as that one, and then no name is hashed.
+    #[inline(always)]
+    pub(crate) fn index_of(&self, name: &[u8]) -> Option<usize>
+        ensures { MatchOption result (lookup (bytes_eq name.now) self.now ≡ None) (λ index. slice_get (names_of self.now) index ≡ Some name.now) }
+    {
+        match self.kept.get_index(self.last) {
+            Some((kept, _)) if kept.as_slice() == name => Some(self.last),
+            _ => match self.kept.get_full(name) {
+                Some((index, _, _)) => Some(index),
+                None => None,
+            },
         }
     }
 
@@ -244,6 +259,7 @@ impl Groups {
         let key = Vec::from_slice(alloc, name)?;
         let mut group = Group::with_room(alloc)?;
         group.take_in(place, past)?;
+        self.last = self.kept.len();
         self.kept.insert(key, group)?;
         Ok(())
     }
@@ -255,8 +271,12 @@ impl Groups {
         ensures err { OnErr result ((g : List ℕ) → kept_group self.new g ≡ kept_group self.old g) }
         ensures memory { IsOkUnless result Refusal.Memory }
     {
-        match self.kept.get_mut(name) {
-            Some(group) => group.take_in(place, past),
+        match self.index_of(name) {
+            Some(index) => {
+                self.last = index;
+                let (_, group) = self.kept.pair_mut(index);
+                group.take_in(place, past)
+            }
             None => self.add(name, place, past),
         }
     }

@@ -1,7 +1,7 @@
 //! The trail of each connection, kept beside the records: the places of its own entries, and by which join
 //! it is in a group after each. Between two of them its group stays, so the trail tells its group at any place.
 
-ghost use Rattle.std.specs.Prelude.{◌≡◌, ◌+◌, ◌≤◌, ◌++◌, ◌∷◌, [], ℕ, List, map, take, length, nat_le, true, false, None, OnOk, OnErr, IsOkUnless};
+ghost use Rattle.std.specs.Prelude.{◌≡◌, ◌+◌, ◌≤◌, ◌++◌, ◌∷◌, [], ℕ, List, map, take, length, nat_le, true, false, None, Some, OnOk, OnErr, MatchOption, IsOkUnless};
 ghost use Rattle.std.specs.List.{slice_get};
 ghost use Rattle.std.specs.List.Sorted.{IsNonDecreasingBy, IsPartitionPoint};
 ghost use Rattle.std.specs.Map.{keys_of, lookup};
@@ -263,6 +263,9 @@ impl<'a> Trail<'a> {
 #[derive(Drop)]
 pub(crate) struct Trails {
     pub(crate) kept: IndexMap<ConnId, Stops>,
+    // Where the trail of the entry before is kept. It is believed only where that trail is of the wanted
+    // connection.
+    pub(crate) last: usize,
 }
 
 impl Trails {
@@ -273,6 +276,7 @@ impl Trails {
     {
         Trails {
             kept: IndexMap::new(alloc),
+            last: 0,
         }
     }
 
@@ -287,10 +291,7 @@ impl Trails {
     pub(crate) fn of(&self, conn: &ConnId) -> &[Stop]
         ensures { result.now ≡ kept_trail self.now.kept.entries conn.now }
     {
-        match self.kept.get(conn) {
-            Some(trail) => trail.as_slice(),
-            None => &[],
-        }
+        self.find(conn).0
     }
 
     /// The trail of a connection, and at which index it is kept: looked for first where the hint says.
@@ -311,6 +312,21 @@ impl Trails {
         match self.kept.get_full(conn) {
             Some((index, _, trail)) => (trail.as_slice(), index),
             None => (&[], 0),
+        }
+    }
+
+    /// The index at which the trail of a connection is kept. The trail of the entry before is looked at first,
+    /// as many entries are of the same connection as that one, and then no connection is hashed.
+    #[inline(always)]
+    pub(crate) fn index_of(&self, conn: &ConnId) -> Option<usize>
+        ensures { MatchOption result (lookup (is_conn conn.now) self.now.kept.entries ≡ None) (λ index. slice_get (keys_of self.now.kept.entries) index ≡ Some conn.now) }
+    {
+        match self.kept.get_index(self.last) {
+            Some((kept, _)) if *kept == *conn => Some(self.last),
+            _ => match self.kept.get_full(conn) {
+                Some((index, _, _)) => Some(index),
+                None => None,
+            },
         }
     }
 
@@ -336,6 +352,7 @@ impl Trails {
         self.kept.reserve(1)?;
         let mut trail = Stops::new(*self.kept.allocator());
         lengthen(&mut trail, groups, records, place, next)?;
+        self.last = self.kept.len();
         self.kept.insert(ConnId::of(&next.entry), trail)?;
         Ok(())
     }
@@ -358,8 +375,12 @@ impl Trails {
         ensures same { OnErr result (AreTrails self.new.kept.entries records.now) }
         ensures memory { IsOkUnless result Refusal.Memory }
     {
-        match self.kept.get_mut(&ConnId::of(&next.entry)) {
-            Some(trail) => lengthen(trail, groups, records, place, next),
+        match self.index_of(&ConnId::of(&next.entry)) {
+            Some(index) => {
+                self.last = index;
+                let (_, trail) = self.kept.pair_mut(index);
+                lengthen(trail, groups, records, place, next)
+            }
             None => self.add(groups, records, place, next),
         }
     }
