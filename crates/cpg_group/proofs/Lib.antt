@@ -1,7 +1,7 @@
 mod Passed
 mod Shown
 mod Kept
-mod Placed
+pub mod Placed
 mod Entered
 mod Indexed
 mod Applying
