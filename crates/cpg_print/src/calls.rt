@@ -62,6 +62,7 @@ pub fn put_call(line: &mut Vec<u8>, call: &Call) -> Result<(), Refusal>
 
 /// The op that the words of CALL or `gone` say; names and messages of any length. That they say none is told
 /// whatever memory there is.
+#[inline(always)]
 #[tactic(auto, using(crate::proofs::Somes::mapped))]
 pub fn read_op(alloc: Global, words: &[&[u8]]) -> Result<Option<Op>, Refusal>
     ensures ok { IfOk result (λ found. found ≡ op_of (texts words.now)) }

@@ -161,6 +161,7 @@ fn read_enterable_in(alloc: Global, text: &[u8]) -> Result<Option<Op>, Refusal>
 }
 
 /// The op that the words say, within its limits. Where memory is refused, whether there is one is looked at alone.
+#[inline(always)]
 fn read_enterable(alloc: Global, words: &[&[u8]]) -> Result<Option<Op>, Refusal>
     ensures ok { IfOk result (λ found. found ≡ enterable_op (texts words.now)) }
     ensures memory { IsOkUnlessMemoryFor result (enterable_op (texts words.now)) }

@@ -31,6 +31,7 @@ pub fn put_byte(line: &mut Vec<u8>, byte: u8) -> Result<(), Refusal>
 }
 
 /// Puts the bytes at the line's end.
+#[inline(always)]
 pub fn put_bytes(line: &mut Vec<u8>, bytes: &[u8]) -> Result<(), Refusal>
     ensures ok { OnOk result (line.new.items ≡ line.old.items ++ bytes.now) }
     ensures memory { IsOkUnless result Refusal.Memory }

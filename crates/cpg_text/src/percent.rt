@@ -180,6 +180,7 @@ fn first_byte(text: &[u8]) -> Option<(u8, &[u8])>
 }
 
 /// Puts the word that spells the message at the line's end.
+#[inline(always)]
 pub fn push_message(line: &mut Vec<u8>, message: &[u8]) -> Result<(), Refusal>
     ensures ok { OnOk result (line.new.items ≡ line.old.items ++ text_of message.now) }
     ensures memory { IsOkUnless result Refusal.Memory }
