@@ -1,4 +1,5 @@
 pub mod Pairs
 pub mod Passing
+pub mod Plain
 pub mod Rising
 pub mod Values

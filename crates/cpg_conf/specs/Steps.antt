@@ -1,5 +1,5 @@
 -- steps of the reading functions, which no contract of a public function cites
-use Rattle.std.specs.Prelude.{ℕ, ◌+◌, ◌-◌, ◌==◌, List, [], ◌∷◌, map, codes, ◌&&◌, if◌then◌else◌, Result, Ok, Err}
+use Rattle.std.specs.Prelude.{◌≡◌, ◌≢◌, ◌<◌, ℕ, length, slice_index, ◌+◌, ◌-◌, ◌==◌, List, [], ◌∷◌, map, codes, ◌&&◌, if◌then◌else◌, Result, Ok, Err}
 use Rattle.std.specs.Str.{bytes_eq}
 use Rattle.std.specs.declared.vec.Vec.{Vec}
 use Rattle.cpg_cred.specs.Listed.{Listed}
@@ -70,3 +70,17 @@ said_at names nesting number _ = Ok nothing
 abbrev pub said_from : Known → Nesting → ℕ → List Line → Result Listed Refusal
 said_from names nesting number [] = if nesting.depth == 0 then Ok nothing else Err Unclosed
 said_from names nesting number (line ∷ later) = and_then (said_at names nesting number line) (said_from names (nesting_after nesting line) (next_number number) later)
+
+-- a line is `uid: `, and goes on with a byte that is not trimmed
+abbrev pub BeginsUser : List ℕ → Type 0
+BeginsUser (a ∷ b ∷ c ∷ d ∷ e ∷ first ∷ rest) = (a ≡ 117) × (b ≡ 105) × (c ≡ 100) × (d ≡ 58) × (e ≡ 32) × (32 < first)
+BeginsUser _ = ⊥
+
+-- a line is `user `, and goes on somehow
+abbrev pub BeginsNaming : List ℕ → Type 0
+BeginsNaming (a ∷ b ∷ c ∷ d ∷ e ∷ rest) = (a ≡ 117) × (b ≡ 115) × (c ≡ 101) × (d ≡ 114) × (e ≡ 32)
+BeginsNaming _ = ⊥
+
+-- a line ends with a byte that is not trimmed, and that is no brace
+abbrev pub EndsWhole : List ℕ → Type 0
+EndsWhole line = (0 < length line) × (32 < slice_index line (length line - 1)) × (slice_index line (length line - 1) ≢ 123)

@@ -11,8 +11,8 @@ ghost use Rattle.cpg_conf.specs.Lines.{line_of};
 ghost use Rattle.cpg_conf.specs.Listed.{joined, listed, numbers_listed, Grows, FailsBy};
 ghost use Rattle.cpg_conf.specs.Steps.{item_seen, nesting_after, said_at};
 
-use crate::items::Item;
-use crate::lines::LineView;
+use crate::items::{Item, read_user_item};
+use crate::lines::{LineView, plain_user};
 use crate::names::Names;
 use crate::nesting::Nesting;
 use cpg_cred::{AcceptList, Refusal, Refused};
@@ -144,8 +144,30 @@ fn add_item(numbers: &mut Numbers, item: &Item) -> Result<(), Refusal>
     Ok(())
 }
 
-/// What a line lists, which stands there, and then goes past it.
+/// What a line lists, which stands there, and then goes past it. Most lines are `uid: VALUE`, spelled just so.
+#[inline(always)]
 fn take_line(
+    names: &Names,
+    nesting: &mut Nesting,
+    number: u32,
+    line: &[u8],
+) -> Result<Item, Refusal>
+    requires { (nesting.old).depth + length line.now < 2 ^ 64 }
+    ensures ok { IfOk result (λ item. said_at names.now nesting.old number (line_of (trimmed line.now)) ≡ Ok (item_seen item)) }
+    ensures err { IfErr result (λ refusal. said_at names.now nesting.old number (line_of (trimmed line.now)) ≡ Err refusal) }
+    ensures past { OnOk result (nesting.new ≡ nesting_after nesting.old (line_of (trimmed line.now))) }
+{
+    if nesting.is_read() {
+        if let Some(value) = plain_user(line) {
+            return read_user_item(names, number, value);
+        }
+    }
+    take_slowly(names, nesting, number, line)
+}
+
+/// The same for any line.
+#[inline(never)]
+fn take_slowly(
     names: &Names,
     nesting: &mut Nesting,
     number: u32,

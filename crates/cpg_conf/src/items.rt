@@ -2,7 +2,7 @@
 //!
 //! Proved: a line lists what `said_at` says where it stands, and its fault is that one.
 
-ghost use Rattle.std.specs.Prelude.{◌≡◌, Ok, Err, IfOk, IfErr};
+ghost use Rattle.std.specs.Prelude.{◌≡◌, Ok, Err, IfOk, IfErr, codes};
 ghost use Rattle.cpg_conf.specs.Listed.{key_said, number_said};
 ghost use Rattle.cpg_conf.specs.Names.{number_of};
 ghost use Rattle.cpg_conf.specs.Steps.{item_seen, line_seen, said_at};
@@ -54,13 +54,22 @@ impl Item {
     }
 }
 
+/// A user, whom a line of that number lists by a value.
+#[inline(always)]
+pub fn read_user_item(names: &Names, number: u32, value: &[u8]) -> Result<Item, Refusal>
+    ensures ok { IfOk result (λ item. key_said names.now number (codes "uid") value.now ≡ Ok (item_seen item)) }
+    ensures err { IfErr result (λ refusal. key_said names.now number (codes "uid") value.now ≡ Err refusal) }
+{
+    Ok(Item::User(read_user(names, number, value)?))
+}
+
 /// What a key that is read lists: `uid` a user, `gid` a group.
 fn read_key(names: &Names, number: u32, key: &[u8], value: &[u8]) -> Result<Item, Refusal>
     ensures ok { IfOk result (λ item. key_said names.now number key.now value.now ≡ Ok (item_seen item)) }
     ensures err { IfErr result (λ refusal. key_said names.now number key.now value.now ≡ Err refusal) }
 {
     if key == b"uid".as_slice() {
-        Ok(Item::User(read_user(names, number, value)?))
+        read_user_item(names, number, value)
     } else if key == b"gid".as_slice() {
         Ok(Item::Group(read_group(names, number, value)?))
     } else {

@@ -2,11 +2,12 @@
 //!
 //! The shapes are those of Corosync's configuration files. Proved: a line is read as what `line_of` says.
 
-ghost use Rattle.std.specs.Prelude.{◌≡◌, ◌==◌, codes};
+ghost use Rattle.std.specs.Prelude.{◌≡◌, ◌==◌, codes, IsTrue, IfSome};
 ghost use Rattle.std.specs.Str.{bytes_eq};
 ghost use Rattle.std.specs.List.{position};
-ghost use Rattle.cpg_conf.specs.Lines.{line_of, opened, keyed};
-ghost use Rattle.cpg_conf.specs.Steps.{line_seen};
+ghost use Rattle.cpg_text.specs.Lines.{trimmed};
+ghost use Rattle.cpg_conf.specs.Lines.{Key, line_of, opened, keyed};
+ghost use Rattle.cpg_conf.specs.Steps.{BeginsUser, EndsWhole, line_seen};
 
 use cpg_text::{is_ignored, trim};
 
@@ -74,4 +75,43 @@ fn colon(line: &[u8]) -> Option<usize>
     ensures { result ≡ position (λ byte. byte == 58) line.now }
 {
     line.iter().position(|byte| *byte == b':')
+}
+
+/// The value of a line that is `uid: VALUE` with nothing to trim; none where the line is another, or is spelled
+/// otherwise.
+#[inline(always)]
+#[tactic(auto, using(crate::proofs::Plain::plain_key))]
+pub fn plain_user(line: &[u8]) -> Option<&[u8]>
+    ensures { IfSome result (λ value. line_of (trimmed line.now) ≡ Key (codes "uid") value.now) }
+{
+    if begins_user(line) && ends_whole(line) {
+        Some(&line[5..])
+    } else {
+        None
+    }
+}
+
+/// Whether the line begins with `uid: ` and goes on with a byte that is not trimmed.
+#[inline(always)]
+fn begins_user(line: &[u8]) -> bool
+    ensures { IsTrue result → BeginsUser line.now }
+{
+    line.len() >= 6
+        && line[0] == b'u'
+        && line[1] == b'i'
+        && line[2] == b'd'
+        && line[3] == b':'
+        && line[4] == b' '
+        && line[5] > b' '
+}
+
+/// Whether the line ends with a byte that is not trimmed, and that ends no line which opens a section.
+#[inline(always)]
+pub fn ends_whole(line: &[u8]) -> bool
+    ensures { IsTrue result → EndsWhole line.now }
+{
+    match line {
+        [.., last] => *last > b' ' && *last != b'{',
+        [] => false,
+    }
 }

@@ -2,13 +2,14 @@
 //!
 //! Proved: a line is read as what `naming_of` says, and so is its fault.
 
-ghost use Rattle.std.specs.Prelude.{◌≡◌, Some, Ok, Err, IfOk, IfErr, option_map};
+ghost use Rattle.std.specs.Prelude.{◌≡◌, ◌∷◌, ℕ, Some, Ok, Err, IsTrue, IfSome, IfOk, IfErr, codes, option_map};
 ghost use Rattle.cpg_text.specs.Lines.{trimmed, words_of};
-ghost use Rattle.cpg_conf.specs.Names.{naming_of, naming_in, three, value_on};
-ghost use Rattle.cpg_conf.specs.Steps.{naming_seen};
+ghost use Rattle.cpg_conf.specs.Names.{User, naming_of, naming_in, three, value_on};
+ghost use Rattle.cpg_conf.specs.Steps.{BeginsNaming, naming_seen};
 
+use crate::lines::ends_whole;
 use cpg_cred::Refusal;
-use cpg_text::{Words, is_ignored, read_number, trim};
+use cpg_text::{Words, is_ignored, read_number, take_number, trim};
 
 /// What a line of a names text says.
 #[derive(Debug, Clone, Copy)]
@@ -22,19 +23,65 @@ pub enum NamingView<'a> {
 }
 
 impl<'a> NamingView<'a> {
-    /// What the line of that number says.
+    /// What the line of that number says. Most lines are `user NAME N`, spelled just so.
+    #[inline(always)]
+    #[tactic(auto, using(crate::proofs::Plain::plain_naming))]
     pub fn read(number: u32, line: &'a [u8]) -> Result<NamingView<'a>, Refusal>
         ensures ok { IfOk result (λ naming. naming_of number (trimmed line.now) ≡ Ok (naming_seen naming)) }
         ensures err { IfErr result (λ refusal. naming_of number (trimmed line.now) ≡ Err refusal) }
     {
-        let line = trim(line);
-        if is_ignored(line) {
-            return Ok(NamingView::Nothing);
+        if begins_naming(line) && ends_whole(line) {
+            if let Some((name, value)) = name_and_number(&line[5..]) {
+                return Ok(NamingView::User(name, value));
+            }
         }
-        match read_three(line) {
-            None => Err(Refusal::BadLine(number)),
-            Some((kind, name, value)) => read_naming(number, kind, name, value),
-        }
+        read_slowly(number, line)
+    }
+}
+
+/// Whether the line begins with `user `.
+#[inline(always)]
+fn begins_naming(line: &[u8]) -> bool
+    ensures { IsTrue result → BeginsNaming line.now }
+{
+    line.len() >= 5
+        && line[0] == b'u'
+        && line[1] == b's'
+        && line[2] == b'e'
+        && line[3] == b'r'
+        && line[4] == b' '
+}
+
+/// The name and the number that a line says, which has a name, a number and no more; none also where the line
+/// goes on past the number.
+#[inline(always)]
+#[tactic(auto, using(crate::proofs::Plain::named))]
+fn name_and_number(line: &[u8]) -> Option<(&[u8], u32)>
+    ensures { IfSome result (λ found. (number : ℕ) → naming_in number (three (codes "user" ∷ words_of line.now)) ≡ Ok (User found.0.now found.1)) }
+{
+    let mut words = Words::of(line);
+    let name = words.next()?;
+    let (value, rest) = take_number(words.rest)?;
+    if rest.is_empty() {
+        Some((name, value))
+    } else {
+        None
+    }
+}
+
+/// What any line of that number says.
+#[inline(never)]
+fn read_slowly(number: u32, line: &[u8]) -> Result<NamingView<'_>, Refusal>
+    ensures ok { IfOk result (λ naming. naming_of number (trimmed line.now) ≡ Ok (naming_seen naming)) }
+    ensures err { IfErr result (λ refusal. naming_of number (trimmed line.now) ≡ Err refusal) }
+{
+    let line = trim(line);
+    if is_ignored(line) {
+        return Ok(NamingView::Nothing);
+    }
+    match read_three(line) {
+        None => Err(Refusal::BadLine(number)),
+        Some((kind, name, value)) => read_naming(number, kind, name, value),
     }
 }
 
