@@ -1,3 +1,4 @@
+pub mod Hashes
 pub mod Lines
 pub mod Listed
 pub mod Names

@@ -6,6 +6,7 @@
 #![tactic(auto)]
 
 mod conf;
+mod hashing;
 mod items;
 mod lines;
 mod names;

@@ -5,15 +5,17 @@
 ghost use Rattle.std.specs.Prelude.{◌≡◌, ◌∷◌, ◌++◌, [], None, OnOk, IsOkUnless};
 ghost use Rattle.cpg_conf.specs.Names.{number_of, with_name};
 
+use crate::hashing::NameHasher;
 use cpg_cred::Refusal;
 use indexmap::IndexMap;
 use std::alloc::Global;
+use std::hash::BuildHasherDefault;
 use std::marker::Model;
 
 /// Names, each beside the number that it stands for. Contracts see the list of both.
 #[derive(Drop)]
 pub struct NameTable {
-    numbers: IndexMap<Vec<u8>, u32>,
+    numbers: IndexMap<Vec<u8>, u32, BuildHasherDefault<NameHasher>>,
 }
 
 impl Model for NameTable {
@@ -30,7 +32,7 @@ impl NameTable {
         ensures { result ≡ [] }
     {
         NameTable {
-            numbers: IndexMap::new(alloc),
+            numbers: IndexMap::with_hasher(alloc, BuildHasherDefault::new()),
         }
     }
 
