@@ -1,7 +1,7 @@
 -- steps of the reading functions, which no contract of a public function cites
 use Rattle.std.specs.Prelude.{◌≡◌, ◌≢◌, ◌<◌, ℕ, length, slice_index, ◌+◌, ◌-◌, ◌==◌, List, [], ◌∷◌, map, codes, ◌&&◌, if◌then◌else◌, Result, Ok, Err}
 use Rattle.std.specs.Str.{bytes_eq}
-use Rattle.std.specs.declared.vec.Vec.{Vec}
+use Rattle.smallvec.specs.SmallVec.{SmallVec}
 use Rattle.cpg_cred.specs.Listed.{Listed}
 use Rattle.cpg_cred.specs.declared.refusals.Refusal.{Refusal}
 use Rattle.cpg_cred.specs.declared.refusals.Refusal.TheVariants.{BadLine, Unopened, Unclosed}
@@ -18,7 +18,7 @@ use Rattle.cpg_conf.specs.declared.namings.NamingView.TheVariants as naming
 use Rattle.cpg_conf.specs.declared.nesting.Nesting.{Nesting}
 
 -- the names of a table's entries, beside their numbers
-abbrev pub pairs : {Z : Type 0} → List (Vec ℕ Z × ℕ) → List (List ℕ × ℕ)
+abbrev pub pairs : List (SmallVec ℕ × ℕ) → List (List ℕ × ℕ)
 pairs entries = map (λ entry. (entry.0.items, entry.1)) entries
 
 -- what a view of a line of a names text says

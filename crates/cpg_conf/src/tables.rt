@@ -8,14 +8,15 @@ ghost use Rattle.cpg_conf.specs.Names.{number_of, with_name};
 use crate::hashing::NameHasher;
 use cpg_cred::Refusal;
 use indexmap::IndexMap;
+use smallvec::SmallVec;
 use std::alloc::Global;
 use std::hash::BuildHasherDefault;
 use std::marker::Model;
 
-/// Names, each beside the number that it stands for. Contracts see the list of both.
+/// Names, each beside the number that it stands for; those of at most 16 bytes take no memory of their own. Contracts see the list of both.
 #[derive(Drop)]
 pub struct NameTable {
-    numbers: IndexMap<Vec<u8>, u32, BuildHasherDefault<NameHasher>>,
+    numbers: IndexMap<SmallVec<u8, 16>, u32, BuildHasherDefault<NameHasher>>,
 }
 
 impl Model for NameTable {
@@ -40,27 +41,54 @@ impl NameTable {
     pub fn get(&self, name: &[u8]) -> Option<u32>
         ensures { result ≡ number_of self.now name.now }
     {
+        match SmallVec::from_slice(*self.numbers.allocator(), name) {
+            Ok(key) => self.find(&key),
+            Err(_) => self.find_slowly(name),
+        }
+    }
+
+    /// The same for a name as it is kept.
+    #[inline(always)]
+    fn find(&self, name: &SmallVec<u8, 16>) -> Option<u32>
+        ensures { result ≡ number_of self.now (name.now).items }
+    {
         self.numbers.get(name).copied()
     }
 
-    /// Puts the name last, unless the table has it.
+    /// The same with no memory: the names are gone through.
+    #[inline(never)]
+    fn find_slowly(&self, name: &[u8]) -> Option<u32>
+        ensures { result ≡ number_of self.now name.now }
+    {
+        for place in 0..self.numbers.len() {
+            if let Some((key, number)) = self.numbers.get_index(place) {
+                if name == key.as_slice() {
+                    return Some(*number);
+                }
+            }
+        }
+        None
+    }
+
+    /// Puts the name last, unless the table has it. A short name that it has costs no memory.
     pub fn add(&mut self, name: &[u8], number: u32) -> Result<(), Refusal>
         ensures ok { OnOk result (self.new ≡ with_name self.old name.now number) }
         ensures memory { IsOkUnless result Refusal.Memory }
     {
-        match self.get(name) {
+        let name = SmallVec::from_slice(*self.numbers.allocator(), name)?;
+        match self.find(&name) {
             None => self.push(name, number),
             Some(_) => Ok(()),
         }
     }
 
     /// Puts a new name last.
-    fn push(&mut self, name: &[u8], number: u32) -> Result<(), Refusal>
-        requires { number_of self.old name.now ≡ None }
-        ensures ok { OnOk result (self.new ≡ self.old ++ (name.now, number) ∷ []) }
+    #[inline(always)]
+    fn push(&mut self, name: SmallVec<u8, 16>, number: u32) -> Result<(), Refusal>
+        requires { number_of self.old name.items ≡ None }
+        ensures ok { OnOk result (self.new ≡ self.old ++ (name.items, number) ∷ []) }
         ensures memory { IsOkUnless result Refusal.Memory }
     {
-        let name = Vec::from_slice(*self.numbers.allocator(), name)?;
         self.numbers.insert(name, number)?;
         Ok(())
     }

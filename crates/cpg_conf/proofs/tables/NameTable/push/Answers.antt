@@ -1,4 +1,4 @@
-use Rattle.std.proofs.Common.{ap, ◌∙◌}
+use Rattle.std.proofs.Common.{ap, refl, ◌∙◌}
 use Rattle.indexmap.proofs.CallerLemmas.{insert_entry-new}
 use Rattle.cpg_conf.specs.Names.{number_of}
 use Rattle.cpg_conf.specs.Steps.{pairs}
@@ -8,6 +8,6 @@ use Rattle.cpg_conf.proofs.tables.NameTable.push.Goals as goal
 pub returns-clause-ok : goal.returns-clause-ok
 returns-clause-ok c =
     let entries = c.self.inside.numbers.entries in
-    let lacking = found_alike c.in_ok-name.name.items entries ∙ ap (number_of (pairs entries)) c.in_ok-name.ensures.items ∙ ap (λ table. number_of table c.args.name.now) c.self.view_is ∙ c.requires in
-    ap pairs (c.in_ok-insert.ensures.entries ∙ insert_entry-new _ c.self.inside.numbers c.in_ok-name.name c.args.number lacking)
-    ∙ pairs_grown entries c.args.self.now c.args.name.now c.in_ok-name.name c.args.number c.self.view_is c.in_ok-name.ensures.items
+    let lacking = found_alike c.args.name.items entries ∙ ap (λ table. number_of table c.args.name.items) c.self.view_is ∙ c.requires in
+    ap pairs (c.in_ok-insert.ensures.entries ∙ insert_entry-new _ c.self.inside.numbers c.args.name c.args.number lacking)
+    ∙ pairs_grown entries c.args.self.now c.args.name.items c.args.name c.args.number c.self.view_is refl
