@@ -1,11 +1,12 @@
 -- names as they are kept, and as they are seen
-use Rattle.std.proofs.Common.{◌≡◌, ℕ, nat_eq, zero, suc, List, [], ◌∷◌, ◌++◌, drop, None, Some, cond, refl, ap, ◌∙◌, slice_get, unwrap_or}
+use Rattle.std.proofs.Common.{◌≡◌, ℕ, nat_eq, zero, suc, List, [], ◌∷◌, ◌++◌, drop, Bool, true, false, None, Some, is_some, if◌then◌else◌, cond, refl, ap, ◌∙◌, slice_get, unwrap_or}
 use Rattle.std.proofs.lemmas.List.{map-append}
 use Rattle.smallvec.specs.SmallVec.{SmallVec}
 use Rattle.std.specs.Cmp.Lexicographic.{pointwise}
 use Rattle.std.specs.Map.{lookup}
 use Rattle.std.specs.Str.{bytes_eq}
-use Rattle.cpg_conf.specs.Names.{number_of}
+use Rattle.indexmap.specs.IndexMap.{insert_entry}
+use Rattle.cpg_conf.specs.Names.{number_of, with_name}
 use Rattle.cpg_conf.specs.Steps.{pairs}
 
 -- a name is found among the entries as among the pairs
@@ -37,3 +38,26 @@ number_past name [] zero past = refl
 number_past name [] (suc place) past = refl
 number_past name (entry ∷ entries) zero past = absurd (cc)
 number_past name (entry ∷ entries) (suc place) past = number_past name entries place past
+
+-- what is put at a name, unless it is there
+put_last : (pair new : List ℕ × ℕ) (table : List (List ℕ × ℕ)) (known : Bool)
+    → pair ∷ (if known then table else table ++ new ∷ []) ≡ (if known then pair ∷ table else (pair ∷ table) ++ new ∷ [])
+put_last pair new table true = refl
+put_last pair new table false = refl
+
+pub pairs_put : (name : SmallVec ℕ) (number value : ℕ) (entries : List (SmallVec ℕ × ℕ))
+    → value ≡ unwrap_or (lookup (λ key. pointwise nat_eq name.items key.items) entries) number
+    → pairs (insert_entry (λ a b. pointwise nat_eq a.items b.items) entries name value) ≡ with_name (pairs entries) name.items number
+pairs_put name number value [] e = ap (λ n. (name.items, n) ∷ []) e
+pairs_put name number value (entry ∷ entries) e = by (bytes_eq name.items entry.0.items) (pairs_put name number value entries) e
+  where
+    by : (test : Bool)
+        → (value ≡ unwrap_or (lookup (λ key. pointwise nat_eq name.items key.items) entries) number
+        → pairs (insert_entry (λ a b. pointwise nat_eq a.items b.items) entries name value) ≡ with_name (pairs entries) name.items number)
+        → value ≡ unwrap_or (cond test (Some entry.1) (lookup (λ key. pointwise nat_eq name.items key.items) entries)) number
+        → pairs (cond test ((entry.0, value) ∷ entries) (entry ∷ insert_entry (λ a b. pointwise nat_eq a.items b.items) entries name value))
+        ≡ (if is_some (cond test (Some entry.1) (number_of (pairs entries) name.items)) then pairs (entry ∷ entries) else pairs (entry ∷ entries) ++ (name.items, number) ∷ [])
+    by true later same = ap (λ n. (entry.0.items, n) ∷ pairs entries) same
+    by false later same =
+        ap (λ table. (entry.0.items, entry.1) ∷ table) (later same)
+        ∙ put_last (entry.0.items, entry.1) (name.items, number) (pairs entries) (is_some (number_of (pairs entries) name.items))

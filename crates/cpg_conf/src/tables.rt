@@ -4,6 +4,7 @@
 
 ghost use Rattle.std.specs.Prelude.{◌≡◌, ◌∷◌, ◌++◌, [], None, OnOk, IsOkUnless};
 ghost use Rattle.cpg_conf.specs.Names.{number_of, with_name};
+ghost use Rattle.cpg_conf.specs.Steps.{pairs};
 
 use crate::hashing::NameHasher;
 use cpg_cred::Refusal;
@@ -76,20 +77,20 @@ impl NameTable {
         ensures memory { IsOkUnless result Refusal.Memory }
     {
         let name = SmallVec::from_slice(*self.numbers.allocator(), name)?;
-        match self.find(&name) {
-            None => self.push(name, number),
-            Some(_) => Ok(()),
-        }
+        put_name(&mut self.numbers, name, number)
     }
+}
 
-    /// Puts a new name last.
-    #[inline(always)]
-    fn push(&mut self, name: SmallVec<u8, 16>, number: u32) -> Result<(), Refusal>
-        requires { number_of self.old name.items ≡ None }
-        ensures ok { OnOk result (self.new ≡ self.old ++ (name.items, number) ∷ []) }
-        ensures memory { IsOkUnless result Refusal.Memory }
-    {
-        self.numbers.insert(name, number)?;
-        Ok(())
-    }
+/// Puts the name last, unless the map has it. It is looked for once.
+#[inline(always)]
+fn put_name(
+    numbers: &mut IndexMap<SmallVec<u8, 16>, u32, BuildHasherDefault<NameHasher>>,
+    name: SmallVec<u8, 16>,
+    number: u32,
+) -> Result<(), Refusal>
+    ensures ok { OnOk result (pairs numbers.new.entries ≡ with_name (pairs numbers.old.entries) name.items number) }
+    ensures memory { IsOkUnless result Refusal.Memory }
+{
+    numbers.entry(name)?.or_insert(number);
+    Ok(())
 }
