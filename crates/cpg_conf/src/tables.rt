@@ -2,7 +2,7 @@
 //!
 //! Proved: a table has each name once, beside the number that was added first for it.
 
-ghost use Rattle.std.specs.Prelude.{◌≡◌, ◌∷◌, ◌++◌, [], None, OnOk, IsOkUnless};
+ghost use Rattle.std.specs.Prelude.{◌≡◌, [], OnOk, IsOkUnless};
 ghost use Rattle.cpg_conf.specs.Names.{number_of, with_name};
 ghost use Rattle.cpg_conf.specs.Steps.{pairs};
 
@@ -14,7 +14,8 @@ use std::alloc::Global;
 use std::hash::BuildHasherDefault;
 use std::marker::Model;
 
-/// Names, each beside the number that it stands for; those of at most 16 bytes take no memory of their own. Contracts see the list of both.
+/// Names, each beside the number that it stands for. A name of at most 16 bytes takes no memory of its own.
+/// Contracts see the list of both.
 #[derive(Drop)]
 pub struct NameTable {
     numbers: IndexMap<SmallVec<u8, 16>, u32, BuildHasherDefault<NameHasher>>,
