@@ -76,10 +76,10 @@ impl Tried for Door {
 /// A user in a section inside another one, and a user in its own.
 const NESTED: &[u8] = b"totem {\ninterface {\nuid: 5\n}\n}\nuidgid {\nuid: 1000\n}\n";
 
-/// A user and a group by their names.
-const NAMED: &[u8] = b"uidgid {\nuid: alice\ngid: ops\n}\n";
+/// Users and a group by their names; one is too long to be kept inside a table of names.
+const NAMED: &[u8] = b"uidgid {\nuid: alice\nuid: keeper-of-the-whole-ring\ngid: ops\n}\n";
 
-const NAMES: &[u8] = b"user alice 2000\ngroup ops 20\n";
+const NAMES: &[u8] = b"user alice 2000\nuser keeper-of-the-whole-ring 2001\ngroup ops 20\n";
 
 /// Conf texts with and without faults, before and after the names that they need are known.
 struct ConfTexts;
@@ -102,6 +102,7 @@ impl Row for ConfTexts {
                 Short::Refused(Refusal::Unclosed),
             ),
             (Step::Asks(2000, 9), Short::Lets(Via::User)),
+            (Step::Asks(2001, 9), Short::Lets(Via::User)),
             (Step::Asks(9, 20), Short::Lets(Via::Group)),
             (Step::User(7), Short::Done),
             (Step::Group(30), Short::Done),
