@@ -1,4 +1,3 @@
-pub mod Hashes
 pub mod Lines
 pub mod Listed
 pub mod Names

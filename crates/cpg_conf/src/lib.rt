@@ -6,7 +6,6 @@
 #![tactic(auto)]
 
 mod conf;
-mod hashing;
 mod items;
 mod lines;
 mod names;

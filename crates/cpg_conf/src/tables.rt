@@ -6,8 +6,7 @@ ghost use Rattle.std.specs.Prelude.{◌≡◌, [], OnOk, IsOkUnless};
 ghost use Rattle.cpg_conf.specs.Names.{number_of, with_name};
 ghost use Rattle.cpg_conf.specs.Steps.{pairs};
 
-use crate::hashing::NameHasher;
-use cpg_cred::Refusal;
+use cpg_cred::{NameHasher, Refusal};
 use indexmap::IndexMap;
 use smallvec::SmallVec;
 use std::alloc::Global;

@@ -1,3 +1,4 @@
 pub mod Admission
+pub mod Hashes
 pub mod Listed
 pub mod Shown

@@ -14,12 +14,13 @@ ghost use Rattle.cpg_group.specs.Standing.{kept_for, kept_group, changed, group_
 
 use crate::listing::shows_group;
 use crate::rosters::Roster;
-use cpg_cred::Refusal;
+use cpg_cred::{NameHasher, Refusal};
 use cpg_entry::{Call, Entry, Name, Op};
 use cpg_record::{Members, Record};
 use cpg_rules::{Asker, Table};
 use indexmap::IndexMap;
 use std::alloc::Global;
+use std::hash::BuildHasherDefault;
 use std::marker::Model;
 
 /// How many places a new group has room for: those of most groups stay in the one block that this takes.
@@ -135,7 +136,7 @@ impl Group {
 /// has no rules, members and places.
 #[derive(Drop)]
 pub(crate) struct Groups {
-    pub(crate) kept: IndexMap<Vec<u8>, Group>,
+    pub(crate) kept: IndexMap<Vec<u8>, Group, BuildHasherDefault<NameHasher>>,
     pub(crate) none: Group,
     // Where the group of the entry before is kept. It is believed only where that group has the wanted name.
     pub(crate) last: usize,
@@ -159,7 +160,7 @@ impl Groups {
         ensures { (g : List ℕ) → kept_group result g ≡ no_group }
     {
         Groups {
-            kept: IndexMap::new(alloc),
+            kept: IndexMap::with_hasher(alloc, BuildHasherDefault::new()),
             none: Group::new(alloc),
             last: 0,
         }

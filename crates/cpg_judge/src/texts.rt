@@ -15,7 +15,7 @@ ghost use Rattle.cpg_record.specs.Places.{record_at};
 ghost use Rattle.cpg_print.specs.Records.{audit_line, members_text};
 ghost use Rattle.cpg_judge.specs.Texts.{kept_text, no_text, showing, told_text, with_place, AreShown, AreTexts, HoldsTexts, LacksText, StandsAllowed};
 
-use cpg_cred::Refusal;
+use cpg_cred::{NameHasher, Refusal};
 use cpg_entry::{Call, Op};
 use cpg_group::Policy;
 use cpg_print::{
@@ -25,6 +25,7 @@ use cpg_print::{
 use cpg_record::{Cause, Member, Move, Record};
 use indexmap::IndexMap;
 use std::alloc::Global;
+use std::hash::BuildHasherDefault;
 use std::marker::Model;
 
 /// The room for the text of a group's members, in bytes, when its first place is put.
@@ -225,7 +226,7 @@ impl Text {
 /// none.
 #[derive(Drop)]
 pub(crate) struct Texts {
-    kept: IndexMap<Vec<u8>, Text>,
+    kept: IndexMap<Vec<u8>, Text, BuildHasherDefault<NameHasher>>,
     none: Text,
     // Where the texts of the place before are kept. They are believed only where their group has the wanted name.
     last: usize,
@@ -252,7 +253,7 @@ impl Texts {
         ensures memory { IsOkUnless result Refusal.Memory }
     {
         Ok(Texts {
-            kept: IndexMap::new(alloc),
+            kept: IndexMap::with_hasher(alloc, BuildHasherDefault::new()),
             none: Text::new(alloc)?,
             last: 0,
         })

@@ -6,8 +6,9 @@ ghost use Rattle.std.specs.Prelude.{◌≡◌};
 
 use std::hash::Hasher;
 
-/// Hashes names. A name is written byte by byte, after its length, so that of each write the first byte is taken
-/// alone. Whoever picks the names can make them collide.
+/// Hashes names, by one multiplication a byte (our own; the form is that of Fowler, Noll and Vo's hash). A name is
+/// written byte by byte, after its length, so that of each write the first byte is taken alone. Whoever picks the names
+/// can make them collide.
 #[derive(Debug, Clone, Copy)]
 pub struct NameHasher {
     state: u64,
@@ -22,7 +23,7 @@ impl Default for NameHasher {
 }
 
 impl Hasher for NameHasher {
-    ghost use Rattle.cpg_conf.specs.Hashes.{fed_first};
+    ghost use Rattle.cpg_cred.specs.Hashes.{fed_first};
 
     ghost write = { λ hasher bytes. record { state = fed_first hasher.state bytes } };
 

@@ -1,4 +1,4 @@
--- the hash of a name, which no contract of a public function cites
+-- the hash of a name, by which tables find names
 use Rattle.std.specs.Prelude.{ℕ, ◌*◌, ◌%◌, ◌^◌, List, [], ◌∷◌, bit_xor}
 
 -- the state after a write, by its first byte
