@@ -50,6 +50,7 @@ fn write_behind<W: Write>(writer: &mut W, lines: &mut Vec<u8>, text: &[u8]) -> R
 }
 
 /// Gathers a text of lines, or writes it where it is much.
+#[inline(always)]
 pub(crate) fn gather<W: Write>(
     writer: &mut W,
     lines: &mut Vec<u8>,

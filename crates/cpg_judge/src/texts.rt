@@ -23,6 +23,7 @@ use cpg_print::{
     put_rules_line,
 };
 use cpg_record::{Cause, Member, Move, Record};
+use cpg_text::push_item;
 use indexmap::IndexMap;
 use std::alloc::Global;
 use std::hash::BuildHasherDefault;
@@ -171,8 +172,7 @@ impl Text {
             self.members.as_slice(),
         )?;
         let end = self.text.len();
-        self.ends.push(end)?;
-        Ok(())
+        push_item(&mut self.ends, end)
     }
 
     /// The same, and puts the audit line of the place at the lines' end.

@@ -7,7 +7,7 @@ ghost use Rattle.cpg_text.specs.Numbers.{number_in};
 ghost use Rattle.cpg_script.specs.Words.{after_name, cut_at};
 
 use cpg_cred::Refusal;
-use cpg_text::read_number;
+use cpg_text::{push_item, read_number};
 
 /// Puts the text at the line's end. Most texts are a few bytes that stand in the program, so that it is inlined
 /// where it is called.
@@ -26,8 +26,7 @@ pub fn put_byte(line: &mut Vec<u8>, byte: u8) -> Result<(), Refusal>
     ensures ok { OnOk result (line.new.items ≡ line.old.items ++ byte ∷ []) }
     ensures memory { IsOkUnless result Refusal.Memory }
 {
-    line.push(byte)?;
-    Ok(())
+    push_item(line, byte)
 }
 
 /// Puts the bytes at the line's end.

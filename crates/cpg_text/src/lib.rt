@@ -5,6 +5,7 @@
 #![tactic(auto)]
 
 mod first_numbers;
+mod items;
 mod laws;
 mod lines;
 mod numbers;
@@ -15,6 +16,7 @@ mod streams;
 mod words;
 
 pub use first_numbers::{first_digits, take_number};
+pub use items::push_item;
 pub use laws::reads_what_is_spelled;
 pub use lines::{Lines, is_ignored, trim};
 pub use numbers::{is_number, push_number, read_number};

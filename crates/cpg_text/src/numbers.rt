@@ -9,6 +9,7 @@ ghost use Rattle.std.specs.List.{list_all};
 ghost use Rattle.cpg_text.specs.Numbers.{is_number, number_in};
 ghost use Rattle.cpg_text.specs.Steps.{one_digit, one_more, read_digits, read_on};
 
+use crate::items::push_item;
 use cpg_cred::Refusal;
 use itoa::Buffer;
 use std::alloc::AllocError;
@@ -120,8 +121,7 @@ pub fn push_number(line: &mut Vec<u8>, number: u64) -> Result<(), Refusal>
     if number >= 10 {
         return push_short(line, number as u32);
     }
-    line.push(b'0' + number as u8)?;
-    Ok(())
+    push_item(line, b'0' + number as u8)
 }
 
 /// The same for two to five digits, as most numbers have.

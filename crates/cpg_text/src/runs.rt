@@ -2,7 +2,7 @@
 //!
 //! Proved: a run ends where the first byte stands that can't stand for itself.
 
-ghost use Rattle.std.specs.Prelude.{◌≡◌, ◌+◌, ◌-◌, ◌≤◌, ◌<◌, ◌++◌, IsTrue, length, take, drop, map};
+ghost use Rattle.std.specs.Prelude.{◌≡◌, ◌==◌, not, ◌+◌, ◌-◌, ◌≤◌, ◌<◌, ◌++◌, IsTrue, length, take, drop, map};
 ghost use Rattle.std.specs.List.{prefix_len};
 ghost use Rattle.std.specs.Simd.Lanes.{mask_l};
 ghost use Rattle.cpg_text.specs.Percent.{is_plain};
@@ -104,8 +104,7 @@ fn skip_plain(text: &[u8], from: usize) -> usize
 {
     let mut place = from;
     while text.len() - place >= 64 {
-        let odd = odd_of(u8x64::from_slice(&text[place..]));
-        if odd != 0 {
+        if has_odd(u8x64::from_slice(&text[place..])) {
             return place;
         }
         place += 64;
@@ -134,6 +133,15 @@ fn odd_of<const N: usize>(block: Simd<u8, N>) -> u64
 {
     let shifted = block - Simd::splat(b'!');
     (shifted.simd_ge(Simd::splat(94)) | shifted.simd_eq(Simd::splat(4))).to_bitmask()
+}
+
+/// Whether a byte of the block is not plain, without telling which.
+#[inline(always)]
+fn has_odd(block: u8x64) -> bool
+    ensures { result ≡ not (mask_l (map is_odd block) == 0) }
+{
+    let shifted = block - Simd::splat(b'!');
+    (shifted.simd_ge(Simd::splat(94)) | shifted.simd_eq(Simd::splat(4))).any()
 }
 
 /// Whether the byte stands for itself.
