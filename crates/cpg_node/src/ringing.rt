@@ -72,6 +72,6 @@ pub(crate) fn hear_token(
 {
     let visit = ring.visit(token)?;
     let list = spell_visit(alloc, &visit)?;
-    let _again = ring.on_token(token)?;
+    ring.accept(token, visit.token)?;
     Ok(list)
 }

@@ -3,7 +3,7 @@
 //! Totem's single ring: what was asked for is sent again, waiting entries take places, the aru and the
 //! requests are written anew, and the token goes on. Proved: a visit is exactly `visit_step`.
 
-ghost use Rattle.std.specs.Prelude.{◌≡◌, ◌+◌, ◌≤◌, ◌<◌, ◌^◌, ◌&&◌, ◌||◌, ◌++◌, ◌-◌, min, not, length, take, drop, OnOk, OnErr, IfOk, IsOkUnless, nat_le, nat_lt, ◌==◌};
+ghost use Rattle.std.specs.Prelude.{◌≡◌, ◌+◌, ◌≤◌, ◌<◌, ◌^◌, ◌&&◌, ◌||◌, ◌++◌, ◌-◌, None, min, not, length, take, drop, OnOk, OnErr, IfOk, IsOkUnless, nat_le, nat_lt, ◌==◌};
 ghost use Rattle.std.specs.List.{filter};
 ghost use Rattle.cpg_ring.specs.States.{is_held};
 ghost use Rattle.cpg_ring.specs.Visits.{burst_size, hop_refusal, is_past, placed, reach, up_to, next_requests, is_own_or_none, sets_aru, next_aru, next_aru_id, next_token};
@@ -273,14 +273,29 @@ impl Ring {
         ensures err { OnErr result (self.new ≡ self.old) }
     {
         let visit = self.visit(token)?;
-        let last_token = visit.token.copy(self.alloc)?;
+        let next = visit.token.copy(self.alloc)?;
+        self.accept(token, next)?;
+        Ok(visit)
+    }
+
+    /// Makes the visit that `visit` told of the token: the entries that took places are held, and the token counts
+    /// as accepted, and the next one, which that visit sends, as the last one sent. After a refusal the ring is as
+    /// it was.
+    pub fn accept(&mut self, token: &Token, next: Token) -> Result<(), Refusal>
+        requires fits { refusal_of self.old token.now ≡ None }
+        requires next { next ≡ (visit_of self.old token.now).token }
+        requires in_range { IsToken next }
+        ensures ok { OnOk result (self.new ≡ visited self.old token.now) }
+        ensures err { OnErr result (self.new ≡ self.old) }
+        ensures memory { IsOkUnless result Refusal.Memory }
+    {
         let count = self.burst_size(token.seq);
         self.held.make_room()?;
         take_places(&mut self.waiting, &mut self.held, token.seq, count);
         self.last_hop = Some(token.hop);
-        self.last_token = Some(last_token);
         self.aru_before = self.aru_now;
-        self.aru_now = Some(visit.token.aru);
-        Ok(visit)
+        self.aru_now = Some(next.aru);
+        self.last_token = Some(next);
+        Ok(())
     }
 }

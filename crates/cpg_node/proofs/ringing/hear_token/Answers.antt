@@ -17,7 +17,7 @@ spell_visit-requires c =
 pub returns-clause-kept : goal.returns-clause-kept
 returns-clause-kept c =
     let next = subst (λ (v : Visit). IsToken v.token) c.in_ok-visit.ensures.answer.1 c.in_ok-visit.ensures.in_range.token in
-    heard_token c.args.ring.now _ c.args.token.now c.requires.sound c.in_ok-visit.ensures.answer.0 next c.in_ok-_again.ensures.ok
+    heard_token c.args.ring.now _ c.args.token.now c.requires.sound c.in_ok-visit.ensures.answer.0 next c.in_ok-accept.ensures.ok
 
 pub returns-clause-range : goal.returns-clause-range
 returns-clause-range c = subst (λ (v : Visit). All CanBeSpelled (map frames.Packet v.packets ++ frames.Token v.token ∷ [])) c.in_ok-visit.ensures.answer.1 c.in_ok-list.ensures.range
