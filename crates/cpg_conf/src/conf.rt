@@ -144,7 +144,8 @@ fn add_item(numbers: &mut Numbers, item: &Item) -> Result<(), Refusal>
     Ok(())
 }
 
-/// What a line lists, which stands there, and then goes past it. Most lines are `uid: VALUE`, spelled just so.
+/// What a line lists, which stands there, and then goes past it. A line that is `uid: VALUE`, with nothing to trim, is
+/// read at once.
 #[inline(always)]
 fn take_line(
     names: &Names,

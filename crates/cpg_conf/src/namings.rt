@@ -23,7 +23,7 @@ pub enum NamingView<'a> {
 }
 
 impl<'a> NamingView<'a> {
-    /// What the line of that number says. Most lines are `user NAME N`, spelled just so.
+    /// What the line of that number says. One that is `user NAME N`, with nothing to trim, is read at once.
     #[inline(always)]
     #[tactic(auto, using(crate::proofs::Plain::plain_naming))]
     pub fn read(number: u32, line: &'a [u8]) -> Result<NamingView<'a>, Refusal>

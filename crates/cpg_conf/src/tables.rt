@@ -71,7 +71,7 @@ impl NameTable {
         None
     }
 
-    /// Puts the name last, unless the table has it. A short name that it has costs no memory.
+    /// Puts the name last, unless the table has it. A short name takes no memory of its own.
     pub fn add(&mut self, name: &[u8], number: u32) -> Result<(), Refusal>
         ensures ok { OnOk result (self.new ≡ with_name self.old name.now number) }
         ensures memory { IsOkUnless result Refusal.Memory }
