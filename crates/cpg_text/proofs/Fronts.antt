@@ -1,5 +1,5 @@
 -- A run of bytes that pass a test, seen a block at a time through the mask of those that fail it.
-use Rattle.std.proofs.Common.{◌≡◌, ◌≢◌, Some, None, ℕ, zero, suc, not-suc-le-zero, ◌+◌, ◌-◌, ◌*◌, ◌<◌, ◌≤◌, Bool, true, false, not, cond, eqb, List, [], ◌∷◌, map, length, take, drop, ◌++◌, refl, sym, ap, ap₂, ◌∙◌, arith}
+use Rattle.std.proofs.Common.{◌≡◌, ◌≢◌, Some, ℕ, zero, suc, not-suc-le-zero, ◌+◌, ◌-◌, ◌*◌, ◌<◌, ◌≤◌, Bool, true, false, not, cond, eqb, List, [], ◌∷◌, map, length, take, drop, ◌++◌, refl, sym, ap, ap₂, ◌∙◌, arith}
 use Rattle.std.proofs.lemmas.Simd.{chunk-drop, length-chunk, leading_from_mask_l, trailing_mask_l}
 use Rattle.std.proofs.lemmas.List.{length-drop}
 use Rattle.std.proofs.lemmas.List.Folds.{prefix_len-append}
@@ -96,33 +96,3 @@ near_place p d n room short some =
     let ends : prefix_len q c ≢ length c = λ (e : prefix_len q c ≡ length c). omega (arith, all_pass p q (λ x. refl) c e) in
     let within : place < length d = omega (arith, here, long, ends, prefix_len-le-length q c) in
     grind (arith, nat_tests, stops, within)
-
--- past a first block without a bit, the lowest bit of the last block is the first place
-pub later_place : (p : ℕ → Bool) (d : List ℕ) (n : ℕ) → n ≤ length d → length d ≤ n + n → n ≤ 64 → mask_l (map p (chunk 0 n d)) ≡ 0 → 0 < mask_l (map p (chunk (length d - n) n d))
-    → position p d ≡ Some (length d - n + count_trailing_zeros 64 (mask_l (map p (chunk (length d - n) n d))))
-later_place p d n room meet short none some =
-    let last = length d - n in
-    let c = chunk last n d in
-    let q : ℕ → Bool = λ x. not (p x) in
-    let place = count_trailing_zeros 64 (mask_l (map p c)) in
-    let long = length-chunk last n d (omega (arith, room)) in
-    let here : place ≡ prefix_len q c = trailing_mask_l p 64 c (omega (arith, long)) some in
-    let front : prefix_len q (drop 0 d) ≡ n + prefix_len q (drop (0 + n) d) = run_through p q (λ x. refl) d 0 n (omega (arith, room)) none in
-    let further : prefix_len q d ≡ last + prefix_len q (drop last d) = run_further q d last (omega (arith, front, meet)) in
-    let stops : prefix_len q (drop last d) ≡ place = run_stops p q (λ x. refl) d last n (omega (arith, room)) short some in
-    let whole : position_or_len p d ≡ last + place = omega (arith, further, stops) in
-    let ends : prefix_len q c ≢ length c = λ (e : prefix_len q c ≡ length c). omega (arith, all_pass p q (λ x. refl) c e) in
-    let within : last + place < length d = omega (arith, here, long, ends, room, prefix_len-le-length q c) in
-    grind (arith, nat_tests, whole, within)
-
--- no bit in either block: the byte stands nowhere
-pub no_place : (p : ℕ → Bool) (d : List ℕ) (n : ℕ) → n ≤ length d → length d ≤ n + n → mask_l (map p (chunk 0 n d)) ≡ 0 → mask_l (map p (chunk (length d - n) n d)) ≡ 0
-    → position p d ≡ None
-no_place p d n room meet none none-last =
-    let last = length d - n in
-    let q : ℕ → Bool = λ x. not (p x) in
-    let front : prefix_len q (drop 0 d) ≡ n + prefix_len q (drop (0 + n) d) = run_through p q (λ x. refl) d 0 n (omega (arith, room)) none in
-    let further : prefix_len q d ≡ last + prefix_len q (drop last d) = run_further q d last (omega (arith, front, meet)) in
-    let back : prefix_len q (drop last d) ≡ n + prefix_len q (drop (last + n) d) = run_through p q (λ x. refl) d last n (omega (arith, room)) none-last in
-    let whole : length d ≤ position_or_len p d = omega (arith, further, back, room) in
-    grind (arith, nat_tests, whole)

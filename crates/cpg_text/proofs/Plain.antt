@@ -6,8 +6,10 @@ use Rattle.std.proofs.lemmas.Bool.Decides.{nat_tests}
 use Rattle.std.proofs.lemmas.List.{append-nil, drop_all, take_all}
 use Rattle.std.proofs.lemmas.List.Folds.{list_all_at}
 use Rattle.std.proofs.lemmas.List.Quantifiers.{position-Some}
+use Rattle.cpg_text.specs.Lines.{is_blank, words_of}
 use Rattle.cpg_text.specs.Percent.{before, decoded, encoded, escape, escaped, is_plain}
 use Rattle.cpg_text.specs.Steps.{after}
+use Rattle.cpg_text.proofs.Blanks.{last_of_words}
 use Rattle.cpg_text.proofs.Round.{plain_first}
 use Rattle.cpg_text.proofs.Texts.{some_position}
 
@@ -134,3 +136,25 @@ plain_whole (b ∷ bs) e = by_test (is_plain b) refl (plain_whole bs) e
     by_test true plain rest whole =
         let percent : (b == 37) ≡ false = grind (arith, nat_tests) in
         plain_first b bs percent ∙ ap (before b) (rest (omega (arith, whole)))
+
+-- no byte of it is a blank
+unbroken : (text : List ℕ) → prefix_len is_plain text ≡ length text → position_or_len is_blank text ≡ length text
+unbroken [] e = refl
+unbroken (b ∷ bs) e = by_test (is_plain b) refl (unbroken bs) e
+  where
+    by_test : (p : Bool) → is_plain b ≡ p → (prefix_len is_plain bs ≡ length bs → position_or_len is_blank bs ≡ length bs) → cond p (1 + prefix_len is_plain bs) 0 ≡ suc (length bs) → position_or_len is_blank (b ∷ bs) ≡ suc (length bs)
+    by_test false plain rest whole = absurd (cc)
+    by_test true plain rest whole =
+        let blank : is_blank b ≡ false = grind (arith, nat_tests) in
+        let more = rest (omega (arith, whole)) in
+        rw blank (omega (arith, more))
+
+-- so that it is one word
+pub plain_alone : (text : List ℕ) → text ≢ [] → prefix_len is_plain text ≡ length text → words_of text ≡ text ∷ []
+plain_alone [] some e = absurd (some refl)
+plain_alone (b ∷ bs) other e =
+    let text = b ∷ bs in
+    let past = unbroken text e in
+    let some : 0 < length text = omega arith in
+    let none : position is_blank text ≡ None = grind (arith, nat_tests) in
+    last_of_words text some none

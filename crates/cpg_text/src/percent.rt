@@ -2,9 +2,10 @@
 //!
 //! Proved: both directions are the definitions `message_of` and `text_of`.
 
-ghost use Rattle.std.specs.Prelude.{◌≡◌, ◌≢◌, ◌+◌, ◌<◌, ◌≤◌, [], vec_capacity, ◌++◌, length, OnOk, IfOk, IfSome, MatchOption, IsOkUnless, None, Some, true, option_map, vec_len};
+ghost use Rattle.std.specs.Prelude.{◌≡◌, ◌≢◌, ◌+◌, ◌<◌, ◌≤◌, [], vec_capacity, ◌∷◌, ◌++◌, length, IsTrue, OnOk, IfOk, IfSome, MatchOption, IsOkUnless, None, Some, true, option_map, vec_len};
 ghost use Rattle.std.specs.Fmt.{digit_glyph};
 ghost use Rattle.std.specs.List.{prefix_len};
+ghost use Rattle.cpg_text.specs.Lines.{words_of};
 ghost use Rattle.cpg_text.specs.Memory.{IsOkUnlessMemoryFor};
 ghost use Rattle.cpg_text.specs.Steps.{after};
 ghost use Rattle.cpg_text.specs.Percent.{decoded, before, message_of, is_plain, encoded, escape, text_of};
@@ -51,6 +52,28 @@ fn plain_text(text: &[u8]) -> Option<&[u8]>
         None => Some(text),
         Some(_) => None,
     }
+}
+
+/// Whether the text is known to be one word that spells the message of its own bytes, all of which are plain. Takes no
+/// memory.
+#[inline(always)]
+pub fn is_plain_word(text: &[u8]) -> bool
+    ensures word { IsTrue result → words_of text.now ≡ text.now ∷ [] }
+    ensures message { IsTrue result → message_of text.now ≡ Some text.now }
+{
+    match text {
+        [] | [b'-'] => false,
+        _ => is_plain_throughout(text),
+    }
+}
+
+/// Whether all bytes of the text are plain.
+#[inline(always)]
+fn is_plain_throughout(text: &[u8]) -> bool
+    ensures word { IsTrue result → text.now ≢ [] → words_of text.now ≡ text.now ∷ [] }
+    ensures itself { IsTrue result → decoded text.now ≡ Some text.now }
+{
+    plain_run(text) == text.len()
 }
 
 /// How many bytes the message has that the word spells. Takes no memory.

@@ -2,7 +2,7 @@
 //!
 //! Proved: the place is the first, and where none is told the byte stands nowhere.
 
-ghost use Rattle.std.specs.Prelude.{◌≡◌, ◌==◌, ◌+◌, ◌≤◌, length, map};
+ghost use Rattle.std.specs.Prelude.{◌≡◌, ◌==◌, map};
 ghost use Rattle.std.specs.List.{position};
 ghost use Rattle.cpg_text.specs.Lines.{is_blank};
 ghost use Rattle.std.specs.Simd.Lanes.{mask_l};
@@ -36,57 +36,25 @@ fn place_far(byte: u8, text: &[u8]) -> Option<usize>
 }
 
 /// The first place of a space or a tab in the line, if there is one.
-#[inline(always)]
 pub fn place_of_blank(line: &[u8]) -> Option<usize>
     ensures { result ≡ position is_blank line.now }
 {
-    match line.len() {
-        0..4 => blank_in_fewest(line),
-        4..8 => blank_in_two::<4>(line),
-        8..16 => blank_in_two::<8>(line),
-        16..32 => blank_in_two::<16>(line),
-        _ => blank_in_many(line),
+    if line.len() < 32 {
+        return blank_in_few(line);
     }
-}
-
-/// The same, byte by byte.
-#[inline(always)]
-fn blank_in_fewest(line: &[u8]) -> Option<usize>
-    ensures { result ≡ position is_blank line.now }
-{
-    line.iter().position(|byte| is_blank(*byte))
-}
-
-/// The same for as many bytes as two blocks of `N` hold, which may overlap.
-#[inline(always)]
-fn blank_in_two<const N: usize>(line: &[u8]) -> Option<usize>
-    requires few { N ≤ 64 }
-    requires one { N ≤ length line.now }
-    requires two { length line.now ≤ N + N }
-    ensures { result ≡ position is_blank line.now }
-{
-    let front = blanks_in(Simd::<u8, N>::from_slice(line));
-    if front != 0 {
-        return Some(front.trailing_zeros() as usize);
-    }
-    let last = line.len() - N;
-    let back = blanks_in(Simd::<u8, N>::from_slice(&line[last..]));
-    if back != 0 {
-        return Some(last + back.trailing_zeros() as usize);
-    }
-    None
-}
-
-/// The same for a block of 32 bytes at least, where the place is most often.
-fn blank_in_many(line: &[u8]) -> Option<usize>
-    requires { 32 ≤ length line.now }
-    ensures { result ≡ position is_blank line.now }
-{
-    let found = blanks_in(u8x32::from_slice(line));
+    let found = blanks_in_32(u8x32::from_slice(line));
     if found != 0 {
         return Some(found.trailing_zeros() as usize);
     }
     blank_far(line)
+}
+
+/// The same for a few bytes.
+#[inline(always)]
+fn blank_in_few(line: &[u8]) -> Option<usize>
+    ensures { result ≡ position is_blank line.now }
+{
+    line.iter().position(|byte| is_blank(*byte))
 }
 
 /// The same, where the place may be far.
@@ -100,11 +68,10 @@ fn blank_far(line: &[u8]) -> Option<usize>
 
 /// A bit for each place of a space or a tab, the first lowest.
 #[inline(always)]
-fn blanks_in<const N: usize>(block: Simd<u8, N>) -> u64
-    requires { N ≤ 64 }
-    ensures { result ≡ mask_l (map is_blank block.entry) }
+fn blanks_in_32(block: u8x32) -> u64
+    ensures { result ≡ mask_l (map is_blank block) }
 {
-    (block.simd_eq(Simd::splat(b' ')) | block.simd_eq(Simd::splat(b'\t'))).to_bitmask()
+    (block.simd_eq(u8x32::splat(b' ')) | block.simd_eq(u8x32::splat(b'\t'))).to_bitmask()
 }
 
 /// A bit for each place of the byte, the first lowest.
