@@ -1,7 +1,7 @@
 -- how many words there are
 use Rattle.std.proofs.Common.{◌≡◌, ℕ, ◌<◌, List, [], ◌∷◌, length, take, None, refl, arith}
 use Rattle.std.specs.Borrow.{Bor}
-use Rattle.cpg_print.specs.Calls.{insert_of}
+use Rattle.cpg_print.specs.Calls.{call_of, insert_of}
 use Rattle.cpg_print.specs.Entries.{enterable_op}
 use Rattle.cpg_print.specs.Rules.{rule_of}
 use Rattle.cpg_print.specs.Words.{texts}
@@ -17,6 +17,18 @@ enterable_of_first (a ∷ b ∷ c ∷ d ∷ []) = refl
 enterable_of_first (a ∷ b ∷ c ∷ d ∷ e ∷ []) = refl
 enterable_of_first (a ∷ b ∷ c ∷ d ∷ e ∷ f ∷ []) = refl
 enterable_of_first (a ∷ b ∷ c ∷ d ∷ e ∷ f ∷ g ∷ more) = refl
+
+-- nor one of a call
+pub call_of_first : (words : List (List ℕ)) → call_of (take 7 words) ≡ call_of words
+unfolding rule_of
+call_of_first [] = refl
+call_of_first (a ∷ []) = refl
+call_of_first (a ∷ b ∷ []) = refl
+call_of_first (a ∷ b ∷ c ∷ []) = refl
+call_of_first (a ∷ b ∷ c ∷ d ∷ []) = refl
+call_of_first (a ∷ b ∷ c ∷ d ∷ e ∷ []) = refl
+call_of_first (a ∷ b ∷ c ∷ d ∷ e ∷ f ∷ []) = refl
+call_of_first (a ∷ b ∷ c ∷ d ∷ e ∷ f ∷ g ∷ more) = refl
 
 -- no insert is of fewer than four words
 pub insert_of_short : (words : List (Bor (List ℕ))) → length words < 4 → insert_of (texts words) ≡ None

@@ -3,7 +3,9 @@ use Rattle.std.specs.Prelude.{ℕ, List, ◌∷◌, length, codes, Bool, true, f
 use Rattle.std.specs.Str.{bytes_eq}
 use Rattle.cpg_entry.specs.Names.{is_name}
 use Rattle.cpg_entry.specs.declared.messages.TheConstants.{MOST_MESSAGE_BYTES}
+use Rattle.cpg_entry.specs.declared.calls.Op.{Op}
 use Rattle.cpg_text.specs.Percent.{message_of}
+use Rattle.cpg_print.specs.Calls.{is_enterable}
 
 -- at most 8,192 bytes, if there are any
 abbrev pub is_short : Option ℕ → Bool
@@ -18,3 +20,7 @@ sends_few text = is_short (option_map (λ message. length message) (message_of t
 abbrev pub keeps_limits : List (List ℕ) → Bool
 keeps_limits (word ∷ argument ∷ more) = if bytes_eq word (codes "send") then sends_few argument else is_name argument
 keeps_limits _ = true
+
+-- the op, if it is within the limits of calls
+abbrev pub within_limits : Op → Option Op
+within_limits op = if is_enterable op then Some op else None

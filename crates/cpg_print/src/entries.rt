@@ -1,22 +1,22 @@
 //! Entries as lines, both ways: `NODE.CONN PID UID GID CALL`, or `gone` for CALL.
 
 ghost use Rattle.std.specs.Prelude.{◌≡◌, ◌++◌, codes, decimal, OnOk, IfOk, IsOkUnless, MatchOption, None, option_map};
+ghost use Rattle.cpg_entry.specs.declared.calls.Call.TheVariants.{Send};
+ghost use Rattle.cpg_entry.specs.declared.calls.Op.TheVariants.{Act};
 ghost use Rattle.cpg_record.specs.Connections.{conn_of};
 ghost use Rattle.cpg_text.specs.Lines.{words_of};
 ghost use Rattle.cpg_text.specs.Memory.{IsOkUnlessMemoryFor};
 ghost use Rattle.cpg_print.specs.Entries.{conn_text, entry_text, conn_of_word, first_conn, conn_in_limits, entry_by, enterable_op, entry_of};
+ghost use Rattle.cpg_print.specs.Steps.{within_limits};
 ghost use Rattle.cpg_print.specs.Words.{texts};
 
-use crate::calls::{is_enterable, keeps_limits, put_op, read_op};
+use crate::calls::{WORDS, is_enterable, keeps_limits, plain_send, put_op, read_op};
 use cpg_cred::{Cred, MOST_NODES, NodeId, Refusal};
-use cpg_entry::{Entry, MOST_CONNECTIONS, Op};
+use cpg_entry::{Call, Entry, MOST_CONNECTIONS, MOST_MESSAGE_BYTES, Message, Op};
 use cpg_record::ConnId;
 use cpg_script::{cut, put_byte, read_u32};
 use cpg_text::{Words, first_digits, push_number, take_number, take_words};
 use std::alloc::Global;
-
-/// The words of the longest op, and one more.
-const WORDS: usize = 7;
 
 /// Puts NODE.CONN at the line's end.
 #[inline(always)]
@@ -143,9 +143,34 @@ fn read_entry_by(alloc: Global, caller: Caller, text: &[u8]) -> Result<Option<En
     }
 }
 
-/// The op that a text says, within its limits. One word or two, which nearly every op is, are read where they stand.
-#[tactic(auto, using(crate::proofs::Lengths::enterable_of_first))]
+/// The op that a text says, within its limits. A plain send, which most ops are, is read where it stands.
+#[inline(always)]
 fn read_enterable_in(alloc: Global, text: &[u8]) -> Result<Option<Op>, Refusal>
+    ensures ok { IfOk result (λ found. found ≡ enterable_op (words_of text.now)) }
+    ensures memory { IsOkUnlessMemoryFor result (enterable_op (words_of text.now)) }
+{
+    match plain_send(text) {
+        Some(message) => send_within(alloc, message),
+        None => read_enterable_words(alloc, text),
+    }
+}
+
+/// The send of that message, if it is not too long.
+#[inline(always)]
+fn send_within(alloc: Global, message: &[u8]) -> Result<Option<Op>, Refusal>
+    ensures ok { IfOk result (λ found. found ≡ within_limits (Act (Send message.now))) }
+    ensures memory { IsOkUnlessMemoryFor result (within_limits (Act (Send message.now))) }
+{
+    if message.len() > MOST_MESSAGE_BYTES {
+        return Ok(None);
+    }
+    let message = Message::from_slice(alloc, message)?;
+    Ok(Some(Op::Act(Call::Send(message))))
+}
+
+/// The op that the words of a text say, within its limits. One word or two are read where they stand.
+#[tactic(auto, using(crate::proofs::Lengths::enterable_of_first))]
+fn read_enterable_words(alloc: Global, text: &[u8]) -> Result<Option<Op>, Refusal>
     ensures ok { IfOk result (λ found. found ≡ enterable_op (words_of text.now)) }
     ensures memory { IsOkUnlessMemoryFor result (enterable_op (words_of text.now)) }
 {

@@ -17,7 +17,7 @@ mod verdicts;
 pub use answers::{
     put_groups_line, put_members_line, put_refused_line, put_safe_line, put_took_line,
 };
-pub use calls::{put_call, read_call};
+pub use calls::{put_call, read_call, read_call_in};
 pub use entries::{entry_in_line, put_conn, put_entry};
 pub use events::{
     put_change_line, put_change_with, put_event, put_inbox, put_message_line, put_rules_line,
