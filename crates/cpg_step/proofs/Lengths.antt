@@ -1,29 +1,14 @@
 -- how many words there are, and whether they say a command
 use Rattle.std.proofs.Common.{◌≡◌, ℕ, List, [], ◌∷◌, take, true, Option, Some, None, is_some, refl, ◌∙◌}
 use Rattle.std.specs.Option.{option_and_then}
-use Rattle.cpg_print.specs.Rules.{rule_of}
 use Rattle.cpg_world_laws.specs.declared.events.WorldEvent.{WorldEvent}
 use Rattle.cpg_print.proofs.Somes.{mapped}
 use Rattle.cpg_step.specs.declared.commands.Look.{Look}
 use Rattle.cpg_step.specs.declared.commands.Command.TheVariants as command
-use Rattle.cpg_step.specs.Commands.{act_or_look, connect_of, frame_of, list_of, look_of, node_and_conn, submit_of}
+use Rattle.cpg_step.specs.Commands.{act_or_look, connect_of, frame_of, list_of, look_of, node_and_conn}
 use Rattle.cpg_step.specs.Steps.{two}
 
--- no word after a call's ninth matters
-pub submit_of_first : (nodes : ℕ) (words : List (List ℕ)) → submit_of nodes (take 9 words) ≡ submit_of nodes words
-unfolding rule_of
-submit_of_first nodes [] = refl
-submit_of_first nodes (a ∷ []) = refl
-submit_of_first nodes (a ∷ b ∷ []) = refl
-submit_of_first nodes (a ∷ b ∷ c ∷ []) = refl
-submit_of_first nodes (a ∷ b ∷ c ∷ d ∷ []) = refl
-submit_of_first nodes (a ∷ b ∷ c ∷ d ∷ e ∷ []) = refl
-submit_of_first nodes (a ∷ b ∷ c ∷ d ∷ e ∷ f ∷ []) = refl
-submit_of_first nodes (a ∷ b ∷ c ∷ d ∷ e ∷ f ∷ g ∷ []) = refl
-submit_of_first nodes (a ∷ b ∷ c ∷ d ∷ e ∷ f ∷ g ∷ h ∷ []) = refl
-submit_of_first nodes (a ∷ b ∷ c ∷ d ∷ e ∷ f ∷ g ∷ h ∷ i ∷ more) = refl
-
--- nor one after the fifth of a connect
+-- no word after the fifth of a connect matters
 pub connect_of_first : (nodes : ℕ) (words : List (List ℕ)) → connect_of nodes (take 5 words) ≡ connect_of nodes words
 connect_of_first nodes [] = refl
 connect_of_first nodes (a ∷ []) = refl

@@ -18,14 +18,11 @@ ghost use Rattle.cpg_step.specs.Commands.{node_of, conn_of, u64_of, node_alone, 
 use crate::commands::{Command, Look};
 use cpg_cred::{Cred, MOST_NODES, NodeId, Refusal};
 use cpg_entry::{MOST_CONNECTIONS, Name};
-use cpg_print::read_call;
+use cpg_print::read_call_in;
 use cpg_script::{is, read_u32};
 use cpg_text::{Words, read_number, take_words};
 use cpg_world::WorldEvent;
 use std::alloc::Global;
-
-/// The words after the first of the longest line, and one more.
-const WORDS: usize = 9;
 
 /// The node of a NODE, where the ring has it.
 pub fn read_node(nodes: u8, word: &[u8]) -> Option<NodeId>
@@ -125,45 +122,35 @@ fn read_connect_by(nodes: u8, words: &[&[u8]]) -> Option<WorldEvent>
 }
 
 #[inline(never)]
-#[tactic(auto, using(crate::proofs::Lengths::submit_of_first))]
 fn read_submit(alloc: Global, nodes: u8, rest: &[u8]) -> Result<Option<WorldEvent>, Refusal>
     ensures event { IfOk result (λ found. found ≡ submit_of nodes (words_of rest.now)) }
     ensures within { IfOk result (λ found. IfSome found (λ event. node_in event ≤ nodes)) }
     ensures memory { IsOkUnlessMemoryFor result (submit_of nodes (words_of rest.now)) }
 {
-    let words = take_words::<WORDS>(rest);
-    read_submit_at(alloc, nodes, words.as_slice())
+    let mut words = Words::of(rest);
+    let (Some(node), Some(conn)) = (words.next(), words.next()) else {
+        return Ok(None);
+    };
+    let (Some(node), Some(conn)) = (read_node(nodes, node), read_conn(conn)) else {
+        return Ok(None);
+    };
+    read_submit_by(alloc, node, conn, words.rest)
 }
 
-fn read_submit_at(alloc: Global, nodes: u8, words: &[&[u8]]) -> Result<Option<WorldEvent>, Refusal>
-    ensures event { IfOk result (λ found. found ≡ submit_of nodes (texts words.now)) }
-    ensures within { IfOk result (λ found. IfSome found (λ event. node_in event ≤ nodes)) }
-    ensures memory { IsOkUnlessMemoryFor result (submit_of nodes (texts words.now)) }
-{
-    match words {
-        [node, conn, call @ ..] => {
-            let (Some(node), Some(conn)) = (read_node(nodes, node), read_conn(conn)) else {
-                return Ok(None);
-            };
-            read_submit_by(alloc, node, conn, call)
-        }
-        _ => Ok(None),
-    }
-}
-
-/// The submit of that connection whose call the words say.
+/// The submit of that connection whose call the text says.
+#[inline(always)]
 #[tactic(auto, using(cpg_print::proofs::Somes::then_some))]
 fn read_submit_by(
     alloc: Global,
     node: NodeId,
     conn: u16,
-    words: &[&[u8]],
+    text: &[u8],
 ) -> Result<Option<WorldEvent>, Refusal>
-    ensures event { IfOk result (λ found. found ≡ option_and_then (λ c. Some (Submit node conn c)) (call_of (texts words.now))) }
+    ensures event { IfOk result (λ found. found ≡ option_and_then (λ c. Some (Submit node conn c)) (call_of (words_of text.now))) }
     ensures at { IfOk result (λ found. IfSome found (λ event. node_in event ≡ node)) }
-    ensures memory { IsOkUnlessMemoryFor result (option_and_then (λ c. Some (Submit node conn c)) (call_of (texts words.now))) }
+    ensures memory { IsOkUnlessMemoryFor result (option_and_then (λ c. Some (Submit node conn c)) (call_of (words_of text.now))) }
 {
-    match read_call(alloc, words)? {
+    match read_call_in(alloc, text)? {
         None => Ok(None),
         Some(call) => Ok(Some(WorldEvent::Submit(node, conn, call))),
     }
