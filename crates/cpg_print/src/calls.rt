@@ -15,7 +15,8 @@ use cpg_entry::{Call, MOST_MESSAGE_BYTES, Message, Name, Op, accepts_name};
 use cpg_rules::Rule;
 use cpg_script::{is, put, put_bytes, read_u32};
 use cpg_text::{
-    is_plain_word, message_length, plain_message, push_message, push_number, read_message, take_words,
+    is_plain_word, message_length, plain_message, push_message, push_number, read_message,
+    take_words,
 };
 use std::alloc::Global;
 
