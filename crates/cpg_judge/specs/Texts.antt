@@ -3,9 +3,9 @@ use Rattle.std.specs.Prelude.{ℕ, Bool, ◌≡◌, ◌+◌, ◌<◌, ◌≤◌,
 use Rattle.std.specs.List.{concat, flat_map, range_with_len}
 use Rattle.std.specs.Map.{lookup}
 use Rattle.std.specs.Str.{bytes_eq}
-use Rattle.cpg_entry.specs.declared.calls.Call.TheVariants.{Insert, Join, Leave, Remove}
+use Rattle.cpg_entry.specs.declared.calls.Call.TheVariants.{Insert, Remove}
 use Rattle.cpg_entry.specs.declared.calls.Op.{Op}
-use Rattle.cpg_entry.specs.declared.calls.Op.TheVariants.{Act, Gone}
+use Rattle.cpg_entry.specs.declared.calls.Op.TheVariants.{Act}
 use Rattle.cpg_entry.specs.declared.entries.Entry.{Entry}
 use Rattle.cpg_entry.specs.Entries.{is_move}
 use Rattle.cpg_record.specs.declared.connections.ConnId.{ConnId}

@@ -14,7 +14,8 @@ use std::io::Write;
 /// The bytes that are written together, at least, but at the end.
 const MUCH: usize = 16_384;
 
-/// Writes what is gathered.
+/// Writes what is gathered. It stands apart, as most lines are gathered alone.
+#[inline(never)]
 pub fn write_all<W: Write>(writer: &mut W, lines: &mut Vec<u8>) -> Result<(), Refusal>
     ensures lines { Gathers result (W.contents writer.old) lines.old.items (W.contents writer.new) lines.new.items [] }
     ensures none { OnOk result (lines.new.items ≡ []) }
@@ -29,6 +30,7 @@ pub fn write_all<W: Write>(writer: &mut W, lines: &mut Vec<u8>) -> Result<(), Re
 }
 
 /// Writes what is gathered, where it is much.
+#[inline(always)]
 pub fn write_much<W: Write>(writer: &mut W, lines: &mut Vec<u8>) -> Result<(), Refusal>
     ensures { Gathers result (W.contents writer.old) lines.old.items (W.contents writer.new) lines.new.items [] }
 {

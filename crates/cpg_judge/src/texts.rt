@@ -23,8 +23,8 @@ use cpg_print::{
     put_rules_line,
 };
 use cpg_record::{Cause, Member, Move, Record};
-use cpg_text::push_item;
 use indexmap::IndexMap;
+use smallvec::SmallVec;
 use std::alloc::Global;
 use std::hash::BuildHasherDefault;
 use std::marker::Model;
@@ -32,11 +32,12 @@ use std::marker::Model;
 /// The room for the text of a group's members, in bytes, when its first place is put.
 const MEMBERS_ROOM: usize = 24;
 
-/// The room for what its places tell, in bytes: some three lines.
-const TEXT_ROOM: usize = 128;
+/// The room for what its places tell, in bytes: some ten lines.
+const TEXT_ROOM: usize = 512;
 
-/// The room for the ends of that many lines.
-const PLACES_ROOM: usize = 8;
+/// How many ends of lines a text keeps in itself, as most groups have no more places than that: more have memory of
+/// their own.
+const KEPT_INSIDE: usize = 16;
 
 /// The move of the member that the entry's connection becomes.
 fn join_of(past: &Record) -> Move
@@ -89,7 +90,7 @@ fn put_told(
 pub(crate) struct Text {
     members: Vec<u8>,
     text: Vec<u8>,
-    ends: Vec<usize>,
+    ends: SmallVec<usize, KEPT_INSIDE>,
 }
 
 impl Model for Text {
@@ -112,7 +113,7 @@ impl Text {
         Ok(Text {
             members,
             text: Vec::new(alloc),
-            ends: Vec::new(alloc),
+            ends: SmallVec::new(alloc),
         })
     }
 
@@ -126,7 +127,7 @@ impl Text {
         Ok(Text {
             members,
             text: Vec::with_capacity(alloc, TEXT_ROOM)?,
-            ends: Vec::with_capacity(alloc, PLACES_ROOM)?,
+            ends: SmallVec::new(alloc),
         })
     }
 
@@ -172,7 +173,8 @@ impl Text {
             self.members.as_slice(),
         )?;
         let end = self.text.len();
-        push_item(&mut self.ends, end)
+        self.ends.push(end)?;
+        Ok(())
     }
 
     /// The same, and puts the audit line of the place at the lines' end.
@@ -202,7 +204,7 @@ impl Text {
             return 0;
         }
         if count <= self.ends.len() {
-            self.ends[count - 1]
+            self.ends.as_slice()[count - 1]
         } else {
             0
         }
