@@ -12,6 +12,12 @@ pub enum Bytes {
     Long { text: Arc<Vec<u8>>, start: u16, length: u32 },
 }
 
+impl PartialEq for Bytes {
+    fn eq(&self, other: &Bytes) -> bool {
+        self.as_slice() == other.as_slice()
+    }
+}
+
 impl Bytes {
     pub fn copy_of(bytes: &[u8]) -> Bytes {
         if bytes.len() <= INSIDE {

@@ -1,5 +1,6 @@
 //! A running cluster: a thread for each node, and links between them.
 
+use crate::board::Board;
 use crate::door::{Shared, DEEP};
 use crate::node::{Node, Settings};
 use crate::worker::{Outgoing, Worker};
@@ -40,9 +41,11 @@ fn lay_links(workers: &mut Vec<Worker>, nodes: u8) {
 }
 
 impl Cluster {
-    pub fn start(settings: Settings) -> Cluster {
+    /// A running cluster, which goes by the proved one's steps where it is `locked`.
+    pub fn start(settings: Settings, locked: bool) -> Cluster {
         let nodes = settings.nodes;
-        let shared = Arc::new(Shared::new(nodes));
+        let board = if locked { Some(Board::new(settings.places)) } else { None };
+        let shared = Arc::new(Shared::new(nodes, board));
         let worker = |id| Worker::new(shared.clone(), Node::new(settings, id));
         let mut workers: Vec<Worker> = (1..nodes + 1).map(worker).collect();
         lay_links(&mut workers, nodes);

@@ -1,5 +1,6 @@
 //! Where sessions meet the nodes of a running cluster: what waits there, what was told, and how a thread is woken.
 
+use crate::board::Board;
 use crate::values::{Entry, Event};
 use std::collections::VecDeque;
 use std::sync::atomic::{AtomicBool, AtomicU8, AtomicUsize, Ordering};
@@ -46,6 +47,8 @@ pub struct Inbox {
 /// What a node knows of its connections, and what waits for the token.
 pub struct Desk {
     pub inboxes: Vec<Arc<Inbox>>,
+    /// By the proved steps: the events that each connection has not taken yet.
+    pub kept: Vec<VecDeque<Event>>,
     pub waiting: VecDeque<Entry>,
 }
 
@@ -63,16 +66,20 @@ pub struct Shared {
     /// How many threads are at rest.
     pub resting: AtomicUsize,
     pub halted: AtomicBool,
+    /// Where it is there, the cluster goes by the proved one's steps: each call, each lot of events that is taken, the
+    /// frames of a turn and its deliveries are one section of the node's lock, and each record is settled here.
+    pub board: Option<Board>,
 }
 
 impl Shared {
-    pub fn new(nodes: u8) -> Shared {
+    pub fn new(nodes: u8, board: Option<Board>) -> Shared {
         let door = |_| Door {
-            desk: Mutex::new(Desk { inboxes: Vec::new(), waiting: VecDeque::new() }),
+            desk: Mutex::new(Desk { inboxes: Vec::new(), kept: Vec::new(), waiting: VecDeque::new() }),
             count: AtomicUsize::new(0),
             bell: Bell { depth: AtomicU8::new(AWAKE), thread: OnceLock::new() },
         };
-        Shared { doors: (0..nodes).map(door).collect(), resting: AtomicUsize::new(0), halted: AtomicBool::new(false) }
+        let doors = (0..nodes).map(door).collect();
+        Shared { doors, resting: AtomicUsize::new(0), halted: AtomicBool::new(false), board }
     }
 
     pub fn door(&self, node: u8) -> &Door {

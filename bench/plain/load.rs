@@ -24,6 +24,8 @@ pub struct Load {
     size: usize,
     /// How many messages a client has in flight at most.
     window: u32,
+    /// Whether the cluster goes by the proved one's steps.
+    locked: bool,
 }
 
 impl Load {
@@ -202,12 +204,12 @@ fn run_clients(shared: &Arc<Shared>, load: Load) -> Vec<Option<Ended>> {
     threads.into_iter().map(|thread| thread.join().unwrap()).collect()
 }
 
-fn ends_line(load: &Load, ends: &[Option<Ended>]) -> String {
+fn ends_line(load: &Load, ends: &[Option<Ended>], differs: bool) -> String {
     let ended: Vec<&Ended> = ends.iter().flat_map(|end| end).collect();
     let begin = ended.iter().map(|end| end.begin).min().unwrap_or_default();
     let end = ended.iter().map(|end| end.end).max().unwrap_or_default();
     let order = ended.first().map(|end| end.tally.order);
-    let agree = ended.len() == ends.len() && ended.iter().all(|end| Some(end.tally.order) == order);
+    let agree = !differs && ended.len() == ends.len() && ended.iter().all(|end| Some(end.tally.order) == order);
     let micros = (end.as_micros() as u64).saturating_sub(begin.as_micros() as u64).max(1);
     let rate = u64::from(load.total()) * 1_000_000 / micros;
     let agree = if agree { "yes" } else { "NO" };
@@ -234,14 +236,16 @@ fn rounds_line(workers: &[Worker], load: &Load) -> String {
 pub fn run_load(load: Load) {
     let places = load.total() + u32::from(load.nodes);
     let settings = Settings { ring: 1, nodes: load.nodes, places, hops: MOST_HOPS };
-    let cluster = Cluster::start(settings);
+    let cluster = Cluster::start(settings, load.locked);
     let ends = run_clients(&cluster.shared, load);
-    print_all(&ends_line(&load, &ends));
+    let differs = cluster.shared.board.as_ref().map_or(false, |board| board.differs.load(Ordering::SeqCst));
+    print_all(&ends_line(&load, &ends, differs));
     print_all(&rounds_line(&cluster.stop(), &load));
 }
 
-/// The load that NODES MESSAGES SIZE ask for, and WINDOW where it is there.
-pub fn read_load(words: &[String]) -> Option<Load> {
+/// The load that NODES MESSAGES SIZE ask for, and WINDOW where it is there, of a cluster by the proved one's steps
+/// where it is `locked`.
+pub fn read_load(words: &[String], locked: bool) -> Option<Load> {
     let number = |at: usize| words.get(at)?.parse::<u32>().ok();
     let nodes = number(0)?;
     let load = Load {
@@ -252,6 +256,7 @@ pub fn read_load(words: &[String]) -> Option<Load> {
             None => u32::MAX,
             Some(_) => Some(number(3)?).filter(|window| *window > 0).unwrap_or(u32::MAX),
         },
+        locked,
     };
     let fits = nodes >= 1 && nodes <= u32::from(MOST_NODES) && load.messages <= MOST_PLACES / nodes - 1;
     if fits {

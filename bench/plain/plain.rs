@@ -1,12 +1,16 @@
 //! A plain program to measure beside: the ring, the groups and their rules once more, in plain Rust with its standard
-//! library alone, written for speed. It proves nothing, and no client learns here whether two nodes agree: there is no
-//! board. What it does is what the proved nodes do: tokens and bursts, frames spelled out and read, bounded links, a
-//! judged record of each entry at each node, and events for each session.
+//! library alone, written for speed. It proves nothing, and no client learns here whether two nodes agree. What it does
+//! is what the proved nodes do: tokens and bursts, frames spelled out and read, bounded links, a judged record of each
+//! entry at each node, and events for each session.
 //!
 //! Where it goes its own way for speed: a session's calls wait, and its events are put when they are delivered, behind
 //! locks of their own and not the node's; short frames and messages are copied, long ones shared; the members of a
 //! group are one list that its records share until they change. It leaves out frames of version 1, gates, and in the
 //! running cluster listings, ends of sessions and all but root in its accept list. Want of memory ends it.
+//!
+//! With `locked` a running cluster goes by the proved one's steps: each call, each lot of events that is taken, the
+//! frames of a turn and its deliveries are one section of the node's lock, and each record is settled on a board.
+//! Without it there is no board, and sessions meet the node at locks of their own.
 //!
 //! The ring is in `frames`, `reading`, `policy` and `node`; a running cluster in `door`, `session`, `worker` and
 //! `cluster`, with `load` and `rest` over it; the commands on scripts in `step`, `judge` and `accept`.
@@ -15,6 +19,7 @@
 //!
 //! Usage: plain NODES MESSAGES SIZE             a cluster at full load, as bench/load runs it with --beside
 //!        plain full NODES MESSAGES SIZE WINDOW the same, with at most WINDOW messages of a client in flight (0: any)
+//!        plain locked NODES MESSAGES SIZE WINDOW the same by the proved cluster's steps, with its lock and its board
 //!        plain rest NODES ROUNDS               a cluster that rests for a second, and then answers a call, so often
 //!        plain step [--ring R] [--nodes N] [--places P] [--hops H] [uid:N | gid:N]...
 //!        plain judge
@@ -22,6 +27,7 @@
 
 mod accept;
 mod accept_list;
+mod board;
 mod bytes;
 mod cluster;
 mod door;
@@ -69,8 +75,8 @@ fn refuse_words() {
     exit(2);
 }
 
-fn load_or_refuse(words: &[String]) {
-    match read_load(words) {
+fn load_or_refuse(words: &[String], locked: bool) {
+    match read_load(words, locked) {
         Some(load) => run_load(load),
         None => refuse_words(),
     }
@@ -89,7 +95,8 @@ fn main() {
             Some((nodes, rounds)) => run_rest(nodes, rounds),
             None => refuse_words(),
         },
-        Some("full") => load_or_refuse(&words[1..]),
-        _ => load_or_refuse(&words),
+        Some("full") => load_or_refuse(&words[1..], false),
+        Some("locked") => load_or_refuse(&words[1..], true),
+        _ => load_or_refuse(&words, false),
     }
 }

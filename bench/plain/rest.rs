@@ -12,7 +12,7 @@ use std::time::{Duration, Instant};
 
 /// How long a call takes to its verdict after a second's rest, at the last node; so many times.
 pub fn run_rest(nodes: u8, rounds: u32) {
-    let cluster = Cluster::start(Settings { ring: 1, nodes, places: 4_096, hops: MOST_HOPS });
+    let cluster = Cluster::start(Settings { ring: 1, nodes, places: 4_096, hops: MOST_HOPS }, false);
     let root = Cred { uid: 0, gid: 0 };
     if let Ok(mut session) = Session::connect(&cluster.shared, nodes, 40, root) {
         for _ in 0..rounds {

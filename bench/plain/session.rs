@@ -3,8 +3,12 @@
 use crate::door::{Inbox, Shared, DEEP};
 use crate::limits::{MOST_CONNECTIONS, MOST_WAITING};
 use crate::values::{call_refusal, Cred, Entry, Event, Op, Refusal};
+use std::collections::VecDeque;
 use std::sync::atomic::{AtomicBool, Ordering};
 use std::sync::{Arc, Mutex};
+
+/// How many events are taken for one lock at most, by the proved steps.
+const MOST_AT_ONCE: usize = 256;
 
 /// A process at a node. It takes its events many at a time, and hands them out one by one.
 pub struct Session {
@@ -30,6 +34,7 @@ impl Session {
         }
         let inbox = Arc::new(Inbox { events: Mutex::new(Vec::new()), some: AtomicBool::new(false) });
         desk.inboxes.push(inbox.clone());
+        desk.kept.push(VecDeque::new());
         let conn = desk.inboxes.len() as u16;
         Ok(Session { shared: shared.clone(), node, conn, pid, cred, inbox, taken: Vec::new() })
     }
@@ -40,7 +45,7 @@ impl Session {
             return Err((refusal, op));
         }
         let door = self.shared.door(self.node);
-        if door.count.load(Ordering::Relaxed) >= MOST_WAITING {
+        if self.shared.board.is_none() && door.count.load(Ordering::Relaxed) >= MOST_WAITING {
             return Err((Refusal::QueueFull, op));
         }
         let mut desk = door.desk.lock().unwrap();
@@ -56,7 +61,27 @@ impl Session {
         Ok(())
     }
 
+    /// Takes events by the proved steps, so many at most in one section of the node's lock, which is not asked for
+    /// where nothing was told since the last one.
+    fn take_some(&mut self) {
+        let mut desk = self.shared.door(self.node).desk.lock().unwrap();
+        let kept = &mut desk.kept[usize::from(self.conn) - 1];
+        let count = kept.len().min(MOST_AT_ONCE);
+        self.taken.extend(kept.drain(..count));
+        if kept.is_empty() {
+            self.inbox.some.store(false, Ordering::Release);
+        }
+        drop(desk);
+        self.taken.reverse();
+    }
+
     pub fn take(&mut self) -> Option<Event> {
+        if self.shared.board.is_some() {
+            if self.taken.is_empty() && self.inbox.some.load(Ordering::Acquire) {
+                self.take_some();
+            }
+            return self.taken.pop();
+        }
         if self.taken.is_empty() && self.inbox.some.load(Ordering::Acquire) {
             let mut events = self.inbox.events.lock().unwrap();
             std::mem::swap(&mut *events, &mut self.taken);

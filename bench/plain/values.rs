@@ -25,32 +25,35 @@ pub enum Right {
 }
 
 /// Whom a rule speaks of: each condition that is there has to hold.
-#[derive(Clone, Copy)]
+#[derive(Clone, Copy, PartialEq)]
 pub struct Who {
     pub uid: Option<u32>,
     pub gid: Option<u32>,
     pub node: Option<u8>,
 }
 
-#[derive(Clone, Copy)]
+#[derive(Clone, Copy, PartialEq)]
 pub struct Rule {
     pub effect: Effect,
     pub right: Right,
     pub who: Who,
 }
 
+#[derive(Clone, PartialEq)]
 pub struct Insertion {
     pub group: Bytes,
     pub position: u8,
     pub rule: Rule,
 }
 
+#[derive(Clone, PartialEq)]
 pub struct Removal {
     pub group: Bytes,
     pub id: u32,
 }
 
 /// What an entry does. All but a message stands apart, so that an entry is small.
+#[derive(Clone, PartialEq)]
 pub enum Op {
     Join(Box<Bytes>),
     Leave,
@@ -60,6 +63,7 @@ pub enum Op {
     Gone,
 }
 
+#[derive(Clone, PartialEq)]
 pub struct Entry {
     pub node: u8,
     pub conn: u16,
@@ -104,6 +108,7 @@ pub struct Member {
 pub type Members = Arc<Vec<Member>>;
 
 /// An entry, its verdict, and its group with the members after it.
+#[derive(Clone, PartialEq)]
 pub struct Record {
     pub entry: Entry,
     pub verdict: Verdict,

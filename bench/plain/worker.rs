@@ -1,6 +1,7 @@
 //! The thread of a node in a running cluster: its turns, and how it rests between them.
 
-use crate::door::{Inbox, Shared, AWAKE, DEEP, LIGHT};
+use crate::board::Board;
+use crate::door::{Desk, Inbox, Shared, AWAKE, DEEP, LIGHT};
 use crate::frames::{Frame, Heard, Token};
 use crate::node::Node;
 use crate::reading::read_frame;
@@ -51,6 +52,8 @@ enum Turn {
 /// A node with its thread's ends of links.
 pub struct Worker {
     shared: Arc<Shared>,
+    /// Whether it goes by the proved steps.
+    is_locked: bool,
     pub node: Node,
     pub incoming: Vec<Receiver<Frame>>,
     /// The first goes to the next node.
@@ -58,6 +61,7 @@ pub struct Worker {
     inboxes: Vec<Arc<Inbox>>,
     placed: Vec<Entry>,
     frames: Vec<Frame>,
+    came: Vec<Frame>,
     told: Vec<(u16, Event)>,
     /// How many of the last turns were idle since a token was sent again.
     idle: u32,
@@ -71,14 +75,17 @@ pub struct Worker {
 impl Worker {
     pub fn new(shared: Arc<Shared>, node: Node) -> Worker {
         let rest_tokens = REST_TOKENS + REST_HOPS / u32::from(node.settings.nodes);
+        let is_locked = shared.board.is_some();
         Worker {
             shared,
+            is_locked,
             node,
             incoming: Vec::new(),
             outgoing: Vec::new(),
             inboxes: Vec::new(),
             placed: Vec::new(),
             frames: Vec::new(),
+            came: Vec::new(),
             told: Vec::new(),
             idle: 0,
             quiet: 0,
@@ -87,13 +94,20 @@ impl Worker {
         }
     }
 
-    /// Takes the first waiting entries, so many at most.
-    fn take_waiting(&mut self, most: usize) {
+    /// Takes the first waiting entries, so many at most, from the desk that is held, or under its lock.
+    fn take_waiting(&mut self, held: Option<&mut Desk>, most: usize) {
         let door = self.shared.door(self.node.id);
         if most == 0 || door.count.load(Ordering::SeqCst) == 0 {
             return;
         }
-        let mut desk = door.desk.lock().unwrap();
+        let mut own;
+        let desk: &mut Desk = match held {
+            Some(desk) => desk,
+            None => {
+                own = door.desk.lock().unwrap();
+                &mut own
+            }
+        };
         let count = most.min(desk.waiting.len());
         self.placed.extend(desk.waiting.drain(..count));
         door.count.store(desk.waiting.len(), Ordering::SeqCst);
@@ -119,15 +133,22 @@ impl Worker {
         }
     }
 
-    fn hear_token(&mut self, token: Token) -> Turn {
+    /// What the visit sends waits until the desk that is held is let go.
+    fn hear_token(&mut self, held: Option<&mut Desk>, token: Token) -> Turn {
         if self.node.token_refusal(&token).is_some() {
             return Turn::Quiet;
         }
+        if !self.frames.is_empty() {
+            self.send_all();
+        }
+        let is_held = held.is_some();
         let room = self.node.room(&token);
-        self.take_waiting(room);
+        self.take_waiting(held, room);
         self.node.visit(&token, &mut self.placed, &mut self.frames);
         let is_quiet = self.frames.len() == 1 && token.rtr.is_empty() && token.aru == token.seq;
-        self.send_all();
+        if !is_held {
+            self.send_all();
+        }
         if is_quiet {
             Turn::Quiet
         } else {
@@ -135,10 +156,10 @@ impl Worker {
         }
     }
 
-    fn hear(&mut self, frame: &Frame) -> Turn {
+    fn hear(&mut self, held: Option<&mut Desk>, frame: &Frame) -> Turn {
         match read_frame(frame) {
             None => Turn::Busy,
-            Some(Heard::Token(token)) => self.hear_token(token),
+            Some(Heard::Token(token)) => self.hear_token(held, token),
             Some(Heard::Packet(packet)) => {
                 let _ = self.node.hear_packet(packet);
                 Turn::Busy
@@ -151,12 +172,34 @@ impl Worker {
         let mut turn = Turn::Idle;
         for at in 0..self.incoming.len() {
             if let Ok(frame) = self.incoming[at].try_recv() {
-                let heard = self.hear(&frame);
+                let heard = self.hear(None, &frame);
                 if turn != Turn::Busy {
                     turn = heard;
                 }
             }
         }
+        turn
+    }
+
+    /// The same in one section of the node's lock, for which an idle turn does not ask; what is sent is sent after it.
+    fn hear_each_at_once(&mut self, shared: &Shared) -> Turn {
+        let mut came = std::mem::replace(&mut self.came, Vec::new());
+        came.extend(self.incoming.iter().flat_map(|link| link.try_recv().ok()));
+        let mut turn = Turn::Idle;
+        if !came.is_empty() {
+            let mut desk = shared.door(self.node.id).desk.lock().unwrap();
+            for frame in came.drain(..) {
+                let heard = self.hear(Some(&mut desk), &frame);
+                if turn != Turn::Busy {
+                    turn = heard;
+                }
+            }
+            drop(desk);
+        }
+        if !self.frames.is_empty() {
+            self.send_all();
+        }
+        self.came = came;
         turn
     }
 
@@ -191,6 +234,24 @@ impl Worker {
         self.told = told;
     }
 
+    /// Delivers all that the node can in one section of its lock, settles each record on the board, and keeps what
+    /// sessions are told.
+    fn deliver_all_at_once(&mut self, shared: &Shared, board: &Board) {
+        let mut desk = shared.door(self.node.id).desk.lock().unwrap();
+        while self.node.deliver(&mut self.told) {
+            if let Some(record) = self.node.records.last() {
+                board.settle(self.node.delivered(), record);
+            }
+        }
+        for (conn, event) in self.told.drain(..) {
+            let at = usize::from(conn) - 1;
+            if at < desk.kept.len() {
+                desk.kept[at].push_back(event);
+                desk.inboxes[at].some.store(true, Ordering::Release);
+            }
+        }
+    }
+
     pub fn send_again(&mut self) {
         if let Some(frame) = self.node.timer() {
             self.frames.push(frame);
@@ -221,11 +282,26 @@ impl Worker {
     }
 
     fn turn(&mut self) -> Turn {
-        let turn = self.hear_each();
-        if turn == Turn::Busy {
-            self.deliver_all();
-        }
+        let turn = if self.is_locked {
+            self.turn_at_once()
+        } else {
+            let turn = self.hear_each();
+            if turn == Turn::Busy {
+                self.deliver_all();
+            }
+            turn
+        };
         self.count(turn);
+        turn
+    }
+
+    /// A turn by the proved steps.
+    fn turn_at_once(&mut self) -> Turn {
+        let shared = self.shared.clone();
+        let turn = self.hear_each_at_once(&shared);
+        if let (Turn::Busy, Some(board)) = (turn, &shared.board) {
+            self.deliver_all_at_once(&shared, board);
+        }
         turn
     }
 
