@@ -9,9 +9,19 @@ use cpg_board::{Board, Seat};
 use cpg_cred::{AcceptList, NodeId};
 use cpg_history::{History, HistoryName, Member, Parcel};
 use cpg_link::{Bell, News};
+use std::hint::spin_loop;
 use std::marker::Model;
 use std::sync::atomic::{AtomicBool, AtomicU64, Ordering};
-use std::sync::{Mutex, Wait};
+use std::sync::{Mutex, MutexGuard, Wait};
+use std::thread;
+
+/// How often a thread looks whether a station is free before it sleeps for its lock, how often of these without a yield
+/// between, and how long a pause lies between two looks.
+const FREE_LOOKS: u32 = 64;
+
+const SPUN_LOOKS: u32 = 16;
+
+const PAUSES: u32 = 16;
 
 /// Running nodes: a station for each behind a lock, with its node's pen of their history, their board, the list that they
 /// accept by, and the bells of their threads. All threads may share it. Contracts see how many nodes there are, and the
@@ -40,6 +50,17 @@ impl<B: HistoryName, G> Model for Running<B, G> {
     ghost view = { λ running. record { nodes = running.nodes; list = running.list } };
 
     ghost invariant = { λ running. (running.board ≡ B.cells) × (running.list ≡ B.start.list) × (vec_len running.stations ≡ running.nodes) × (vec_len running.bells ≡ running.nodes) × (running.nodes ≤ 8) };
+}
+
+/// The pause after a look at a station that was held.
+fn pause(look: u32) {
+    if look >= SPUN_LOOKS {
+        thread::yield_now();
+        return;
+    }
+    for _ in 0..PAUSES {
+        spin_loop();
+    }
 }
 
 impl<B: HistoryName, G> Running<B, G> {
@@ -71,13 +92,29 @@ impl<B: HistoryName, G> Running<B, G> {
         &self.stations[usize::from(node.get()) - 1]
     }
 
+    /// A node's station, once nobody else holds it. A lock that was slept for twice is left to those who sleep, so that
+    /// each of its sections then waits for a thread to be woken; they take some microseconds, so a thread looks
+    /// for a while before it sleeps.
+    pub(crate) fn hold<R: Wait>(&self, rt: &R, node: NodeId) -> MutexGuard<'_, Member<B>>
+        requires { node ≤ self.now.nodes }
+    {
+        let station = self.station(node);
+        for look in 0..FREE_LOOKS {
+            if let Some(held) = station.try_lock() {
+                return held;
+            }
+            pause(look);
+        }
+        station.lock(rt)
+    }
+
     /// The place up to which every node holds all places, as the node knows it. It is answered after the
     /// nodes are halted, too.
     pub fn safe<R: Wait>(&self, rt: &R, node: NodeId) -> u32
         requires { node ≤ self.now.nodes }
         ensures { IsSafeAt B.start node result }
     {
-        self.station(node).lock(rt).safe_at(node)
+        self.hold(rt, node).safe_at(node)
     }
 
     /// Halts all nodes: later calls of sessions are answered with Stopped.
@@ -98,7 +135,7 @@ impl<B: HistoryName, G> Running<B, G> {
     pub(crate) fn is_halted<R: Wait>(&self, rt: &R, node: NodeId) -> bool
         requires { node ≤ self.now.nodes }
     {
-        self.station(node).lock(rt).is_halted()
+        self.hold(rt, node).is_halted()
     }
 
     /// The bell of a node's thread.
@@ -130,10 +167,7 @@ impl<B: HistoryName, G> Running<B, G> {
     pub(crate) fn timer<R: Wait>(&self, rt: &R, node: NodeId) -> Option<Parcel<B>>
         requires { node ≤ self.now.nodes }
     {
-        self.station(node)
-            .lock(rt)
-            .timer(&self.history)
-            .unwrap_or(None)
+        self.hold(rt, node).timer(&self.history).unwrap_or(None)
     }
 
     /// The node to which this one sends the token.

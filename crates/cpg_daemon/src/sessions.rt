@@ -74,8 +74,7 @@ impl<B: HistoryName, G> Running<B, G> {
         ensures err { IfErr result (ConnectRefuses self.now.list cred) }
     {
         let (who, front) = self
-            .station(node)
-            .lock(rt)
+            .hold(rt, node)
             .admit(&self.history, &self.list, node, pid, cred)?;
         Ok(Session {
             who,
@@ -99,8 +98,7 @@ impl<B: HistoryName, G> Running<B, G> {
         ensures unchanged { OnErr result (session.new ≡ session.old) }
     {
         let answer = self
-            .station(session.who.id.node)
-            .lock(rt)
+            .hold(rt, session.who.id.node)
             .submit_for(&self.history, &mut session.front, &session.who, call);
         if answer.is_ok() {
             self.tell_call();
@@ -118,7 +116,7 @@ impl<B: HistoryName, G> Running<B, G> {
         ensures err { OnErr result ((session.new.who ≡ session.old.who) × (session.new.seen ≡ session.old.seen)) }
         ensures seat { Begins session.old.seat session.new.seat }
     {
-        let mut station = self.station(session.who.id.node).lock(rt);
+        let mut station = self.hold(rt, session.who.id.node);
         self.take_from(&mut station, session)
     }
 
@@ -175,7 +173,7 @@ impl<B: HistoryName, G> Running<B, G> {
         ensures same { session.new.who.id ≡ session.old.who.id }
         ensures seat { Begins session.old.seat session.new.seat }
     {
-        let mut station = self.station(session.who.id.node).lock(rt);
+        let mut station = self.hold(rt, session.who.id.node);
         for taken in 0..most {
             if !self.take_onto(&mut station, session, events)? {
                 return Ok(taken);
@@ -200,7 +198,7 @@ impl<B: HistoryName, G> Running<B, G> {
         ensures who { session.new.who ≡ session.old.who }
         ensures seat { Begins session.old.seat session.new.seat }
     {
-        self.station(session.who.id.node).lock(rt).list_for(
+        self.hold(rt, session.who.id.node).list_for(
             &self.history,
             &mut session.front,
             &self.board,
@@ -220,7 +218,7 @@ impl<B: HistoryName, G> Running<B, G> {
         ensures who { session.new.who ≡ session.old.who }
         ensures seat { Begins session.old.seat session.new.seat }
     {
-        self.station(session.who.id.node).lock(rt).groups_for(
+        self.hold(rt, session.who.id.node).groups_for(
             &self.history,
             &mut session.front,
             &self.board,
@@ -254,8 +252,7 @@ impl<B: HistoryName, G> Running<B, G> {
         ensures history { OnOk result (Told B.start session.old.seen (events.Disconnect session.old.who.id.node session.old.who.id.conn) (Ok reply.Closed) session.new.seen) }
         ensures err { IfErr result (λ why. IsEndRefusal why × (session.new ≡ session.old)) }
     {
-        self.station(session.who.id.node)
-            .lock(rt)
+        self.hold(rt, session.who.id.node)
             .close_for(&self.history, &mut session.front, &session.who)
     }
 

@@ -274,6 +274,11 @@ fn take_each<B: HistoryName, R: Wait>(rt: &R, incoming: &mut [Incoming<B>]) -> b
     some
 }
 
+/// Whether any of the frames that were heard is answered.
+fn are_answered<B: HistoryName>(incoming: &[Incoming<B>]) -> bool {
+    incoming.iter().any(|end| end.answer.is_some())
+}
+
 /// Waits between two turns until the thread's bell is rung, for as long at most as the lull says.
 fn rest<R: Wait>(rt: &R, bell: &Bell, lull: Lull) {
     if !lull.is_rest() && bell.is_rung_soon() {
@@ -292,22 +297,21 @@ impl<B: HistoryName, G: Gate> Running<B, G> {
         };
         match station.frame(&self.history, frame) {
             Ok(sent) => {
-                let turn = turn_of(sent.len());
-                end.answer = Some(sent);
-                turn
+                let answers = sent.len();
+                if answers > 0 {
+                    end.answer = Some(sent);
+                }
+                turn_of(answers)
             }
             Err(_) => Turn::Stale,
         }
     }
 
-    /// The node hears the frames that were taken, one after the other, under one lock.
-    fn hear_each<R: Wait>(&self, rt: &R, node: NodeId, incoming: &mut [Incoming<B>]) -> Turn
-        requires { node ≤ self.now.nodes }
-    {
+    /// The node hears the frames that were taken, one after the other.
+    fn hear_each(&self, station: &mut Member<B>, incoming: &mut [Incoming<B>]) -> Turn {
         let mut heard = Turn::Idle;
-        let mut station = self.station(node).lock(rt);
         for end in incoming.iter_mut() {
-            heard = heard.and(self.hear(&mut station, end));
+            heard = heard.and(self.hear(station, end));
         }
         heard
     }
@@ -367,12 +371,9 @@ impl<B: HistoryName, G: Gate> Running<B, G> {
         }
     }
 
-    /// Delivers what the node can, under one lock. Says, too, whether it was refused.
-    fn deliver_all<R: Wait>(&self, rt: &R, node: NodeId) -> (Turn, bool)
-        requires { node ≤ self.now.nodes }
-    {
+    /// Delivers what the node can. Says, too, whether it was refused.
+    fn deliver_all<R: Wait>(&self, rt: &R, station: &mut Member<B>) -> (Turn, bool) {
         let mut delivered = Turn::Idle;
-        let mut station = self.station(node).lock(rt);
         for _ in rt.forever() {
             match station.deliver(&self.history, &self.board) {
                 Ok(None) => break,
@@ -395,7 +396,8 @@ impl<B: HistoryName, G: Gate> Running<B, G> {
         }
     }
 
-    /// One turn. It takes no lock where no frame came and no delivery is owed. Says, too, whether one is then.
+    /// One turn: what is heard is answered before anything is delivered. It takes no lock where no frame came and no
+    /// delivery is owed, and one where nothing is to be answered. Says, too, whether a delivery is owed then.
     fn turn<R: Wait>(
         &self,
         rt: &R,
@@ -410,13 +412,14 @@ impl<B: HistoryName, G: Gate> Running<B, G> {
         if !came && !owes {
             return (Turn::Idle, false);
         }
-        let heard = if came {
-            self.hear_each(rt, node, incoming)
-        } else {
-            Turn::Idle
-        };
-        self.answer_each(rt, node, incoming, outgoing);
-        let (delivered, refused) = self.deliver_all(rt, node);
+        let mut station = self.hold(rt, node);
+        let heard = self.hear_each(&mut station, incoming);
+        if are_answered(incoming) {
+            drop(station);
+            self.answer_each(rt, node, incoming, outgoing);
+            station = self.hold(rt, node);
+        }
+        let (delivered, refused) = self.deliver_all(rt, &mut station);
         (heard.and(delivered), refused)
     }
 

@@ -92,8 +92,12 @@ impl Bell {
         }
     }
 
-    /// Announces the sleep: from here on the thread is rung.
+    /// Announces the sleep: from here on the thread is rung. A thread that is known to be awake writes nothing: whoever
+    /// rings or calls reads the bell, and each turn of a busy thread would take it from them.
     pub fn announce(&self, depth: Depth) {
+        if depth == Depth::Awake && self.announced() == Depth::Awake {
+            return;
+        }
         self.light.store(depth == Depth::Light, Ordering::SeqCst);
         self.deep.store(depth == Depth::Deep, Ordering::SeqCst);
     }

@@ -40,3 +40,7 @@ counted_after count more = option_map (λ bytes. count + length bytes) more
 -- a byte that can't stand for itself
 abbrev pub is_odd : ℕ → Bool
 is_odd byte = not (is_plain byte)
+
+-- a byte from which 38 was taken that stands for itself, and is none from `!` to `$`
+abbrev pub is_low : ℕ → Bool
+is_low distance = nat_le distance 88

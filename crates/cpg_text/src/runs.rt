@@ -2,11 +2,11 @@
 //!
 //! Proved: a run ends where the first byte stands that can't stand for itself.
 
-ghost use Rattle.std.specs.Prelude.{◌≡◌, ◌==◌, not, ◌+◌, ◌-◌, ◌≤◌, ◌<◌, ◌++◌, IsTrue, length, take, drop, map};
-ghost use Rattle.std.specs.List.{prefix_len};
+ghost use Rattle.std.specs.Prelude.{◌≡◌, ◌&&◌, ◌+◌, ◌-◌, ◌≤◌, ◌<◌, ◌++◌, IsTrue, length, take, drop, map};
+ghost use Rattle.std.specs.List.{list_all, prefix_len};
 ghost use Rattle.std.specs.Simd.Lanes.{mask_l};
 ghost use Rattle.cpg_text.specs.Percent.{is_plain};
-ghost use Rattle.cpg_text.specs.Steps.{is_odd};
+ghost use Rattle.cpg_text.specs.Steps.{is_low, is_odd};
 
 use std::simd::prelude::*;
 
@@ -104,7 +104,7 @@ fn skip_plain(text: &[u8], from: usize) -> usize
 {
     let mut place = from;
     while text.len() - place >= 64 {
-        if has_odd(u8x64::from_slice(&text[place..])) {
+        if !are_past_percent(text, place) {
             return place;
         }
         place += 64;
@@ -135,13 +135,55 @@ fn odd_of<const N: usize>(block: Simd<u8, N>) -> u64
     (shifted.simd_ge(Simd::splat(94)) | shifted.simd_eq(Simd::splat(4))).to_bitmask()
 }
 
-/// Whether a byte of the block is not plain, without telling which.
+/// Whether the 64 bytes from there are plain and past `%`: one maximum tells it, over all of them. So `!` to `$`, which
+/// are plain, are left to a closer look.
 #[inline(always)]
-fn has_odd(block: u8x64) -> bool
-    ensures { result ≡ not (mask_l (map is_odd block) == 0) }
+fn are_past_percent(text: &[u8], from: usize) -> bool
+    requires { from + 64 ≤ length text.now }
+    ensures { IsTrue result → prefix_len is_plain (drop from text.now) ≡ 64 + prefix_len is_plain (drop (from + 64) text.now) }
 {
-    let shifted = block - Simd::splat(b'!');
-    (shifted.simd_ge(Simd::splat(94)) | shifted.simd_eq(Simd::splat(4))).any()
+    let first = higher_of(
+        past_percent_at(text, from),
+        past_percent_at(text, from + 16),
+    );
+    let last = higher_of(
+        past_percent_at(text, from + 32),
+        past_percent_at(text, from + 48),
+    );
+    are_low(higher_of(first, last))
+}
+
+/// Whether all the bytes, past `%` so far, are plain.
+#[inline(always)]
+fn are_low(block: u8x16) -> bool
+    ensures { result ≡ list_all is_low block }
+{
+    !block.simd_gt(Simd::splat(b'~' - b'&')).any()
+}
+
+/// The higher byte of both blocks at each place.
+#[inline(always)]
+fn higher_of(one: u8x16, two: u8x16) -> u8x16
+    ensures { list_all is_low result ≡ list_all is_low one && list_all is_low two }
+{
+    one.simd_max(two)
+}
+
+/// How far each byte stands past `%`; one that doesn't stands further than all that are plain.
+#[inline(always)]
+fn past_percent(block: u8x16) -> u8x16
+    ensures { IsTrue (list_all is_low result) → mask_l (map is_odd block) ≡ 0 }
+{
+    block - Simd::splat(b'&')
+}
+
+/// How far the 16 bytes from there stand past `%`.
+#[inline(always)]
+fn past_percent_at(text: &[u8], from: usize) -> u8x16
+    requires { from + 16 ≤ length text.now }
+    ensures { IsTrue (list_all is_low result) → prefix_len is_plain (drop from text.now) ≡ 16 + prefix_len is_plain (drop (from + 16) text.now) }
+{
+    past_percent(u8x16::from_slice(&text[from..]))
 }
 
 /// Whether the byte stands for itself.
