@@ -18,6 +18,7 @@ use cpg_cred::{AcceptList, Refusal};
 use cpg_history::{Beginning, Front, History, HistoryName, Member, Opened, Parcel};
 use cpg_link::{Bell, LinkRx, LinkTx, new_bells};
 use cpg_ring::are_settings;
+use crossbeam_utils::CachePadded;
 use std::alloc::Global;
 use std::marker::Model;
 use std::ops::Deref;
@@ -97,7 +98,7 @@ where
             stations,
             gate,
             bells,
-            calls: AtomicU64::new(0),
+            calls: CachePadded::new(AtomicU64::new(0)),
             halted: AtomicBool::new(false),
         },
     )?)

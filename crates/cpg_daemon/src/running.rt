@@ -9,6 +9,7 @@ use cpg_board::{Board, Seat};
 use cpg_cred::{AcceptList, NodeId};
 use cpg_history::{History, HistoryName, Member, Parcel};
 use cpg_link::{Bell, News};
+use crossbeam_utils::CachePadded;
 use std::hint::spin_loop;
 use std::marker::Model;
 use std::sync::atomic::{AtomicBool, AtomicU64, Ordering};
@@ -35,8 +36,9 @@ pub struct Running<B: HistoryName, G> {
     pub(crate) stations: Vec<Mutex<Member<B>>>,
     pub(crate) gate: G,
     pub(crate) bells: Vec<Bell>,
-    /// How many calls were admitted, at any node.
-    pub(crate) calls: AtomicU64,
+    /// How many calls were admitted, at any node. All sessions count it up, and what else stands here is hardly ever
+    /// written, so it stands alone.
+    pub(crate) calls: CachePadded<AtomicU64>,
     /// Whether all nodes are halted.
     pub(crate) halted: AtomicBool,
 }

@@ -431,7 +431,8 @@ impl<B: HistoryName, G: Gate> Running<B, G> {
         self.are_halted() || owes && self.is_halted(rt, node)
     }
 
-    /// One turn, and what the thread goes by after it. After so many idle turns the last token is sent again.
+    /// One turn, and what the thread goes by after it. After so many idle turns the last token is sent again. After a busy
+    /// turn no call can make the ring less calm, so that the thread doesn't look for one.
     fn go_on<R: Wait>(
         &self,
         rt: &R,
@@ -443,7 +444,12 @@ impl<B: HistoryName, G: Gate> Running<B, G> {
         requires { node ≤ self.now.nodes }
     {
         let (turn, owes) = self.turn(rt, node, pace.owes, incoming, outgoing);
-        let next = pace.after(turn, owes, self.calls());
+        let calls = if turn == Turn::Busy {
+            pace.calls
+        } else {
+            self.calls()
+        };
+        let next = pace.after(turn, owes, calls);
         if next.lull.idle < IDLE_TURNS {
             return next;
         }

@@ -3,7 +3,7 @@
 ghost use Rattle.std.specs.Prelude.{◌≡◌, ◌<◌, ◌++◌, ◌∷◌, codes, Some, OnOk, IfOk, IfSome, IsOkUnless, option_map};
 ghost use Rattle.cpg_text.specs.Lines.{words_of};
 ghost use Rattle.cpg_text.specs.Memory.{IsOkUnlessMemoryFor};
-ghost use Rattle.cpg_entry.specs.declared.calls.Call.TheVariants.{Send};
+ghost use Rattle.cpg_entry.specs.declared.calls.Call.TheVariants.{Join, Send};
 ghost use Rattle.cpg_print.specs.Calls.{call_text, op_text, join_of, leave_of, send_of, insert_at, insert_of, remove_of, call_of, is_gone, op_of, is_within_limits, is_enterable};
 ghost use Rattle.cpg_print.specs.Steps.{keeps_limits, sends_few};
 ghost use Rattle.cpg_print.specs.Words.{texts};
@@ -141,6 +141,31 @@ pub(crate) fn plain_send(text: &[u8]) -> Option<&[u8]>
     let message = after_send(text)?;
     if is_plain_word(message) {
         Some(message)
+    } else {
+        None
+    }
+}
+
+/// The group that the text says to join, where it is `join GROUP` with one space.
+#[inline(always)]
+pub(crate) fn plain_join(text: &[u8]) -> Option<&[u8]>
+    ensures { IfSome result (λ group. call_of (words_of text.now) ≡ Some (Join group.now)) }
+{
+    let group = after_join(text)?;
+    if is_plain_word(group) {
+        Some(group)
+    } else {
+        None
+    }
+}
+
+/// What follows `join ` in a text that begins with it.
+#[inline(always)]
+fn after_join(text: &[u8]) -> Option<&[u8]>
+    ensures { IfSome result (λ rest. words_of text.now ≡ codes "join" ∷ words_of rest.now) }
+{
+    if text.len() > 5 && is(&text[..5], b"join ".as_slice()) {
+        Some(&text[5..])
     } else {
         None
     }

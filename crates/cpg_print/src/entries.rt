@@ -1,7 +1,7 @@
 //! Entries as lines, both ways: `NODE.CONN PID UID GID CALL`, or `gone` for CALL.
 
 ghost use Rattle.std.specs.Prelude.{◌≡◌, ◌++◌, codes, decimal, OnOk, IfOk, IsOkUnless, MatchOption, None, option_map};
-ghost use Rattle.cpg_entry.specs.declared.calls.Call.TheVariants.{Send};
+ghost use Rattle.cpg_entry.specs.declared.calls.Call.TheVariants.{Join, Send};
 ghost use Rattle.cpg_entry.specs.declared.calls.Op.TheVariants.{Act};
 ghost use Rattle.cpg_record.specs.Connections.{conn_of};
 ghost use Rattle.cpg_text.specs.Lines.{words_of};
@@ -10,9 +10,11 @@ ghost use Rattle.cpg_print.specs.Entries.{conn_text, entry_text, conn_of_word, f
 ghost use Rattle.cpg_print.specs.Steps.{within_limits};
 ghost use Rattle.cpg_print.specs.Words.{texts};
 
-use crate::calls::{WORDS, is_enterable, keeps_limits, plain_send, put_op, read_op};
+use crate::calls::{WORDS, is_enterable, keeps_limits, plain_join, plain_send, put_op, read_op};
 use cpg_cred::{Cred, MOST_NODES, NodeId, Refusal};
-use cpg_entry::{Call, Entry, MOST_CONNECTIONS, MOST_MESSAGE_BYTES, Message, Op};
+use cpg_entry::{
+    Call, Entry, MOST_CONNECTIONS, MOST_MESSAGE_BYTES, Message, Name, Op, accepts_name,
+};
 use cpg_record::ConnId;
 use cpg_script::{cut, put_byte, read_u32};
 use cpg_text::{Words, first_digits, push_number, take_number, take_words};
@@ -151,8 +153,33 @@ fn read_enterable_in(alloc: Global, text: &[u8]) -> Result<Option<Op>, Refusal>
 {
     match plain_send(text) {
         Some(message) => send_within(alloc, message),
+        None => read_enterable_but_send(alloc, text),
+    }
+}
+
+/// The op that a text says, within its limits, which is hardly a plain send. A plain join is read where it stands.
+#[inline(never)]
+fn read_enterable_but_send(alloc: Global, text: &[u8]) -> Result<Option<Op>, Refusal>
+    ensures ok { IfOk result (λ found. found ≡ enterable_op (words_of text.now)) }
+    ensures memory { IsOkUnlessMemoryFor result (enterable_op (words_of text.now)) }
+{
+    match plain_join(text) {
+        Some(group) => join_within(alloc, group),
         None => read_enterable_words(alloc, text),
     }
+}
+
+/// The join of that group, if its name is accepted.
+#[inline(always)]
+fn join_within(alloc: Global, group: &[u8]) -> Result<Option<Op>, Refusal>
+    ensures ok { IfOk result (λ found. found ≡ within_limits (Act (Join group.now))) }
+    ensures memory { IsOkUnlessMemoryFor result (within_limits (Act (Join group.now))) }
+{
+    if !accepts_name(group) {
+        return Ok(None);
+    }
+    let group = Name::from_slice(alloc, group)?;
+    Ok(Some(Op::Act(Call::Join(group))))
 }
 
 /// The send of that message, if it is not too long.

@@ -1,10 +1,10 @@
 -- words between blanks
-use Rattle.std.proofs.Common.{◌≡◌, ℕ, ◌+◌, ◌-◌, ◌<◌, List, [], ◌∷◌, length, take, drop, true, not, cond, Some, None, ap, ◌∙◌, arith}
+use Rattle.std.proofs.Common.{◌≡◌, ℕ, ◌+◌, ◌-◌, ◌<◌, List, [], ◌∷◌, length, take, drop, true, false, not, cond, Some, None, refl, ap, ◌∙◌, arith}
 use Rattle.std.proofs.lemmas.Bool.Decides.{nat_tests}
-use Rattle.std.proofs.lemmas.List.Splits.{slice_split_first, slice_split_none, slice_split-cons_yes}
+use Rattle.std.proofs.lemmas.List.Splits.{slice_split_first, slice_split_none, slice_split-cons_no, slice_split-cons_yes}
 use Rattle.std.proofs.lemmas.List.{take_all, length-drop, length-take}
 use Rattle.std.specs.Prelude.{nat_lt}
-use Rattle.std.specs.List.{filter, position, position_or_len, slice_split}
+use Rattle.std.specs.List.{filter, onto_first, position, position_or_len, slice_split}
 use Rattle.cpg_text.specs.Lines.{is_blank, words_of}
 use Rattle.cpg_text.specs.Steps.{StartsWord}
 use Rattle.cpg_text.proofs.Texts.{some_position, none_passes}
@@ -39,6 +39,10 @@ first_of_words line end starts e =
     let all = take_all (length line - (end + 1)) (drop (end + 1) line) (omega (arith, length-drop (end + 1) line)) in
     ap kept (slice_split_first is_blank line 0 p.0)
     ∙ rw (all, p.1) (kept_first (take end line) (slice_split is_blank (drop (end + 1) line)) (omega (arith, has, p.0, p.1, length-take end line)))
+
+-- a word of one byte before a space
+pub one_byte : (byte : ℕ) (line : List ℕ) → is_blank byte ≡ false → words_of (byte ∷ 32 ∷ line) ≡ (byte ∷ []) ∷ words_of line
+one_byte byte line e = ap kept (slice_split-cons_no is_blank byte (32 ∷ line) e ∙ ap (onto_first byte) (slice_split-cons_yes is_blank 32 line refl))
 
 -- a word that ends the line
 pub last_of_words : (line : List ℕ) → 0 < length line → position is_blank line ≡ None → words_of line ≡ line ∷ words_of []

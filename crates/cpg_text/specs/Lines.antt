@@ -44,6 +44,11 @@ trimmed line = trimmed_end (trimmed_front line)
 abbrev pub words_of : List ℕ → List (List ℕ)
 words_of line = filter (λ word. nat_lt 0 (length word)) (slice_split is_blank line)
 
+-- the word that is the only one
+abbrev pub only : List (List ℕ) → Option (List ℕ)
+only (word ∷ []) = Some word
+only _ = None
+
 -- an empty line, or one that begins with `#`
 abbrev pub is_ignored : List ℕ → Bool
 is_ignored [] = true

@@ -22,4 +22,4 @@ pub use lines::{Lines, is_ignored, trim};
 pub use numbers::{is_number, push_number, read_number};
 pub use percent::{is_plain_word, message_length, plain_message, push_message, read_message};
 pub use streams::{MOST_BYTES, MOST_READS, limits, read_whole, write_whole};
-pub use words::{Words, take_words};
+pub use words::{Words, only_word, take_word, take_words};

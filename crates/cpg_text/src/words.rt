@@ -3,9 +3,9 @@
 //! Words stand between spaces and tabs. Proved: the words that are taken, one after the other, are those of
 //! the definition `words_of`.
 
-ghost use Rattle.std.specs.Prelude.{◌≡◌, ◌<◌, ◌∷◌, [], ℕ, List, length, map, take, MatchOption};
+ghost use Rattle.std.specs.Prelude.{◌≡◌, ◌<◌, ◌∷◌, [], ℕ, List, length, map, take, option_map, MatchOption};
 ghost use Rattle.std.specs.Iterator.{YieldsFirstRef, item_count};
-ghost use Rattle.cpg_text.specs.Lines.{words_of};
+ghost use Rattle.cpg_text.specs.Lines.{only, words_of};
 ghost use Rattle.cpg_text.specs.Steps.{StartsWord};
 
 use crate::lines::is_blank;
@@ -39,6 +39,33 @@ impl<'a> Iterator for Words<'a> {
         let (word, rest) = first_word(self.rest)?;
         self.rest = rest;
         Some(word)
+    }
+}
+
+/// The first word, and what follows it. One byte before a space, as most numbers of nodes are, is taken where it
+/// stands.
+#[inline(always)]
+pub fn take_word(line: &[u8]) -> Option<(&[u8], &[u8])>
+    ensures { MatchOption result (words_of line.now ≡ []) (λ parts. words_of line.now ≡ parts.0.now ∷ words_of parts.1.now) }
+{
+    if line.len() > 1 && line[1] == b' ' && !is_blank(line[0]) {
+        return Some((&line[..1], &line[2..]));
+    }
+    first_word(line)
+}
+
+/// The word of a line that has no other; one byte is taken as it stands.
+#[inline(always)]
+pub fn only_word(line: &[u8]) -> Option<&[u8]>
+    ensures { option_map (λ word. word.now) result ≡ only (words_of line.now) }
+{
+    if line.len() == 1 && !is_blank(line[0]) {
+        return Some(line);
+    }
+    let (word, rest) = first_word(line)?;
+    match first_word(rest) {
+        None => Some(word),
+        Some(_) => None,
     }
 }
 
