@@ -1,11 +1,12 @@
 -- how many words there are, and whether they say a command
-use Rattle.std.proofs.Common.{◌≡◌, ℕ, List, [], ◌∷◌, take, true, Option, Some, None, is_some, refl, ◌∙◌}
+use Rattle.std.proofs.Common.{◌≡◌, ℕ, List, [], ◌∷◌, take, true, Option, Some, None, is_some, option_map, refl, ◌∙◌}
 use Rattle.std.specs.Option.{option_and_then}
+use Rattle.cpg_text.specs.Lines.{only}
 use Rattle.cpg_world_laws.specs.declared.events.WorldEvent.{WorldEvent}
 use Rattle.cpg_print.proofs.Somes.{mapped}
 use Rattle.cpg_step.specs.declared.commands.Look.{Look}
 use Rattle.cpg_step.specs.declared.commands.Command.TheVariants as command
-use Rattle.cpg_step.specs.Commands.{act_or_look, connect_of, frame_of, list_of, look_of, node_and_conn}
+use Rattle.cpg_step.specs.Commands.{act_or_look, connect_of, frame_of, list_of, look_of, node_alone, node_and_conn, node_of}
 use Rattle.cpg_step.specs.Steps.{two}
 
 -- no word after the fifth of a connect matters
@@ -31,6 +32,18 @@ look_of_first nodes word [] = refl
 look_of_first nodes word (a ∷ []) = refl
 look_of_first nodes word (a ∷ b ∷ []) = refl
 look_of_first nodes word (a ∷ b ∷ c ∷ more) = refl
+
+-- two words are one, and another that is the only one left
+pub two_of_only : (word : List ℕ) (words : List (List ℕ)) → two (word ∷ words) ≡ option_map (λ last. (word, last)) (only words)
+two_of_only word [] = refl
+two_of_only word (a ∷ []) = refl
+two_of_only word (a ∷ b ∷ more) = refl
+
+-- a node alone is the only word
+pub alone_of_only : (nodes : ℕ) (words : List (List ℕ)) → node_alone nodes words ≡ option_and_then (λ word. node_of nodes word) (only words)
+alone_of_only nodes [] = refl
+alone_of_only nodes (a ∷ []) = refl
+alone_of_only nodes (a ∷ b ∷ more) = refl
 
 -- a node and a connection are two words
 pub at_of_two : (nodes : ℕ) (words : List (List ℕ)) → node_and_conn nodes words ≡ option_and_then (λ at. node_and_conn nodes (at.0 ∷ at.1 ∷ [])) (two words)

@@ -20,7 +20,7 @@ use cpg_cred::{Cred, MOST_NODES, NodeId, Refusal};
 use cpg_entry::{MOST_CONNECTIONS, Name};
 use cpg_print::read_call_in;
 use cpg_script::{is, read_u32};
-use cpg_text::{Words, read_number, take_words};
+use cpg_text::{Words, only_word, read_number, take_word, take_words};
 use cpg_world::WorldEvent;
 use std::alloc::Global;
 
@@ -58,29 +58,22 @@ pub fn read_node_alone(nodes: u8, words: &[&[u8]]) -> Option<NodeId>
 }
 
 /// The node of a NODE, where no more words follow.
+#[tactic(auto, using(crate::proofs::Lengths::alone_of_only))]
 fn read_last_node(nodes: u8, rest: &[u8]) -> Option<NodeId>
     ensures node { result ≡ node_alone nodes (words_of rest.now) }
     ensures within { IfSome result (λ node. node ≤ nodes) }
 {
-    let mut words = Words::of(rest);
-    let node = words.next()?;
-    match words.next() {
-        None => read_node(nodes, node),
-        Some(_) => None,
-    }
+    read_node(nodes, only_word(rest)?)
 }
 
 /// The two words that follow, where there are no more.
+#[tactic(auto, using(crate::proofs::Lengths::two_of_only))]
 fn last_two(rest: &[u8]) -> Option<(&[u8], &[u8])>
     ensures { option_map (λ words. (words.0.now, words.1.now)) result ≡ two (words_of rest.now) }
 {
-    let mut words = Words::of(rest);
-    let first = words.next()?;
-    let second = words.next()?;
-    match words.next() {
-        None => Some((first, second)),
-        Some(_) => None,
-    }
+    let (first, rest) = take_word(rest)?;
+    let second = only_word(rest)?;
+    Some((first, second))
 }
 
 /// The node and the connection of NODE CONN, where no more words follow.
@@ -127,14 +120,16 @@ fn read_submit(alloc: Global, nodes: u8, rest: &[u8]) -> Result<Option<WorldEven
     ensures within { IfOk result (λ found. IfSome found (λ event. node_in event ≤ nodes)) }
     ensures memory { IsOkUnlessMemoryFor result (submit_of nodes (words_of rest.now)) }
 {
-    let mut words = Words::of(rest);
-    let (Some(node), Some(conn)) = (words.next(), words.next()) else {
+    let Some((node, rest)) = take_word(rest) else {
+        return Ok(None);
+    };
+    let Some((conn, rest)) = take_word(rest) else {
         return Ok(None);
     };
     let (Some(node), Some(conn)) = (read_node(nodes, node), read_conn(conn)) else {
         return Ok(None);
     };
-    read_submit_by(alloc, node, conn, words.rest)
+    read_submit_by(alloc, node, conn, rest)
 }
 
 /// The submit of that connection whose call the text says.
