@@ -20,7 +20,7 @@ use std::thread;
 /// between, and how long a pause lies between two looks.
 const FREE_LOOKS: u32 = 64;
 
-const SPUN_LOOKS: u32 = 16;
+const SPUN_LOOKS: u32 = 2;
 
 const PAUSES: u32 = 16;
 

@@ -11,7 +11,7 @@ use Rattle.atomic_table.proofs.Lists.{at_set, set_again}
 use Rattle.cpg_world_laws.specs.declared.events.WorldEvent.{WorldEvent}
 use Rattle.cpg_history.specs.declared.histories.View.{View}
 use Rattle.cpg_world_laws.specs.Worlds.{node_in}
-use Rattle.cpg_history.specs.Histories.{view, Owns, FitsHistory, Kept, Adds, Looks, first_node, other_nodes, front_of, told, nobody, all_nodes, TellsCatch}
+use Rattle.cpg_history.specs.Histories.{view, Owns, FitsHistory, Kept, Adds, Looks, first_node, other_nodes, front_of, told, nobody, all_nodes, spread, TellsCatch}
 use Rattle.cpg_history.proofs.Runs.{prefix_self, prefix_on}
 use Rattle.cpg_history.proofs.Resting.{rests_self, rests_on, rests_before, rests_behind}
 
@@ -48,12 +48,12 @@ other_fits log e seat by j u mine apart fits = record {
       (was.0, rests_on n u.seen log e was.1 else_where);
 }
 
-counts : (words : List ℕ) (log : List WorldEvent) (e : WorldEvent) → words ≡ length log % 2 ^ 64 ∷ [] → slice_set words 0 ((slice_index words 0 + 1) % 2 ^ 64) ≡ length (log ++ e ∷ []) % 2 ^ 64 ∷ []
+counts : (words : List ℕ) (log : List WorldEvent) (e : WorldEvent) → words ≡ spread (length log % 2 ^ 64) → slice_set words 8 ((slice_index words 8 + 1) % 2 ^ 64) ≡ spread (length (log ++ e ∷ []) % 2 ^ 64)
 counts words log e count =
-    ap (λ ws. slice_set ws 0 ((slice_index ws 0 + 1) % 2 ^ 64)) count
-    ∙ ap (λ n. n ∷ []) (mod-add-mod (length log) (2 ^ 64) 1 ∙ ap (λ n. n % 2 ^ 64) (sym (length-append log (e ∷ []))))
+    ap (λ ws. slice_set ws 8 ((slice_index ws 8 + 1) % 2 ^ 64)) count
+    ∙ ap spread (mod-add-mod (length log) (2 ^ 64) 1 ∙ ap (λ n. n % 2 ^ 64) (sym (length-append log (e ∷ []))))
 
-pub adds : (e : WorldEvent) (slots id : ℕ) (me : Me ℕ View) (st : Step ℕ) → Owns me.0 (node_in e) → Allows Rule slots id me 0 (λ n. (n + 1) % 2 ^ 64) (Adds e st me)
+pub adds : (e : WorldEvent) (slots id : ℕ) (me : Me ℕ View) (st : Step ℕ) → Owns me.0 (node_in e) → Allows Rule slots id me 8 (λ n. (n + 1) % 2 ^ 64) (Adds e st me)
 adds e slots id me st owns s h len at small =
     let v = me.0 in
     let log = h.log ++ e ∷ [] in
@@ -71,7 +71,7 @@ adds e slots id me st owns s h len at small =
             (record { seen = prefix_self log; also = (log, refl); own = λ n owns. ((mine.own n owns).0, rests_self n log) })
             (λ j u apart was. other_fits h.log e h.seat id j u here.0 apart was);
       },
-      (record { log = h.log; stamped = ap (λ ws. slice_index ws 0) h.count; before = mine.seen; also = mine.also; rests = here.1; after = refl }, refl, refl),
+      (record { log = h.log; stamped = ap (λ ws. slice_index ws 8) h.count; before = mine.seen; also = mine.also; rests = here.1; after = refl }, refl, refl),
     )
 
 pub fronts : (id number : ℕ) (v : View) → Splits Rule id v v (front_of number v)
@@ -145,7 +145,7 @@ next id v some_left s h at =
     }
 
 -- a new history
-pub begins : Rule record { words = 0 ∷ []; homes = []; views = all_nodes ∷ [] }
+pub begins : Rule record { words = spread 0; homes = []; views = all_nodes ∷ [] }
 begins = record { log = []; seat = λ n. 0; count = refl; each = first }
   where
     v : View

@@ -42,11 +42,16 @@ pub record FitsHistory (log : List WorldEvent) (seat : ℕ → ℕ) (by : ℕ) (
   pub also : IsPrefix v.also log
   pub own : (n : ℕ) → Owns v n → (seat n ≡ by) × Rests n v.seen log
 
--- There is one history; the word that threads share is its length, and each view fits it.
+-- The words that threads share: one counts, in the middle, and no other is ever written, so that who only reads the first doesn't
+-- wait for those who count.
+abbrev pub spread : ℕ → List ℕ
+spread count = 0 ∷ 0 ∷ 0 ∷ 0 ∷ 0 ∷ 0 ∷ 0 ∷ 0 ∷ count ∷ 0 ∷ 0 ∷ 0 ∷ 0 ∷ 0 ∷ 0 ∷ 0 ∷ 0 ∷ []
+
+-- There is one history; the word of those that threads share which counts is its length, and each view fits it.
 pub record Kept (words : List ℕ) (views : List View) : Type 0 where
   pub log : List WorldEvent
   pub seat : ℕ → ℕ
-  pub count : words ≡ length log % 2 ^ 64 ∷ []
+  pub count : words ≡ spread (length log % 2 ^ 64)
   pub each : (by : ℕ) (v : View) → get_elem? views by ≡ some v → FitsHistory log seat by v
 
 -- The event came after `log`, which begins with all that the view had seen, and in which nothing had happened at the node since. Its stamp

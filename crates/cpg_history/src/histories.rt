@@ -1,4 +1,4 @@
-//! One history of all that happens in running nodes. It exists in proofs alone; what threads share is a word, its length.
+//! One history of all that happens in running nodes. It exists in proofs alone; what threads share is its length, in a word.
 //!
 //! The form is our own: the rule of an `atomic_table` says that every view fits the one history, and who has a view of
 //! nodes may add their events.
@@ -17,6 +17,12 @@ use cpg_world_laws::WorldEvent;
 use std::alloc::{AllocError, Global};
 use std::collections::LinkedList;
 use std::marker::{Brand, Model, PhantomData};
+
+/// How many words all threads share, and which of them counts the events. No other is ever written; as many as a cache
+/// line holds stand on either side, so that who reads the first one, as each front does, waits for nobody.
+const WORDS: usize = 17;
+
+const COUNT: usize = 8;
 
 /// What a history begins with: a new world of these.
 #[derive(Drop)]
@@ -70,7 +76,7 @@ impl Happens for Brand {
     ghost event = { Timer 0 };
 }
 
-/// The rule of the word and of all views: there is one history, and each view fits it.
+/// The rule of the words and of all views: there is one history, and each view fits it.
 struct OneHistory;
 
 impl TableRule<u64, View, Beginning> for OneHistory {
@@ -171,7 +177,7 @@ impl Model for Opened {
 
     ghost view = { λ o. record { table = o.line.shared.table_id; start = o.beginning; traced = o.traced } };
 
-    ghost invariant = { λ o. (o.line.shared.table_id.words ≡ 1) × (o.seat.table_id ≡ o.line.shared.table_id) × (o.seat.me ≡ first_seat) × (o.line.shared.key ≡ o.beginning) };
+    ghost invariant = { λ o. (o.line.shared.table_id.words ≡ 17) × (o.seat.table_id ≡ o.line.shared.table_id) × (o.seat.me ≡ first_seat) × (o.line.shared.key ≡ o.beginning) };
 }
 
 impl Opened {
@@ -179,7 +185,7 @@ impl Opened {
     pub fn new(alloc: Global, beginning: Beginning) -> Result<Opened, AllocError>
         ensures { IfOk result (λ o. (o.start ≡ beginning) × (o.traced ≡ false)) }
     {
-        let (line, seat) = Table::of_words(alloc, &[0], &beginning)?;
+        let (line, seat) = Table::of_words(alloc, &[0; WORDS], &beginning)?;
         Ok(Opened {
             beginning,
             line,
@@ -234,7 +240,7 @@ impl Opened {
     }
 }
 
-/// A history: the word that all threads share, and its rule. The word counts the events.
+/// A history: the words that all threads share, and their rule. One of them counts the events.
 #[derive(Drop)]
 pub struct History<B: HistoryName> {
     line: Line,
@@ -249,7 +255,7 @@ impl<B: HistoryName> Model for History<B> {
 
     ghost view = { λ h. h.line.shared.table_id.words };
 
-    ghost invariant = { λ h. (h.line.shared.table_id ≡ B.table) × (h.line.shared.table_id.words ≡ 1) × (first_world h.line.shared.key ≡ B.start) };
+    ghost invariant = { λ h. (h.line.shared.table_id ≡ B.table) × (h.line.shared.table_id.words ≡ 17) × (first_world h.line.shared.key ≡ B.start) };
 }
 
 /// What adds the events of some nodes, which no other pen can. Contracts see which nodes these are, and what it has seen.
@@ -302,7 +308,9 @@ impl<B: HistoryName> History<B> {
         ensures came { Came pen.old E.event result pen.new.seen }
         ensures pen { pen.new ≡ later pen.old pen.new.seen }
     {
-        self.line.shared.fetch_add::<Add<E>>(&mut pen.seat, 0, 1)
+        self.line
+            .shared
+            .fetch_add::<Add<E>>(&mut pen.seat, COUNT, 1)
     }
 
     /// Adds the event after all that the front has seen, which then has seen the event too. Gives its stamp.

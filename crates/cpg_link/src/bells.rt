@@ -19,7 +19,7 @@ use std::time::Duration;
 
 /// How often a thread looks whether it was rung, and then how often with a yield between, before it parks: a frame comes
 /// within some microseconds where all nodes have a processor of their own.
-const SPIN_LOOKS: u32 = 64;
+const SPIN_LOOKS: u32 = 16;
 
 const YIELD_LOOKS: u32 = 16;
 

@@ -10,4 +10,4 @@ pub fetch_add-requires : goal.fetch_add-requires
 fetch_add-requires g c =
     let h = c.self.invariant in
     let p = c.pen.invariant in
-    (p.0 ∙ sym h.0, omega (arith, h.1), adds g.E.Happens.event _ _ c.pen.inside.seat.me (step c.self.inside.line.shared.table_id.slots 0 1 0 none) (subst (λ v. Owns v (node_in g.E.Happens.event)) (sym c.pen.view_is) c.requires))
+    (p.0 ∙ sym h.0, omega (arith, h.1), adds g.E.Happens.event _ _ c.pen.inside.seat.me (step c.self.inside.line.shared.table_id.slots 8 1 0 none) (subst (λ v. Owns v (node_in g.E.Happens.event)) (sym c.pen.view_is) c.requires))
