@@ -14,7 +14,7 @@ ghost use Rattle.cpgring.specs.Asking.{name_of, words_found, AreSettingsGiven, I
 
 use crate::commands::{
     ACCEPT, ALL, CONNECTION, ECHO, FILE, HOPS, JSON, NODES, NUMBERS, PLACE, PLACES, RING, TEXT,
-    VERBOSE, WAIT, WHY, build_command,
+    VERBOSE, WAIT, WHY, build_command, command_for,
 };
 use crate::filtering::{filter_of, is_filtered};
 use crate::questions::{read_conn, read_entry, read_question};
@@ -49,7 +49,10 @@ pub fn read_words<R: Env + Alloc<A = Global>>(rt: &R) -> Result<Vec<String>, Err
 
 /// What clap found in the words. The first word is the program's name.
 pub fn match_words<'a, S: AsStr>(alloc: Global, words: &'a [S]) -> Result<ArgMatches<'a>, Error> {
-    let mut command = build_command(alloc)?;
+    let mut command = match words {
+        [_, first, ..] => command_for(alloc, first.as_str())?,
+        _ => build_command(alloc)?,
+    };
     command.try_get_matches_from_mut(words)
 }
 

@@ -89,12 +89,7 @@ pub const SHELL: &str = "shell";
 
 /// The command line of the program.
 pub fn build_command<'a>(alloc: Global) -> Result<Command<'a>, AllocError> {
-    Command::new(alloc, "cpgring")
-        .version(VERSION)
-        .about(ABOUT)
-        .after_help(MORE)
-        .subcommand_required(true)
-        .arg_required_else_help(true)
+    bare_command(alloc)
         .subcommand(judge_command(alloc)?)?
         .subcommand(why_command(alloc)?)?
         .subcommand(accept_command(alloc)?)?
@@ -104,6 +99,29 @@ pub fn build_command<'a>(alloc: Global) -> Result<Command<'a>, AllocError> {
         .subcommand(run_command(alloc)?)?
         .subcommand(shell_command(alloc)?)?
         .subcommand(completions_command(alloc)?)
+}
+
+/// The command line for words of which this is the first. Where it names a subcommand of scripts, no other is asked for
+/// or told of, and so none is made: that takes a third of the instructions with which the program starts.
+pub fn command_for<'a>(alloc: Global, first: &str) -> Result<Command<'a>, AllocError> {
+    let named = match first {
+        "judge" => judge_command(alloc)?,
+        "accept" => accept_command(alloc)?,
+        "step" => step_command(alloc)?,
+        "run" => run_command(alloc)?,
+        _ => return build_command(alloc),
+    };
+    bare_command(alloc).subcommand(named)
+}
+
+/// The command line without its subcommands.
+fn bare_command<'a>(alloc: Global) -> Command<'a> {
+    Command::new(alloc, "cpgring")
+        .version(VERSION)
+        .about(ABOUT)
+        .after_help(MORE)
+        .subcommand_required(true)
+        .arg_required_else_help(true)
 }
 
 /// The subcommand `judge`.
