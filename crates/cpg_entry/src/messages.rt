@@ -8,6 +8,7 @@ use cpg_rules::Refusal;
 use smallvec::SmallVec;
 use std::alloc::Global;
 use std::marker::Model;
+use std::sync::Arc;
 
 /// How many bytes a message has at most.
 pub const MOST_MESSAGE_BYTES: usize = 8192;
@@ -39,7 +40,7 @@ impl Message {
         let body = if bytes.len() <= KEPT_INSIDE {
             Body::Own(SmallVec::from_slice(alloc, bytes)?)
         } else {
-            Body::Shared(Bytes::copy_from_slice(alloc, bytes)?)
+            Body::List(Arc::new(alloc, Vec::from_slice(alloc, bytes)?)?)
         };
         Ok(Message { body })
     }
@@ -51,8 +52,8 @@ impl Message {
         let body = if bytes.len() <= KEPT_INSIDE {
             Body::Own(SmallVec::from_vec(bytes))
         } else {
-            match Bytes::from_vec(bytes) {
-                Ok(shared) => Body::Shared(shared),
+            match Arc::new(*bytes.allocator(), bytes) {
+                Ok(shared) => Body::List(shared),
                 Err(failed) => Body::Own(SmallVec::from_vec(failed.value)),
             }
         };
@@ -70,9 +71,9 @@ impl Message {
         if count <= KEPT_INSIDE {
             return Message::from_slice(alloc, &frame.as_slice()[start..]);
         }
-        let shared = frame.slice(start..)?;
+        let part = Arc::new(alloc, frame.slice(start..)?)?;
         Ok(Message {
-            body: Body::Shared(shared),
+            body: Body::Part(part),
         })
     }
 
@@ -82,10 +83,16 @@ impl Message {
         ensures memory { IsOkUnless result Refusal.Memory }
         ensures outside { OnErr result (KEPT_INSIDE < length self.now) }
     {
-        match &self.body {
-            Body::Own(bytes) => Message::from_slice(alloc, bytes.as_slice()),
-            Body::Shared(bytes) => Message::from_end(alloc, bytes, bytes.len()),
+        let bytes = self.as_slice();
+        if bytes.len() <= KEPT_INSIDE {
+            return Message::from_slice(alloc, bytes);
         }
+        let body = match &self.body {
+            Body::Own(_) => return Message::from_slice(alloc, bytes),
+            Body::List(list) => Body::List(Arc::try_clone(list)?),
+            Body::Part(part) => Body::Part(Arc::try_clone(part)?),
+        };
+        Ok(Message { body })
     }
 
     /// The bytes.
@@ -94,7 +101,8 @@ impl Message {
     {
         match &self.body {
             Body::Own(bytes) => bytes.as_slice(),
-            Body::Shared(bytes) => bytes.as_slice(),
+            Body::List(list) => list.as_slice(),
+            Body::Part(part) => part.as_slice(),
         }
     }
 

@@ -94,7 +94,7 @@ fn end_of_run(text: &[u8]) -> usize
     }
 }
 
-/// The place past the blocks of 64 plain bytes that stand there.
+/// The place past the blocks of 128 plain bytes that stand there, and past one of 64 behind them.
 #[inline(always)]
 fn skip_plain(text: &[u8], from: usize) -> usize
     requires { from ≤ length text.now }
@@ -103,10 +103,13 @@ fn skip_plain(text: &[u8], from: usize) -> usize
     ensures within { result ≤ length text.now }
 {
     let mut place = from;
-    while text.len() - place >= 64 {
-        if !are_past_percent(text, place) {
+    while text.len() - place >= 128 {
+        if !are_low(highest_of_128(text, place)) {
             return place;
         }
+        place += 128;
+    }
+    if text.len() - place >= 64 && are_low(highest_of_64(text, place)) {
         place += 64;
     }
     place
@@ -135,12 +138,21 @@ fn odd_of<const N: usize>(block: Simd<u8, N>) -> u64
     (shifted.simd_ge(Simd::splat(94)) | shifted.simd_eq(Simd::splat(4))).to_bitmask()
 }
 
-/// Whether the 64 bytes from there are plain and past `%`: one maximum tells it, over all of them. So `!` to `$`, which
-/// are plain, are left to a closer look.
+/// How far the 128 bytes from there stand past `%`, the furthest of each 8. One maximum over all tells whether they are
+/// plain and past `%`: so `!` to `$`, which are plain, are left to a closer look.
 #[inline(always)]
-fn are_past_percent(text: &[u8], from: usize) -> bool
+fn highest_of_128(text: &[u8], from: usize) -> u8x16
+    requires { from + 128 ≤ length text.now }
+    ensures { IsTrue (list_all is_low result) → prefix_len is_plain (drop from text.now) ≡ 128 + prefix_len is_plain (drop (from + 128) text.now) }
+{
+    higher_of(highest_of_64(text, from), highest_of_64(text, from + 64))
+}
+
+/// How far the 64 bytes from there stand past `%`, the furthest of each 4.
+#[inline(always)]
+fn highest_of_64(text: &[u8], from: usize) -> u8x16
     requires { from + 64 ≤ length text.now }
-    ensures { IsTrue result → prefix_len is_plain (drop from text.now) ≡ 64 + prefix_len is_plain (drop (from + 64) text.now) }
+    ensures { IsTrue (list_all is_low result) → prefix_len is_plain (drop from text.now) ≡ 64 + prefix_len is_plain (drop (from + 64) text.now) }
 {
     let first = higher_of(
         past_percent_at(text, from),
@@ -150,7 +162,7 @@ fn are_past_percent(text: &[u8], from: usize) -> bool
         past_percent_at(text, from + 32),
         past_percent_at(text, from + 48),
     );
-    are_low(higher_of(first, last))
+    higher_of(first, last)
 }
 
 /// Whether all the bytes, past `%` so far, are plain.

@@ -4,5 +4,5 @@ use Rattle.cpg_text.proofs.runs.skip_plain.Goals as goal
 
 pub loop-place-preserved : goal.loop-place-preserved
 loop-place-preserved c =
-    let run = c.are_past_percent.ensures (grind (arith, nat_tests, c.if-not-are_past_percent)) in
+    let run = c.highest_of_128.ensures (grind (arith, nat_tests, c.if-not-are_low, c.are_low.ensures)) in
     record { so_far = omega (arith, run, c.loop-place.invariant.so_far); forth = omega arith; within = omega arith }
