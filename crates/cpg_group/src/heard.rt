@@ -96,6 +96,7 @@ impl<'a> Heard<'a> {
 
     /// The event of that index, from 0, that the place has for the connection. Memory is asked for only where
     /// it is there.
+    #[inline(always)]
     pub fn event(&self, alloc: Global, index: usize) -> Result<Option<Event>, Refusal>
         ensures ok { IfOk result (λ event. event ≡ slice_get (events self.now.records self.now.place self.now.conn) index) }
         ensures memory { IsOkUnless result Refusal.Memory }

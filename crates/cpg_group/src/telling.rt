@@ -112,6 +112,7 @@ pub(crate) fn collect_left(
 
 /// What an allowed op tells a connection of the group `earlier`. Memory is asked for only where it is told
 /// something.
+#[inline(always)]
 #[tactic(auto, using(crate::proofs::Hearing::news_unheard, crate::proofs::Hearing::news_heard, crate::proofs::Hearing::is_news))]
 fn tell_op(
     alloc: Global,
@@ -139,6 +140,7 @@ fn tell_op(
 }
 
 /// What a record tells a connection of the group `earlier` beside the verdict.
+#[inline(always)]
 fn tell_news(
     alloc: Global,
     records: &[Record],
@@ -219,6 +221,7 @@ pub(crate) fn count_events(records: &[Record], trail: &[Stop], place: u32, conn:
 
 /// The event of that index, from 0, that the place has for a connection of the group `earlier`: the verdict is
 /// told first, to the maker alone. Memory is asked for only where the event is there.
+#[inline(always)]
 #[tactic(auto, using(crate::proofs::Passed::record_at_index, crate::proofs::Hearing::verdict_first, crate::proofs::Hearing::news_behind, crate::proofs::Hearing::none_behind))]
 pub(crate) fn event_for(
     alloc: Global,

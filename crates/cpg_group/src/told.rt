@@ -1,8 +1,11 @@
 //! What places tell their groups, whoever is in them, and how many entries a group has up to a place.
 
-ghost use Rattle.std.specs.Prelude.{◌≡◌, ◌≤◌, ℕ, List, Bool, length, take, IfOk, IsOkUnless};
+ghost use Rattle.std.specs.Prelude.{◌≡◌, ◌≤◌, ◌∷◌, [], ℕ, List, Bool, length, take, IfOk, IsOkUnless};
 ghost use Rattle.cpg_record.specs.declared.records.Record.{Record};
+ghost use Rattle.cpg_record.specs.Connections.{conn_of, member_of};
+ghost use Rattle.cpg_record.specs.Events.{moves_of};
 ghost use Rattle.cpg_record.specs.Judging.{AreJudged};
+ghost use Rattle.cpg_record.specs.Membership.{members};
 ghost use Rattle.cpg_record.specs.Places.{places_of, records_before};
 ghost use Rattle.cpg_group.specs.Standing.{AreStanding};
 ghost use Rattle.cpg_group.specs.Telling.{told, told_by, told_in};
@@ -45,7 +48,39 @@ fn change_of(
     })
 }
 
+/// The change of the group by a join. It stands apart, as that by an end of a membership does, since most ops send.
+#[inline(never)]
+fn joined_event(alloc: Global, place: u32, past: &Record, group: &Name) -> Result<Event, Refusal>
+    ensures ok { IfOk result (λ event. event ≡ Event.Change place group.now past.now.members [] (record { member = member_of past.now.entry; cause = Cause.Join } ∷ [])) }
+    ensures memory { IsOkUnless result Refusal.Memory }
+{
+    let joined = Moves::join_of(alloc, Member::of(&past.entry))?;
+    change_of(alloc, place, past, group, Moves::new(alloc), joined)
+}
+
+/// The change of the group by an end of a membership, by a leave or with its connection.
+#[inline(never)]
+fn left_event(
+    alloc: Global,
+    records: &[Record],
+    groups: &Groups,
+    place: u32,
+    past: &Record,
+    group: &Name,
+    cause: Cause,
+) -> Result<Event, Refusal>
+    requires place { 1 ≤ place }
+    requires judged { AreJudged records.now }
+    requires groups { AreStanding groups.now records.now }
+    ensures ok { IfOk result (λ event. event ≡ Event.Change place group.now past.now.members (moves_of (conn_of past.now.entry) cause (members (records_before records.now place) group.now)) []) }
+    ensures memory { IsOkUnless result Refusal.Memory }
+{
+    let left = collect_left(alloc, records, groups, place, past, group, cause)?;
+    change_of(alloc, place, past, group, left, Moves::new(alloc))
+}
+
 /// What an allowed op tells each of those of the group who are told of it.
+#[inline(always)]
 pub(crate) fn event_of(
     alloc: Global,
     records: &[Record],
@@ -61,18 +96,11 @@ pub(crate) fn event_of(
     ensures memory { IsOkUnless result Refusal.Memory }
 {
     match &past.entry.op {
-        Op::Act(Call::Join(_)) => {
-            let joined = Moves::join_of(alloc, Member::of(&past.entry))?;
-            change_of(alloc, place, past, group, Moves::new(alloc), joined)
-        }
+        Op::Act(Call::Join(_)) => joined_event(alloc, place, past, group),
         Op::Act(Call::Leave) => {
-            let left = collect_left(alloc, records, groups, place, past, group, Cause::Leave)?;
-            change_of(alloc, place, past, group, left, Moves::new(alloc))
+            left_event(alloc, records, groups, place, past, group, Cause::Leave)
         }
-        Op::Gone => {
-            let left = collect_left(alloc, records, groups, place, past, group, Cause::Down)?;
-            change_of(alloc, place, past, group, left, Moves::new(alloc))
-        }
+        Op::Gone => left_event(alloc, records, groups, place, past, group, Cause::Down),
         Op::Act(Call::Send(message)) => Ok(Event::Message {
             place,
             group: group.copy(alloc)?,
