@@ -32,8 +32,8 @@ use std::marker::Model;
 /// The room for the text of a group's members, in bytes, when its first place is put.
 const MEMBERS_ROOM: usize = 24;
 
-/// The room for what its places tell, in bytes: some ten lines.
-const TEXT_ROOM: usize = 512;
+/// The room for the line of each of a group's places, in bytes: most take less, and what more take grows.
+const LINE_ROOM: usize = 64;
 
 /// How many ends of lines a text keeps in itself, as most groups have no more places than that: more have memory of
 /// their own.
@@ -84,13 +84,25 @@ fn put_told(
     }
 }
 
+/// Where a text ends, in 32 bits. One of 4 GiB, which no script of 16 MiB makes a group tell, is refused for want of room.
+#[inline(always)]
+fn end_of(text: &[u8]) -> Result<u32, Refusal>
+    ensures ok { IfOk result (λ end. end ≡ length text.now) }
+    ensures memory { IsOkUnless result Refusal.Memory }
+{
+    match u32::try_from(text.len()) {
+        Ok(end) => Ok(end),
+        Err(_) => Err(Refusal::Memory),
+    }
+}
+
 /// The text of a group's members, and what its places tell it, put one after the other, with where each of
 /// these ends.
 #[derive(Debug, Drop)]
 pub(crate) struct Text {
     members: Vec<u8>,
     text: Vec<u8>,
-    ends: SmallVec<usize, KEPT_INSIDE>,
+    ends: SmallVec<u32, KEPT_INSIDE>,
 }
 
 impl Model for Text {
@@ -117,8 +129,8 @@ impl Text {
         })
     }
 
-    /// The same, with room for what the first places will put.
-    fn with_room(alloc: Global) -> Result<Text, Refusal>
+    /// The same, with room for what so many places will put.
+    fn with_room(alloc: Global, places: usize) -> Result<Text, Refusal>
         ensures ok { IfOk result (λ text. text ≡ no_text) }
         ensures memory { IsOkUnless result Refusal.Memory }
     {
@@ -126,8 +138,8 @@ impl Text {
         put_members(&mut members, &[])?;
         Ok(Text {
             members,
-            text: Vec::with_capacity(alloc, TEXT_ROOM)?,
-            ends: SmallVec::new(alloc),
+            text: Vec::with_capacity(alloc, places.saturating_mul(LINE_ROOM))?,
+            ends: SmallVec::with_capacity(alloc, places)?,
         })
     }
 
@@ -172,7 +184,7 @@ impl Text {
             group,
             self.members.as_slice(),
         )?;
-        let end = self.text.len();
+        let end = end_of(&self.text)?;
         self.ends.push(end)?;
         Ok(())
     }
@@ -204,7 +216,7 @@ impl Text {
             return 0;
         }
         if count <= self.ends.len() {
-            self.ends.as_slice()[count - 1]
+            self.ends.as_slice()[count - 1] as usize
         } else {
             0
         }
@@ -306,7 +318,7 @@ impl Texts {
     {
         let alloc = *self.kept.allocator();
         let key = Vec::from_slice(alloc, name)?;
-        let mut text = Text::with_room(alloc)?;
+        let mut text = Text::with_room(alloc, policy.places_in(name).len())?;
         text.put_place(lines, policy, place, past, name)?;
         self.last = self.kept.len();
         self.kept.insert(key, text)?;
