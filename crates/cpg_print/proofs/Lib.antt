@@ -6,6 +6,7 @@ pub mod FirstConns
 pub mod Lengths
 pub mod Limits
 pub mod Numerals
+pub mod Plain
 pub mod RuleWords
 pub mod Somes
 pub mod Spacing

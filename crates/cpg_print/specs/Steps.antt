@@ -3,8 +3,12 @@ use Rattle.std.specs.Prelude.{ℕ, List, ◌∷◌, length, codes, Bool, true, f
 use Rattle.std.specs.Str.{bytes_eq}
 use Rattle.cpg_entry.specs.Names.{is_name}
 use Rattle.cpg_entry.specs.declared.messages.TheConstants.{MOST_MESSAGE_BYTES}
+use Rattle.cpg_entry.specs.declared.calls.Call.{Call}
+use Rattle.cpg_entry.specs.declared.calls.Call.TheVariants as calls
 use Rattle.cpg_entry.specs.declared.calls.Op.{Op}
 use Rattle.cpg_text.specs.Percent.{message_of}
+use Rattle.cpg_print.specs.declared.plain_calls.Verb.{Verb}
+use Rattle.cpg_print.specs.declared.plain_calls.Verb.TheVariants.{Join, Send}
 use Rattle.cpg_print.specs.Calls.{is_enterable}
 
 -- at most 8,192 bytes, if there are any
@@ -24,3 +28,13 @@ keeps_limits _ = true
 -- the op, if it is within the limits of calls
 abbrev pub within_limits : Op → Option Op
 within_limits op = if is_enterable op then Some op else None
+
+-- the word of a verb
+abbrev pub verb_word : Verb → List ℕ
+verb_word Join = codes "join"
+verb_word Send = codes "send"
+
+-- the call of a verb and its argument
+abbrev pub call_by : Verb → List ℕ → Call
+call_by Join g = calls.Join g
+call_by Send message = calls.Send message

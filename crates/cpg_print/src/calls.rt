@@ -1,22 +1,22 @@
 //! Calls and ops as words, both ways.
 
-ghost use Rattle.std.specs.Prelude.{◌≡◌, ◌<◌, ◌++◌, ◌∷◌, codes, Some, OnOk, IfOk, IfSome, IsOkUnless, option_map};
+ghost use Rattle.std.specs.Prelude.{◌≡◌, ◌<◌, ◌++◌, codes, OnOk, IfOk, IfSome, IsOkUnless, option_map};
 ghost use Rattle.cpg_text.specs.Lines.{words_of};
 ghost use Rattle.cpg_text.specs.Memory.{IsOkUnlessMemoryFor};
-ghost use Rattle.cpg_entry.specs.declared.calls.Call.TheVariants.{Join, Send};
+ghost use Rattle.cpg_entry.specs.declared.calls.Call.TheVariants.{Send};
 ghost use Rattle.cpg_print.specs.Calls.{call_text, op_text, join_of, leave_of, send_of, insert_at, insert_of, remove_of, call_of, is_gone, op_of, is_within_limits, is_enterable};
 ghost use Rattle.cpg_print.specs.Steps.{keeps_limits, sends_few};
 ghost use Rattle.cpg_print.specs.Words.{texts};
 ghost use Rattle.cpg_text.specs.Percent.{message_of};
 
+use crate::plain_calls::{make_call, plain_call};
 use crate::rules::{put_rule, read_rule};
 use cpg_cred::Refusal;
 use cpg_entry::{Call, MOST_MESSAGE_BYTES, Message, Name, Op, accepts_name};
 use cpg_rules::Rule;
 use cpg_script::{is, put, put_bytes, read_u32};
 use cpg_text::{
-    is_plain_word, message_length, plain_message, push_message, push_number, read_message,
-    take_words,
+    message_length, plain_message, push_message, push_number, read_message, take_words,
 };
 use std::alloc::Global;
 
@@ -117,70 +117,19 @@ pub fn read_call(alloc: Global, words: &[&[u8]]) -> Result<Option<Call>, Refusal
     }
 }
 
-/// The call that a text says; names and messages of any length. A plain send, which most calls are, is read where it
-/// stands. That it says none is told whatever memory there is.
+/// The call that a text says; names and messages of any length. A plain one, as most are, is read where it stands. That
+/// it says none is told whatever memory there is.
 #[inline(always)]
 #[tactic(auto, using(crate::proofs::Lengths::call_of_first))]
 pub fn read_call_in(alloc: Global, text: &[u8]) -> Result<Option<Call>, Refusal>
     ensures ok { IfOk result (λ found. found ≡ call_of (words_of text.now)) }
     ensures memory { IsOkUnlessMemoryFor result (call_of (words_of text.now)) }
 {
-    if let Some(message) = plain_send(text) {
-        return Ok(Some(Call::Send(Message::from_slice(alloc, message)?)));
+    if let Some((verb, argument)) = plain_call(text) {
+        return Ok(Some(make_call(alloc, verb, argument)?));
     }
     let words = take_words::<WORDS>(text);
     read_call(alloc, words.as_slice())
-}
-
-/// The message that the text says to send, where it is `send MESSAGE` with one space, and the word spells its own
-/// bytes: then no word is looked for.
-#[inline(always)]
-pub(crate) fn plain_send(text: &[u8]) -> Option<&[u8]>
-    ensures { IfSome result (λ message. call_of (words_of text.now) ≡ Some (Send message.now)) }
-{
-    let message = after_send(text)?;
-    if is_plain_word(message) {
-        Some(message)
-    } else {
-        None
-    }
-}
-
-/// The group that the text says to join, where it is `join GROUP` with one space.
-#[inline(always)]
-pub(crate) fn plain_join(text: &[u8]) -> Option<&[u8]>
-    ensures { IfSome result (λ group. call_of (words_of text.now) ≡ Some (Join group.now)) }
-{
-    let group = after_join(text)?;
-    if is_plain_word(group) {
-        Some(group)
-    } else {
-        None
-    }
-}
-
-/// What follows `join ` in a text that begins with it.
-#[inline(always)]
-fn after_join(text: &[u8]) -> Option<&[u8]>
-    ensures { IfSome result (λ rest. words_of text.now ≡ codes "join" ∷ words_of rest.now) }
-{
-    if text.len() > 5 && is(&text[..5], b"join ".as_slice()) {
-        Some(&text[5..])
-    } else {
-        None
-    }
-}
-
-/// What follows `send ` in a text that begins with it.
-#[inline(always)]
-fn after_send(text: &[u8]) -> Option<&[u8]>
-    ensures { IfSome result (λ rest. words_of text.now ≡ codes "send" ∷ words_of rest.now) }
-{
-    if text.len() > 5 && is(&text[..5], b"send ".as_slice()) {
-        Some(&text[5..])
-    } else {
-        None
-    }
 }
 
 fn read_join(alloc: Global, arguments: &[&[u8]]) -> Result<Option<Call>, Refusal>

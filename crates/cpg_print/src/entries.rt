@@ -1,20 +1,18 @@
 //! Entries as lines, both ways: `NODE.CONN PID UID GID CALL`, or `gone` for CALL.
 
 ghost use Rattle.std.specs.Prelude.{◌≡◌, ◌++◌, codes, decimal, OnOk, IfOk, IsOkUnless, MatchOption, None, option_map};
-ghost use Rattle.cpg_entry.specs.declared.calls.Call.TheVariants.{Join, Send};
 ghost use Rattle.cpg_entry.specs.declared.calls.Op.TheVariants.{Act};
 ghost use Rattle.cpg_record.specs.Connections.{conn_of};
 ghost use Rattle.cpg_text.specs.Lines.{words_of};
 ghost use Rattle.cpg_text.specs.Memory.{IsOkUnlessMemoryFor};
 ghost use Rattle.cpg_print.specs.Entries.{conn_text, entry_text, conn_of_word, first_conn, conn_in_limits, entry_by, enterable_op, entry_of};
-ghost use Rattle.cpg_print.specs.Steps.{within_limits};
+ghost use Rattle.cpg_print.specs.Steps.{call_by, within_limits};
 ghost use Rattle.cpg_print.specs.Words.{texts};
 
-use crate::calls::{WORDS, is_enterable, keeps_limits, plain_join, plain_send, put_op, read_op};
+use crate::calls::{WORDS, is_enterable, keeps_limits, put_op, read_op};
+use crate::plain_calls::{Verb, is_call_within, make_call, plain_call};
 use cpg_cred::{Cred, MOST_NODES, NodeId, Refusal};
-use cpg_entry::{
-    Call, Entry, MOST_CONNECTIONS, MOST_MESSAGE_BYTES, Message, Name, Op, accepts_name,
-};
+use cpg_entry::{Entry, MOST_CONNECTIONS, Op};
 use cpg_record::ConnId;
 use cpg_script::{cut, put_byte, read_u32};
 use cpg_text::{Words, first_digits, push_number, take_number, take_words};
@@ -145,57 +143,34 @@ fn read_entry_by(alloc: Global, caller: Caller, text: &[u8]) -> Result<Option<En
     }
 }
 
-/// The op that a text says, within its limits. A plain send, which most ops are, is read where it stands.
+/// The op that a text says, within its limits. A plain join or send, as most ops are, is read where it stands.
 #[inline(always)]
 fn read_enterable_in(alloc: Global, text: &[u8]) -> Result<Option<Op>, Refusal>
     ensures ok { IfOk result (λ found. found ≡ enterable_op (words_of text.now)) }
     ensures memory { IsOkUnlessMemoryFor result (enterable_op (words_of text.now)) }
 {
-    match plain_send(text) {
-        Some(message) => send_within(alloc, message),
-        None => read_enterable_but_send(alloc, text),
-    }
-}
-
-/// The op that a text says, within its limits, which is hardly a plain send. A plain join is read where it stands.
-#[inline(never)]
-fn read_enterable_but_send(alloc: Global, text: &[u8]) -> Result<Option<Op>, Refusal>
-    ensures ok { IfOk result (λ found. found ≡ enterable_op (words_of text.now)) }
-    ensures memory { IsOkUnlessMemoryFor result (enterable_op (words_of text.now)) }
-{
-    match plain_join(text) {
-        Some(group) => join_within(alloc, group),
+    match plain_call(text) {
+        Some((verb, argument)) => call_within(alloc, verb, argument),
         None => read_enterable_words(alloc, text),
     }
 }
 
-/// The join of that group, if its name is accepted.
+/// The call of that verb and argument, if it is within the limits of calls.
 #[inline(always)]
-fn join_within(alloc: Global, group: &[u8]) -> Result<Option<Op>, Refusal>
-    ensures ok { IfOk result (λ found. found ≡ within_limits (Act (Join group.now))) }
-    ensures memory { IsOkUnlessMemoryFor result (within_limits (Act (Join group.now))) }
+fn call_within(alloc: Global, verb: Verb, argument: &[u8]) -> Result<Option<Op>, Refusal>
+    ensures ok { IfOk result (λ found. found ≡ within_limits (Act (call_by verb argument.now))) }
+    ensures memory { IsOkUnlessMemoryFor result (within_limits (Act (call_by verb argument.now))) }
 {
-    if !accepts_name(group) {
+    if !is_call_within(verb, argument) {
         return Ok(None);
     }
-    let group = Name::from_slice(alloc, group)?;
-    Ok(Some(Op::Act(Call::Join(group))))
+    let call = make_call(alloc, verb, argument)?;
+    Ok(Some(Op::Act(call)))
 }
 
-/// The send of that message, if it is not too long.
-#[inline(always)]
-fn send_within(alloc: Global, message: &[u8]) -> Result<Option<Op>, Refusal>
-    ensures ok { IfOk result (λ found. found ≡ within_limits (Act (Send message.now))) }
-    ensures memory { IsOkUnlessMemoryFor result (within_limits (Act (Send message.now))) }
-{
-    if message.len() > MOST_MESSAGE_BYTES {
-        return Ok(None);
-    }
-    let message = Message::from_slice(alloc, message)?;
-    Ok(Some(Op::Act(Call::Send(message))))
-}
-
-/// The op that the words of a text say, within its limits. One word or two are read where they stand.
+/// The op that the words of a text say, within its limits. One word or two are read where they stand. It stands apart, so
+/// that a plain call pays nothing for it.
+#[inline(never)]
 #[tactic(auto, using(crate::proofs::Lengths::enterable_of_first))]
 fn read_enterable_words(alloc: Global, text: &[u8]) -> Result<Option<Op>, Refusal>
     ensures ok { IfOk result (λ found. found ≡ enterable_op (words_of text.now)) }

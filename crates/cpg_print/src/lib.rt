@@ -10,6 +10,7 @@ mod calls;
 mod entries;
 mod events;
 mod laws;
+mod plain_calls;
 mod records;
 mod rules;
 mod verdicts;
