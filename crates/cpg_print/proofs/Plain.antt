@@ -1,5 +1,5 @@
 -- a call that is spelled just so
-use Rattle.std.proofs.Common.{◌≡◌, ℕ, List, [], ◌∷◌, Option, Some, refl, ap}
+use Rattle.std.proofs.Common.{◌≡◌, ℕ, List, [], ◌∷◌, Some, refl, ap}
 use Rattle.std.specs.Prelude.{option_map}
 use Rattle.cpg_entry.specs.declared.calls.Call.TheVariants as calls
 use Rattle.cpg_print.specs.declared.plain_calls.Verb.{Verb}
