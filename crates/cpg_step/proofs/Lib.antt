@@ -1,3 +1,4 @@
 pub mod Doing
 pub mod Lengths
 pub mod Listing
+pub mod Verbs

@@ -1,10 +1,12 @@
 -- steps of the functions that run, which no contract of a public function cites
-use Rattle.std.specs.Prelude.{ℕ, ◌≡◌, ◌⊎◌, List, [], ◌∷◌, Option, Some, None}
+use Rattle.std.specs.Prelude.{ℕ, ◌≡◌, ◌⊎◌, List, [], ◌∷◌, codes, Option, Some, None}
 use Rattle.std.specs.List.{concat}
 use Rattle.cpg_rules.specs.declared.rules.Rule.{Rule}
 use Rattle.cpg_world_laws.specs.Worlds.{WorldValue}
 use Rattle.cpg_world_laws.specs.Replies.{Answer, AreReplies}
 use Rattle.cpg_step.specs.declared.commands.Command.{Command}
+use Rattle.cpg_step.specs.declared.verbs.Verb.{Verb}
+use Rattle.cpg_step.specs.declared.verbs.Verb.TheVariants as verbs
 use Rattle.cpg_step.specs.Lines.{rule_line}
 use Rattle.cpg_step.specs.Running.{after, events_in, lines_of}
 
@@ -28,3 +30,10 @@ rule_line_of (Some rule) = rule_line rule
 abbrev pub two : List (List ℕ) → Option (List ℕ × List ℕ)
 two (first ∷ second ∷ []) = Some (first, second)
 two _ = None
+
+-- the word of a verb
+abbrev pub verb_word : Verb → List ℕ
+verb_word verbs.Call = codes "call"
+verb_word verbs.Deliver = codes "deliver"
+verb_word verbs.Frame = codes "frame"
+verb_word verbs.Take = codes "take"

@@ -12,6 +12,7 @@ mod printing;
 mod reading;
 mod running;
 mod scripts;
+mod verbs;
 
 pub use acting::answer_to;
 pub use commands::{Command, Look};

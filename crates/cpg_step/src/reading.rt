@@ -3,8 +3,8 @@
 //! Proved: each function reads what the definition in `specs/Commands.antt` says, in a ring of so many nodes. Those that
 //! make much, or are seldom called, stand apart (`inline(never)`), so that other lines don't pay for the room of their values.
 
-ghost use Rattle.std.specs.Prelude.{◌≡◌, ◌≤◌, Some, IfOk, IfSome, option_map};
-ghost use Rattle.cpg_text.specs.Lines.{words_of};
+ghost use Rattle.std.specs.Prelude.{◌≡◌, ◌≤◌, ◌∷◌, Some, IfOk, IfSome, option_map};
+ghost use Rattle.cpg_text.specs.Lines.{only, words_of};
 ghost use Rattle.cpg_text.specs.Memory.{IsOkUnlessMemoryFor};
 ghost use Rattle.std.specs.Option.{option_and_then};
 ghost use Rattle.cpg_print.specs.Calls.{call_of};
@@ -12,15 +12,16 @@ ghost use Rattle.cpg_world_laws.specs.Worlds.{node_in};
 ghost use Rattle.cpg_world_laws.specs.declared.events.WorldEvent.TheVariants.{Submit, Disconnect, Take, Groups, Timer, Deliver};
 ghost use Rattle.cpg_print.specs.Words.{texts};
 ghost use Rattle.cpg_step.specs.declared.commands.Look.TheVariants.{Audit, Safe};
-ghost use Rattle.cpg_step.specs.Steps.{two};
+ghost use Rattle.cpg_step.specs.Steps.{two, verb_word};
 ghost use Rattle.cpg_step.specs.Commands.{node_of, conn_of, u64_of, node_alone, node_and_conn, connect_of, submit_of, frame_of, list_of, event_of, show_of, rules_of, look_of, act_or_look, command_of, LooksWithin, IsWithin};
 
 use crate::commands::{Command, Look};
+use crate::verbs::{Verb, take_verb};
 use cpg_cred::{Cred, MOST_NODES, NodeId, Refusal};
 use cpg_entry::{MOST_CONNECTIONS, Name};
 use cpg_print::read_call_in;
 use cpg_script::{is, read_u32};
-use cpg_text::{Words, only_word, read_number, take_word, take_words};
+use cpg_text::{Words, only_word, read_number, take_number, take_word, take_words};
 use cpg_world::WorldEvent;
 use std::alloc::Global;
 
@@ -151,15 +152,28 @@ fn read_submit_by(
     }
 }
 
-#[tactic(auto, using(crate::proofs::Lengths::frame_of_two))]
+#[inline(always)]
+#[tactic(auto, using(crate::proofs::Verbs::frame_of_last))]
 fn read_frame(nodes: u8, rest: &[u8]) -> Option<WorldEvent>
     ensures event { result ≡ frame_of nodes (words_of rest.now) }
     ensures within { IfSome result (λ event. node_in event ≤ nodes) }
 {
-    let (node, number) = last_two(rest)?;
+    let (node, rest) = take_word(rest)?;
     let node = read_node(nodes, node)?;
-    let number = read_number(0, u64::MAX, number)?;
+    let number = read_last_number(rest)?;
     Some(WorldEvent::Frame(node, number as usize))
+}
+
+/// The number of a K, where no more words follow. One of 32 bits is read while its end is looked for.
+#[inline(always)]
+#[tactic(auto, using(crate::proofs::Verbs::last_number))]
+fn read_last_number(rest: &[u8]) -> Option<u64>
+    ensures { result ≡ option_and_then (λ word. u64_of word) (only (words_of rest.now)) }
+{
+    match take_number(rest) {
+        Some((number, [])) => Some(u64::from(number)),
+        _ => read_number(0, u64::MAX, only_word(rest)?),
+    }
 }
 
 #[inline(never)]
@@ -198,6 +212,7 @@ fn read_disconnect(nodes: u8, rest: &[u8]) -> Option<WorldEvent>
     Some(WorldEvent::Disconnect(node, conn))
 }
 
+#[inline(always)]
 fn read_take(nodes: u8, rest: &[u8]) -> Option<WorldEvent>
     ensures event { result ≡ option_map (λ at. Take at.0 at.1) (node_and_conn nodes (words_of rest.now)) }
     ensures within { IfSome result (λ event. node_in event ≤ nodes) }
@@ -222,6 +237,7 @@ fn read_timer(nodes: u8, rest: &[u8]) -> Option<WorldEvent>
     Some(WorldEvent::Timer(node))
 }
 
+#[inline(always)]
 fn read_deliver(nodes: u8, rest: &[u8]) -> Option<WorldEvent>
     ensures event { result ≡ option_map (λ n. Deliver n) (node_alone nodes (words_of rest.now)) }
     ensures within { IfSome result (λ event. node_in event ≤ nodes) }
@@ -365,9 +381,61 @@ fn read_named(
     }
 }
 
+/// The event that the words after a verb say.
+#[inline(always)]
+fn read_act(
+    alloc: Global,
+    nodes: u8,
+    verb: Verb,
+    rest: &[u8],
+) -> Result<Option<WorldEvent>, Refusal>
+    ensures event { IfOk result (λ found. found ≡ event_of nodes (verb_word verb) (words_of rest.now)) }
+    ensures within { IfOk result (λ found. IfSome found (λ event. node_in event ≤ nodes)) }
+    ensures memory { IsOkUnlessMemoryFor result (event_of nodes (verb_word verb) (words_of rest.now)) }
+{
+    match verb {
+        Verb::Call => read_submit(alloc, nodes, rest),
+        Verb::Deliver => Ok(read_deliver(nodes, rest)),
+        Verb::Frame => Ok(read_frame(nodes, rest)),
+        Verb::Take => Ok(read_take(nodes, rest)),
+    }
+}
+
+/// The command that a verb and the words after it say.
+#[inline(always)]
+#[tactic(auto, using(crate::proofs::Lengths::act_there, crate::proofs::Verbs::no_look))]
+fn read_by_verb(
+    alloc: Global,
+    nodes: u8,
+    verb: Verb,
+    rest: &[u8],
+) -> Result<Option<Command>, Refusal>
+    ensures command { IfOk result (λ found. found ≡ command_of nodes (verb_word verb ∷ words_of rest.now)) }
+    ensures within { IfOk result (λ found. IfSome found (λ command. IsWithin nodes command)) }
+    ensures memory { IsOkUnlessMemoryFor result (command_of nodes (verb_word verb ∷ words_of rest.now)) }
+{
+    match read_act(alloc, nodes, verb, rest)? {
+        None => Ok(None),
+        Some(event) => Ok(Some(Command::Act(event))),
+    }
+}
+
 /// The command of a line, in a ring of so many nodes, if it is one. That it is none is told whatever memory there
 /// is.
 pub fn command_in_line(alloc: Global, nodes: u8, line: &[u8]) -> Result<Option<Command>, Refusal>
+    ensures command { IfOk result (λ found. found ≡ command_of nodes (words_of line.now)) }
+    ensures within { IfOk result (λ found. IfSome found (λ command. IsWithin nodes command)) }
+    ensures memory { IsOkUnlessMemoryFor result (command_of nodes (words_of line.now)) }
+{
+    match take_verb(line) {
+        Some((verb, rest)) => read_by_verb(alloc, nodes, verb, rest),
+        None => read_by_words(alloc, nodes, line),
+    }
+}
+
+/// The same for any line. It stands apart, since most lines begin with a verb.
+#[inline(never)]
+fn read_by_words(alloc: Global, nodes: u8, line: &[u8]) -> Result<Option<Command>, Refusal>
     ensures command { IfOk result (λ found. found ≡ command_of nodes (words_of line.now)) }
     ensures within { IfOk result (λ found. IfSome found (λ command. IsWithin nodes command)) }
     ensures memory { IsOkUnlessMemoryFor result (command_of nodes (words_of line.now)) }
