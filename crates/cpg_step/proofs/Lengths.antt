@@ -6,7 +6,7 @@ use Rattle.cpg_world_laws.specs.declared.events.WorldEvent.{WorldEvent}
 use Rattle.cpg_print.proofs.Somes.{mapped}
 use Rattle.cpg_step.specs.declared.commands.Look.{Look}
 use Rattle.cpg_step.specs.declared.commands.Command.TheVariants as command
-use Rattle.cpg_step.specs.Commands.{act_or_look, connect_of, frame_of, list_of, look_of, node_alone, node_and_conn, node_of}
+use Rattle.cpg_step.specs.Commands.{act_or_look, connect_of, list_of, look_of, node_alone, node_and_conn, node_of}
 use Rattle.cpg_step.specs.Steps.{two}
 
 -- no word after the fifth of a connect matters
@@ -51,13 +51,6 @@ at_of_two nodes [] = refl
 at_of_two nodes (a ∷ []) = refl
 at_of_two nodes (a ∷ b ∷ []) = refl
 at_of_two nodes (a ∷ b ∷ c ∷ more) = refl
-
--- and so are a node and the number of a frame
-pub frame_of_two : (nodes : ℕ) (words : List (List ℕ)) → frame_of nodes words ≡ option_and_then (λ at. frame_of nodes (at.0 ∷ at.1 ∷ [])) (two words)
-frame_of_two nodes [] = refl
-frame_of_two nodes (a ∷ []) = refl
-frame_of_two nodes (a ∷ b ∷ []) = refl
-frame_of_two nodes (a ∷ b ∷ c ∷ more) = refl
 
 -- where one acts there is a command
 pub act_there : (act : Option WorldEvent) (look : Option Look) → is_some act ≡ true → is_some (act_or_look act look) ≡ true
