@@ -33,7 +33,7 @@ use std::marker::Model;
 const MEMBERS_ROOM: usize = 24;
 
 /// The room for the line of each of a group's places, in bytes: most take less, and what more take grows.
-const LINE_ROOM: usize = 64;
+const LINE_ROOM: usize = 60;
 
 /// How many ends of lines a text keeps in itself, as most groups have no more places than that: more have memory of
 /// their own.
