@@ -1,4 +1,4 @@
+pub mod Beginnings
 pub mod Doing
 pub mod Lengths
 pub mod Listing
-pub mod Verbs

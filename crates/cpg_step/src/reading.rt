@@ -153,7 +153,7 @@ fn read_submit_by(
 }
 
 #[inline(always)]
-#[tactic(auto, using(crate::proofs::Verbs::frame_of_last))]
+#[tactic(auto, using(crate::proofs::Beginnings::frame_of_last))]
 fn read_frame(nodes: u8, rest: &[u8]) -> Option<WorldEvent>
     ensures event { result ≡ frame_of nodes (words_of rest.now) }
     ensures within { IfSome result (λ event. node_in event ≤ nodes) }
@@ -166,7 +166,7 @@ fn read_frame(nodes: u8, rest: &[u8]) -> Option<WorldEvent>
 
 /// The number of a K, where no more words follow. One of 32 bits is read while its end is looked for.
 #[inline(always)]
-#[tactic(auto, using(crate::proofs::Verbs::last_number))]
+#[tactic(auto, using(crate::proofs::Beginnings::last_number))]
 fn read_last_number(rest: &[u8]) -> Option<u64>
     ensures { result ≡ option_and_then (λ word. u64_of word) (only (words_of rest.now)) }
 {
@@ -403,7 +403,7 @@ fn read_act(
 
 /// The command that a verb and the words after it say.
 #[inline(always)]
-#[tactic(auto, using(crate::proofs::Lengths::act_there, crate::proofs::Verbs::no_look))]
+#[tactic(auto, using(crate::proofs::Lengths::act_there, crate::proofs::Beginnings::no_look))]
 fn read_by_verb(
     alloc: Global,
     nodes: u8,
