@@ -166,7 +166,6 @@ fn read_frame(nodes: u8, rest: &[u8]) -> Option<WorldEvent>
 
 /// The number of a K, where no more words follow. One of 32 bits is read while its end is looked for.
 #[inline(always)]
-#[tactic(auto, using(crate::proofs::Beginnings::last_number))]
 fn read_last_number(rest: &[u8]) -> Option<u64>
     ensures { result ≡ option_and_then (λ word. u64_of word) (only (words_of rest.now)) }
 {
