@@ -94,7 +94,8 @@ fn end_of_run(text: &[u8]) -> usize
     }
 }
 
-/// The place past the blocks of 128 plain bytes that stand there, and past one of 64 behind them.
+/// The place past the blocks of plain bytes that stand there. One of 64 is looked at first, so that a text whose runs are
+/// short pays for no longer ones.
 #[inline(always)]
 fn skip_plain(text: &[u8], from: usize) -> usize
     requires { from ≤ length text.now }
@@ -102,14 +103,43 @@ fn skip_plain(text: &[u8], from: usize) -> usize
     ensures forth { from ≤ result }
     ensures within { result ≤ length text.now }
 {
+    if text.len() - from < 64 || !are_low(highest_of_64(text, from)) {
+        return from;
+    }
+    skip_by_64(text, skip_by_256(text, from + 64))
+}
+
+/// The place past the blocks of 256 plain bytes that stand there.
+#[inline(always)]
+fn skip_by_256(text: &[u8], from: usize) -> usize
+    requires { from ≤ length text.now }
+    ensures value { result + prefix_len is_plain (drop result text.now) ≡ from + prefix_len is_plain (drop from text.now) }
+    ensures forth { from ≤ result }
+    ensures within { result ≤ length text.now }
+{
     let mut place = from;
-    while text.len() - place >= 128 {
-        if !are_low(highest_of_128(text, place)) {
+    while text.len() - place >= 256 {
+        if !are_low(highest_of_256(text, place)) {
             return place;
         }
-        place += 128;
+        place += 256;
     }
-    if text.len() - place >= 64 && are_low(highest_of_64(text, place)) {
+    place
+}
+
+/// The place past the blocks of 64 plain bytes that stand there.
+#[inline(always)]
+fn skip_by_64(text: &[u8], from: usize) -> usize
+    requires { from ≤ length text.now }
+    ensures value { result + prefix_len is_plain (drop result text.now) ≡ from + prefix_len is_plain (drop from text.now) }
+    ensures forth { from ≤ result }
+    ensures within { result ≤ length text.now }
+{
+    let mut place = from;
+    while text.len() - place >= 64 {
+        if !are_low(highest_of_64(text, place)) {
+            return place;
+        }
         place += 64;
     }
     place
@@ -138,14 +168,19 @@ fn odd_of<const N: usize>(block: Simd<u8, N>) -> u64
     (shifted.simd_ge(Simd::splat(94)) | shifted.simd_eq(Simd::splat(4))).to_bitmask()
 }
 
-/// How far the 128 bytes from there stand past `%`, the furthest of each 8. One maximum over all tells whether they are
+/// How far the 256 bytes from there stand past `%`, the furthest of each 16. One maximum over all tells whether they are
 /// plain and past `%`: so `!` to `$`, which are plain, are left to a closer look.
 #[inline(always)]
-fn highest_of_128(text: &[u8], from: usize) -> u8x16
-    requires { from + 128 ≤ length text.now }
-    ensures { IsTrue (list_all is_low result) → prefix_len is_plain (drop from text.now) ≡ 128 + prefix_len is_plain (drop (from + 128) text.now) }
+fn highest_of_256(text: &[u8], from: usize) -> u8x16
+    requires { from + 256 ≤ length text.now }
+    ensures { IsTrue (list_all is_low result) → prefix_len is_plain (drop from text.now) ≡ 256 + prefix_len is_plain (drop (from + 256) text.now) }
 {
-    higher_of(highest_of_64(text, from), highest_of_64(text, from + 64))
+    let first = higher_of(highest_of_64(text, from), highest_of_64(text, from + 64));
+    let last = higher_of(
+        highest_of_64(text, from + 128),
+        highest_of_64(text, from + 192),
+    );
+    higher_of(first, last)
 }
 
 /// How far the 64 bytes from there stand past `%`, the furthest of each 4.

@@ -3,7 +3,7 @@
 //! Proved where the reader and the writer tell their bytes: what is read is all there was, and what is
 //! written is the text, or after a fault a front of it.
 
-ghost use Rattle.std.specs.Prelude.{◌≡◌, ◌≢◌, ◌<◌, ◌≤◌, ◌+◌, ◌⊎◌, Ok, Err, Some, None, true, false, length, take, unwrap_or, vec_len, MatchOption, IfOk, IfErr, IfSome, OnOk, OnErr, IsOkUnless};
+ghost use Rattle.std.specs.Prelude.{◌≡◌, ◌≢◌, ◌<◌, ◌≤◌, ◌+◌, ◌⊎◌, Ok, Err, Some, None, true, false, length, take, ℕ, List, Option, unwrap_or, vec_len, MatchOption, IfOk, IfErr, IfSome, OnOk, OnErr, IsOkUnless};
 ghost use Rattle.std.specs.Io.KnownBytes.{Appends, Keeps, ReadConsumes};
 ghost use Rattle.std.specs.IoError.{error_kind};
 ghost use Rattle.cpg_text.specs.Streams.{AppendsFront};
@@ -152,14 +152,33 @@ fn write_some<W: Write>(writer: &mut W, text: &[u8]) -> Result<usize, Refusal>
 }
 
 /// Writes the text. After `Write` a front of it is written: a write failed, or the writer took nothing of
-/// a piece that was not empty.
+/// a piece that was not empty. Most writers take a text at once.
 #[tactic(auto, using(crate::proofs::Known::Appends_more, crate::proofs::Known::Appends_kept, crate::proofs::Known::front_taken))]
 pub fn write_whole<W: Write>(writer: &mut W, text: &[u8]) -> Result<(), Refusal>
     ensures ok { OnOk result (Appends (W.contents writer.old) (W.contents writer.new) text.now) }
     ensures err { OnErr result (AppendsFront (W.contents writer.old) (W.contents writer.new) text.now) }
     ensures errors { IsOkUnless result Refusal.Write }
 {
-    let mut done = 0;
+    if text.is_empty() {
+        return Ok(());
+    }
+    let done = write_some(writer, text)?;
+    if done == text.len() {
+        return Ok(());
+    }
+    write_rest(writer, text, done)
+}
+
+/// Writes what follows a front of the text that was written. It stands apart, as it is seldom called.
+#[inline(never)]
+#[tactic(auto, using(crate::proofs::Known::Appends_more, crate::proofs::Known::Appends_kept, crate::proofs::Known::front_taken))]
+fn write_rest<W: Write>(writer: &mut W, text: &[u8], from: usize) -> Result<(), Refusal>
+    requires { from ≤ length text.now }
+    ensures ok { (was : Option (List ℕ)) → Appends was (W.contents writer.old) (take from text.now) → OnOk result (Appends was (W.contents writer.new) text.now) }
+    ensures err { (was : Option (List ℕ)) → Appends was (W.contents writer.old) (take from text.now) → OnErr result (AppendsFront was (W.contents writer.new) text.now) }
+    ensures errors { IsOkUnless result Refusal.Write }
+{
+    let mut done = from;
     for _turn in 0..u64::MAX {
         if done == text.len() {
             return Ok(());

@@ -1,7 +1,7 @@
 use Rattle.std.proofs.Common.{◌≡◌, ◌+◌, ◌-◌, ◌≤◌, length, drop}
 use Rattle.std.specs.List.{prefix_len}
 use Rattle.cpg_text.specs.Percent.{is_plain}
-use Rattle.cpg_text.proofs.runs.skip_plain.Given as goal
+use Rattle.cpg_text.proofs.runs.skip_by_64.Given as goal
 
 abbrev pub invariant-loop-place : goal.invariant-loop-place
 invariant-loop-place l = record {
