@@ -8,24 +8,19 @@ use Rattle.cpg_text.specs.Lines.{only, words_of}
 use Rattle.cpg_text.specs.Numbers.{first_number, is_number, number_in, value_of}
 use Rattle.cpg_world_laws.specs.declared.events.WorldEvent.{WorldEvent}
 use Rattle.cpg_world_laws.specs.declared.events.WorldEvent.TheVariants.{Frame}
-use Rattle.cpg_step.specs.declared.commands.Command.TheVariants as commands
 use Rattle.cpg_step.specs.declared.verbs.Verb.{Verb}
 use Rattle.cpg_step.specs.declared.verbs.Verb.TheVariants as verbs
-use Rattle.cpg_step.specs.Commands.{act_or_look, command_of, event_of, frame_of, node_of, u64_of}
-use Rattle.cpg_step.specs.Steps.{node_and_number, verb_word}
+use Rattle.cpg_step.specs.Commands.{frame_of, look_of, node_of, u64_of}
+use Rattle.cpg_step.specs.Steps.{verb_word}
 
-alone : (event : Option WorldEvent) → act_or_look event None ≡ option_map (λ e. commands.Act e) event
-alone None = refl
-alone (Some event) = refl
+-- no command that begins with a verb only looks
+pub no_look : (nodes : ℕ) (verb : Verb) (words : List (List ℕ)) → look_of nodes (verb_word verb) words ≡ None
+no_look nodes verbs.Call words = refl
+no_look nodes verbs.Deliver words = refl
+no_look nodes verbs.Frame words = refl
+no_look nodes verbs.Take words = refl
 
--- a command that begins with a verb acts, if it is one
-pub acts_alone : (nodes : ℕ) (verb : Verb) (words : List (List ℕ)) → command_of nodes (verb_word verb ∷ words) ≡ option_map (λ event. commands.Act event) (event_of nodes (verb_word verb) words)
-acts_alone nodes verbs.Call words = alone (event_of nodes (verb_word verbs.Call) words)
-acts_alone nodes verbs.Deliver words = alone (event_of nodes (verb_word verbs.Deliver) words)
-acts_alone nodes verbs.Frame words = alone (event_of nodes (verb_word verbs.Frame) words)
-acts_alone nodes verbs.Take words = alone (event_of nodes (verb_word verbs.Take) words)
-
-abbrev nothing : ℕ → Option (ℕ × ℕ)
+abbrev nothing : ℕ → Option WorldEvent
 nothing n = None
 
 none_then : (node : Option ℕ) → nothing 0 ≡ (node >>= nothing)
@@ -33,23 +28,11 @@ none_then None = refl
 none_then (Some n) = refl
 
 -- what follows the node of a frame is its number alone
-pub numbered_of_last : (nodes : ℕ) (node : List ℕ) (words : List (List ℕ))
-    → node_and_number nodes (node ∷ words) ≡ (node_of nodes node >>= λ n. option_and_then (λ word. u64_of word) (only words) >>= λ k. Some (n, k))
-numbered_of_last nodes node [] = none_then (node_of nodes node)
-numbered_of_last nodes node (a ∷ []) = refl
-numbered_of_last nodes node (a ∷ b ∷ more) = none_then (node_of nodes node)
-
--- a frame is heard by that node, and has that number
-pub frame_of_numbered : (nodes : ℕ) (words : List (List ℕ)) → frame_of nodes words ≡ option_map (λ at. Frame at.0 at.1) (node_and_number nodes words)
-frame_of_numbered nodes [] = refl
-frame_of_numbered nodes (a ∷ []) = refl
-frame_of_numbered nodes (a ∷ b ∷ []) = framed (node_of nodes a) (u64_of b)
-  where
-    framed : (n k : Option ℕ) → (n >>= λ x. k >>= λ y. Some (Frame x y)) ≡ option_map {T = ℕ × ℕ} (λ at. Frame at.0 at.1) (n >>= λ x. k >>= λ y. Some (x, y))
-    framed None k = refl
-    framed (Some x) None = refl
-    framed (Some x) (Some y) = refl
-frame_of_numbered nodes (a ∷ b ∷ c ∷ more) = refl
+pub frame_of_last : (nodes : ℕ) (node : List ℕ) (words : List (List ℕ))
+    → frame_of nodes (node ∷ words) ≡ (node_of nodes node >>= λ n. option_and_then (λ word. u64_of word) (only words) >>= λ k. Some (Frame n k))
+frame_of_last nodes node [] = none_then (node_of nodes node)
+frame_of_last nodes node (a ∷ []) = refl
+frame_of_last nodes node (a ∷ b ∷ more) = none_then (node_of nodes node)
 
 -- a number of 32 bits is one of 64
 widen : (digits : Bool) (value number : ℕ)

@@ -5,8 +5,6 @@ use Rattle.cpg_rules.specs.declared.rules.Rule.{Rule}
 use Rattle.cpg_world_laws.specs.Worlds.{WorldValue}
 use Rattle.cpg_world_laws.specs.Replies.{Answer, AreReplies}
 use Rattle.cpg_step.specs.declared.commands.Command.{Command}
-use Rattle.cpg_script.specs.Words.{◌>>=◌}
-use Rattle.cpg_step.specs.Commands.{node_of, u64_of}
 use Rattle.cpg_step.specs.declared.verbs.Verb.{Verb}
 use Rattle.cpg_step.specs.declared.verbs.Verb.TheVariants as verbs
 use Rattle.cpg_step.specs.Lines.{rule_line}
@@ -32,14 +30,6 @@ rule_line_of (Some rule) = rule_line rule
 abbrev pub two : List (List ℕ) → Option (List ℕ × List ℕ)
 two (first ∷ second ∷ []) = Some (first, second)
 two _ = None
-
--- the node and the number of a frame, and no other words
-abbrev pub node_and_number : ℕ → List (List ℕ) → Option (ℕ × ℕ)
-node_and_number nodes (node ∷ number ∷ []) = do
-  n ← node_of nodes node
-  k ← u64_of number
-  Some (n, k)
-node_and_number nodes _ = None
 
 -- the word of a verb
 abbrev pub verb_word : Verb → List ℕ

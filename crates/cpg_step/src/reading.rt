@@ -11,9 +11,8 @@ ghost use Rattle.cpg_print.specs.Calls.{call_of};
 ghost use Rattle.cpg_world_laws.specs.Worlds.{node_in};
 ghost use Rattle.cpg_world_laws.specs.declared.events.WorldEvent.TheVariants.{Submit, Disconnect, Take, Groups, Timer, Deliver};
 ghost use Rattle.cpg_print.specs.Words.{texts};
-ghost use Rattle.cpg_step.specs.declared.commands.Command.TheVariants.{Act};
 ghost use Rattle.cpg_step.specs.declared.commands.Look.TheVariants.{Audit, Safe};
-ghost use Rattle.cpg_step.specs.Steps.{node_and_number, two, verb_word};
+ghost use Rattle.cpg_step.specs.Steps.{two, verb_word};
 ghost use Rattle.cpg_step.specs.Commands.{node_of, conn_of, u64_of, node_alone, node_and_conn, connect_of, submit_of, frame_of, list_of, event_of, show_of, rules_of, look_of, act_or_look, command_of, LooksWithin, IsWithin};
 
 use crate::commands::{Command, Look};
@@ -153,25 +152,15 @@ fn read_submit_by(
     }
 }
 
-/// The node and the number of NODE K, where no more words follow.
 #[inline(always)]
-#[tactic(auto, using(crate::proofs::Beginnings::numbered_of_last))]
-fn read_node_and_number(nodes: u8, rest: &[u8]) -> Option<(NodeId, u64)>
-    ensures at { result ≡ node_and_number nodes (words_of rest.now) }
-    ensures within { IfSome result (λ at. at.0 ≤ nodes) }
-{
-    let (node, rest) = take_word(rest)?;
-    let node = read_node(nodes, node)?;
-    let number = read_last_number(rest)?;
-    Some((node, number))
-}
-
-#[tactic(auto, using(crate::proofs::Beginnings::frame_of_numbered))]
+#[tactic(auto, using(crate::proofs::Beginnings::frame_of_last))]
 fn read_frame(nodes: u8, rest: &[u8]) -> Option<WorldEvent>
     ensures event { result ≡ frame_of nodes (words_of rest.now) }
     ensures within { IfSome result (λ event. node_in event ≤ nodes) }
 {
-    let (node, number) = read_node_and_number(nodes, rest)?;
+    let (node, rest) = take_word(rest)?;
+    let node = read_node(nodes, node)?;
+    let number = read_last_number(rest)?;
     Some(WorldEvent::Frame(node, number as usize))
 }
 
@@ -222,6 +211,7 @@ fn read_disconnect(nodes: u8, rest: &[u8]) -> Option<WorldEvent>
     Some(WorldEvent::Disconnect(node, conn))
 }
 
+#[inline(always)]
 fn read_take(nodes: u8, rest: &[u8]) -> Option<WorldEvent>
     ensures event { result ≡ option_map (λ at. Take at.0 at.1) (node_and_conn nodes (words_of rest.now)) }
     ensures within { IfSome result (λ event. node_in event ≤ nodes) }
@@ -246,6 +236,7 @@ fn read_timer(nodes: u8, rest: &[u8]) -> Option<WorldEvent>
     Some(WorldEvent::Timer(node))
 }
 
+#[inline(always)]
 fn read_deliver(nodes: u8, rest: &[u8]) -> Option<WorldEvent>
     ensures event { result ≡ option_map (λ n. Deliver n) (node_alone nodes (words_of rest.now)) }
     ensures within { IfSome result (λ event. node_in event ≤ nodes) }
@@ -389,23 +380,29 @@ fn read_named(
     }
 }
 
-/// The call of a verb and the words after it, as a command. It stands apart, as the values of a call are large.
-#[inline(never)]
-#[tactic(auto, using(crate::proofs::Lengths::act_there))]
-fn read_call(alloc: Global, nodes: u8, rest: &[u8]) -> Result<Option<Command>, Refusal>
-    ensures command { IfOk result (λ found. found ≡ option_map (λ event. Act event) (submit_of nodes (words_of rest.now))) }
-    ensures within { IfOk result (λ found. IfSome found (λ command. IsWithin nodes command)) }
-    ensures memory { IsOkUnlessMemoryFor result (option_map (λ event. Act event) (submit_of nodes (words_of rest.now))) }
+/// The event that the words after a verb say.
+#[inline(always)]
+fn read_act(
+    alloc: Global,
+    nodes: u8,
+    verb: Verb,
+    rest: &[u8],
+) -> Result<Option<WorldEvent>, Refusal>
+    ensures event { IfOk result (λ found. found ≡ event_of nodes (verb_word verb) (words_of rest.now)) }
+    ensures within { IfOk result (λ found. IfSome found (λ event. node_in event ≤ nodes)) }
+    ensures memory { IsOkUnlessMemoryFor result (event_of nodes (verb_word verb) (words_of rest.now)) }
 {
-    match read_submit(alloc, nodes, rest)? {
-        None => Ok(None),
-        Some(event) => Ok(Some(Command::Act(event))),
+    match verb {
+        Verb::Call => read_submit(alloc, nodes, rest),
+        Verb::Deliver => Ok(read_deliver(nodes, rest)),
+        Verb::Frame => Ok(read_frame(nodes, rest)),
+        Verb::Take => Ok(read_take(nodes, rest)),
     }
 }
 
-/// The command that a verb and the words after it say: it is made where it is given, as it is large to move.
+/// The command that a verb and the words after it say.
 #[inline(always)]
-#[tactic(auto, using(crate::proofs::Beginnings::acts_alone))]
+#[tactic(auto, using(crate::proofs::Lengths::act_there, crate::proofs::Beginnings::no_look))]
 fn read_by_verb(
     alloc: Global,
     nodes: u8,
@@ -416,20 +413,9 @@ fn read_by_verb(
     ensures within { IfOk result (λ found. IfSome found (λ command. IsWithin nodes command)) }
     ensures memory { IsOkUnlessMemoryFor result (command_of nodes (verb_word verb ∷ words_of rest.now)) }
 {
-    match verb {
-        Verb::Call => read_call(alloc, nodes, rest),
-        Verb::Deliver => Ok(match read_last_node(nodes, rest) {
-            None => None,
-            Some(node) => Some(Command::Act(WorldEvent::Deliver(node))),
-        }),
-        Verb::Frame => Ok(match read_node_and_number(nodes, rest) {
-            None => None,
-            Some((node, number)) => Some(Command::Act(WorldEvent::Frame(node, number as usize))),
-        }),
-        Verb::Take => Ok(match read_node_and_conn(nodes, rest) {
-            None => None,
-            Some((node, conn)) => Some(Command::Act(WorldEvent::Take(node, conn))),
-        }),
+    match read_act(alloc, nodes, verb, rest)? {
+        None => Ok(None),
+        Some(event) => Ok(Some(Command::Act(event))),
     }
 }
 
