@@ -14,7 +14,7 @@ ghost use Rattle.cpg_ring.specs.Laws.{AllHeld, NoneAbove};
 ghost use Rattle.cpg_ring.specs.Kept.{in_slot, kept_at};
 
 use crate::settings::{Settings, WINDOW};
-use cpg_entry::{Entry, MOST_PLACES, Packet, Refusal};
+use cpg_entry::{Entry, MOST_PLACES, Packet, Refusal, reserve_ahead};
 use std::alloc::Global;
 use std::marker::Model;
 
@@ -152,8 +152,7 @@ impl Held {
         ensures room { OnOk result (self.new.delivered + WINDOW ≤ self.new.room) }
         ensures memory { IsOkUnless result Refusal.Memory }
     {
-        self.done.reserve(WINDOW as usize)?;
-        Ok(())
+        reserve_ahead(&mut self.done, WINDOW as usize)
     }
 
     /// Holds the entry at a place of the window.
