@@ -26,16 +26,6 @@ news_as place before r conn g Gone = refl
 news_as place before r conn g (Act (Insert name index rule)) = refl
 news_as place before r conn g (Act (Remove name id)) = refl
 
-pub news_unheard : (place : ℕ) (before : List Record) (r : Record) (conn : ConnId) (g : List ℕ) (op : Op)
-    → hears before r conn g op ≡ false → news_by place before r conn g op ≡ None
-news_unheard place before r conn g op e =
-    news_as place before r conn g op ∙ ap (λ (test : Bool). if test then Some (told_by place before r g op) else None) e
-
-pub news_heard : (place : ℕ) (before : List Record) (r : Record) (conn : ConnId) (g : List ℕ) (op : Op)
-    → hears before r conn g op ≡ true → news_by place before r conn g op ≡ Some (told_by place before r g op)
-news_heard place before r conn g op e =
-    news_as place before r conn g op ∙ ap (λ (test : Bool). if test then Some (told_by place before r g op) else None) e
-
 -- what is something is not nothing
 pub is_news : (said : Option Event) (event : Event) → said ≡ Some event → said ≢ None
 is_news said event e none = cc
@@ -76,6 +66,27 @@ has_news place before r conn g = by_case (is_allowed r.verdict)
     by_case : (b : Bool) → (b && hears before r conn g r.entry.op) ≡ is_some (if b then news_by place before r conn g r.entry.op else None)
     by_case true = sym (ap is_some (news_as place before r conn g r.entry.op) ∙ is_test (told_by place before r g r.entry.op) (hears before r conn g r.entry.op))
     by_case false = refl
+
+-- what is not there is nothing
+pub is_told_nothing : (said : Option Event) → is_some said ≡ false → said ≡ None
+is_told_nothing None e = refl
+is_told_nothing (Some event) e = cc
+
+-- who is told a record of a group is told what its group is
+pub is_told_group : (place : ℕ) (before : List Record) (r : Record) (conn : ConnId) (g : List ℕ)
+    → is_some (news place before r conn (Some g)) ≡ true → news place before r conn (Some g) ≡ Some (told_by place before r g r.entry.op)
+is_told_group place before r conn g = by_case (is_allowed r.verdict)
+  where
+    by_test : (test : Bool) (event : Event) → is_some (if test then Some event else None) ≡ true → (if test then Some event else None) ≡ Some event
+    by_test true event e = refl
+    by_test false event e = cc
+
+    by_case : (b : Bool) → is_some (if b then news_by place before r conn g r.entry.op else None) ≡ true
+        → (if b then news_by place before r conn g r.entry.op else None) ≡ Some (told_by place before r g r.entry.op)
+    by_case true e =
+        news_as place before r conn g r.entry.op
+        ∙ by_test (hears before r conn g r.entry.op) (told_by place before r g r.entry.op) (sym (ap is_some (news_as place before r conn g r.entry.op)) ∙ e)
+    by_case false e = cc
 
 -- one for each of the two that is there
 both_counted : (first : Bool) (verdict : Event) (said : Option Event) → length ((if first then verdict ∷ [] else []) ++ option_to_list said) ≡ from_bool first + from_bool (is_some said)

@@ -13,12 +13,46 @@ ghost use Rattle.cpg_group.specs.Standing.{changed, group_past, kept_group, stan
 ghost use Rattle.cpg_group.specs.Trails.{AreTrails, IsTrail};
 
 use crate::judging;
+use crate::places::find_record;
 use crate::standing::{Group, Groups};
 use crate::trails::{Stop, Stops, Trails, group_now, make_room, stop_of};
 use cpg_cred::Refusal;
-use cpg_entry::Name;
+use cpg_entry::{Call, Entry, Name, Op};
 use cpg_record::{ConnId, Record};
 use std::alloc::Global;
+
+/// The name of the group of the record at the latest of the places.
+fn latest_name<'a>(records: &'a [Record], places: &[u32]) -> Option<&'a Name> {
+    let past = find_record(records, *places.last()?)?;
+    past.group.as_ref()
+}
+
+/// Lets a join share the bytes of its name with the latest record of the group, where that has the same name: so the
+/// name of a group with many joins is kept once.
+#[inline(never)]
+fn share_name(alloc: Global, records: &[Record], places: &[u32], name: &mut Name)
+    ensures { name.new ≡ name.old }
+{
+    let Some(kept) = latest_name(records, places) else {
+        return;
+    };
+    if !kept.equals(name) {
+        return;
+    }
+    if let Ok(copy) = kept.copy(alloc) {
+        *name = copy;
+    }
+}
+
+/// The same for an entry, if it is a join.
+#[inline(always)]
+fn share_joined(alloc: Global, records: &[Record], places: &[u32], entry: &mut Entry)
+    ensures { entry.new ≡ entry.old }
+{
+    if let Op::Act(Call::Join(name)) = &mut entry.op {
+        share_name(alloc, records, places, name);
+    }
+}
 
 /// Judges the entry of a draft in place, as one of that group, and brings the group past it. A refusal changes
 /// no group and no entry.
@@ -41,6 +75,7 @@ fn enter_group(
     ensures err { OnErr result (next.new.entry ≡ next.old.entry) }
     ensures memory { IsOkUnless result Refusal.Memory }
 {
+    share_joined(alloc, records, group.places(), &mut next.entry);
     judging::judge_draft_in(alloc, records, group, joined, next)?;
     if !next.verdict.is_allowed() {
         return Ok(());

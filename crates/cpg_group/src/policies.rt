@@ -19,7 +19,7 @@ use crate::standing::Groups;
 use crate::trails::{Trail, Trails};
 use crate::{entering, judging, nexts, telling, told};
 use cpg_cred::{Refusal, Refused};
-use cpg_entry::{Entry, Name};
+use cpg_entry::{Entry, Name, reserve_ahead};
 use cpg_record::{ConnId, Event, Events, Record};
 use cpg_rules::{Asker, Table};
 use std::alloc::Global;
@@ -111,7 +111,7 @@ impl Policy {
         ensures unchanged { OnErr result (self.new ≡ self.old) }
         ensures err { IfErr result (λ refused. refused ≡ record { refusal = Refusal.Memory; back = next }) }
     {
-        if self.records.reserve(1).is_err() {
+        if reserve_ahead(&mut self.records, 1).is_err() {
             return Err(Refused {
                 refusal: Refusal::Memory,
                 back: next,
@@ -139,7 +139,7 @@ impl Policy {
         ensures unchanged { OnErr result (self.new ≡ self.old) }
         ensures err { IfErr result (λ refused. refused ≡ record { refusal = Refusal.Memory; back = entry }) }
     {
-        if self.records.reserve(1).is_err() {
+        if reserve_ahead(&mut self.records, 1).is_err() {
             return Err(Refused {
                 refusal: Refusal::Memory,
                 back: entry,
@@ -273,9 +273,12 @@ impl Policy {
     pub fn next_event(&self, after: u32, conn: ConnId) -> Option<u32>
         ensures { MatchOption result (TellsNoMore (judged self.now) after conn) (IsNextTold (judged self.now) after conn) }
     {
-        match self.next_heard(after, conn, Hint::default()) {
+        let records = self.records.as_slice();
+        let trail = self.trails.of(&conn);
+        let hint = Hint::default();
+        match nexts::find_next(records, &self.groups, trail, &conn, after as usize, hint) {
             None => None,
-            Some(heard) => Some(heard.place()),
+            Some(next) => Some(next.place),
         }
     }
 

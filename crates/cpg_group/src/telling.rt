@@ -1,10 +1,9 @@
 //! What places tell connections.
 
-ghost use Rattle.std.specs.Prelude.{◌≡◌, ◌≢◌, ◌≤◌, [], None, is_some, length, IfOk, IsSome, OnErr, IsOkUnless};
-ghost use Rattle.std.specs.List.{slice_get};
+ghost use Rattle.std.specs.Prelude.{◌≡◌, ◌≢◌, ◌≤◌, [], None, is_some, length, IfOk, OnErr, IsOkUnless};
 ghost use Rattle.std.specs.Option.{option_copied};
 ghost use Rattle.cpg_record.specs.Connections.{conn_of};
-ghost use Rattle.cpg_record.specs.Events.{events, hears_change, moves_of, news, news_by};
+ghost use Rattle.cpg_record.specs.Events.{events, hears_change, moves_of, news};
 ghost use Rattle.cpg_record.specs.Judging.{AreJudged};
 ghost use Rattle.cpg_record.specs.Membership.{group_of, is_named, members};
 ghost use Rattle.cpg_record.specs.Places.{records_before};
@@ -110,69 +109,9 @@ pub(crate) fn collect_left(
     }
 }
 
-/// What an allowed op tells a connection of the group `earlier`. Memory is asked for only where it is told
-/// something.
-#[inline(always)]
-#[tactic(auto, using(crate::proofs::Hearing::news_unheard, crate::proofs::Hearing::news_heard, crate::proofs::Hearing::is_news))]
-fn tell_op(
-    alloc: Global,
-    records: &[Record],
-    groups: &Groups,
-    place: u32,
-    past: &Record,
-    conn: &ConnId,
-    earlier: Option<&Name>,
-    group: &Name,
-) -> Result<Option<Event>, Refusal>
-    requires place { 1 ≤ place }
-    requires judged { AreJudged records.now }
-    requires groups { AreStanding groups.now records.now }
-    requires earlier { option_copied earlier ≡ group_of (records_before records.now place) conn.now }
-    ensures ok { IfOk result (λ event. event ≡ news_by place (records_before records.now place) past.now conn.now group.now past.now.entry.op) }
-    ensures memory { IsOkUnless result Refusal.Memory }
-    ensures told { OnErr result (news_by place (records_before records.now place) past.now conn.now group.now past.now.entry.op ≢ None) }
-{
-    if !is_told(records, place, past, conn, earlier, group.as_slice()) {
-        return Ok(None);
-    }
-    let event = event_of(alloc, records, groups, place, past, group)?;
-    Ok(Some(event))
-}
-
-/// What a record tells a connection of the group `earlier` beside the verdict.
-#[inline(always)]
-fn tell_news(
-    alloc: Global,
-    records: &[Record],
-    groups: &Groups,
-    place: u32,
-    past: &Record,
-    conn: &ConnId,
-    earlier: Option<&Name>,
-) -> Result<Option<Event>, Refusal>
-    requires place { 1 ≤ place }
-    requires judged { AreJudged records.now }
-    requires groups { AreStanding groups.now records.now }
-    requires earlier { option_copied earlier ≡ group_of (records_before records.now place) conn.now }
-    ensures ok { IfOk result (λ event. event ≡ news place (records_before records.now place) past.now conn.now past.now.group) }
-    ensures memory { IsOkUnless result Refusal.Memory }
-    ensures told { OnErr result (news place (records_before records.now place) past.now conn.now past.now.group ≢ None) }
-{
-    match &past.group {
-        None => Ok(None),
-        Some(group) => {
-            if past.verdict.is_allowed() {
-                tell_op(alloc, records, groups, place, past, conn, earlier, group)
-            } else {
-                Ok(None)
-            }
-        }
-    }
-}
-
 /// Whether a record tells a connection of the group `earlier` anything beside the verdict.
 #[tactic(auto, using(crate::proofs::Hearing::has_news))]
-fn has_news(
+pub(crate) fn has_news(
     records: &[Record],
     place: u32,
     past: &Record,
@@ -191,67 +130,48 @@ fn has_news(
     }
 }
 
-/// How many events the place has for a connection of the group `earlier`.
-#[tactic(auto, using(crate::proofs::Passed::record_at_index, crate::proofs::Hearing::events_counted))]
-pub(crate) fn count_for(
+/// What a record tells a connection beside the verdict, if it is told anything. Memory is asked for only where it is.
+#[inline(always)]
+#[tactic(auto, using(crate::proofs::Hearing::is_told_nothing, crate::proofs::Hearing::is_told_group))]
+pub(crate) fn tell_news(
+    alloc: Global,
     records: &[Record],
+    groups: &Groups,
     place: u32,
+    past: &Record,
     conn: &ConnId,
-    earlier: Option<&Name>,
-) -> usize
-    requires place { (1 ≤ place) × (place ≤ length records.now) }
-    requires earlier { option_copied earlier ≡ group_of (records_before records.now place) conn.now }
-    ensures { result ≡ length (events records.now place conn.now) }
+    told: bool,
+) -> Result<Option<Event>, Refusal>
+    requires place { 1 ≤ place }
+    requires judged { AreJudged records.now }
+    requires groups { AreStanding groups.now records.now }
+    requires told { told ≡ is_some (news place (records_before records.now place) past.now conn.now past.now.group) }
+    ensures ok { IfOk result (λ event. event ≡ news place (records_before records.now place) past.now conn.now past.now.group) }
+    ensures memory { IsOkUnless result Refusal.Memory }
+    ensures told { OnErr result (news place (records_before records.now place) past.now conn.now past.now.group ≢ None) }
 {
-    let past = &records[place as usize - 1];
-    let own = conn.is(&ConnId::of(&past.entry));
-    let heard = has_news(records, place, past, conn, earlier);
-    usize::from(own) + usize::from(heard)
+    match &past.group {
+        Some(group) if told => {
+            let event = event_of(alloc, records, groups, place, past, group)?;
+            Ok(Some(event))
+        }
+        _ => Ok(None),
+    }
 }
 
 /// How many events the place has for the connection of the trail.
+#[tactic(auto, using(crate::proofs::Passed::record_at_index, crate::proofs::Hearing::events_counted))]
 pub(crate) fn count_events(records: &[Record], trail: &[Stop], place: u32, conn: &ConnId) -> usize
     requires place { (1 ≤ place) × (place ≤ length records.now) }
     requires trail { IsTrail records.now conn.now trail.now }
     ensures { result ≡ length (events records.now place conn.now) }
 {
-    let earlier = find_group(records, trail, place as usize - 1);
-    count_for(records, place, conn, earlier)
-}
-
-/// The event of that index, from 0, that the place has for a connection of the group `earlier`: the verdict is
-/// told first, to the maker alone. Memory is asked for only where the event is there.
-#[inline(always)]
-#[tactic(auto, using(crate::proofs::Passed::record_at_index, crate::proofs::Hearing::verdict_first, crate::proofs::Hearing::news_behind, crate::proofs::Hearing::none_behind))]
-pub(crate) fn event_for(
-    alloc: Global,
-    records: &[Record],
-    groups: &Groups,
-    place: u32,
-    conn: &ConnId,
-    earlier: Option<&Name>,
-    index: usize,
-) -> Result<Option<Event>, Refusal>
-    requires place { (1 ≤ place) × (place ≤ length records.now) }
-    requires judged { AreJudged records.now }
-    requires groups { AreStanding groups.now records.now }
-    requires earlier { option_copied earlier ≡ group_of (records_before records.now place) conn.now }
-    ensures ok { IfOk result (λ event. event ≡ slice_get (events records.now place conn.now) index) }
-    ensures memory { IsOkUnless result Refusal.Memory }
-    ensures some { OnErr result (IsSome (slice_get (events records.now place conn.now) index)) }
-{
-    let past = &records[place as usize - 1];
-    let own = usize::from(conn.is(&ConnId::of(&past.entry)));
-    if index < own {
-        return Ok(Some(Event::Verdict {
-            place,
-            verdict: past.verdict,
-        }));
-    }
-    if own < index {
-        return Ok(None);
-    }
-    tell_news(alloc, records, groups, place, past, conn, earlier)
+    let index = place as usize - 1;
+    let past = &records[index];
+    let earlier = find_group(records, trail, index);
+    let own = conn.is(&ConnId::of(&past.entry));
+    let told = has_news(records, place, past, conn, earlier);
+    usize::from(own) + usize::from(told)
 }
 
 /// The events of a place for the connection of the trail.
@@ -282,7 +202,8 @@ pub(crate) fn collect_events(
         })?;
     }
     let earlier = find_group(records, trail, index);
-    if let Some(event) = tell_news(alloc, records, groups, place, past, conn, earlier)? {
+    let told = has_news(records, place, past, conn, earlier);
+    if let Some(event) = tell_news(alloc, records, groups, place, past, conn, told)? {
         list.push(event)?;
     }
     Ok(list)

@@ -121,6 +121,7 @@ impl Node {
 
     /// Puts a call of the connection last among what waits. Refused with NoConnection; BadName or TooLong;
     /// QueueFull.
+    #[inline(always)]
     pub fn submit(&mut self, conn: u16, call: Call) -> Result<(), Refused<Call>>
         ensures answer { IsAnswer (submit_refusal self.old conn call) (λ _. self.new ≡ submitted self.old conn call) (answer_of result) }
         ensures err { OnErr result (self.new ≡ self.old) }
@@ -186,6 +187,7 @@ impl Node {
     }
 
     /// Hears a frame that was read.
+    #[inline(always)]
     fn hear(&mut self, frame: Frame) -> Result<Vec<Bytes>, Refusal>
         requires { IsFrame frame }
         ensures answer { IsFrameAnswer (λ list. list.items) self.old (Some frame) result self.new }
@@ -224,6 +226,7 @@ impl Node {
     }
 
     /// Hears a frame as `frame` does; a long message that it brings is shared with its bytes, not copied.
+    #[inline(always)]
     pub fn shared_frame(&mut self, bytes: &Bytes) -> Result<Vec<Bytes>, Refusal>
         ensures answer { IsFrameAnswer (λ list. list.items) self.old (frame_of bytes.now) result self.new }
         ensures few { IfOk result (λ list. length list.items ≤ 41) }
@@ -286,6 +289,7 @@ impl Node {
     }
 
     /// Judges the next place and takes it as delivered, if it is held.
+    #[inline(always)]
     pub fn deliver(&mut self) -> Result<Option<u32>, Refusal>
         ensures ok { IfOk result (λ place. (place ≡ place_to_deliver self.old) × (self.new ≡ node_after_delivery self.old)) }
         ensures err { OnErr result (self.new ≡ self.old) }
@@ -306,6 +310,7 @@ impl Node {
     }
 
     /// The next item of the connection's inbox, if there is one.
+    #[inline(always)]
     pub fn take(&mut self, conn: u16) -> Result<Option<Event>, Refusal>
         ensures answer { IsTakeAnswer self.old conn (open_client self.old conn) result }
         ensures ok { OnOk result (self.new ≡ took self.old conn) }

@@ -1,5 +1,5 @@
 -- commands done, one after the other
-use Rattle.std.proofs.Common.{◌≡◌, ◌≢◌, ◌⊎◌, ℕ, Result, Ok, Err, OnOk, OnErr, inl, inr, ⊎_elim, List, [], ◌∷◌, ◌++◌, length, Option, refl, sym, ap, subst, ◌∙◌, append_assoc, append-nil}
+use Rattle.std.proofs.Common.{◌≡◌, ℕ, Bool, true, false, IsTrue, ◌↔◌, Result, Ok, Err, OnOk, OnErr, inr, List, [], ◌∷◌, ◌++◌, length, Option, refl, sym, ap, subst, ◌∙◌, append_assoc, append-nil}
 use Rattle.std.specs.List.{concat}
 use Rattle.std.specs.Io.KnownBytes.{Appends}
 use Rattle.std.proofs.KnownBytes.{Appends-trans, Appends-nil}
@@ -29,18 +29,26 @@ act_done w e a text v replied happened said = record {
   said = said ∙ sym (append-nil (answer_line a));
 }
 
--- Where its line was put it is done.
-pub step_done : (w : WorldValue) (e : WorldEvent) (a : Answer) (v : WorldValue) (put : Result (Unit {0}) Refusal) (before text : List ℕ) → IsStep w e a v → OnOk put (a ≢ Err Memory)
-    → before ≡ [] → OnOk put (text ≡ before ++ answer_line a) → OnOk put (IsDone w (Act e) text v)
-step_done w e a v (Ok done) before text step told empty said =
-    let met = step.happened told in
-    act_done w e a text v met.0 met.1 (said ∙ ap (λ front. front ++ answer_line a) empty)
-step_done w e a v (Err refused) before text step told empty said = tt
+-- true is not false
+differ : true ≡ false → ⊥
+differ is = cc
 
--- Where not, it happened, or memory was refused.
-pub step_happened : (w : WorldValue) (e : WorldEvent) (a : Answer) (v : WorldValue) → IsStep w e a v → (put : Result (Unit {0}) Refusal) → OnErr put ((a ≡ Err Memory) ⊎ (a ≢ Err Memory)) → OnErr put (MayBeDone w (Act e) v)
-step_happened w e a v step (Ok done) either = tt
-step_happened w e a v step (Err refused) either = ⊎_elim (λ memory. inl (step.refused memory).0) (λ other. inr (step.happened other).1) either
+-- an event that came to something other than want of memory
+stepped : (w : WorldValue) (e : WorldEvent) (a : Answer) (told : Bool) (v : WorldValue) → IsStep w e a v → (IsTrue told ↔ (a ≡ Err Memory)) → told ≡ false → IsReply w e a × (v ≡ happens w e)
+stepped w e a told v step is none = step.happened (λ memory. differ (sym (is.1 memory) ∙ none))
+
+-- Where its line was put it is done.
+pub step_done : (w : WorldValue) (e : WorldEvent) (a : Answer) (told : Bool) (v : WorldValue) (put : Result (Unit {0}) Refusal) (before text : List ℕ) → IsStep w e a v → (IsTrue told ↔ (a ≡ Err Memory)) → told ≡ false
+    → before ≡ [] → OnOk put (text ≡ before ++ answer_line a) → OnOk put (IsDone w (Act e) text v)
+step_done w e a told v (Ok done) before text step is none empty said =
+    let met = stepped w e a told v step is none in
+    act_done w e a text v met.0 met.1 (said ∙ ap (λ front. front ++ answer_line a) empty)
+step_done w e a told v (Err refused) before text step is none empty said = tt
+
+-- Whether or not, it happened.
+pub step_happened : (w : WorldValue) (e : WorldEvent) (a : Answer) (told : Bool) (v : WorldValue) → IsStep w e a v → (IsTrue told ↔ (a ≡ Err Memory)) → told ≡ false → (put : Result (Unit {0}) Refusal) → OnErr put (MayBeDone w (Act e) v)
+step_happened w e a told v step is none (Ok done) = tt
+step_happened w e a told v step is none (Err refused) = inr (stepped w e a told v step is none).1
 
 -- a look
 pub look_done : (w : WorldValue) (l : LookValue) (text : List ℕ) → text ≡ concat (look_lines w l) → IsDone w (Look l) text w

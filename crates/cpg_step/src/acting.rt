@@ -3,12 +3,11 @@
 //! Proved: what is put is the text of the command's lines, and the world is the one after it; want of memory
 //! leaves the world as it was, or the one after the command where its lines had no room.
 
-ghost use Rattle.std.specs.Prelude.{◌≡◌, ◌≢◌, ◌≤◌, ◌⊎◌, ◌∷◌, ◌++◌, [], length, Err, OnOk, OnErr, IfOk, IsOkUnless};
+ghost use Rattle.std.specs.Prelude.{◌≡◌, ◌≤◌, ◌⊎◌, ◌∷◌, [], length, OnOk, OnErr, IfOk, IsOkUnless};
 ghost use Rattle.cpg_world_laws.specs.Worlds.{node_in, happens};
 ghost use Rattle.cpg_world_laws.specs.Replies.{IsReply};
 ghost use Rattle.cpg_step.specs.declared.commands.Command.TheVariants as commands;
 ghost use Rattle.cpg_step.specs.Commands.{IsWithin};
-ghost use Rattle.cpg_step.specs.Lines.{answer_line};
 ghost use Rattle.cpg_step.specs.Running.{after};
 ghost use Rattle.cpg_step.specs.Steps.{IsDone, MayBeDone};
 
@@ -21,6 +20,7 @@ use std::alloc::Global;
 
 /// Does the command, and puts its lines where there are none.
 #[tactic(auto, using(crate::proofs::Doing::look_done))]
+#[inline(always)]
 pub fn do_command(
     alloc: Global,
     lines: &mut Vec<u8>,
@@ -39,27 +39,8 @@ pub fn do_command(
     }
 }
 
-/// Puts the line of an answer that is not want of memory.
+/// Brings the event about, and puts the line of its answer, which is looked at where it is: it is large to move.
 #[inline(always)]
-fn put_unless_memory(
-    alloc: Global,
-    line: &mut Vec<u8>,
-    answer: &Result<Reply, Refusal>,
-) -> Result<(), Refusal>
-    ensures ok { OnOk result (line.new.items ≡ line.old.items ++ answer_line answer.now) }
-    ensures told { OnOk result (answer.now ≢ Err Refusal.Memory) }
-    ensures memory { IsOkUnless result Refusal.Memory }
-
-    // A proof goes by the two cases.
-    ensures either { OnErr result ((answer.now ≡ Err Refusal.Memory) ⊎ (answer.now ≢ Err Refusal.Memory)) }
-{
-    if is_memory(answer) {
-        return Err(Refusal::Memory);
-    }
-    put_answer(alloc, line, answer)
-}
-
-/// Brings the event about, and puts the line of its answer, which is looked at where it is given: it is large to move.
 fn act(
     alloc: Global,
     line: &mut Vec<u8>,
@@ -72,7 +53,11 @@ fn act(
     ensures err { OnErr result (MayBeDone world.old (commands.Act event) world.new) }
     ensures memory { IsOkUnless result Refusal.Memory }
 {
-    put_unless_memory(alloc, line, &world.step(event))
+    let answer = world.step(event);
+    if is_memory(&answer) {
+        return Err(Refusal::Memory);
+    }
+    put_answer(alloc, line, &answer)
 }
 
 /// Brings the event about, and gives its answer; or memory was refused, and nothing happened.

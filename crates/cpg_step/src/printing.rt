@@ -48,6 +48,7 @@ fn put_count(line: &mut Vec<u8>, name: &str, count: u64) -> Result<(), Refusal>
 }
 
 /// Puts the line of a reply at the lines' end.
+#[inline(always)]
 pub fn put_reply(line: &mut Vec<u8>, reply: &Reply) -> Result<(), Refusal>
     ensures ok { OnOk result (line.new.items ≡ line.old.items ++ reply_line reply.now) }
     ensures memory { IsOkUnless result Refusal.Memory }
@@ -65,6 +66,7 @@ pub fn put_reply(line: &mut Vec<u8>, reply: &Reply) -> Result<(), Refusal>
 }
 
 /// Puts the line of a reply or of a refusal at the lines' end.
+#[inline(always)]
 pub fn put_answer(
     alloc: Global,
     line: &mut Vec<u8>,

@@ -138,6 +138,7 @@ fn meet_timer(node: &mut Node, id: NodeId, sent: &mut Vec<Bytes>) -> Result<Repl
 }
 
 /// The event at its node.
+#[inline(always)]
 pub(crate) fn meet(
     node: &mut Node,
     sent: &mut Vec<Bytes>,

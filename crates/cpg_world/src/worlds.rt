@@ -73,6 +73,7 @@ impl World {
     /// One event at its node, with its reply. A refusal for want of memory leaves the world as it was.
     ///
     /// The event's node is one of the world's.
+    #[inline(always)]
     pub fn step(&mut self, event: WorldEvent) -> Result<Reply, Refusal>
         requires { node_in event ≤ length self.old.nodes }
         ensures step { IsStep self.old event result self.new }
