@@ -20,7 +20,7 @@ invariant_of-self-in-Ok c =
     let here : c.len.result + 1 ≡ length c.self.inside.records.items + 1 = omega arith in
     let same : judged c.args.self.now ≡ c.self.inside.records.items = ap judged (sym c.self.view_is) ∙ sym c.self.invariant.0.1 in
     let longer : c.push_reserved.new.self.items ≡ c.self.inside.records.items ++ c.args.next ∷ [] =
-    c.push_reserved.ensures.items ∙ ap (λ rs. rs ++ c.args.next ∷ []) c.reserve.ensures.items in
+    c.push_reserved.ensures.items ∙ ap (λ rs. rs ++ c.args.next ∷ []) c.reserve_ahead.ensures.items in
     let judgement : c.args.next ≡ record_of (judged (entries_of c.self.inside.records.items)) c.args.next.entry =
     c.requires.1 ∙ ap (λ es. record_of (judged es) c.args.next.entry) (sym c.self.view_is) in
     let over : c.args.next ≡ record_of c.self.inside.records.items c.args.next.entry =
@@ -28,7 +28,7 @@ invariant_of-self-in-Ok c =
     let few : length (c.self.inside.records.items ++ c.args.next ∷ []) ≤ most_places =
     omega (arith, length_push c.self.inside.records.items c.args.next, c.requires.0, ap length c.self.view_is, length-map c.self.inside.records.items (λ (r : Record). r.entry)) in
     let trails : AreTrails c.take_in.new.self.kept.entries (c.self.inside.records.items ++ c.args.next ∷ []) =
-    subst (λ (rs : List Record). AreTrails c.take_in.new.self.kept.entries (rs ++ c.args.next ∷ [])) (c.as_slice-records.ensures.value ∙ c.reserve.ensures.items) c.in-Ok.ensures.longer in
+    subst (λ (rs : List Record). AreTrails c.take_in.new.self.kept.entries (rs ++ c.args.next ∷ [])) (c.as_slice-records.ensures.value ∙ c.reserve_ahead.ensures.items) c.in-Ok.ensures.longer in
     let P : List Record → Type 0 = λ (rs : List Record). AreRecords rs × AreStanding c.take_in.new.groups rs × AreTrails c.take_in.new.self.kept.entries rs in
     subst P (sym longer) (
       (few, AreJudged-push c.self.inside.records.items c.args.next c.self.invariant.0.1 judgement),

@@ -10,7 +10,7 @@ use Rattle.cpg_group.proofs.policies.Policy.enter.Goals as goal
 pub enter-requires-clause-entry : goal.enter-requires-clause-entry
 enter-requires-clause-entry c =
     let here : c.len.result + 1 ≡ length c.self.inside.records.items + 1 = omega arith in
-    let lent = sym (c.as_slice-records.ensures.value ∙ c.reserve.ensures.items) in
+    let lent = sym (c.as_slice-records.ensures.value ∙ c.reserve_ahead.ensures.items) in
     let P : List Record → Type 0 = λ (rs : List Record). (g : List ℕ) → CanTake g (kept_group c.self.inside.groups g) (c.len.result + 1, record_of rs c.draft_of-past.result.entry) in (
       c.draft_of-past.ensures.members,
       subst (AreStanding c.self.inside.groups) lent c.self.invariant.1,
@@ -23,9 +23,9 @@ invariant_of-self-in-Ok c =
     let rs : List Record = c.self.inside.records.items in
     let next : Record = record_of c.self.inside.records.items c.draft_of-past.result.entry in
     let here : c.len.result + 1 ≡ length c.self.inside.records.items + 1 = omega arith in
-    let lent = c.as_slice-records.ensures.value ∙ c.reserve.ensures.items in
+    let lent = c.as_slice-records.ensures.value ∙ c.reserve_ahead.ensures.items in
     let longer : c.push_reserved.new.self.items ≡ rs ++ next ∷ [] =
-    c.push_reserved.ensures.items ∙ ap (λ (past : List Record). past ++ c.enter.new.next ∷ []) c.reserve.ensures.items
+    c.push_reserved.ensures.items ∙ ap (λ (past : List Record). past ++ c.enter.new.next ∷ []) c.reserve_ahead.ensures.items
     ∙ ap (λ (r : Record). c.self.inside.records.items ++ r ∷ []) (c.in-Ok.ensures.ok ∙ ap (λ (past : List Record). record_of past c.draft_of-past.result.entry) lent) in
     let judgement : next ≡ record_of (judged (entries_of rs)) c.draft_of-past.result.entry = ap (λ (past : List Record). record_of past c.draft_of-past.result.entry) c.self.invariant.0.1 in
     let few : length (rs ++ next ∷ []) ≤ most_places =
