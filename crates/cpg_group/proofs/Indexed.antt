@@ -9,7 +9,7 @@ use Rattle.cpg_record.specs.declared.memberships.Member.{Member}
 use Rattle.cpg_record.specs.Connections.{conn_in, is_conn}
 use Rattle.cpg_record.specs.Steps.{without}
 use Rattle.cpg_group.specs.declared.rosters.Process.{Process}
-use Rattle.cpg_group.specs.Processes.{process_in, is_leaver, is_process, AreKept, AreProcesses, OnceEach, TakesOut}
+use Rattle.cpg_group.specs.Processes.{process_in, is_leaver, is_process, AreProcesses, OnceEach, TakesOut}
 
 -- how many pass, by the first of them
 count-cons : {X : Type 0} (p : X → Bool) (x : X) (xs : List X) → count_by p (x ∷ xs) ≡ cond (p x) 1 0 + count_by p xs
@@ -71,20 +71,15 @@ leavers_out conn members after old new are once out is p =
     ∙ rest_passes (λ member. is_conn (conn_in member) conn) (λ member. is_process (process_in member) p) members (once p)
     ∙ ap (list_any (λ member. is_process (process_in member) p)) (sym is)
 
--- where more than a few stay, the kept processes after those of a connection went are those of who stay
-pub leavers_left : (conn : ConnId) (members after : List Member) (old new : List Process) → AreKept old members → OnceEach members → TakesOut conn members old new →
-    after ≡ without conn members → AreKept new after
-leavers_left conn members after old new are once out is above =
-    leavers_out conn members after old new (are (more_before above no_more)) once out is
+-- where the members are few, few stay
+pub few_stay : {n : ℕ} (conn : ConnId) (members after : List Member) → after ≡ without conn members → length members ≤ n → length after ≤ n
+few_stay conn members after is few = fewer few (subst (λ (n : ℕ). n ≤ length members) (sym (ap length is ∙ length-filter stays members)) (count_by-le-length stays members))
   where
     stays : Member → Bool
     stays member = not (is_conn (conn_in member) conn)
 
-    no_more : length after ≤ length members
-    no_more = subst (λ (n : ℕ). n ≤ length members) (sym (ap length is ∙ length-filter stays members)) (count_by-le-length stays members)
-
-    more_before : {n m k : ℕ} → n < m → m ≤ k → n < k
-    more_before less more = omega arith
+    fewer : {n m k : ℕ} → m ≤ k → n ≤ m → n ≤ k
+    fewer few less = omega arith
 
 -- with a member's process put in, the kept processes are those of one member more
 pub one_more : (members : List Member) (i : ℕ) (d : Member) (added : Process) (old new : List Process) → i < length members → AreProcesses old (take i members) →

@@ -1,6 +1,7 @@
 -- the processes of a group's members, as they are kept beside the members
-use Rattle.std.specs.Prelude.{◌≡◌, ◌≤◌, ◌<◌, Bool, not, ◌&&◌, ◌==◌, List, [], ◌∷◌, ◌++◌, count_by, length}
+use Rattle.std.specs.Prelude.{◌≡◌, ◌≤◌, ◌<◌, Bool, not, ◌&&◌, ◌==◌, List, [], ◌∷◌, ◌++◌, count_by, length, Option, Some, None, option_map, Box}
 use Rattle.std.specs.List.{list_any}
+use Rattle.indexmap.specs.IndexSet.{IndexSet}
 use Rattle.cpg_entry.specs.declared.calls.Call.TheVariants.{Join, Leave}
 use Rattle.cpg_entry.specs.declared.calls.Op.{Op}
 use Rattle.cpg_entry.specs.declared.calls.Op.TheVariants.{Act, Gone}
@@ -28,9 +29,14 @@ is_process a b = (a.node == b.node) && (a.pid == b.pid)
 abbrev pub AreProcesses : List Process → List Member → Type 0
 AreProcesses kept members = (p : Process) → list_any (is_process p) kept ≡ list_any (λ member. is_process (process_in member) p) members
 
--- where the members are more than a few, their processes are kept
-abbrev pub AreKept : List Process → List Member → Type 0
-AreKept kept members = FEW < length members → AreProcesses kept members
+-- the processes of a boxed set, where there is one
+abbrev pub kept_of : {S Z : Type 0} → Option (Box (IndexSet Process S) Z) → Option (List Process)
+kept_of boxed = option_map (λ set. set.value.keys) boxed
+
+-- processes are kept exactly where the members are more than a few, and then they are those of the members
+abbrev pub AreKept : Option (List Process) → List Member → Type 0
+AreKept None members = length members ≤ FEW
+AreKept (Some kept) members = (FEW < length members) × AreProcesses kept members
 
 -- no process stands twice among the members
 abbrev pub OnceEach : List Member → Type 0

@@ -1,11 +1,11 @@
 //! The members of a group, with the set of their processes where they are more than a few: whether a process
-//! is a member is one search of the set there, and a look at each of the few members elsewhere.
+//! is a member is one search of the set there, and a look at each of the few members elsewhere. The set is
+//! boxed, so that a group of few members, as nearly each is, pays no more than the place of a box.
 
 ghost use Rattle.std.specs.Prelude.{◌≡◌, ◌++◌, ◌∷◌, [], OnOk, OnErr, IfOk, IsOkUnless};
 ghost use Rattle.cpg_record.specs.Connections.{conn_of, member_of};
 ghost use Rattle.cpg_record.specs.Verdicts.{has_process};
-ghost use Rattle.indexmap.specs.IndexSet.{IsUnchanged};
-ghost use Rattle.cpg_group.specs.Processes.{process_in, process_of, AreKept, AreProcesses, ComesTo, Leaves, TakesOut};
+ghost use Rattle.cpg_group.specs.Processes.{kept_of, process_in, process_of, AreKept, AreProcesses, ComesTo, Leaves, TakesOut};
 
 use cpg_cred::{NodeId, Refusal};
 use cpg_entry::{Call, Entry, Op};
@@ -58,25 +58,17 @@ fn processes_of(alloc: Global, members: &[Member]) -> Result<IndexSet<Process>, 
     Ok(processes)
 }
 
-/// Brings the kept processes past a join. Where it makes the members more than a few, they are all put in anew.
-/// A refusal changes nothing.
-fn keep_joined(
-    processes: &mut IndexSet<Process>,
-    before: &Members,
-    past: &Record,
-) -> Result<(), Refusal>
-    requires joined { past.now.members ≡ before.now ++ member_of past.now.entry ∷ [] }
-    requires kept { AreKept processes.old.keys before.now }
-    ensures ok { OnOk result (AreKept processes.new.keys past.now.members) }
-    ensures err { OnErr result (IsUnchanged processes.old processes.new) }
+/// The processes to keep beside those members, made anew: where they are more than a few, the set of them.
+fn kept_beside(alloc: Global, members: &Members) -> Result<Option<Box<IndexSet<Process>>>, Refusal>
+    ensures ok { IfOk result (λ processes. AreKept (kept_of processes) members.now) }
     ensures memory { IsOkUnless result Refusal.Memory }
 {
-    if before.len() > FEW {
-        processes.insert(Process::of(&past.entry))?;
-    } else if past.members.len() > FEW {
-        *processes = processes_of(*processes.allocator(), past.members.as_slice())?;
+    if members.len() > FEW {
+        let processes = processes_of(alloc, members.as_slice())?;
+        Ok(Some(Box::new(alloc, processes)?))
+    } else {
+        Ok(None)
     }
-    Ok(())
 }
 
 /// Takes the member's process out of the kept ones, if the member is that connection.
@@ -99,37 +91,37 @@ fn take_out(processes: &mut IndexSet<Process>, members: &[Member], conn: &ConnId
 
 /// Brings the kept processes past a leave or end. Where no more than a few members stay, none is kept, and the
 /// set gives its memory back.
-fn keep_rest(processes: &mut IndexSet<Process>, before: &Members, past: &Record)
+fn keep_rest(processes: &mut Option<Box<IndexSet<Process>>>, before: &Members, past: &Record)
     requires left { Leaves (conn_of past.now.entry) before.now past.now.members }
-    requires kept { AreKept processes.old.keys before.now }
-    ensures { AreKept processes.new.keys past.now.members }
+    requires kept { AreKept (kept_of processes.old) before.now }
+    ensures { AreKept (kept_of processes.new) past.now.members }
 {
-    if past.members.len() > FEW {
+    if past.members.len() <= FEW {
+        *processes = None;
+    } else if let Some(kept) = processes {
         let conn = ConnId::of(&past.entry);
-        take_out(processes, before.as_slice(), &conn);
-    } else {
-        *processes = IndexSet::new(*processes.allocator());
+        take_out(kept, before.as_slice(), &conn);
     }
 }
 
 /// The members of a group in the order of their joins, with the set of their processes where they are more
-/// than a few. The set of a group with few members is empty. Contracts see it as the list of members.
+/// than a few. A group with few members has no set. Contracts see it as the list of members.
 #[derive(Debug, Drop)]
 pub(crate) struct Roster {
     members: Members,
-    processes: IndexSet<Process>,
+    processes: Option<Box<IndexSet<Process>>>,
 }
 
 impl Model for Roster {
     ghost use Rattle.std.specs.Prelude.{List};
     ghost use Rattle.cpg_record.specs.declared.memberships.Member.{Member};
-    ghost use Rattle.cpg_group.specs.Processes.{AreKept};
+    ghost use Rattle.cpg_group.specs.Processes.{kept_of, AreKept};
 
     ghost Value = { List Member };
 
     ghost view = { λ roster. roster.members };
 
-    ghost invariant = { λ roster. AreKept roster.processes.keys roster.members };
+    ghost invariant = { λ roster. AreKept (kept_of roster.processes) roster.members };
 }
 
 impl Roster {
@@ -139,7 +131,7 @@ impl Roster {
     {
         Roster {
             members: Members::new(alloc),
-            processes: IndexSet::new(alloc),
+            processes: None,
         }
     }
 
@@ -154,50 +146,54 @@ impl Roster {
     pub(crate) fn has_process(&self, entry: &Entry) -> bool
         ensures { result ≡ has_process entry.now self.now }
     {
-        if self.members.len() > FEW {
-            self.processes.contains(&Process::of(entry))
-        } else {
-            self.members.has_process(entry)
+        match &self.processes {
+            Some(processes) => processes.contains(&Process::of(entry)),
+            None => self.members.has_process(entry),
         }
     }
 
     /// Lists the members of the record of an allowed join. A refusal changes nothing.
-    fn join(&mut self, past: &Record) -> Result<(), Refusal>
+    fn join(&mut self, alloc: Global, past: &Record) -> Result<(), Refusal>
         requires { past.now.members ≡ self.old ++ member_of past.now.entry ∷ [] }
         ensures ok { OnOk result (self.new ≡ past.now.members) }
         ensures err { OnErr result (self.new ≡ self.old) }
         ensures memory { IsOkUnless result Refusal.Memory }
     {
-        let members = past.members.copy(*self.processes.allocator())?;
-        keep_joined(&mut self.processes, &self.members, past)?;
+        let members = past.members.copy(alloc)?;
+        match &mut self.processes {
+            Some(processes) => {
+                processes.insert(Process::of(&past.entry))?;
+            }
+            None => self.processes = kept_beside(alloc, &members)?,
+        }
         self.members = members;
         Ok(())
     }
 
     /// Lists the members of the record of an allowed leave or end. A refusal changes nothing.
-    fn leave(&mut self, past: &Record) -> Result<(), Refusal>
+    fn leave(&mut self, alloc: Global, past: &Record) -> Result<(), Refusal>
         requires { Leaves (conn_of past.now.entry) self.old past.now.members }
         ensures ok { OnOk result (self.new ≡ past.now.members) }
         ensures err { OnErr result (self.new ≡ self.old) }
         ensures memory { IsOkUnless result Refusal.Memory }
     {
-        let members = past.members.copy(*self.processes.allocator())?;
+        let members = past.members.copy(alloc)?;
         keep_rest(&mut self.processes, &self.members, past);
         self.members = members;
         Ok(())
     }
 
     /// Lists the members of an allowed record of the group. A refusal changes nothing.
-    pub(crate) fn take_in(&mut self, past: &Record) -> Result<(), Refusal>
+    pub(crate) fn take_in(&mut self, alloc: Global, past: &Record) -> Result<(), Refusal>
         requires { ComesTo self.old past.now.entry past.now.entry.op past.now.members }
         ensures ok { OnOk result (self.new ≡ past.now.members) }
         ensures err { OnErr result (self.new ≡ self.old) }
         ensures memory { IsOkUnless result Refusal.Memory }
     {
         match &past.entry.op {
-            Op::Act(Call::Join(_)) => self.join(past),
-            Op::Act(Call::Leave) => self.leave(past),
-            Op::Gone => self.leave(past),
+            Op::Act(Call::Join(_)) => self.join(alloc, past),
+            Op::Act(Call::Leave) => self.leave(alloc, past),
+            Op::Gone => self.leave(alloc, past),
             _ => Ok(()),
         }
     }

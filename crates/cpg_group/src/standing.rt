@@ -125,7 +125,7 @@ impl Group {
             Op::Act(Call::Insert(_, _, _)) | Op::Act(Call::Remove(_, _)) => {
                 edit(&mut self.table, place, &past.entry.op)?
             }
-            _ => self.roster.take_in(past)?,
+            _ => self.roster.take_in(*self.places.allocator(), past)?,
         }
         self.places.push_reserved(place);
         Ok(())

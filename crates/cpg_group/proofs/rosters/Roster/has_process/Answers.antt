@@ -1,12 +1,13 @@
-use Rattle.std.proofs.Common.{◌<◌, ℕ, ap, subst, ◌∙◌}
+use Rattle.std.proofs.Common.{ap, subst, ◌∙◌}
 use Rattle.std.specs.List.{list_any}
 use Rattle.cpg_record.specs.Verdicts.{has_process}
-use Rattle.cpg_group.specs.declared.rosters.TheConstants.{FEW}
-use Rattle.cpg_group.specs.Processes.{process_in, is_process}
+use Rattle.cpg_group.specs.Processes.{kept_of, process_in, is_process, AreKept}
 use Rattle.cpg_group.proofs.rosters.Roster.has_process.Goals as goal
 
-pub returns-then-len-gt-FEW : goal.returns-then-len-gt-FEW
-returns-then-len-gt-FEW c =
-    c.contains.ensures ∙ c.self.invariant (subst (λ (n : ℕ). FEW < n) c.len.ensures c.if-len-gt-FEW.true) c.of.result
+pub returns-in-Some : goal.returns-in-Some
+returns-in-Some c =
+    c.contains.ensures
+    ∙ ap (λ set. list_any (is_process c.of.result) set.keys) c.deref.ensures
+    ∙ (subst (λ boxed. AreKept (kept_of boxed) c.self.inside.members) c.in-Some.is c.self.invariant).1 c.of.result
     ∙ ap (λ p. list_any (λ member. is_process (process_in member) p) c.self.inside.members) c.of.ensures
     ∙ ap (has_process c.args.entry.now) c.self.view_is
