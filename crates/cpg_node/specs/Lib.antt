@@ -3,3 +3,4 @@ pub mod Calls
 pub mod Answers
 pub mod Cursors
 pub mod Kept
+pub mod Found

@@ -7,7 +7,7 @@ ghost use Rattle.cpg_record.specs.Judging.{judged, most_places, IsNext};
 ghost use Rattle.cpg_node.specs.Cursors.{IsCursor};
 
 use crate::cursors::Cursor;
-use crate::inboxes::seek;
+use crate::inboxes::{event_of, seek};
 use cpg_cred::{Refusal, Refused};
 use cpg_entry::Entry;
 use cpg_group::{Event, Policy, Record};
@@ -124,8 +124,11 @@ impl Judged {
         ensures some { OnErr result (IsSome (slice_get (inbox (judged self.old) conn) index)) }
     {
         let from = self.cursor_for(conn, index);
-        let sought = seek(alloc, &self.policy, from, index)?;
-        self.keep(sought.cursor);
-        Ok(sought.event)
+        let (found, cursor) = seek(&self.policy, from, index);
+        let event = event_of(alloc, found);
+        if event.is_ok() {
+            self.keep(cursor);
+        }
+        event
     }
 }

@@ -321,12 +321,12 @@ impl Node {
             return Err(Refusal::NoConnection);
         };
         let id = self.conn_id(conn);
-        let event = self.judged.event_of(self.alloc, id, client.taken as usize)?;
-        if event.is_some() {
+        let event = self.judged.event_of(self.alloc, id, client.taken as usize);
+        if let Ok(Some(_)) = &event {
             let taken = client.taken + 1;
             put_client(&mut self.clients, conn, Client { taken, ..client });
         }
-        Ok(event)
+        event
     }
 
     fn conn_id(&self, conn: u16) -> ConnId

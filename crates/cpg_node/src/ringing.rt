@@ -16,13 +16,14 @@ use cpg_ring::{Ring, Visit};
 use cpg_wire::{encode_data, encode_token};
 use std::alloc::Global;
 
+/// The spellings of the packets, in a list with room for the token's.
 fn spell_packets(alloc: Global, packets: &[Packet]) -> Result<Vec<Bytes>, Refusal>
     requires { All IsPacket packets.now }
     ensures ok { IfOk result (λ list. list.items ≡ spelled (map frames.Packet packets.now)) }
     ensures range { OnOk result (All CanBeSpelled (map frames.Packet packets.now)) }
     ensures memory { IsOkUnless result Refusal.Memory }
 {
-    let mut list = Vec::new(alloc);
+    let mut list = Vec::with_capacity(alloc, packets.len().saturating_add(1))?;
     for packet in packets {
         list.push(encode_data(alloc, packet)?)?;
     }

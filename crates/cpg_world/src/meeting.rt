@@ -6,7 +6,7 @@ ghost use Rattle.cpg_world.specs.Kept.{frames_of, AreSpelled, IsMet};
 
 use bytes::Bytes;
 use cpg_cred::{Cred, NodeId, Refusal};
-use cpg_entry::{Call, Name};
+use cpg_entry::{Call, Name, reserve_ahead};
 use cpg_node::Node;
 use cpg_wire::reads_what_is_spelled;
 use cpg_world_laws::{Reply, WorldEvent};
@@ -110,7 +110,7 @@ fn meet_frame(
     if k > sent.len() {
         return Err(Refusal::NoFrame);
     }
-    sent.reserve(41)?;
+    reserve_ahead(sent, 41)?;
     let mut list = match node.shared_frame(&sent[k - 1]) {
         Ok(list) => list,
         Err(refusal) => return Err(refusal),

@@ -1,4 +1,4 @@
-use Rattle.std.proofs.Common.{◌≡◌, ℕ, ◌+◌, ◌<◌, ◌≤◌, ◌-◌, List, length, None, Some, refl, sym, ap, ◌∙◌, subst, arith}
+use Rattle.std.proofs.Common.{◌≡◌, ℕ, ◌+◌, ◌<◌, ◌≤◌, ◌-◌, List, length, None, refl, sym, ap, ◌∙◌, subst, arith}
 use Rattle.std.specs.Prelude.{IsSome}
 use Rattle.std.specs.List.{slice_get}
 use Rattle.cpg_record.specs.declared.connections.ConnId.{ConnId}
@@ -11,7 +11,7 @@ use Rattle.cpg_group.specs.Heard.{HeardValue}
 use Rattle.cpg_group.specs.declared.nexts.Hint.{Hint}
 use Rattle.cpg_node.specs.Cursors.{IsCursor}
 use Rattle.cpg_node.specs.declared.cursors.Cursor.{Cursor}
-use Rattle.cpg_node.proofs.Looking.{cursor_behind, cursor_past, item_at, item_there, whatever, few_at, none_left}
+use Rattle.cpg_node.proofs.Looking.{cursor_behind, cursor_past, item_at, item_there, few_at, none_left}
 use Rattle.cpg_node.proofs.inboxes.seek.Goals as goal
 
 -- what is asked of a place that was found is of the records
@@ -58,35 +58,35 @@ past-cursor-requires c =
     let most = few c.args.policy.now c.loop-heard.cursor c.in-Some.heard c.count-count.result c.in-Some.ensures.value c.count-count.ensures c.loop-heard.invariant.right c.in-Some.ensures.next c.requires.few in
     omega (arith, most)
 
-pub behind-requires-clause-few : goal.behind-requires-clause-few
-behind-requires-clause-few c =
+pub behind-cursor-requires-clause-few : goal.behind-cursor-requires-clause-few
+behind-cursor-requires-clause-few c =
     let most = few c.args.policy.now c.loop-heard.cursor c.in-Some.heard c.count-count.result c.in-Some.ensures.value c.count-count.ensures c.loop-heard.invariant.right c.in-Some.ensures.next c.requires.few in
     omega (arith, most)
 
-pub returns-in_err-event-clause-some : goal.returns-in_err-event-clause-some
-returns-in_err-event-clause-some c =
+pub returns-then-at-count-clause-found : goal.returns-then-at-count-clause-found
+returns-then-at-count-clause-found c =
+    item_is c.args.policy.now c.loop-heard.cursor c.in-Some.heard c.count-count.result c.args.index c.in-Some.ensures.value c.count-count.ensures c.loop-heard.invariant.right c.in-Some.ensures.next c.loop-heard.invariant.before c.if-at-count.true
+    ∙ ap (λ (conn : ConnId). slice_get (inbox (judged c.args.policy.now) conn) c.args.index) c.loop-heard.invariant.conn
+
+pub returns-then-at-count-clause-there : goal.returns-then-at-count-clause-there
+returns-then-at-count-clause-there c =
     let cursor = c.loop-heard.cursor in
     let at = item_is c.args.policy.now cursor c.in-Some.heard c.count-count.result c.args.index c.in-Some.ensures.value c.count-count.ensures c.loop-heard.invariant.right c.in-Some.ensures.next c.loop-heard.invariant.before c.if-at-count.true in
     let within = c.if-at-count.true in
     let count = c.count-count.ensures in
     let there : IsSome (slice_get (inbox (judged c.args.policy.now) cursor.conn) c.args.index) =
     subst IsSome at (item_there (events c.in-Some.heard.records c.in-Some.heard.place c.in-Some.heard.conn) (c.args.index - cursor.told) (omega (arith, within, count))) in
-    whatever c.from_residual.result (subst (λ (conn : ConnId). IsSome (slice_get (inbox (judged c.args.policy.now) conn) c.args.index)) c.loop-heard.invariant.conn there)
-
-pub returns-then-at-count-clause-event : goal.returns-then-at-count-clause-event
-returns-then-at-count-clause-event c =
-    let at = item_is c.args.policy.now c.loop-heard.cursor c.in-Some.heard c.count-count.result c.args.index c.in-Some.ensures.value c.count-count.ensures c.loop-heard.invariant.right c.in-Some.ensures.next c.loop-heard.invariant.before c.if-at-count.true in
-    c.in_ok-event.ensures.ok ∙ at ∙ ap (λ (conn : ConnId). slice_get (inbox (judged c.args.policy.now) conn) c.args.index) c.loop-heard.invariant.conn
+    subst (λ (conn : ConnId). IsSome (slice_get (inbox (judged c.args.policy.now) conn) c.args.index)) c.loop-heard.invariant.conn there
 
 pub returns-then-at-count-clause-cursor : goal.returns-then-at-count-clause-cursor
 returns-then-at-count-clause-cursor c =
     let now = c.args.policy.now in
     let cursor = c.loop-heard.cursor in
     let further = past_is now cursor c.in-Some.heard c.place-place.result c.count-count.result c.hint-hint.result c.in-Some.ensures.value c.place-place.ensures c.count-count.ensures c.loop-heard.invariant.right c.in-Some.ensures.next in
-    subst (IsCursor (judged now)) (sym c.behind.ensures) (cursor_behind (judged now) _ cursor _ c.loop-heard.invariant.right further)
+    subst (IsCursor (judged now)) (sym c.behind-cursor.ensures) (cursor_behind (judged now) _ cursor _ c.loop-heard.invariant.right further)
 
 pub returns-then-at-count-clause-few : goal.returns-then-at-count-clause-few
-returns-then-at-count-clause-few c = λ some.
+returns-then-at-count-clause-few c =
     let most = few c.args.policy.now c.loop-heard.cursor c.in-Some.heard c.count-count.result c.in-Some.ensures.value c.count-count.ensures c.loop-heard.invariant.right c.in-Some.ensures.next c.requires.few in
     let within = c.if-at-count.true in
     omega (arith, most, within)
@@ -104,7 +104,7 @@ loop-heard-preserved c =
       before = let told = ap (λ (cursor : Cursor). cursor.told) c.past-cursor.ensures in omega (arith, told, outside, before);
     }
 
-pub returns-clause-event : goal.returns-clause-event
-returns-clause-event c =
+pub returns-clause-found : goal.returns-clause-found
+returns-clause-found c =
     subst (λ (conn : ConnId). None ≡ slice_get (inbox (judged c.args.policy.now) conn) c.args.index) c.loop-heard.invariant.conn
     (none_left (judged c.args.policy.now) c.loop-heard.cursor c.args.index c.loop-heard.invariant.right c.in_default.ensures.next c.loop-heard.invariant.before)

@@ -26,11 +26,11 @@ returns-in-Err-clause-met c =
     let e = c.len.ensures in
     let x = c.args.node.now in
     let bytes = c.index.result.now in
-    let at : get_or c.args.sent.now.items (c.args.k - 1) bytes ≡ bytes = ap (λ xs. get_or xs (c.args.k - 1) bytes) (sym c.in_ok-reserve.ensures.items) ∙ sym c.index.ensures in
+    let at : get_or c.args.sent.now.items (c.args.k - 1) bytes ≡ bytes = ap (λ xs. get_or xs (c.args.k - 1) bytes) (sym c.in_ok-reserve_ahead.ensures.items) ∙ sym c.index.ensures in
     let th : There c.args.sent.now.items c.args.k bytes = there c.reads_what_is_spelled.ensures.again c.args.sent.now.items c.args.k bytes c.requires.spelled (omega arith) (omega arith) at in
     let read : frame_of bytes ≡ Some th.frame = th.read in
     let a = subst (λ (o : Option Frame). IsFrameAnswer (λ (list : Vec (Bytes Global) Global). list.items) x o (Err c.in-Err.refusal) c.shared_frame.new.self) read c.in-Err.ensures.answer in
-    subst (λ bs. IsMet (frames_of c.args.sent.now.items) (events.Frame c.args.id c.args.k) x (Err c.in-Err.refusal) c.shared_frame.new.self (frames_of bs)) (sym c.in_ok-reserve.ensures.items)
+    subst (λ bs. IsMet (frames_of c.args.sent.now.items) (events.Frame c.args.id c.args.k) x (Err c.in-Err.refusal) c.shared_frame.new.self (frames_of bs)) (sym c.in_ok-reserve_ahead.ensures.items)
     (heard_err (λ (list : Vec (Bytes Global) Global). list.items) (frames_of c.args.sent.now.items) c.args.id c.args.k x th.frame c.in-Err.refusal c.shared_frame.new.self th.is a)
 
 pub returns-clause-met : goal.returns-clause-met
@@ -40,12 +40,12 @@ returns-clause-met c =
     let e = c.len.ensures in
     let x = c.args.node.now in
     let bytes = c.index.result.now in
-    let at : get_or c.args.sent.now.items (c.args.k - 1) bytes ≡ bytes = ap (λ xs. get_or xs (c.args.k - 1) bytes) (sym c.in_ok-reserve.ensures.items) ∙ sym c.index.ensures in
+    let at : get_or c.args.sent.now.items (c.args.k - 1) bytes ≡ bytes = ap (λ xs. get_or xs (c.args.k - 1) bytes) (sym c.in_ok-reserve_ahead.ensures.items) ∙ sym c.index.ensures in
     let th : There c.args.sent.now.items c.args.k bytes = there c.reads_what_is_spelled.ensures.again c.args.sent.now.items c.args.k bytes c.requires.spelled (omega arith) (omega arith) at in
     let read : frame_of bytes ≡ Some th.frame = th.read in
     let a = subst (λ (o : Option Frame). IsFrameAnswer (λ list. list.items) x o (Ok c.in-Ok.list) c.shared_frame.new.self) read c.in-Ok.ensures.answer in
     let range = subst (λ (o : Option Frame). IfSome o (λ f. All CanBeSpelled (answers_to x f))) read c.in-Ok.ensures.range in
-    let s = sends c.reads_what_is_spelled.ensures.again c.args.sent.now.items c.append.new.self.items (answers_to x th.frame) c.requires.spelled range (c.in_ok-append.ensures.items ∙ (ap (λ bs. bs ++ c.in-Ok.list.items) c.in_ok-reserve.ensures.items ∙ ap (λ bs. c.args.sent.now.items ++ bs) a.1)) in
+    let s = sends c.reads_what_is_spelled.ensures.again c.args.sent.now.items c.append.new.self.items (answers_to x th.frame) c.requires.spelled range (c.in_ok-append.ensures.items ∙ (ap (λ bs. bs ++ c.in-Ok.list.items) c.in_ok-reserve_ahead.ensures.items ∙ ap (λ bs. c.args.sent.now.items ++ bs) a.1)) in
     heard_ok (frames_of c.args.sent.now.items) c.args.id c.args.k x c.shared_frame.new.self th.frame c.len-count.result (frames_of c.append.new.self.items) th.is a.0 a.2 (let m : length c.in-Ok.list.items ≡ length (answers_to x th.frame) = ap length a.1 ∙ length-map (answers_to x th.frame) (spelling Two) in let q = c.len-count.ensures in let o = c.in-Ok.list.ok.0 in let r : c.len-count.result ≡ length (answers_to x th.frame) = omega arith in r) s.frames
 
 pub returns-clause-spelled : goal.returns-clause-spelled
@@ -55,9 +55,9 @@ returns-clause-spelled c =
     let e = c.len.ensures in
     let x = c.args.node.now in
     let bytes = c.index.result.now in
-    let at : get_or c.args.sent.now.items (c.args.k - 1) bytes ≡ bytes = ap (λ xs. get_or xs (c.args.k - 1) bytes) (sym c.in_ok-reserve.ensures.items) ∙ sym c.index.ensures in
+    let at : get_or c.args.sent.now.items (c.args.k - 1) bytes ≡ bytes = ap (λ xs. get_or xs (c.args.k - 1) bytes) (sym c.in_ok-reserve_ahead.ensures.items) ∙ sym c.index.ensures in
     let th : There c.args.sent.now.items c.args.k bytes = there c.reads_what_is_spelled.ensures.again c.args.sent.now.items c.args.k bytes c.requires.spelled (omega arith) (omega arith) at in
     let read : frame_of bytes ≡ Some th.frame = th.read in
     let a = subst (λ (o : Option Frame). IsFrameAnswer (λ list. list.items) x o (Ok c.in-Ok.list) c.shared_frame.new.self) read c.in-Ok.ensures.answer in
     let range = subst (λ (o : Option Frame). IfSome o (λ f. All CanBeSpelled (answers_to x f))) read c.in-Ok.ensures.range in
-    (sends c.reads_what_is_spelled.ensures.again c.args.sent.now.items c.append.new.self.items (answers_to x th.frame) c.requires.spelled range (c.in_ok-append.ensures.items ∙ (ap (λ bs. bs ++ c.in-Ok.list.items) c.in_ok-reserve.ensures.items ∙ ap (λ bs. c.args.sent.now.items ++ bs) a.1))).spelled
+    (sends c.reads_what_is_spelled.ensures.again c.args.sent.now.items c.append.new.self.items (answers_to x th.frame) c.requires.spelled range (c.in_ok-append.ensures.items ∙ (ap (λ bs. bs ++ c.in-Ok.list.items) c.in_ok-reserve_ahead.ensures.items ∙ ap (λ bs. c.args.sent.now.items ++ bs) a.1))).spelled
