@@ -3,6 +3,7 @@ pub mod Behind
 pub mod Ends
 pub mod Gathered
 pub mod Heard
+pub mod Keyed
 pub mod Lined
 pub mod Own
 pub mod Passing

@@ -52,7 +52,7 @@ fn count_on(places: &[u32], passed: usize, last: u32) -> usize
 /// inbox has passed. Contracts see it as these three and the group's name.
 #[derive(Drop)]
 pub(crate) struct Told<'a> {
-    group: &'a [u8],
+    group: &'a Name,
     places: &'a [u32],
     text: &'a Text,
     passed: usize,
@@ -68,10 +68,10 @@ impl<'a> Model for Told<'a> {
 
 impl<'a> Told<'a> {
     /// Whether it is what the group of that name tells.
-    fn is_of(&self, group: &[u8]) -> bool
+    fn is_of(&self, group: &Name) -> bool
         ensures { result ≡ bytes_eq self.now.group group.now }
     {
-        self.group == group
+        *self.group == *group
     }
 
     /// How many of the places were passed.
@@ -189,11 +189,11 @@ impl<'a> Inbox<'a> {
     }
 
     /// What the group of that name tells, with the places up to that one passed.
-    fn look_up(&self, group: &'a [u8], after: u32) -> Told<'a>
+    fn look_up(&self, group: &'a Name, after: u32) -> Told<'a>
         ensures name { result.group ≡ group.now }
         ensures past { IsPast (judged self.now.entries) after result }
     {
-        let places = self.policy.places_in(group);
+        let places = self.policy.places_in(group.as_slice());
         Told {
             group,
             places,
@@ -204,7 +204,7 @@ impl<'a> Inbox<'a> {
 
     /// The same, from what was looked up before the place where it is of that group.
     #[inline(always)]
-    fn told_of(&self, before: &Option<Told<'a>>, group: &'a [u8], place: u32) -> Told<'a>
+    fn told_of(&self, before: &Option<Told<'a>>, group: &'a Name, place: u32) -> Told<'a>
         requires before { IfSome before.now (IsPast (judged self.now.entries) (place - 1)) }
         requires place { place ≤ length (judged self.now.entries) }
         ensures name { result.group ≡ group.now }
@@ -238,24 +238,24 @@ impl<'a> Inbox<'a> {
     {
         match self.trail.group_past(count) {
             None => None,
-            Some(group) => Some(self.told_of(before, group.as_slice(), place)),
+            Some(group) => Some(self.told_of(before, group, place)),
         }
     }
 
     /// Whether the connection was in the group before the place.
-    fn was_in(&self, place: u32, group: &[u8]) -> bool
+    fn was_in(&self, place: u32, group: &Name) -> bool
         requires { 1 ≤ place }
         ensures { result ≡ is_member (records_before (judged self.now.entries) place) self.now.conn group.now }
     {
         match self.group_after(place - 1) {
             None => false,
-            Some(before) => before.is(group),
+            Some(before) => *before == *group,
         }
     }
 
     /// Whether the connection hears what its own allowed op tells the group: what changes the rules of another
     /// group it does not.
-    fn hears(&self, place: u32, group: &[u8], op: &Op) -> bool
+    fn hears(&self, place: u32, group: &Name, op: &Op) -> bool
         requires { 1 ≤ place }
         ensures { result ≡ hears_own (group_of (records_before (judged self.now.entries) place) self.now.conn) group.now op.now }
     {
@@ -268,7 +268,7 @@ impl<'a> Inbox<'a> {
     }
 
     /// Whether the connection is told what its own record tells the group.
-    fn is_told(&self, place: u32, group: &[u8], past: &Record) -> bool
+    fn is_told(&self, place: u32, group: &Name, past: &Record) -> bool
         requires { 1 ≤ place }
         ensures { result ≡ (is_allowed past.now.verdict && hears_own (group_of (records_before (judged self.now.entries) place) self.now.conn) group.now past.now.entry.op) }
     {
@@ -277,7 +277,7 @@ impl<'a> Inbox<'a> {
 
     /// What a place of the group of that name tells it, from what is looked up after the place where it is of
     /// that group.
-    fn told_upto(&self, after: &Option<Told<'a>>, group: &'a [u8], place: u32) -> &'a [u8]
+    fn told_upto(&self, after: &Option<Told<'a>>, group: &'a Name, place: u32) -> &'a [u8]
         requires after { IfSome after.now (IsPast (judged self.now.entries) place) }
         ensures { (past : Record) → record_at (judged self.now.entries) place ≡ Some past → acts_in group.now past ≡ true → result.now ≡ concat (told_lines (judged self.now.entries) place) }
     {
@@ -299,7 +299,7 @@ impl<'a> Inbox<'a> {
         &self,
         before: &Option<Told<'a>>,
         after: &Option<Told<'a>>,
-        group: &'a [u8],
+        group: &'a Name,
         place: u32,
     ) -> &'a [u8]
         requires before { IfSome before.now (IsPast (judged self.now.entries) (place - 1)) }
@@ -337,9 +337,8 @@ impl<'a> Inbox<'a> {
         match &past.group {
             None => &[],
             Some(group) => {
-                let name = group.as_slice();
-                if self.is_told(place, name, past) {
-                    self.told_at(before, after, name, place)
+                if self.is_told(place, group, past) {
+                    self.told_at(before, after, group, place)
                 } else {
                     &[]
                 }

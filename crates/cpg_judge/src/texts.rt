@@ -16,7 +16,7 @@ ghost use Rattle.cpg_print.specs.Records.{audit_line, members_text};
 ghost use Rattle.cpg_judge.specs.Texts.{kept_text, no_text, showing, told_text, with_place, AreShown, AreTexts, HoldsTexts, LacksText, StandsAllowed};
 
 use cpg_cred::{NameHasher, Refusal};
-use cpg_entry::{Call, Op};
+use cpg_entry::{Call, Name, Op};
 use cpg_group::Policy;
 use cpg_print::{
     put_audit, put_audit_with, put_change_with, put_event, put_members, put_message_line,
@@ -236,11 +236,11 @@ impl Text {
     }
 }
 
-/// The texts of all groups. Contracts see it as the list of names with texts; a group that is not there has
-/// none.
+/// The texts of all groups, kept for names that share their bytes with the records. Contracts see it as the list of
+/// names with texts; a group that is not there has none.
 #[derive(Drop)]
 pub(crate) struct Texts {
-    kept: IndexMap<Vec<u8>, Text, BuildHasherDefault<NameHasher>>,
+    kept: IndexMap<Name, Text, BuildHasherDefault<NameHasher>>,
     none: Text,
     // Where the texts of the place before are kept. They are believed only where their group has the wanted name.
     last: usize,
@@ -249,12 +249,11 @@ pub(crate) struct Texts {
 impl Model for Texts {
     ghost use Rattle.std.specs.Prelude.{◌≡◌};
     ghost use Rattle.cpg_print.specs.Records.{audit_line, members_text};
-    ghost use Rattle.cpg_record.specs.Named.{named};
     ghost use Rattle.cpg_judge.specs.Texts.{KeptTexts, no_text};
 
     ghost Value = { KeptTexts };
 
-    ghost view = { λ texts. named texts.kept.entries };
+    ghost view = { λ texts. texts.kept.entries };
 
     ghost invariant = { λ texts. texts.none ≡ no_text };
 }
@@ -274,7 +273,7 @@ impl Texts {
     }
 
     /// The texts of the group of that name.
-    pub(crate) fn of(&self, name: &[u8]) -> &Text
+    pub(crate) fn of(&self, name: &Name) -> &Text
         ensures { result.now ≡ kept_text self.now name.now }
     {
         match self.kept.get(name) {
@@ -286,11 +285,11 @@ impl Texts {
     /// The index at which the texts of the group of that name are kept. Those of the place before are looked at first,
     /// as most places are of the same group as that one, and then no name is hashed.
     #[inline(always)]
-    fn index_of(&self, name: &[u8]) -> Option<usize>
+    fn index_of(&self, name: &Name) -> Option<usize>
         ensures { MatchOption result (LacksText self.now name.now) (λ index. slice_get (names_of self.now) index ≡ Some name.now) }
     {
         match self.kept.get_index(self.last) {
-            Some((kept, _)) if kept.as_slice() == name => Some(self.last),
+            Some((kept, _)) if *kept == *name => Some(self.last),
             _ => match self.kept.get_full(name) {
                 Some((index, _, _)) => Some(index),
                 None => None,
@@ -307,7 +306,7 @@ impl Texts {
         policy: &Policy,
         place: u32,
         past: &Record,
-        name: &[u8],
+        name: &Name,
     ) -> Result<(), Refusal>
         requires allowed { StandsAllowed policy.now place past.now name.now }
         requires members { (with_place past.now (told_text (judged policy.now) place) no_text).members ≡ members_text past.now.members }
@@ -317,9 +316,9 @@ impl Texts {
         ensures memory { IsOkUnless result Refusal.Memory }
     {
         let alloc = *self.kept.allocator();
-        let key = Vec::from_slice(alloc, name)?;
-        let mut text = Text::with_room(alloc, policy.places_in(name).len())?;
-        text.put_place(lines, policy, place, past, name)?;
+        let key = name.copy(alloc)?;
+        let mut text = Text::with_room(alloc, policy.places_in(name.as_slice()).len())?;
+        text.put_place(lines, policy, place, past, name.as_slice())?;
         self.last = self.kept.len();
         self.kept.insert(key, text)?;
         Ok(())
@@ -333,7 +332,7 @@ impl Texts {
         policy: &Policy,
         place: u32,
         past: &Record,
-        name: &[u8],
+        name: &Name,
     ) -> Result<(), Refusal>
         requires allowed { StandsAllowed policy.now place past.now name.now }
         requires members { (with_place past.now (told_text (judged policy.now) place) (kept_text self.old name.now)).members ≡ members_text past.now.members }
@@ -345,7 +344,7 @@ impl Texts {
             Some(index) => {
                 self.last = index;
                 let (_, text) = self.kept.pair_mut(index);
-                text.put_place(lines, policy, place, past, name)
+                text.put_place(lines, policy, place, past, name.as_slice())
             }
             None => self.begin(lines, policy, place, past, name),
         }
@@ -371,8 +370,7 @@ impl Texts {
     {
         match &past.group {
             None => put_audit(lines, place, past),
-            Some(group) => {
-                let name = group.as_slice();
+            Some(name) => {
                 if past.verdict.is_allowed() {
                     self.put_allowed(lines, policy, place, past, name)
                 } else {

@@ -2,9 +2,9 @@ use Rattle.std.proofs.Common.{ap, sym, ◌∙◌}
 use Rattle.std.specs.Prelude.{is_some}
 use Rattle.cpg_record.specs.Judging.{judged}
 use Rattle.cpg_record.specs.Named.{found_or}
-use Rattle.cpg_group.proofs.Placed.{within_names, found_there, set_there}
 use Rattle.cpg_judge.specs.Texts.{KeptTexts, TextValue, no_text, kept_text, told_text, with_place}
 use Rattle.cpg_record.proofs.Named.{on_ok, kept_set, kept_grown}
+use Rattle.cpg_judge.proofs.Keyed.{within_names, found_there, set_there}
 use Rattle.cpg_judge.proofs.texts.Texts.put_allowed.Goals as goal
 
 pub pair_mut-text-requires : goal.pair_mut-text-requires

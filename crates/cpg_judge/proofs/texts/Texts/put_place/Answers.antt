@@ -1,4 +1,4 @@
-use Rattle.std.proofs.Common.{Some, ap, sym, ◌∙◌}
+use Rattle.std.proofs.Common.{ap, sym, ◌∙◌}
 use Rattle.cpg_record.specs.Judging.{judged}
 use Rattle.cpg_judge.specs.Texts.{TextValue, told_text}
 use Rattle.cpg_judge.proofs.Gathered as gathered
@@ -16,31 +16,31 @@ returns-in-None-clause-shown c =
 
 pub put_allowed-requires-clause-allowed : goal.put_allowed-requires-clause-allowed
 put_allowed-requires-clause-allowed c =
-    (c.requires.place.0, c.requires.place.1, c.requires.stands, c.in-Some.is ∙ ap Some (sym c.as_slice-name.ensures), sym c.is_allowed.ensures ∙ c.if-is_allowed.true)
+    (c.requires.place.0, c.requires.place.1, c.requires.stands, c.in-Some.is, sym c.is_allowed.ensures ∙ c.if-is_allowed.true)
 
 pub put_allowed-requires-clause-members : goal.put_allowed-requires-clause-members
 put_allowed-requires-clause-members c =
-    shown.members_shown c.args.policy.now c.args.place c.args.past.now c.requires.place.0 c.requires.stands c.args.self.now c.requires.shown c.as_slice-name.result.now (told_text (judged c.args.policy.now) c.args.place)
-    (c.in-Some.is ∙ ap Some (sym c.as_slice-name.ensures))
+    shown.members_shown c.args.policy.now c.args.place c.args.past.now c.requires.place.0 c.requires.stands c.args.self.now c.requires.shown c.in-Some.name (told_text (judged c.args.policy.now) c.args.place)
+    c.in-Some.is
 
 pub put_audit_with-requires : goal.put_audit_with-requires
 put_audit_with-requires c =
-    shown.listed c.args.policy.now c.args.place c.args.past.now c.requires.place.0 c.requires.stands c.args.self.now c.as_slice-name.result.now c.members.result.now
+    shown.listed c.args.policy.now c.args.place c.args.past.now c.requires.place.0 c.requires.stands c.args.self.now c.in-Some.name c.members.result.now
     (shown.not_allowed c.args.policy.now c.args.place c.args.past.now c.requires.place.0 c.requires.stands c.args.self.now c.requires.shown (sym c.is_allowed.ensures ∙ c.if-is_allowed.false))
-    (c.in-Some.is ∙ ap Some (sym c.as_slice-name.ensures)) (c.members.ensures ∙ ap (λ (value : TextValue). value.members) c.of.ensures)
+    c.in-Some.is (c.members.ensures ∙ ap (λ (value : TextValue). value.members) c.of.ensures)
 
 pub returns-then-is_allowed-clause-ok : goal.returns-then-is_allowed-clause-ok
 returns-then-is_allowed-clause-ok c =
     on_ok c.put_allowed.result
     (λ grown. gathered.one_told (judged c.args.policy.now) c.args.place c.args.past.now c.requires.place.0 c.requires.stands c.args.self.now c.requires.texts
-    c.put_allowed.new.self c.as_slice-name.result.now (c.in-Some.is ∙ ap Some (sym c.as_slice-name.ensures)) (sym c.is_allowed.ensures ∙ c.if-is_allowed.true) grown)
+    c.put_allowed.new.self c.in-Some.name c.in-Some.is (sym c.is_allowed.ensures ∙ c.if-is_allowed.true) grown)
     c.put_allowed.ensures.ok
 
 pub returns-then-is_allowed-clause-shown : goal.returns-then-is_allowed-clause-shown
 returns-then-is_allowed-clause-shown c =
     on_ok c.put_allowed.result
     (λ grown. shown.one_shown c.args.policy.now c.args.place c.args.past.now c.requires.place.0 c.requires.stands c.args.self.now c.requires.shown
-    c.put_allowed.new.self c.as_slice-name.result.now (told_text (judged c.args.policy.now) c.args.place) (c.in-Some.is ∙ ap Some (sym c.as_slice-name.ensures)) (sym c.is_allowed.ensures ∙ c.if-is_allowed.true) grown)
+    c.put_allowed.new.self c.in-Some.name (told_text (judged c.args.policy.now) c.args.place) c.in-Some.is (sym c.is_allowed.ensures ∙ c.if-is_allowed.true) grown)
     c.put_allowed.ensures.ok
 
 pub returns-else-is_allowed-clause-ok : goal.returns-else-is_allowed-clause-ok
