@@ -1,7 +1,7 @@
 -- lines that begin with a verb, and the number that ends a line
 use Rattle.std.proofs.Common.{◌≡◌, ℕ, ◌<◌, length, List, [], ◌∷◌, Bool, true, false, ◌&&◌, Option, Some, None, refl, ap, arith}
 use Rattle.std.specs.Prelude.{nat_le, if◌then◌else◌, option_map}
-use Rattle.std.specs.Option.{option_and_then}
+use Rattle.std.specs.Option.{option_and_then, unwrap_or}
 use Rattle.std.proofs.lemmas.Bool.Decides.{nat_tests}
 use Rattle.cpg_script.specs.Words.{◌>>=◌}
 use Rattle.cpg_text.specs.Lines.{only, words_of}
@@ -45,16 +45,16 @@ widen true value number e = grind (arith, nat_tests, e)
 abbrev pub found : ℕ → List (List ℕ) → Option (ℕ × List (List ℕ))
 found number words = Some (number, words)
 
-the_first : (words : List (List ℕ)) (number : ℕ) (first : Option ℕ) → option_map {U = ℕ × List (List ℕ)} (λ n. (n, words)) first ≡ found number words → first ≡ Some number
-the_first words number None e = cc
-the_first words number (Some n) e = ap (option_map {T = ℕ × List (List ℕ)} (λ p. p.0)) e
+-- what was taken is the number, and the words that are left
+pub taken_both : (words after : List (List ℕ)) (number : ℕ) (first : Option ℕ) → option_map {U = ℕ × List (List ℕ)} (λ n. (n, words)) first ≡ found number after
+    → (first ≡ Some number) × (words ≡ after)
+taken_both words after number None e = absurd (cc)
+taken_both words after number (Some n) e = (ap (option_map {T = ℕ × List (List ℕ)} (λ p. p.0)) e, ap (λ (o : Option (ℕ × List (List ℕ))). (unwrap_or o (n, words)).1) e)
 
-clash : (word : List ℕ) (words : List (List ℕ)) (number : ℕ) → Some (word ∷ words) ≡ Some [] → None ≡ Some number
-clash word words number e = cc
-
-not_last : (word : List ℕ) (words : List (List ℕ)) (number : ℕ) (first : Option ℕ) → option_map {U = ℕ × List (List ℕ)} (λ n. (n, word ∷ words)) first ≡ found number [] → None ≡ Some number
-not_last word words number None e = cc
-not_last word words number (Some n) e = clash word words number (ap (option_map {T = ℕ × List (List ℕ)} (λ p. p.1)) e)
+-- where a word is left, the number was not the last
+pub more_left : (word : List ℕ) (words : List (List ℕ)) (number : ℕ) (first : Option ℕ)
+    → option_map {U = ℕ × List (List ℕ)} (λ n. (n, word ∷ words)) first ≡ found number [] → ⊥
+more_left word words number first e = let left = (taken_both (word ∷ words) [] number first e).1 in cc
 
 -- no byte is no word
 pub no_words : (text : List ℕ) → length text < 1 → words_of text ≡ []
@@ -64,5 +64,5 @@ no_words (byte ∷ bytes) short = absurd (omega (arith, short))
 -- a number of 32 bits that ends a line is the last number there
 pub last_number : (words : List (List ℕ)) (number : ℕ) → first_number words ≡ found number [] → option_and_then (λ word. u64_of word) (only words) ≡ Some number
 last_number [] number e = cc
-last_number (word ∷ []) number e = widen (is_number word) (value_of word) number (the_first [] number (number_in 0 4294967295 word) e)
-last_number (word ∷ a ∷ more) number e = not_last a more number (number_in 0 4294967295 word) e
+last_number (word ∷ []) number e = widen (is_number word) (value_of word) number (taken_both [] [] number (number_in 0 4294967295 word) e).0
+last_number (word ∷ a ∷ more) number e = absurd (more_left a more number (number_in 0 4294967295 word) e)

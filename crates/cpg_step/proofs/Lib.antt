@@ -1,4 +1,5 @@
 pub mod Beginnings
 pub mod Doing
+pub mod LastNumbers
 pub mod Lengths
 pub mod Listing

@@ -8,6 +8,7 @@
 mod acting;
 mod commands;
 mod looking;
+mod numbered;
 mod printing;
 mod reading;
 mod running;

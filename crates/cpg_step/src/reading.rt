@@ -16,6 +16,7 @@ ghost use Rattle.cpg_step.specs.Steps.{two, verb_word};
 ghost use Rattle.cpg_step.specs.Commands.{node_of, conn_of, u64_of, node_alone, node_and_conn, connect_of, submit_of, frame_of, list_of, event_of, show_of, rules_of, look_of, act_or_look, command_of, LooksWithin, IsWithin};
 
 use crate::commands::{Command, Look};
+use crate::numbered::{at_of_numbers, last_numbers, node_of_number};
 use crate::verbs::{Verb, take_verb};
 use cpg_cred::{Cred, MOST_NODES, NodeId, Refusal};
 use cpg_entry::{MOST_CONNECTIONS, Name};
@@ -59,12 +60,16 @@ pub fn read_node_alone(nodes: u8, words: &[&[u8]]) -> Option<NodeId>
 }
 
 /// The node of a NODE, where no more words follow.
+#[inline(always)]
 #[tactic(auto, using(crate::proofs::Lengths::alone_of_only))]
 fn read_last_node(nodes: u8, rest: &[u8]) -> Option<NodeId>
     ensures node { result ≡ node_alone nodes (words_of rest.now) }
     ensures within { IfSome result (λ node. node ≤ nodes) }
 {
-    read_node(nodes, only_word(rest)?)
+    match take_number(rest) {
+        Some((number, [])) => node_of_number(nodes, number),
+        _ => read_node(nodes, only_word(rest)?),
+    }
 }
 
 /// The two words that follow, where there are no more.
@@ -78,8 +83,22 @@ fn last_two(rest: &[u8]) -> Option<(&[u8], &[u8])>
 }
 
 /// The node and the connection of NODE CONN, where no more words follow.
-#[tactic(auto, using(crate::proofs::Lengths::at_of_two))]
+#[inline(always)]
+#[tactic(auto, using(crate::proofs::LastNumbers::at_two))]
 fn read_node_and_conn(nodes: u8, rest: &[u8]) -> Option<(NodeId, u16)>
+    ensures at { result ≡ node_and_conn nodes (words_of rest.now) }
+    ensures within { IfSome result (λ at. at.0 ≤ nodes) }
+{
+    match last_numbers(rest) {
+        Some((node, conn)) => at_of_numbers(nodes, node, conn),
+        None => read_two_words(nodes, rest),
+    }
+}
+
+/// The same by its words. It stands apart, since most lines write numbers as they are printed.
+#[inline(never)]
+#[tactic(auto, using(crate::proofs::Lengths::at_of_two))]
+fn read_two_words(nodes: u8, rest: &[u8]) -> Option<(NodeId, u16)>
     ensures at { result ≡ node_and_conn nodes (words_of rest.now) }
     ensures within { IfSome result (λ at. at.0 ≤ nodes) }
 {
@@ -211,7 +230,6 @@ fn read_disconnect(nodes: u8, rest: &[u8]) -> Option<WorldEvent>
     Some(WorldEvent::Disconnect(node, conn))
 }
 
-#[inline(always)]
 fn read_take(nodes: u8, rest: &[u8]) -> Option<WorldEvent>
     ensures event { result ≡ option_map (λ at. Take at.0 at.1) (node_and_conn nodes (words_of rest.now)) }
     ensures within { IfSome result (λ event. node_in event ≤ nodes) }
@@ -236,7 +254,6 @@ fn read_timer(nodes: u8, rest: &[u8]) -> Option<WorldEvent>
     Some(WorldEvent::Timer(node))
 }
 
-#[inline(always)]
 fn read_deliver(nodes: u8, rest: &[u8]) -> Option<WorldEvent>
     ensures event { result ≡ option_map (λ n. Deliver n) (node_alone nodes (words_of rest.now)) }
     ensures within { IfSome result (λ event. node_in event ≤ nodes) }
@@ -380,26 +397,6 @@ fn read_named(
     }
 }
 
-/// The event that the words after a verb say.
-#[inline(always)]
-fn read_act(
-    alloc: Global,
-    nodes: u8,
-    verb: Verb,
-    rest: &[u8],
-) -> Result<Option<WorldEvent>, Refusal>
-    ensures event { IfOk result (λ found. found ≡ event_of nodes (verb_word verb) (words_of rest.now)) }
-    ensures within { IfOk result (λ found. IfSome found (λ event. node_in event ≤ nodes)) }
-    ensures memory { IsOkUnlessMemoryFor result (event_of nodes (verb_word verb) (words_of rest.now)) }
-{
-    match verb {
-        Verb::Call => read_submit(alloc, nodes, rest),
-        Verb::Deliver => Ok(read_deliver(nodes, rest)),
-        Verb::Frame => Ok(read_frame(nodes, rest)),
-        Verb::Take => Ok(read_take(nodes, rest)),
-    }
-}
-
 /// The command that a verb and the words after it say.
 #[inline(always)]
 #[tactic(auto, using(crate::proofs::Lengths::act_there, crate::proofs::Beginnings::no_look))]
@@ -413,9 +410,23 @@ fn read_by_verb(
     ensures within { IfOk result (λ found. IfSome found (λ command. IsWithin nodes command)) }
     ensures memory { IsOkUnlessMemoryFor result (command_of nodes (verb_word verb ∷ words_of rest.now)) }
 {
-    match read_act(alloc, nodes, verb, rest)? {
-        None => Ok(None),
-        Some(event) => Ok(Some(Command::Act(event))),
+    match verb {
+        Verb::Call => match read_submit(alloc, nodes, rest)? {
+            None => Ok(None),
+            Some(event) => Ok(Some(Command::Act(event))),
+        },
+        Verb::Deliver => match read_last_node(nodes, rest) {
+            None => Ok(None),
+            Some(node) => Ok(Some(Command::Act(WorldEvent::Deliver(node)))),
+        },
+        Verb::Frame => match read_frame(nodes, rest) {
+            None => Ok(None),
+            Some(event) => Ok(Some(Command::Act(event))),
+        },
+        Verb::Take => match read_node_and_conn(nodes, rest) {
+            None => Ok(None),
+            Some((node, conn)) => Ok(Some(Command::Act(WorldEvent::Take(node, conn)))),
+        },
     }
 }
 

@@ -1,0 +1,65 @@
+-- numbers that are read while their ends are looked for
+use Rattle.std.proofs.Common.{◌≡◌, ℕ, ◌≤◌, List, [], ◌∷◌, Bool, true, false, ◌&&◌, Option, Some, None, ap, ◌∙◌, arith}
+use Rattle.std.specs.Prelude.{nat_le, if◌then◌else◌}
+use Rattle.std.specs.Option.{unwrap_or}
+use Rattle.cpg_cred.specs.declared.nodes.TheConstants.{MOST_NODES}
+use Rattle.cpg_entry.specs.declared.ranges.TheConstants.{MOST_CONNECTIONS}
+use Rattle.cpg_script.specs.Words.{◌>>=◌}
+use Rattle.cpg_text.specs.Numbers.{first_number, is_number, number_in, value_of}
+use Rattle.cpg_step.specs.Commands.{conn_of, in_ring, node_alone, node_and_conn}
+use Rattle.cpg_step.specs.Steps.{at_numbered, between, node_numbered, two_numbers}
+use Rattle.cpg_step.proofs.Beginnings.{found, more_left, taken_both}
+
+-- a word that writes a number of 32 bits writes it in each range of them that has it
+narrowed : (low high : ℕ) (word : List ℕ) (number : ℕ) → number_in 0 4294967295 word ≡ Some number → high ≤ 4294967295
+    → number_in low high word ≡ between low high number
+narrowed low high word number is most = by_case (is_number word) (value_of word) is
+  where
+    same : (fits : Bool) (value : ℕ) → (if fits then Some value else None) ≡ Some number → value ≡ number
+    same true value e = ap (λ o. unwrap_or o value) e
+    same false value e = cc
+
+    by_case : (digits : Bool) (value : ℕ) → (if digits && nat_le 0 value && nat_le value 4294967295 then Some value else None) ≡ Some number
+        → (if digits && nat_le low value && nat_le value high then Some value else None) ≡ between low high number
+    by_case false value e = cc
+    by_case true value e = ap (between low high) (same (nat_le 0 value && nat_le value 4294967295) value e)
+
+-- a number that ends a line is the node of it
+pub alone_numbered : (nodes : ℕ) (words : List (List ℕ)) (number : ℕ) → first_number words ≡ found number [] → node_alone nodes words ≡ node_numbered nodes number
+alone_numbered nodes [] number e = cc
+alone_numbered nodes (a ∷ []) number e =
+    ap (λ o. o >>= in_ring nodes) (narrowed 1 MOST_NODES a number (taken_both [] [] number (number_in 0 4294967295 a) e).0 (omega arith))
+alone_numbered nodes (a ∷ b ∷ more) number e = absurd (more_left b more number (number_in 0 4294967295 a) e)
+
+abbrev pair : ℕ → ℕ → Option (ℕ × ℕ)
+pair n m = Some (n, m)
+
+-- two numbers, one after the other, are all there is
+pub numbers_two : (words after : List (List ℕ)) (n m : ℕ) → first_number words ≡ found n after → first_number after ≡ found m [] → two_numbers words ≡ Some (n, m)
+numbers_two [] after n m first second = cc
+numbers_two (a ∷ words) after n m first second =
+    let is = taken_both words after n (number_in 0 4294967295 a) first in
+    by_rest words is.0 (ap first_number is.1 ∙ second)
+  where
+    by_rest : (rest : List (List ℕ)) → number_in 0 4294967295 a ≡ Some n → first_number rest ≡ found m [] → two_numbers (a ∷ rest) ≡ Some (n, m)
+    by_rest [] one e = cc
+    by_rest (b ∷ []) one e =
+        ap (λ (o : Option ℕ). o >>= λ i. number_in 0 4294967295 b >>= λ j. Some (i, j)) one
+        ∙ ap (λ (o : Option ℕ). o >>= λ j. Some (n, j)) (taken_both [] [] m (number_in 0 4294967295 b) e).0
+    by_rest (b ∷ c ∷ more) one e = absurd (more_left c more m (number_in 0 4294967295 b) e)
+
+-- and each is what was read
+the_two : (first second : Option ℕ) (n m : ℕ) → (first >>= λ i. second >>= λ j. pair i j) ≡ Some (n, m) → (first ≡ Some n) × (second ≡ Some m)
+the_two None second n m e = absurd (cc)
+the_two (Some i) None n m e = absurd (cc)
+the_two (Some i) (Some j) n m e = (ap (λ (o : Option (ℕ × ℕ)). Some (unwrap_or o (i, j)).0) e, ap (λ (o : Option (ℕ × ℕ)). Some (unwrap_or o (i, j)).1) e)
+
+-- two numbers are the node and the connection
+pub at_two : (nodes : ℕ) (words : List (List ℕ)) (n m : ℕ) → two_numbers words ≡ Some (n, m) → node_and_conn nodes words ≡ at_numbered nodes n m
+at_two nodes [] n m e = cc
+at_two nodes (a ∷ []) n m e = cc
+at_two nodes (a ∷ b ∷ []) n m e =
+    let is = the_two (number_in 0 4294967295 a) (number_in 0 4294967295 b) n m e in
+    ap (λ (o : Option ℕ). o >>= in_ring nodes >>= λ i. conn_of b >>= λ j. pair i j) (narrowed 1 MOST_NODES a n is.0 (omega arith))
+    ∙ ap (λ (o : Option ℕ). node_numbered nodes n >>= λ i. o >>= λ j. pair i j) (narrowed 1 MOST_CONNECTIONS b m is.1 (omega arith))
+at_two nodes (a ∷ b ∷ c ∷ more) n m e = cc
