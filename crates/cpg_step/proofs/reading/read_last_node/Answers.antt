@@ -1,4 +1,4 @@
-use Rattle.std.proofs.Common.{◌≡◌, ℕ, List, [], sym, ap, ◌∙◌, Some, option_map}
+use Rattle.std.proofs.Common.{◌≡◌, ℕ, List, [], sym, ap, ◌∙◌, option_map}
 use Rattle.cpg_text.specs.Lines.{words_of}
 use Rattle.cpg_text.specs.Numbers.{first_number}
 use Rattle.cpg_step.proofs.Beginnings.{found, no_words}
