@@ -1,11 +1,10 @@
--- lines that begin with a verb, and the number that ends a line
-use Rattle.std.proofs.Common.{◌≡◌, ℕ, ◌<◌, length, List, [], ◌∷◌, Bool, true, false, ◌&&◌, Option, Some, None, refl, ap, arith}
+-- lines that begin with a verb, and numbers in front of words
+use Rattle.std.proofs.Common.{◌≡◌, ℕ, List, [], ◌∷◌, Bool, true, false, ◌&&◌, Option, Some, None, refl, ap, arith}
 use Rattle.std.specs.Prelude.{nat_le, if◌then◌else◌, option_map}
 use Rattle.std.specs.Option.{option_and_then, unwrap_or}
 use Rattle.std.proofs.lemmas.Bool.Decides.{nat_tests}
 use Rattle.cpg_script.specs.Words.{◌>>=◌}
-use Rattle.cpg_text.specs.Lines.{only, words_of}
-use Rattle.cpg_text.specs.Numbers.{first_number, is_number, number_in, value_of}
+use Rattle.cpg_text.specs.Lines.{only}
 use Rattle.cpg_world_laws.specs.declared.events.WorldEvent.{WorldEvent}
 use Rattle.cpg_world_laws.specs.declared.events.WorldEvent.TheVariants.{Frame}
 use Rattle.cpg_step.specs.declared.verbs.Verb.{Verb}
@@ -35,7 +34,7 @@ frame_of_last nodes node (a ∷ []) = refl
 frame_of_last nodes node (a ∷ b ∷ more) = none_then (node_of nodes node)
 
 -- a number of 32 bits is one of 64
-widen : (digits : Bool) (value number : ℕ)
+pub widen : (digits : Bool) (value number : ℕ)
     → (if digits && nat_le 0 value && nat_le value 4294967295 then Some value else None) ≡ Some number
     → (if digits && nat_le 0 value && nat_le value 18446744073709551615 then Some value else None) ≡ Some number
 widen false value number e = cc
@@ -55,14 +54,3 @@ taken_both words after number (Some n) e = (ap (option_map {T = ℕ × List (Lis
 pub more_left : (word : List ℕ) (words : List (List ℕ)) (number : ℕ) (first : Option ℕ)
     → option_map {U = ℕ × List (List ℕ)} (λ n. (n, word ∷ words)) first ≡ found number [] → ⊥
 more_left word words number first e = let left = (taken_both (word ∷ words) [] number first e).1 in cc
-
--- no byte is no word
-pub no_words : (text : List ℕ) → length text < 1 → words_of text ≡ []
-no_words [] short = refl
-no_words (byte ∷ bytes) short = absurd (omega (arith, short))
-
--- a number of 32 bits that ends a line is the last number there
-pub last_number : (words : List (List ℕ)) (number : ℕ) → first_number words ≡ found number [] → option_and_then (λ word. u64_of word) (only words) ≡ Some number
-last_number [] number e = cc
-last_number (word ∷ []) number e = widen (is_number word) (value_of word) number (taken_both [] [] number (number_in 0 4294967295 word) e).0
-last_number (word ∷ a ∷ more) number e = absurd (more_left a more number (number_in 0 4294967295 word) e)

@@ -1,14 +1,22 @@
 -- numbers that are read while their ends are looked for
-use Rattle.std.proofs.Common.{◌≡◌, ℕ, ◌≤◌, List, [], ◌∷◌, Bool, true, false, ◌&&◌, Option, Some, None, ap, ◌∙◌, arith}
+use Rattle.std.proofs.Common.{◌≡◌, ℕ, ◌-◌, ◌<◌, ◌≤◌, List, [], ◌∷◌, length, take, drop, get_or, Bool, true, false, ◌&&◌, Option, Some, None, refl, sym, ap, ◌∙◌, arith}
+use Rattle.std.proofs.lemmas.Bool.Decides.{nat_tests}
+use Rattle.std.proofs.lemmas.List.{take_all, length-take-le}
+use Rattle.std.specs.Char.{is_ascii_digit}
+use Rattle.std.specs.List.{list_all}
 use Rattle.std.specs.Prelude.{nat_le, if◌then◌else◌}
 use Rattle.std.specs.Option.{unwrap_or}
 use Rattle.cpg_cred.specs.declared.nodes.TheConstants.{MOST_NODES}
 use Rattle.cpg_entry.specs.declared.ranges.TheConstants.{MOST_CONNECTIONS}
 use Rattle.cpg_script.specs.Words.{◌>>=◌}
+use Rattle.cpg_text.specs.Lines.{is_blank, words_of}
 use Rattle.cpg_text.specs.Numbers.{first_number, is_number, number_in, value_of}
-use Rattle.cpg_step.specs.Commands.{conn_of, in_ring, node_alone, node_and_conn}
+use Rattle.cpg_text.proofs.FirstNumbers.{number_at_end, number_before_blank}
+use Rattle.cpg_world_laws.specs.declared.events.WorldEvent.{WorldEvent}
+use Rattle.cpg_world_laws.specs.declared.events.WorldEvent.TheVariants.{Frame}
+use Rattle.cpg_step.specs.Commands.{conn_of, frame_of, in_ring, node_alone, node_and_conn, u64_of}
 use Rattle.cpg_step.specs.Steps.{at_numbered, between, node_numbered, two_numbers}
-use Rattle.cpg_step.proofs.Beginnings.{found, more_left, taken_both}
+use Rattle.cpg_step.proofs.Beginnings.{found, more_left, taken_both, widen}
 
 -- a word that writes a number of 32 bits writes it in each range of them that has it
 narrowed : (low high : ℕ) (word : List ℕ) (number : ℕ) → number_in 0 4294967295 word ≡ Some number → high ≤ 4294967295
@@ -30,6 +38,13 @@ alone_numbered nodes [] number e = cc
 alone_numbered nodes (a ∷ []) number e =
     ap (λ o. o >>= in_ring nodes) (narrowed 1 MOST_NODES a number (taken_both [] [] number (number_in 0 4294967295 a) e).0 (omega arith))
 alone_numbered nodes (a ∷ b ∷ more) number e = absurd (more_left b more number (number_in 0 4294967295 a) e)
+
+-- no digit is a blank, and each is a small number
+no_blank : (digit : ℕ) → is_ascii_digit digit ≡ true → is_blank digit ≡ false
+no_blank digit is = grind (arith, nat_tests)
+
+small_digit : (digit : ℕ) → is_ascii_digit digit ≡ true → digit - 48 < 1000000000
+small_digit digit is = let most : digit ≤ 57 = grind (arith, nat_tests) in omega (arith, most)
 
 abbrev pair : ℕ → ℕ → Option (ℕ × ℕ)
 pair n m = Some (n, m)
@@ -63,3 +78,42 @@ at_two nodes (a ∷ b ∷ []) n m e =
     ap (λ (o : Option ℕ). o >>= in_ring nodes >>= λ i. conn_of b >>= λ j. pair i j) (narrowed 1 MOST_NODES a n is.0 (omega arith))
     ∙ ap (λ (o : Option ℕ). node_numbered nodes n >>= λ i. o >>= λ j. pair i j) (narrowed 1 MOST_CONNECTIONS b m is.1 (omega arith))
 at_two nodes (a ∷ b ∷ c ∷ more) n m e = cc
+
+-- and the node and the number of a frame
+abbrev framed : ℕ → ℕ → Option WorldEvent
+framed n k = Some (Frame n k)
+
+pub frame_two : (nodes : ℕ) (words : List (List ℕ)) (n k : ℕ) → two_numbers words ≡ Some (n, k) → frame_of nodes words ≡ (node_numbered nodes n >>= λ i. Some (Frame i k))
+frame_two nodes [] n k e = cc
+frame_two nodes (a ∷ []) n k e = cc
+frame_two nodes (a ∷ b ∷ []) n k e =
+    let is = the_two (number_in 0 4294967295 a) (number_in 0 4294967295 b) n k e in
+    ap (λ (o : Option ℕ). o >>= in_ring nodes >>= λ i. u64_of b >>= λ j. framed i j) (narrowed 1 MOST_NODES a n is.0 (omega arith))
+    ∙ ap (λ (o : Option ℕ). node_numbered nodes n >>= λ i. o >>= λ j. framed i j) (widen (is_number b) (value_of b) k is.1)
+frame_two nodes (a ∷ b ∷ c ∷ more) n k e = cc
+
+-- a digit is the number of its word
+digit_alone : (digit : ℕ) → is_ascii_digit digit ≡ true → first_number (words_of (digit ∷ [])) ≡ found (digit - 48) []
+digit_alone digit is =
+    sym (number_at_end (digit ∷ []) (digit - 48) 1 (omega arith) refl (rw (is) refl) (omega arith) (small_digit digit is))
+
+-- a digit alone is the node of it
+pub digit_node : (nodes digit : ℕ) → is_ascii_digit digit ≡ true → node_alone nodes (words_of (digit ∷ [])) ≡ node_numbered nodes (digit - 48)
+digit_node nodes digit is = alone_numbered nodes (words_of (digit ∷ [])) (digit - 48) (digit_alone digit is)
+
+-- what follows a digit and a blank
+abbrev pub behind_two : List ℕ → List ℕ
+behind_two line = take (length line - 2) (drop 2 line)
+
+-- a digit, a blank and digits are two numbers
+pub digit_and_digits : (line : List ℕ) (second end : ℕ) → 2 < length line → is_ascii_digit (get_or line 0 0) ≡ true → get_or line 1 0 ≡ 32
+    → end ≡ length line - 2 → end ≤ length (behind_two line) → list_all is_ascii_digit (take end (behind_two line)) ≡ true → second ≡ value_of (take end (behind_two line)) → second < 1000000000
+    → two_numbers (words_of line) ≡ Some (get_or line 0 0 - 48, second)
+digit_and_digits [] second end long is blank at within all value small = absurd (omega (arith, long))
+digit_and_digits (digit ∷ []) second end long is blank at within all value small = absurd (omega (arith, long))
+digit_and_digits (digit ∷ byte ∷ more) second end long is blank at within all value small =
+    let tail = behind_two (digit ∷ byte ∷ more) in
+    let less : length tail ≡ length (digit ∷ byte ∷ more) - 2 = length-take-le (length (digit ∷ byte ∷ more) - 2) more (omega arith) in
+    numbers_two (words_of (digit ∷ byte ∷ more)) (words_of tail) (digit - 48) second
+    (sym (number_before_blank (digit ∷ byte ∷ more) (digit - 48) 1 (no_blank digit is) (omega (arith, long)) (rw (is) refl) (omega arith) (small_digit digit is) (ap is_blank blank)))
+    (sym (number_at_end tail second end (omega (arith, at, long)) (omega (arith, at, within, less)) all value small))

@@ -1,4 +1,4 @@
-//! Nodes and connections by their numbers, which are read while their ends are looked for.
+//! Nodes and connections by numbers that are written as they are printed, which are read with no search for words.
 
 ghost use Rattle.std.specs.Prelude.{◌≡◌, ◌≤◌, Some, IfSome};
 ghost use Rattle.cpg_text.specs.Lines.{words_of};
@@ -6,17 +6,23 @@ ghost use Rattle.cpg_step.specs.Steps.{at_numbered, between, node_numbered, two_
 
 use cpg_cred::{MOST_NODES, NodeId};
 use cpg_entry::MOST_CONNECTIONS;
-use cpg_text::take_number;
+use cpg_text::first_digits;
 
-/// The two numbers of 32 bits that the text writes, where no more words follow. There may be none though it writes two.
+/// The two numbers of a digit, a space and digits, nine at most, where the text is no more. There may be none though it
+/// writes two.
 #[inline(always)]
-pub(crate) fn last_numbers(rest: &[u8]) -> Option<(u32, u32)>
-    ensures { IfSome result (λ found. two_numbers (words_of rest.now) ≡ Some (found.0, found.1)) }
+#[tactic(auto, using(crate::proofs::LastNumbers::digit_and_digits))]
+pub(crate) fn last_numbers(text: &[u8]) -> Option<(u32, u32)>
+    ensures { IfSome result (λ found. two_numbers (words_of text.now) ≡ Some (found.0, found.1)) }
 {
-    let (first, rest) = take_number(rest)?;
-    match take_number(rest) {
-        Some((second, [])) => Some((first, second)),
-        _ => None,
+    if text.len() < 3 || !text[0].is_ascii_digit() || text[1] != b' ' {
+        return None;
+    }
+    let (second, end) = first_digits(&text[2..]);
+    if end == text.len() - 2 {
+        Some((u32::from(text[0] - b'0'), second))
+    } else {
+        None
     }
 }
 

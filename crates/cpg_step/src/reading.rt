@@ -22,7 +22,7 @@ use cpg_cred::{Cred, MOST_NODES, NodeId, Refusal};
 use cpg_entry::{MOST_CONNECTIONS, Name};
 use cpg_print::read_call_in;
 use cpg_script::{is, read_u32};
-use cpg_text::{Words, only_word, read_number, take_number, take_word, take_words};
+use cpg_text::{Words, only_word, read_number, take_word, take_words};
 use cpg_world::WorldEvent;
 use std::alloc::Global;
 
@@ -61,13 +61,13 @@ pub fn read_node_alone(nodes: u8, words: &[&[u8]]) -> Option<NodeId>
 
 /// The node of a NODE, where no more words follow.
 #[inline(always)]
-#[tactic(auto, using(crate::proofs::Lengths::alone_of_only))]
+#[tactic(auto, using(crate::proofs::Lengths::alone_of_only, crate::proofs::LastNumbers::digit_node))]
 fn read_last_node(nodes: u8, rest: &[u8]) -> Option<NodeId>
     ensures node { result ≡ node_alone nodes (words_of rest.now) }
     ensures within { IfSome result (λ node. node ≤ nodes) }
 {
-    match take_number(rest) {
-        Some((number, [])) => node_of_number(nodes, number),
+    match rest {
+        [digit] if digit.is_ascii_digit() => node_of_number(nodes, u32::from(*digit - b'0')),
         _ => read_node(nodes, only_word(rest)?),
     }
 }
@@ -172,8 +172,24 @@ fn read_submit_by(
 }
 
 #[inline(always)]
-#[tactic(auto, using(crate::proofs::Beginnings::frame_of_last))]
+#[tactic(auto, using(crate::proofs::LastNumbers::frame_two))]
 fn read_frame(nodes: u8, rest: &[u8]) -> Option<WorldEvent>
+    ensures event { result ≡ frame_of nodes (words_of rest.now) }
+    ensures within { IfSome result (λ event. node_in event ≤ nodes) }
+{
+    match last_numbers(rest) {
+        Some((node, number)) => {
+            let node = node_of_number(nodes, node)?;
+            Some(WorldEvent::Frame(node, number as usize))
+        }
+        None => read_frame_words(nodes, rest),
+    }
+}
+
+/// The same by its words. It stands apart, since most lines write numbers as they are printed.
+#[inline(never)]
+#[tactic(auto, using(crate::proofs::Beginnings::frame_of_last))]
+fn read_frame_words(nodes: u8, rest: &[u8]) -> Option<WorldEvent>
     ensures event { result ≡ frame_of nodes (words_of rest.now) }
     ensures within { IfSome result (λ event. node_in event ≤ nodes) }
 {
@@ -183,15 +199,11 @@ fn read_frame(nodes: u8, rest: &[u8]) -> Option<WorldEvent>
     Some(WorldEvent::Frame(node, number as usize))
 }
 
-/// The number of a K, where no more words follow. One of 32 bits is read while its end is looked for.
-#[inline(always)]
+/// The number of a K, where no more words follow.
 fn read_last_number(rest: &[u8]) -> Option<u64>
     ensures { result ≡ option_and_then (λ word. u64_of word) (only (words_of rest.now)) }
 {
-    match take_number(rest) {
-        Some((number, [])) => Some(u64::from(number)),
-        _ => read_number(0, u64::MAX, only_word(rest)?),
-    }
+    read_number(0, u64::MAX, only_word(rest)?)
 }
 
 #[inline(never)]
