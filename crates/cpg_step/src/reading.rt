@@ -242,6 +242,7 @@ fn read_disconnect(nodes: u8, rest: &[u8]) -> Option<WorldEvent>
     Some(WorldEvent::Disconnect(node, conn))
 }
 
+#[inline(always)]
 fn read_take(nodes: u8, rest: &[u8]) -> Option<WorldEvent>
     ensures event { result ≡ option_map (λ at. Take at.0 at.1) (node_and_conn nodes (words_of rest.now)) }
     ensures within { IfSome result (λ event. node_in event ≤ nodes) }
@@ -266,6 +267,7 @@ fn read_timer(nodes: u8, rest: &[u8]) -> Option<WorldEvent>
     Some(WorldEvent::Timer(node))
 }
 
+#[inline(always)]
 fn read_deliver(nodes: u8, rest: &[u8]) -> Option<WorldEvent>
     ensures event { result ≡ option_map (λ n. Deliver n) (node_alone nodes (words_of rest.now)) }
     ensures within { IfSome result (λ event. node_in event ≤ nodes) }
@@ -409,6 +411,26 @@ fn read_named(
     }
 }
 
+/// The event that the words after a verb say.
+#[inline(always)]
+fn read_act(
+    alloc: Global,
+    nodes: u8,
+    verb: Verb,
+    rest: &[u8],
+) -> Result<Option<WorldEvent>, Refusal>
+    ensures event { IfOk result (λ found. found ≡ event_of nodes (verb_word verb) (words_of rest.now)) }
+    ensures within { IfOk result (λ found. IfSome found (λ event. node_in event ≤ nodes)) }
+    ensures memory { IsOkUnlessMemoryFor result (event_of nodes (verb_word verb) (words_of rest.now)) }
+{
+    match verb {
+        Verb::Call => read_submit(alloc, nodes, rest),
+        Verb::Deliver => Ok(read_deliver(nodes, rest)),
+        Verb::Frame => Ok(read_frame(nodes, rest)),
+        Verb::Take => Ok(read_take(nodes, rest)),
+    }
+}
+
 /// The command that a verb and the words after it say.
 #[inline(always)]
 #[tactic(auto, using(crate::proofs::Lengths::act_there, crate::proofs::Beginnings::no_look))]
@@ -422,23 +444,9 @@ fn read_by_verb(
     ensures within { IfOk result (λ found. IfSome found (λ command. IsWithin nodes command)) }
     ensures memory { IsOkUnlessMemoryFor result (command_of nodes (verb_word verb ∷ words_of rest.now)) }
 {
-    match verb {
-        Verb::Call => match read_submit(alloc, nodes, rest)? {
-            None => Ok(None),
-            Some(event) => Ok(Some(Command::Act(event))),
-        },
-        Verb::Deliver => match read_last_node(nodes, rest) {
-            None => Ok(None),
-            Some(node) => Ok(Some(Command::Act(WorldEvent::Deliver(node)))),
-        },
-        Verb::Frame => match read_frame(nodes, rest) {
-            None => Ok(None),
-            Some(event) => Ok(Some(Command::Act(event))),
-        },
-        Verb::Take => match read_node_and_conn(nodes, rest) {
-            None => Ok(None),
-            Some((node, conn)) => Ok(Some(Command::Act(WorldEvent::Take(node, conn)))),
-        },
+    match read_act(alloc, nodes, verb, rest)? {
+        None => Ok(None),
+        Some(event) => Ok(Some(Command::Act(event))),
     }
 }
 
