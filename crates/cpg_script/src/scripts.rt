@@ -8,6 +8,7 @@ ghost use Rattle.cpg_script.specs.Reading.{read_all, FailsAs};
 ghost use Rattle.cpg_script.specs.Steps.{items_with};
 
 use cpg_cred::Refusal;
+use cpg_entry::reserve_ahead;
 use cpg_text::{Lines, MOST_BYTES, is_ignored, trim};
 use std::alloc::Global;
 
@@ -85,7 +86,8 @@ fn put_last<T: Drop>(items: &mut Vec<T>, number: u32, found: Option<T>) -> Resul
     match found {
         None => Err(Refusal::BadCommand(number)),
         Some(item) => {
-            items.push(item)?;
+            reserve_ahead(items, 1)?;
+            items.push_reserved(item);
             Ok(())
         }
     }
