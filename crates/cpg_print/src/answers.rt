@@ -72,7 +72,6 @@ fn put_names(line: &mut Vec<u8>, names: &[Name]) -> Result<(), Refusal>
 }
 
 /// Puts the line of the event that was taken, or `none`, at the line's end.
-#[inline(always)]
 pub fn put_took_line(line: &mut Vec<u8>, event: Option<&Event>) -> Result<(), Refusal>
     ensures ok { OnOk result (line.new.items ≡ line.old.items ++ took_line (option_copied event.entry)) }
     ensures memory { IsOkUnless result Refusal.Memory }

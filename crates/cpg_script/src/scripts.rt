@@ -8,7 +8,6 @@ ghost use Rattle.cpg_script.specs.Reading.{read_all, FailsAs};
 ghost use Rattle.cpg_script.specs.Steps.{items_with};
 
 use cpg_cred::Refusal;
-use cpg_entry::reserve_ahead;
 use cpg_text::{Lines, MOST_BYTES, is_ignored, trim};
 use std::alloc::Global;
 
@@ -86,8 +85,7 @@ fn put_last<T: Drop>(items: &mut Vec<T>, number: u32, found: Option<T>) -> Resul
     match found {
         None => Err(Refusal::BadCommand(number)),
         Some(item) => {
-            reserve_ahead(items, 1)?;
-            items.push_reserved(item);
+            items.push(item)?;
             Ok(())
         }
     }

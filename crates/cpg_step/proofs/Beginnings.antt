@@ -1,23 +1,17 @@
--- lines that begin with a verb, and numbers in front of words
+-- the first words of lines, and numbers in front of words
 use Rattle.std.proofs.Common.{◌≡◌, ℕ, List, [], ◌∷◌, Bool, true, false, ◌&&◌, Option, Some, None, refl, ap, arith}
-use Rattle.std.specs.Prelude.{nat_le, if◌then◌else◌, option_map}
+use Rattle.std.specs.Prelude.{codes, nat_le, if◌then◌else◌, option_map}
 use Rattle.std.specs.Option.{option_and_then, unwrap_or}
 use Rattle.std.proofs.lemmas.Bool.Decides.{nat_tests}
 use Rattle.cpg_script.specs.Words.{◌>>=◌}
 use Rattle.cpg_text.specs.Lines.{only}
 use Rattle.cpg_world_laws.specs.declared.events.WorldEvent.{WorldEvent}
 use Rattle.cpg_world_laws.specs.declared.events.WorldEvent.TheVariants.{Frame}
-use Rattle.cpg_step.specs.declared.verbs.Verb.{Verb}
-use Rattle.cpg_step.specs.declared.verbs.Verb.TheVariants as verbs
-use Rattle.cpg_step.specs.Commands.{frame_of, look_of, node_of, u64_of}
-use Rattle.cpg_step.specs.Steps.{verb_word}
+use Rattle.cpg_step.specs.Commands.{act_or_look, command_of, frame_of, node_of, submit_of, u64_of}
 
--- no command that begins with a verb only looks
-pub no_look : (nodes : ℕ) (verb : Verb) (words : List (List ℕ)) → look_of nodes (verb_word verb) words ≡ None
-no_look nodes verbs.Call words = refl
-no_look nodes verbs.Deliver words = refl
-no_look nodes verbs.Frame words = refl
-no_look nodes verbs.Take words = refl
+-- a command that begins with `call` acts, where it is one
+pub call_acts : (nodes : ℕ) (words : List (List ℕ)) → command_of nodes (codes "call" ∷ words) ≡ act_or_look (submit_of nodes words) None
+call_acts nodes words = refl
 
 abbrev nothing : ℕ → Option WorldEvent
 nothing n = None

@@ -4,7 +4,7 @@ use Rattle.std.proofs.lemmas.Bool.Decides.{nat_tests}
 use Rattle.std.proofs.lemmas.List.{take_all, length-take-le}
 use Rattle.std.specs.Char.{is_ascii_digit}
 use Rattle.std.specs.List.{list_all}
-use Rattle.std.specs.Prelude.{nat_le, if◌then◌else◌}
+use Rattle.std.specs.Prelude.{codes, nat_le, if◌then◌else◌, option_map}
 use Rattle.std.specs.Option.{unwrap_or}
 use Rattle.cpg_cred.specs.declared.nodes.TheConstants.{MOST_NODES}
 use Rattle.cpg_entry.specs.declared.ranges.TheConstants.{MOST_CONNECTIONS}
@@ -13,8 +13,9 @@ use Rattle.cpg_text.specs.Lines.{is_blank, words_of}
 use Rattle.cpg_text.specs.Numbers.{first_number, is_number, number_in, value_of}
 use Rattle.cpg_text.proofs.FirstNumbers.{number_at_end, number_before_blank}
 use Rattle.cpg_world_laws.specs.declared.events.WorldEvent.{WorldEvent}
-use Rattle.cpg_world_laws.specs.declared.events.WorldEvent.TheVariants.{Frame}
-use Rattle.cpg_step.specs.Commands.{conn_of, frame_of, in_ring, node_alone, node_and_conn, u64_of}
+use Rattle.cpg_world_laws.specs.declared.events.WorldEvent.TheVariants.{Deliver, Frame, Take}
+use Rattle.cpg_step.specs.declared.commands.Command.TheVariants.{Act}
+use Rattle.cpg_step.specs.Commands.{act_or_look, command_of, conn_of, frame_of, in_ring, node_alone, node_and_conn, u64_of}
 use Rattle.cpg_step.specs.Steps.{at_numbered, between, node_numbered, two_numbers}
 use Rattle.cpg_step.proofs.Beginnings.{found, more_left, taken_both, widen}
 
@@ -33,7 +34,7 @@ narrowed low high word number is most = by_case (is_number word) (value_of word)
     by_case true value e = ap (between low high) (same (nat_le 0 value && nat_le value 4294967295) value e)
 
 -- a number that ends a line is the node of it
-pub alone_numbered : (nodes : ℕ) (words : List (List ℕ)) (number : ℕ) → first_number words ≡ found number [] → node_alone nodes words ≡ node_numbered nodes number
+alone_numbered : (nodes : ℕ) (words : List (List ℕ)) (number : ℕ) → first_number words ≡ found number [] → node_alone nodes words ≡ node_numbered nodes number
 alone_numbered nodes [] number e = cc
 alone_numbered nodes (a ∷ []) number e =
     ap (λ o. o >>= in_ring nodes) (narrowed 1 MOST_NODES a number (taken_both [] [] number (number_in 0 4294967295 a) e).0 (omega arith))
@@ -50,7 +51,7 @@ abbrev pair : ℕ → ℕ → Option (ℕ × ℕ)
 pair n m = Some (n, m)
 
 -- two numbers, one after the other, are all there is
-pub numbers_two : (words after : List (List ℕ)) (n m : ℕ) → first_number words ≡ found n after → first_number after ≡ found m [] → two_numbers words ≡ Some (n, m)
+numbers_two : (words after : List (List ℕ)) (n m : ℕ) → first_number words ≡ found n after → first_number after ≡ found m [] → two_numbers words ≡ Some (n, m)
 numbers_two [] after n m first second = cc
 numbers_two (a ∷ words) after n m first second =
     let is = taken_both words after n (number_in 0 4294967295 a) first in
@@ -70,7 +71,7 @@ the_two (Some i) None n m e = absurd (cc)
 the_two (Some i) (Some j) n m e = (ap (λ (o : Option (ℕ × ℕ)). Some (unwrap_or o (i, j)).0) e, ap (λ (o : Option (ℕ × ℕ)). Some (unwrap_or o (i, j)).1) e)
 
 -- two numbers are the node and the connection
-pub at_two : (nodes : ℕ) (words : List (List ℕ)) (n m : ℕ) → two_numbers words ≡ Some (n, m) → node_and_conn nodes words ≡ at_numbered nodes n m
+at_two : (nodes : ℕ) (words : List (List ℕ)) (n m : ℕ) → two_numbers words ≡ Some (n, m) → node_and_conn nodes words ≡ at_numbered nodes n m
 at_two nodes [] n m e = cc
 at_two nodes (a ∷ []) n m e = cc
 at_two nodes (a ∷ b ∷ []) n m e =
@@ -83,7 +84,7 @@ at_two nodes (a ∷ b ∷ c ∷ more) n m e = cc
 abbrev framed : ℕ → ℕ → Option WorldEvent
 framed n k = Some (Frame n k)
 
-pub frame_two : (nodes : ℕ) (words : List (List ℕ)) (n k : ℕ) → two_numbers words ≡ Some (n, k) → frame_of nodes words ≡ (node_numbered nodes n >>= λ i. Some (Frame i k))
+frame_two : (nodes : ℕ) (words : List (List ℕ)) (n k : ℕ) → two_numbers words ≡ Some (n, k) → frame_of nodes words ≡ (node_numbered nodes n >>= λ i. Some (Frame i k))
 frame_two nodes [] n k e = cc
 frame_two nodes (a ∷ []) n k e = cc
 frame_two nodes (a ∷ b ∷ []) n k e =
@@ -98,7 +99,7 @@ digit_alone digit is =
     sym (number_at_end (digit ∷ []) (digit - 48) 1 (omega arith) refl (rw (is) refl) (omega arith) (small_digit digit is))
 
 -- a digit alone is the node of it
-pub digit_node : (nodes digit : ℕ) → is_ascii_digit digit ≡ true → node_alone nodes (words_of (digit ∷ [])) ≡ node_numbered nodes (digit - 48)
+digit_node : (nodes digit : ℕ) → is_ascii_digit digit ≡ true → node_alone nodes (words_of (digit ∷ [])) ≡ node_numbered nodes (digit - 48)
 digit_node nodes digit is = alone_numbered nodes (words_of (digit ∷ [])) (digit - 48) (digit_alone digit is)
 
 -- what follows a digit and a blank
@@ -117,3 +118,18 @@ digit_and_digits (digit ∷ byte ∷ more) second end long is blank at within al
     numbers_two (words_of (digit ∷ byte ∷ more)) (words_of tail) (digit - 48) second
     (sym (number_before_blank (digit ∷ byte ∷ more) (digit - 48) 1 (no_blank digit is) (omega (arith, long)) (rw (is) refl) (omega arith) (small_digit digit is) (ap is_blank blank)))
     (sym (number_at_end tail second end (omega (arith, at, long)) (omega (arith, at, within, less)) all value small))
+
+-- ---- commands that are written as they are printed
+
+pub plain_deliver : (nodes digit node : ℕ) → is_ascii_digit digit ≡ true → node_numbered nodes (digit - 48) ≡ Some node
+    → command_of nodes (codes "deliver" ∷ words_of (digit ∷ [])) ≡ Some (Act (Deliver node))
+plain_deliver nodes digit node is at = ap (λ (o : Option ℕ). act_or_look (option_map (λ n. Deliver n) o) None) (digit_node nodes digit is ∙ at)
+
+pub plain_frame : (nodes : ℕ) (words : List (List ℕ)) (n k node : ℕ) → two_numbers words ≡ Some (n, k) → node_numbered nodes n ≡ Some node
+    → command_of nodes (codes "frame" ∷ words) ≡ Some (Act (Frame node k))
+plain_frame nodes words n k node two at = ap (λ (o : Option WorldEvent). act_or_look o None) (frame_two nodes words n k two ∙ ap (λ (o : Option ℕ). o >>= λ i. framed i k) at)
+
+pub plain_take : (nodes : ℕ) (words : List (List ℕ)) (n m node conn : ℕ) → two_numbers words ≡ Some (n, m) → at_numbered nodes n m ≡ Some (node, conn)
+    → command_of nodes (codes "take" ∷ words) ≡ Some (Act (Take node conn))
+plain_take nodes words n m node conn two at =
+    ap (λ (o : Option (ℕ × ℕ)). act_or_look (option_map (λ at. Take at.0 at.1) o) None) (at_two nodes words n m two ∙ at)

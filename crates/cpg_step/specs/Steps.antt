@@ -1,5 +1,5 @@
 -- steps of the functions that run, which no contract of a public function cites
-use Rattle.std.specs.Prelude.{ℕ, ◌≡◌, ◌⊎◌, List, [], ◌∷◌, ◌&&◌, codes, nat_le, Option, Some, None, if◌then◌else◌}
+use Rattle.std.specs.Prelude.{ℕ, ◌≡◌, ◌⊎◌, List, [], ◌∷◌, ◌&&◌, nat_le, Option, Some, None, if◌then◌else◌}
 use Rattle.std.specs.List.{concat}
 use Rattle.cpg_cred.specs.declared.nodes.TheConstants.{MOST_NODES}
 use Rattle.cpg_entry.specs.declared.ranges.TheConstants.{MOST_CONNECTIONS}
@@ -9,8 +9,6 @@ use Rattle.cpg_text.specs.Numbers.{number_in}
 use Rattle.cpg_world_laws.specs.Worlds.{WorldValue}
 use Rattle.cpg_world_laws.specs.Replies.{Answer, AreReplies}
 use Rattle.cpg_step.specs.declared.commands.Command.{Command}
-use Rattle.cpg_step.specs.declared.verbs.Verb.{Verb}
-use Rattle.cpg_step.specs.declared.verbs.Verb.TheVariants as verbs
 use Rattle.cpg_step.specs.Commands.{in_ring}
 use Rattle.cpg_step.specs.Lines.{rule_line}
 use Rattle.cpg_step.specs.Running.{after, events_in, lines_of}
@@ -35,13 +33,6 @@ rule_line_of (Some rule) = rule_line rule
 abbrev pub two : List (List ℕ) → Option (List ℕ × List ℕ)
 two (first ∷ second ∷ []) = Some (first, second)
 two _ = None
-
--- the word of a verb
-abbrev pub verb_word : Verb → List ℕ
-verb_word verbs.Call = codes "call"
-verb_word verbs.Deliver = codes "deliver"
-verb_word verbs.Frame = codes "frame"
-verb_word verbs.Take = codes "take"
 
 -- two numbers of 32 bits that are all that is written
 abbrev pub two_numbers : List (List ℕ) → Option (ℕ × ℕ)

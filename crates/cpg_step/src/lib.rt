@@ -9,11 +9,11 @@ mod acting;
 mod commands;
 mod looking;
 mod numbered;
+mod plain;
 mod printing;
 mod reading;
 mod running;
 mod scripts;
-mod verbs;
 
 pub use acting::answer_to;
 pub use commands::{Command, Look};

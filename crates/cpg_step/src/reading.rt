@@ -3,7 +3,7 @@
 //! Proved: each function reads what the definition in `specs/Commands.antt` says, in a ring of so many nodes. Those that
 //! make much, or are seldom called, stand apart (`inline(never)`), so that other lines don't pay for the room of their values.
 
-ghost use Rattle.std.specs.Prelude.{◌≡◌, ◌≤◌, ◌∷◌, Some, IfOk, IfSome, option_map};
+ghost use Rattle.std.specs.Prelude.{◌≡◌, ◌≤◌, ◌∷◌, Some, IfOk, IfSome, codes, option_map};
 ghost use Rattle.cpg_text.specs.Lines.{only, words_of};
 ghost use Rattle.cpg_text.specs.Memory.{IsOkUnlessMemoryFor};
 ghost use Rattle.std.specs.Option.{option_and_then};
@@ -12,12 +12,11 @@ ghost use Rattle.cpg_world_laws.specs.Worlds.{node_in};
 ghost use Rattle.cpg_world_laws.specs.declared.events.WorldEvent.TheVariants.{Submit, Disconnect, Take, Groups, Timer, Deliver};
 ghost use Rattle.cpg_print.specs.Words.{texts};
 ghost use Rattle.cpg_step.specs.declared.commands.Look.TheVariants.{Audit, Safe};
-ghost use Rattle.cpg_step.specs.Steps.{two, verb_word};
+ghost use Rattle.cpg_step.specs.Steps.{two};
 ghost use Rattle.cpg_step.specs.Commands.{node_of, conn_of, u64_of, node_alone, node_and_conn, connect_of, submit_of, frame_of, list_of, event_of, show_of, rules_of, look_of, act_or_look, command_of, LooksWithin, IsWithin};
 
 use crate::commands::{Command, Look};
-use crate::numbered::{at_of_numbers, last_numbers, node_of_number};
-use crate::verbs::{Verb, take_verb};
+use crate::plain::read_plain;
 use cpg_cred::{Cred, MOST_NODES, NodeId, Refusal};
 use cpg_entry::{MOST_CONNECTIONS, Name};
 use cpg_print::read_call_in;
@@ -60,16 +59,12 @@ pub fn read_node_alone(nodes: u8, words: &[&[u8]]) -> Option<NodeId>
 }
 
 /// The node of a NODE, where no more words follow.
-#[inline(always)]
-#[tactic(auto, using(crate::proofs::Lengths::alone_of_only, crate::proofs::LastNumbers::digit_node))]
+#[tactic(auto, using(crate::proofs::Lengths::alone_of_only))]
 fn read_last_node(nodes: u8, rest: &[u8]) -> Option<NodeId>
     ensures node { result ≡ node_alone nodes (words_of rest.now) }
     ensures within { IfSome result (λ node. node ≤ nodes) }
 {
-    match rest {
-        [digit] if digit.is_ascii_digit() => node_of_number(nodes, u32::from(*digit - b'0')),
-        _ => read_node(nodes, only_word(rest)?),
-    }
+    read_node(nodes, only_word(rest)?)
 }
 
 /// The two words that follow, where there are no more.
@@ -83,22 +78,8 @@ fn last_two(rest: &[u8]) -> Option<(&[u8], &[u8])>
 }
 
 /// The node and the connection of NODE CONN, where no more words follow.
-#[inline(always)]
-#[tactic(auto, using(crate::proofs::LastNumbers::at_two))]
-fn read_node_and_conn(nodes: u8, rest: &[u8]) -> Option<(NodeId, u16)>
-    ensures at { result ≡ node_and_conn nodes (words_of rest.now) }
-    ensures within { IfSome result (λ at. at.0 ≤ nodes) }
-{
-    match last_numbers(rest) {
-        Some((node, conn)) => at_of_numbers(nodes, node, conn),
-        None => read_two_words(nodes, rest),
-    }
-}
-
-/// The same by its words. It stands apart, since most lines write numbers as they are printed.
-#[inline(never)]
 #[tactic(auto, using(crate::proofs::Lengths::at_of_two))]
-fn read_two_words(nodes: u8, rest: &[u8]) -> Option<(NodeId, u16)>
+fn read_node_and_conn(nodes: u8, rest: &[u8]) -> Option<(NodeId, u16)>
     ensures at { result ≡ node_and_conn nodes (words_of rest.now) }
     ensures within { IfSome result (λ at. at.0 ≤ nodes) }
 {
@@ -171,25 +152,8 @@ fn read_submit_by(
     }
 }
 
-#[inline(always)]
-#[tactic(auto, using(crate::proofs::LastNumbers::frame_two))]
-fn read_frame(nodes: u8, rest: &[u8]) -> Option<WorldEvent>
-    ensures event { result ≡ frame_of nodes (words_of rest.now) }
-    ensures within { IfSome result (λ event. node_in event ≤ nodes) }
-{
-    match last_numbers(rest) {
-        Some((node, number)) => {
-            let node = node_of_number(nodes, node)?;
-            Some(WorldEvent::Frame(node, number as usize))
-        }
-        None => read_frame_words(nodes, rest),
-    }
-}
-
-/// The same by its words. It stands apart, since most lines write numbers as they are printed.
-#[inline(never)]
 #[tactic(auto, using(crate::proofs::Beginnings::frame_of_last))]
-fn read_frame_words(nodes: u8, rest: &[u8]) -> Option<WorldEvent>
+fn read_frame(nodes: u8, rest: &[u8]) -> Option<WorldEvent>
     ensures event { result ≡ frame_of nodes (words_of rest.now) }
     ensures within { IfSome result (λ event. node_in event ≤ nodes) }
 {
@@ -242,7 +206,6 @@ fn read_disconnect(nodes: u8, rest: &[u8]) -> Option<WorldEvent>
     Some(WorldEvent::Disconnect(node, conn))
 }
 
-#[inline(always)]
 fn read_take(nodes: u8, rest: &[u8]) -> Option<WorldEvent>
     ensures event { result ≡ option_map (λ at. Take at.0 at.1) (node_and_conn nodes (words_of rest.now)) }
     ensures within { IfSome result (λ event. node_in event ≤ nodes) }
@@ -267,7 +230,6 @@ fn read_timer(nodes: u8, rest: &[u8]) -> Option<WorldEvent>
     Some(WorldEvent::Timer(node))
 }
 
-#[inline(always)]
 fn read_deliver(nodes: u8, rest: &[u8]) -> Option<WorldEvent>
     ensures event { result ≡ option_map (λ n. Deliver n) (node_alone nodes (words_of rest.now)) }
     ensures within { IfSome result (λ event. node_in event ≤ nodes) }
@@ -411,59 +373,37 @@ fn read_named(
     }
 }
 
-/// The event that the words after a verb say.
-#[inline(always)]
-fn read_act(
-    alloc: Global,
-    nodes: u8,
-    verb: Verb,
-    rest: &[u8],
-) -> Result<Option<WorldEvent>, Refusal>
-    ensures event { IfOk result (λ found. found ≡ event_of nodes (verb_word verb) (words_of rest.now)) }
-    ensures within { IfOk result (λ found. IfSome found (λ event. node_in event ≤ nodes)) }
-    ensures memory { IsOkUnlessMemoryFor result (event_of nodes (verb_word verb) (words_of rest.now)) }
-{
-    match verb {
-        Verb::Call => read_submit(alloc, nodes, rest),
-        Verb::Deliver => Ok(read_deliver(nodes, rest)),
-        Verb::Frame => Ok(read_frame(nodes, rest)),
-        Verb::Take => Ok(read_take(nodes, rest)),
-    }
-}
-
-/// The command that a verb and the words after it say.
-#[inline(always)]
-#[tactic(auto, using(crate::proofs::Lengths::act_there, crate::proofs::Beginnings::no_look))]
-fn read_by_verb(
-    alloc: Global,
-    nodes: u8,
-    verb: Verb,
-    rest: &[u8],
-) -> Result<Option<Command>, Refusal>
-    ensures command { IfOk result (λ found. found ≡ command_of nodes (verb_word verb ∷ words_of rest.now)) }
+/// The command of a call, by what follows its first word.
+#[inline(never)]
+#[tactic(auto, using(crate::proofs::Lengths::act_there, crate::proofs::Beginnings::call_acts))]
+fn read_call(alloc: Global, nodes: u8, rest: &[u8]) -> Result<Option<Command>, Refusal>
+    ensures command { IfOk result (λ found. found ≡ command_of nodes (codes "call" ∷ words_of rest.now)) }
     ensures within { IfOk result (λ found. IfSome found (λ command. IsWithin nodes command)) }
-    ensures memory { IsOkUnlessMemoryFor result (command_of nodes (verb_word verb ∷ words_of rest.now)) }
+    ensures memory { IsOkUnlessMemoryFor result (command_of nodes (codes "call" ∷ words_of rest.now)) }
 {
-    match read_act(alloc, nodes, verb, rest)? {
+    match read_submit(alloc, nodes, rest)? {
         None => Ok(None),
         Some(event) => Ok(Some(Command::Act(event))),
     }
 }
 
 /// The command of a line, in a ring of so many nodes, if it is one. That it is none is told whatever memory there
-/// is.
+/// is. A plain line is read with no search for words.
 pub fn command_in_line(alloc: Global, nodes: u8, line: &[u8]) -> Result<Option<Command>, Refusal>
     ensures command { IfOk result (λ found. found ≡ command_of nodes (words_of line.now)) }
     ensures within { IfOk result (λ found. IfSome found (λ command. IsWithin nodes command)) }
     ensures memory { IsOkUnlessMemoryFor result (command_of nodes (words_of line.now)) }
 {
-    match take_verb(line) {
-        Some((verb, rest)) => read_by_verb(alloc, nodes, verb, rest),
-        None => read_by_words(alloc, nodes, line),
+    if let Some(plain) = read_plain(nodes, line) {
+        return Ok(Some(plain.command()));
+    }
+    match line {
+        [b'c', b'a', b'l', b'l', b' ', rest @ ..] => read_call(alloc, nodes, rest),
+        _ => read_by_words(alloc, nodes, line),
     }
 }
 
-/// The same for any line. It stands apart, since most lines begin with a verb.
+/// The same for any line. It stands apart, since most lines are plain.
 #[inline(never)]
 fn read_by_words(alloc: Global, nodes: u8, line: &[u8]) -> Result<Option<Command>, Refusal>
     ensures command { IfOk result (λ found. found ≡ command_of nodes (words_of line.now)) }
