@@ -27,6 +27,7 @@ use cpg_why_steps::why_of_steps;
 use cpg_world::World;
 use std::alloc::Global;
 use std::io::{Read, Write};
+use std::mem;
 
 /// Runs the script over a new world of those settings, whose nodes let in whom the words let in, and writes what it
 /// prints in that form.
@@ -51,10 +52,22 @@ pub fn step_over_world<R: Read, W: Write>(
     match world_by(alloc, settings, words) {
         Err(failure) => Err(failure),
         Ok(mut world) => match step(alloc, form, reader, writer, &mut world) {
-            Err(fault) => Err(Failure::from(fault)),
-            Ok(()) => Ok(()),
+            Err(fault) => {
+                leave(world);
+                Err(Failure::from(fault))
+            }
+            Ok(()) => {
+                leave(world);
+                Ok(())
+            }
         },
     }
+}
+
+/// Leaves what the world keeps to the system, which takes it back at once when the process ends, as it does next; to give
+/// it back record by record would cost some 30 instructions for each command.
+fn leave(world: World) {
+    mem::forget(world);
 }
 
 /// Runs the script over the world, and writes what it prints in that form.
