@@ -213,11 +213,10 @@ where
         if !are_settings(&opened.beginning().settings) {
             return Err(Refusal::Range);
         }
-        let traced = opened.is_traced();
         let (history, mut pens, beginning) = opened.named::<B>();
         let settings = beginning.settings;
         let nodes = settings.nodes;
-        let locks = new_locks(alloc, &board, &beginning, traced, &history, &mut pens)?;
+        let locks = new_locks(alloc, &board, &beginning, &history, &mut pens)?;
         let spares = new_spares(alloc, settings, &board, &history, &mut pens)?;
         let room = new_room(alloc, nodes, pens, spares)?;
         let mut lines = new_links(alloc, nodes, peers(nodes))?;

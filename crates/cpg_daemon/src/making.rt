@@ -3,7 +3,7 @@
 ghost use Rattle.std.specs.Prelude.{◌≡◌, ◌≤◌, ◌<◌, ◌+◌, ◌*◌, ◌^◌, suc, [], false, IfOk, OnOk, IsOkUnless, vec_len};
 ghost use Rattle.cpg_ring.specs.States.{IsSettings};
 ghost use Rattle.cpg_node.specs.Nodes.{new_value};
-ghost use Rattle.cpg_history.specs.Histories.{first_world, all_nodes};
+ghost use Rattle.cpg_history.specs.Histories.{first_world, all_nodes, is_counted};
 ghost use Rattle.cpg_history.specs.Traces.{new_trace};
 ghost use Rattle.cpg_daemon.specs.Links.{peers_of, peer_of};
 
@@ -66,13 +66,12 @@ pub(crate) fn new_spares<B: HistoryName>(
     Ok(spares)
 }
 
-/// The next node's new station, with its pen. Its events are recorded where that is asked for.
+/// The next node's new station, with its pen. Its events are recorded where they are counted.
 fn new_member<B: HistoryName>(
     alloc: Global,
     id: NodeId,
     board: &Board,
     beginning: &Beginning,
-    traced: bool,
     history: &History<B>,
     pens: &mut Pen<B>,
 ) -> Result<Member<B>, Refusal>
@@ -81,7 +80,7 @@ fn new_member<B: HistoryName>(
     requires begins { first_world beginning.now ≡ B.start }
     requires board { board.now ≡ B.cells }
     requires pens { (pens.old.from ≡ id) × (id < pens.old.to) × (pens.old.seen ≡ []) }
-    ensures ok { IfOk result (λ member. member ≡ record { id = id; station = record { node = new_value beginning.now.settings id beginning.now.list; seat = []; halted = false }; spare = false; seen = []; trace = new_trace traced }) }
+    ensures ok { IfOk result (λ member. member ≡ record { id = id; station = record { node = new_value beginning.now.settings id beginning.now.list; seat = []; halted = false }; spare = false; seen = []; trace = new_trace (is_counted B.table) }) }
     ensures rest { OnOk result ((pens.new.from ≡ suc id) × (pens.new.to ≡ pens.old.to) × (pens.new.seen ≡ [])) }
     ensures memory { IsOkUnless result Refusal.Memory }
 {
@@ -89,16 +88,15 @@ fn new_member<B: HistoryName>(
     history.begins();
     let station = new_station(alloc, beginning.settings, id, board, &beginning.list)?;
     let pen = history.next(pens);
-    Ok(Member::new(alloc, id, station, pen, traced))
+    Ok(Member::new(alloc, id, station, pen, history.is_counted()))
 }
 
-/// A lock for each node, in their order, with a new station in it and the node's pen. What happens is recorded where that
-/// is asked for.
+/// A lock for each node, in their order, with a new station in it and the node's pen. What happens is recorded where
+/// the history counts it.
 pub(crate) fn new_locks<B: HistoryName>(
     alloc: Global,
     board: &Board,
     beginning: &Beginning,
-    traced: bool,
     history: &History<B>,
     pens: &mut Pen<B>,
 ) -> Result<Vec<Mutex<Member<B>>>, Refusal>
@@ -115,7 +113,7 @@ pub(crate) fn new_locks<B: HistoryName>(
         let Some(id) = NodeId::new(before + 1) else {
             return Err(Refusal::Range);
         };
-        let member = new_member(alloc, id, board, beginning, traced, history, pens)?;
+        let member = new_member(alloc, id, board, beginning, history, pens)?;
         locks.push(Mutex::new(member))?;
     }
     Ok(locks)

@@ -38,6 +38,14 @@ pub fn opened_of(alloc: Global, settings: Settings) -> Result<Opened, Refusal>
     Ok(Opened::new(alloc, Beginning { settings, list })?)
 }
 
+/// The same, of which what happens is recorded.
+pub fn traced_of(alloc: Global, settings: Settings) -> Result<Opened, Refusal>
+    ensures { IfOk result (λ opened. opened.start.settings ≡ settings) }
+{
+    let list = AcceptList::new(alloc);
+    Ok(Opened::traced(alloc, Beginning { settings, list })?)
+}
+
 /// A history that begins with a new world of those settings, and lets in user 7.
 pub fn opened_for_seven(alloc: Global, settings: Settings) -> Result<Opened, Refusal>
     ensures { IfOk result (λ opened. opened.start.settings ≡ settings) }

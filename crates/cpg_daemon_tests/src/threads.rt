@@ -7,7 +7,7 @@ ghost use Rattle.cpg_history.specs.Histories.{first_world};
 ghost use Rattle.cpg_history.specs.Members.{HaveSeen};
 
 use crate::replaying::{begins, plays_again};
-use crate::sharing::{ROOT, Told, next_told, opened_of, refusal_in, settings_of};
+use crate::sharing::{ROOT, Told, next_told, refusal_in, settings_of, traced_of};
 use cpg_board::{Board, Seat};
 use cpg_cred::{NodeId, Refusal};
 use cpg_daemon::{Cluster, Ends, HistoryName, Opened, PassAll, Running, Session};
@@ -354,7 +354,7 @@ where
 fn three_threads_are_served(rt: HostRuntime) -> Result<(), Fail> {
     let board = Board::new(rt.alloc(), 4_096)?;
     let alloc = rt.alloc();
-    let opened = opened_of(alloc, settings_of(3))?.traced();
+    let opened = traced_of(alloc, settings_of(3))?;
     assert!(rt; three_go::<Brand, HostRuntime>(rt, alloc, board, opened));
     Ok(())
 }

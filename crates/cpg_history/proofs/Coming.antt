@@ -35,7 +35,7 @@ length-push (z ∷ xs) x = ap suc (length-push xs x)
 pub item_last : {X : Type 0} (xs : List X) (x : X) → item (xs ++ x ∷ []) (length (xs ++ x ∷ [])) ≡ Some x
 item_last xs x = ap (item (xs ++ x ∷ [])) (length-push xs x) ∙ get_last xs x
 
-module _ (start : WorldValue) (v : View) (e : WorldEvent) (stamp : ℕ) (value : NodeValue) (seen : List WorldEvent) (c : Came v e stamp seen) (at : IsAt start v.seen (node_in e) value) where
+module _ {k : Bool} (start : WorldValue) (v : View) (e : WorldEvent) (stamp : ℕ) (value : NodeValue) (seen : List WorldEvent) (c : Came k v e stamp seen) (at : IsAt start v.seen (node_in e) value) where
   abbrev w : WorldValue
   w = runs start c.log
 
@@ -54,7 +54,7 @@ module _ (start : WorldValue) (v : View) (e : WorldEvent) (stamp : ℕ) (value :
   replies a is = subst (λ o. IsAnswerOf w.sent e o a) (sym was_at) is
 
 -- the same, told of a member that had seen as much as the view
-abbrev pub replied : (start : WorldValue) (v : View) (e : WorldEvent) (stamp id : ℕ) (s t : StationValue) (spare : Bool) (was is : TraceValue) (seen : List WorldEvent) (c : Came v e stamp seen) (a : Answer) → node_in e ≡ id → IsAt start v.seen id s.node → IsAnswerAt (runs start c.log).sent e s.node a → (moves (runs start c.log).sent e s.node).0 ≡ t.node → Replied start (member id s spare v.seen was) e a (member id t spare seen is)
+abbrev pub replied : {k : Bool} (start : WorldValue) (v : View) (e : WorldEvent) (stamp id : ℕ) (s t : StationValue) (spare : Bool) (was is : TraceValue) (seen : List WorldEvent) (c : Came k v e stamp seen) (a : Answer) → node_in e ≡ id → IsAt start v.seen id s.node → IsAnswerAt (runs start c.log).sent e s.node a → (moves (runs start c.log).sent e s.node).0 ≡ t.node → Replied start (member id s spare v.seen was) e a (member id t spare seen is)
 replied start v e stamp id s t spare old new seen c a is at told moved =
     let at' : IsAt start v.seen (node_in e) s.node = subst (λ n. IsAt start v.seen n s.node) (sym is) at in
     record {
@@ -68,10 +68,10 @@ replied start v e stamp id s t spare old new seen c a is at told moved =
     }
 
 -- a call of a member adds its event, whatever was sent
-abbrev pub called : (start : WorldValue) (pen after : View) (m : MemberValue) (event : ℕ → WorldEvent) (e : WorldEvent) (stamp id : ℕ) (s t : StationValue) (spare : Bool) (old new : TraceValue) (a : Answer) → member id s spare pen.seen old ≡ m → e ≡ event m.id → node_in (event id) ≡ id → IsAt start pen.seen id s.node → Came pen e stamp after.seen → ((sent : List Frame) → IsAnswerAt sent (event id) s.node a) → ((sent : List Frame) → (moves sent (event id) s.node).0 ≡ t.node) → Replied start m (event m.id) a (member id t spare after.seen new)
-called start pen after m event e stamp id s t spare old new a is event_is for_node at came told moved =
+abbrev pub called : {k : Bool} (start : WorldValue) (pen after : View) (m : MemberValue) (event : ℕ → WorldEvent) (e : WorldEvent) (stamp id : ℕ) (s t : StationValue) (spare : Bool) (old new : TraceValue) (a : Answer) → member id s spare pen.seen old ≡ m → e ≡ event m.id → node_in (event id) ≡ id → IsAt start pen.seen id s.node → Came k pen e stamp after.seen → ((sent : List Frame) → IsAnswerAt sent (event id) s.node a) → ((sent : List Frame) → (moves sent (event id) s.node).0 ≡ t.node) → Replied start m (event m.id) a (member id t spare after.seen new)
+called {k} start pen after m event e stamp id s t spare old new a is event_is for_node at came told moved =
     let now : e ≡ event id = event_is ∙ ap (λ (m : MemberValue). event m.id) (sym is) in
-    let c : Came pen (event id) stamp after.seen = subst (λ (e : WorldEvent). Came pen e stamp after.seen) now came in
+    let c : Came k pen (event id) stamp after.seen = subst (λ (e : WorldEvent). Came k pen e stamp after.seen) now came in
     subst (λ (m : MemberValue). Replied start m (event m.id) a (member id t spare after.seen new)) is
     (replied start pen (event id) stamp id s t spare old new after.seen c a for_node at (told (runs start c.log).sent) (moved (runs start c.log).sent))
 
@@ -79,9 +79,9 @@ pub stays : (start : WorldValue) (pen after : View) (id : ℕ) (x y : NodeValue)
 stays start pen after id x y is old at = (ap (λ (v : View). v.from) is ∙ old.0, ap (λ (v : View). v.to) is ∙ old.1, at)
 
 -- an event at a pen's own node
-module _ (start : WorldValue) (v : View) (e event : WorldEvent) (stamp id : ℕ) (x : NodeValue) (seen : List WorldEvent) (is : e ≡ event) (for_node : node_in event ≡ id) (p : IsPenOf start v id x) (came : Came v e stamp seen) where
-  c : Came v event stamp seen
-  c = subst (λ (e : WorldEvent). Came v e stamp seen) is came
+module _ {k : Bool} (start : WorldValue) (v : View) (e event : WorldEvent) (stamp id : ℕ) (x : NodeValue) (seen : List WorldEvent) (is : e ≡ event) (for_node : node_in event ≡ id) (p : IsPenOf start v id x) (came : Came k v e stamp seen) where
+  c : Came k v event stamp seen
+  c = subst (λ (e : WorldEvent). Came k v e stamp seen) is came
 
   at' : IsAt start v.seen (node_in event) x
   at' = subst (λ n. IsAt start v.seen n x) (sym for_node) p.2

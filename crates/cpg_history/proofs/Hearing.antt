@@ -1,5 +1,5 @@
 -- A frame that was sent is heard: how it is answered, and what it makes the node send.
-use Rattle.std.proofs.Common.{◌≡◌, ℕ, suc, ◌+◌, Bool, List, [], ◌∷◌, ◌++◌, length, All, Option, Some, None, IfSome, Ok, option_map, refl, sym, ap, ◌∙◌, subst, arith}
+use Rattle.std.proofs.Common.{◌≡◌, ℕ, suc, ◌+◌, Bool, true, List, [], ◌∷◌, ◌++◌, length, All, Option, Some, None, IfSome, Ok, option_map, refl, sym, ap, ◌∙◌, subst, arith}
 use Rattle.std.proofs.lemmas.List.{length-map}
 use Rattle.std.proofs.lemmas.List.Elements.{All-from_recursion}
 use Rattle.std.proofs.lemmas.Option.{none-some, same_Some}
@@ -27,8 +27,8 @@ use Rattle.cpg_history.proofs.Runs.{prefix_sends}
 use Rattle.cpg_history.proofs.Coming.{called, replied, world_after}
 use Rattle.cpg_history.proofs.Sending.{all_stand, last_off}
 
-module _ (law : ReadAgain) (start : WorldValue) (v : View) (f : FrontValue) (stamp id : ℕ) (s t : StationValue) (spare : Bool) (seen : List WorldEvent) (bytes : List ℕ) (frames : List (List ℕ))
-    (p : WasSent start f.seen f.number bytes) (c : Came (told v (front f)) (Arrival id f.number) stamp seen) (at : IsAt start v.seen id s.node)
+module _ {k : Bool} (law : ReadAgain) (start : WorldValue) (v : View) (f : FrontValue) (stamp id : ℕ) (s t : StationValue) (spare : Bool) (seen : List WorldEvent) (bytes : List ℕ) (frames : List (List ℕ))
+    (p : WasSent start f.seen f.number bytes) (c : Came k (told v (front f)) (Arrival id f.number) stamp seen) (at : IsAt start v.seen id s.node)
     (none : frame_refusal s.node p.frame ≡ None) (are : frames ≡ spelled (answers_to s.node p.frame)) (made : t.node ≡ after_frame s.node p.frame) where
   abbrev x : NodeValue
   x = s.node
@@ -54,9 +54,9 @@ module _ (law : ReadAgain) (start : WorldValue) (v : View) (f : FrontValue) (sta
       let sent : (runs start seen).sent ≡ w.sent ++ answers_to x p.frame = ap (λ (u : WorldValue). u.sent) (world_after start (told v (front f)) (Arrival id f.number) stamp x seen c at) ∙ ap (λ (m : NodeOutcome). w.sent ++ m.1) hears_is in
       subst (λ l. WereSent start seen (suc (length (runs start l).sent)) frames) (sym before) (all_stand law start c.log seen (answers_to x p.frame) frames sent are range)
 
-  pub frame_recorded : (source index : ℕ) → HasNumber start f.seen source index f.number → WasRecorded start seen (recorded_of stamp (length frames) source (Arrival id index))
-  frame_recorded source index number =
-      recorded start (told v (front f)) (Arrival id f.number) stamp x seen c at (length frames) source (Arrival id index)
+  pub frame_recorded : (source index : ℕ) → k ≡ true → HasNumber start f.seen source index f.number → WasRecorded start seen (recorded_of stamp (length frames) source (Arrival id index))
+  frame_recorded source index counted number =
+      recorded counted start (told v (front f)) (Arrival id f.number) stamp x seen c at (length frames) source (Arrival id index)
       (ap (λ (m : NodeOutcome). length m.1) hears_is ∙ sym (ap length are ∙ length-map (answers_to x p.frame) (spelling Two)))
       (f.number, number_on start f.seen c.log c.also source index f.number number, refl)
 
@@ -77,7 +77,7 @@ pub token_count : (r : NodeState) (o : Option Token) (token : Option (List ℕ))
 token_count r None token sent is count = sym (count ∙ ap (λ (t : Option (List ℕ)). how_many t) is)
 token_count r (Some t) token sent is count = sym (count ∙ ap (λ (t : Option (List ℕ)). how_many t) is)
 
-pub timed : ReadAgain → (start : WorldValue) (v : View) (stamp id : ℕ) (x : NodeValue) (seen : List WorldEvent) (bytes : List ℕ) → Came v (Timer id) stamp seen → IsAt start v.seen id x → Some bytes ≡ option_map (λ t. spelling Two (frame.Token t)) x.ring.state.last_token → IfSome x.ring.state.last_token (λ t. CanBeSpelled (frame.Token t)) → WasSent start seen (suc (length (runs start (before_last seen)).sent)) bytes
+pub timed : {k : Bool} → ReadAgain → (start : WorldValue) (v : View) (stamp id : ℕ) (x : NodeValue) (seen : List WorldEvent) (bytes : List ℕ) → Came k v (Timer id) stamp seen → IsAt start v.seen id x → Some bytes ≡ option_map (λ t. spelling Two (frame.Token t)) x.ring.state.last_token → IfSome x.ring.state.last_token (λ t. CanBeSpelled (frame.Token t)) → WasSent start seen (suc (length (runs start (before_last seen)).sent)) bytes
 timed law start v stamp id x seen bytes c at is range =
     let tokens = (send_again x.ring.state x.ring.state.last_token).1 in
     let before : before_last seen ≡ c.log = ap (λ l. before_last l) c.after ∙ last_off c.log (Timer id) in
@@ -90,6 +90,6 @@ timed law start v stamp id x seen bytes c at is range =
     zero_right : (k : ℕ) → k + 0 ≡ k
     zero_right k = omega arith
 
-pub timer_called : (start : WorldValue) (pen after : View) (m : MemberValue) (e : WorldEvent) (stamp id : ℕ) (s t : StationValue) (spare : Bool) (old new : TraceValue) (sent : ℕ) → member id s spare pen.seen old ≡ m → e ≡ Timer m.id → IsAt start pen.seen id s.node → Came pen e stamp after.seen → t ≡ s → length (send_again s.node.ring.state s.node.ring.state.last_token).1 ≡ sent → Replied start m (Timer m.id) (Ok (reply.Sent sent)) (member id t spare after.seen new)
+pub timer_called : {k : Bool} (start : WorldValue) (pen after : View) (m : MemberValue) (e : WorldEvent) (stamp id : ℕ) (s t : StationValue) (spare : Bool) (old new : TraceValue) (sent : ℕ) → member id s spare pen.seen old ≡ m → e ≡ Timer m.id → IsAt start pen.seen id s.node → Came k pen e stamp after.seen → t ≡ s → length (send_again s.node.ring.state s.node.ring.state.last_token).1 ≡ sent → Replied start m (Timer m.id) (Ok (reply.Sent sent)) (member id t spare after.seen new)
 timer_called start pen after m e stamp id s t spare old new sent is event_is at came same count =
     called start pen after m (λ n. Timer n) e stamp id s t spare old new (Ok (reply.Sent sent)) is event_is refl at came (λ frames. ap (λ n. Ok (reply.Sent n)) (sym count)) (λ frames. sym (ap (λ (u : StationValue). u.node) same))

@@ -1,5 +1,5 @@
 -- Each step keeps the one history.
-use Rattle.std.proofs.Common.{◌≡◌, ◌≢◌, ◌⊎◌, ℕ, zero, suc, ◌+◌, ◌<◌, ◌%◌, ◌^◌, List, [], ◌∷◌, ◌++◌, length, set, eqb, eq-eqb, ne_eqb, refl, sym, ap, ◌∙◌, subst, inl, inr, ⊎_elim, arith, length-append, slice_set}
+use Rattle.std.proofs.Common.{◌≡◌, ◌≢◌, ◌⊎◌, Bool, true, false, true≢false, ℕ, zero, suc, ◌+◌, ◌<◌, ◌%◌, ◌^◌, List, [], ◌∷◌, ◌++◌, ◌==◌, length, set, eqb, eq-eqb, ne_eqb, refl, sym, ap, ◌∙◌, subst, inl, inr, ⊎_elim, arith, length-append, slice_set}
 use Rattle.std.specs.Prelude.{slice_index}
 use Rattle.std.proofs.Math.Nat.{mod-add-mod}
 use mathlib.Core.Option.{some, some-ne-none, some-injective}
@@ -11,12 +11,12 @@ use Rattle.atomic_table.proofs.Lists.{at_set, set_again}
 use Rattle.cpg_world_laws.specs.declared.events.WorldEvent.{WorldEvent}
 use Rattle.cpg_history.specs.declared.histories.View.{View}
 use Rattle.cpg_world_laws.specs.Worlds.{node_in}
-use Rattle.cpg_history.specs.Histories.{view, Owns, FitsHistory, Kept, Adds, Looks, first_node, other_nodes, front_of, told, nobody, all_nodes, spread, TellsCatch}
+use Rattle.cpg_history.specs.Histories.{view, Owns, FitsHistory, Kept, Adds, Looks, first_node, other_nodes, front_of, told, nobody, all_nodes, spread, many_words, words_of, TellsCatch}
 use Rattle.cpg_history.proofs.Runs.{prefix_self, prefix_on}
 use Rattle.cpg_history.proofs.Resting.{rests_self, rests_on, rests_before, rests_behind}
 
-abbrev Rule : State ℕ View → Type 0
-Rule s = Kept s.words s.views
+abbrev pub Rule : Bool → State ℕ View → Type 0
+Rule counted s = Kept counted s.words s.views
 
 -- it is so of each pass
 abbrev Each : List View → (ℕ → View → Type 0) → Type 0
@@ -48,12 +48,31 @@ other_fits log e seat by j u mine apart fits = record {
       (was.0, rests_on n u.seen log e was.1 else_where);
 }
 
-counts : (words : List ℕ) (log : List WorldEvent) (e : WorldEvent) → words ≡ spread (length log % 2 ^ 64) → slice_set words 8 ((slice_index words 8 + 1) % 2 ^ 64) ≡ spread (length (log ++ e ∷ []) % 2 ^ 64)
+counts : (words : List ℕ) (log : List WorldEvent) (e : WorldEvent) → words ≡ words_of true (length log) → slice_set words 8 ((slice_index words 8 + 1) % 2 ^ 64) ≡ words_of true (length (log ++ e ∷ []))
 counts words log e count =
     ap (λ ws. slice_set ws 8 ((slice_index ws 8 + 1) % 2 ^ 64)) count
     ∙ ap spread (mod-add-mod (length log) (2 ^ 64) 1 ∙ ap (λ n. n % 2 ^ 64) (sym (length-append log (e ∷ []))))
 
-pub adds : (e : WorldEvent) (slots id : ℕ) (me : Me ℕ View) (st : Step ℕ) → Owns me.0 (node_in e) → Allows Rule slots id me 8 (λ n. (n + 1) % 2 ^ 64) (Adds e st me)
+-- there is a first word
+pub has_word : (counted : Bool) (words : ℕ) → words ≡ many_words counted → 0 < words
+has_word true words is = omega (arith, is)
+has_word false words is = omega (arith, is)
+
+-- by their number, whether events are counted
+pub tells_counted : (counted : Bool) (words : ℕ) → words ≡ many_words counted → (words == 17) ≡ counted
+tells_counted true words is = ap (λ n. n == 17) is
+tells_counted false words is = ap (λ n. n == 17) is
+
+-- a word that is read stays as it is
+reads : (counted : Bool) (words : List ℕ) (n : ℕ) → words ≡ words_of counted n → slice_set words 0 (slice_index words 0) ≡ words_of counted n
+reads counted words n count = ap (λ ws. slice_set ws 0 (slice_index ws 0)) count ∙ by_flag counted
+  where
+    by_flag : (c : Bool) → slice_set (words_of c n) 0 (slice_index (words_of c n) 0) ≡ words_of c n
+    by_flag true = refl
+    by_flag false = refl
+
+-- an event is added where it is counted
+pub adds : (e : WorldEvent) (slots id : ℕ) (me : Me ℕ View) (st : Step ℕ) → Owns me.0 (node_in e) → Allows (Rule true) slots id me 8 (λ n. (n + 1) % 2 ^ 64) (Adds true e st me)
 adds e slots id me st owns s h len at small =
     let v = me.0 in
     let log = h.log ++ e ∷ [] in
@@ -71,11 +90,33 @@ adds e slots id me st owns s h len at small =
             (record { seen = prefix_self log; also = (log, refl); own = λ n owns. ((mine.own n owns).0, rests_self n log) })
             (λ j u apart was. other_fits h.log e h.seat id j u here.0 apart was);
       },
-      (record { log = h.log; stamped = ap (λ ws. slice_index ws 8) h.count; before = mine.seen; also = mine.also; rests = here.1; after = refl }, refl, refl),
+      (record { log = h.log; stamped = λ _. ap (λ ws. slice_index ws 8) h.count; before = mine.seen; also = mine.also; rests = here.1; after = refl }, refl, refl),
     )
 
-pub fronts : (id number : ℕ) (v : View) → Splits Rule id v v (front_of number v)
-fronts id number v s h at =
+-- an event is added where none is counted
+pub enters : (e : WorldEvent) (slots id : ℕ) (me : Me ℕ View) (st : Step ℕ) → Owns me.0 (node_in e) → Allows (Rule false) slots id me 0 (λ n. n) (Adds false e st me)
+enters e slots id me st owns s h len at small =
+    let v = me.0 in
+    let log = h.log ++ e ∷ [] in
+    let w = view v.from v.to log [] 0 in
+    let mine = h.each id v at in
+    let here = mine.own (node_in e) owns in (
+      w,
+      keeps,
+      tt,
+      record {
+        log = log;
+        seat = h.seat;
+        count = reads false s.words (length log) h.count;
+        each = each_after s.views (FitsHistory h.log h.seat) (FitsHistory log h.seat) id w h.each
+            (record { seen = prefix_self log; also = (log, refl); own = λ n owns. ((mine.own n owns).0, rests_self n log) })
+            (λ j u apart was. other_fits h.log e h.seat id j u here.0 apart was);
+      },
+      (record { log = h.log; stamped = λ counted. absurd (true≢false (sym counted)); before = mine.seen; also = mine.also; rests = here.1; after = refl }, refl, refl),
+    )
+
+pub fronts : (counted : Bool) (id number : ℕ) (v : View) → Splits (Rule counted) id v v (front_of number v)
+fronts counted id number v s h at =
     let mine = h.each id v at in
     record {
       log = h.log;
@@ -87,8 +128,8 @@ fronts id number v s h at =
           (last_of (set s.views id v) (front_of number v) u j now);
     }
 
-pub tells : (id : ℕ) (v : View) (other : ℕ) (w : View) → Joins Rule id v other w (told v w) nobody
-tells id v other w s h at apart there =
+pub tells : (counted : Bool) (id : ℕ) (v : View) (other : ℕ) (w : View) → Joins (Rule counted) id v other w (told v w) nobody
+tells counted id v other w s h at apart there =
     let mine = h.each id v at in
     let theirs = ⊎_elim (λ (t : (other ≡ id) × (told v w ≡ w)). absurd (apart t.0)) (λ (t : (other ≢ id) × (get_elem? s.views other ≡ some w)). h.each other w t.1) (at_set s.views id other (told v w) w there) in
     let Is = FitsHistory h.log h.seat in
@@ -112,8 +153,8 @@ given_here seat k new n is = ap (λ b. either b new (seat n)) (eq-eqb n k is)
 given_else : (seat : ℕ → ℕ) (k new n : ℕ) → n ≢ k → given seat k new n ≡ seat n
 given_else seat k new n not = ap (λ b. either b new (seat n)) (ne_eqb n k not)
 
-pub next : (id : ℕ) (v : View) → v.from < v.to → Splits Rule id v (other_nodes v) (first_node v)
-next id v some_left s h at =
+pub next : (counted : Bool) (id : ℕ) (v : View) → v.from < v.to → Splits (Rule counted) id v (other_nodes v) (first_node v)
+next counted id v some_left s h at =
     let mine = h.each id v at in
     let first = mine.own v.from (omega arith, some_left) in
     let rest = set s.views id (other_nodes v) in
@@ -145,8 +186,8 @@ next id v some_left s h at =
     }
 
 -- a new history
-pub begins : Rule record { words = spread 0; homes = []; views = all_nodes ∷ [] }
-begins = record { log = []; seat = λ n. 0; count = refl; each = first }
+pub begins : (counted : Bool) (words : List ℕ) → words ≡ words_of counted 0 → Rule counted record { words = words; homes = []; views = all_nodes ∷ [] }
+begins counted words count = record { log = []; seat = λ n. 0; count = count; each = first }
   where
     v : View
     v = all_nodes
@@ -155,8 +196,8 @@ begins = record { log = []; seat = λ n. 0; count = refl; each = first }
     first zero u at = subst (FitsHistory [] (λ n. 0) 0) (some-injective v u at) (record { seen = ([], refl); also = ([], refl); own = λ n owns. (refl, rests_self n []) })
     first (suc j) u at = absurd (some-ne-none u (sym at))
 
-pub looks : (slots id : ℕ) (me : Me ℕ View) (st : Step ℕ) → Allows Rule slots id me 0 (λ n. n) (Looks st me)
-looks slots id me st s h len at small =
+pub looks : (counted : Bool) (slots id : ℕ) (me : Me ℕ View) (st : Step ℕ) → Allows (Rule counted) slots id me 0 (λ n. n) (Looks st me)
+looks counted slots id me st s h len at small =
     let v = me.0 in
     let w = view v.from v.to h.log [] 0 in
     let mine = h.each id v at in (
@@ -166,7 +207,7 @@ looks slots id me st s h len at small =
       record {
         log = h.log;
         seat = h.seat;
-        count = ap (λ ws. slice_set ws 0 (slice_index ws 0)) h.count;
+        count = reads counted s.words (length h.log) h.count;
         each = each_after s.views (FitsHistory h.log h.seat) (FitsHistory h.log h.seat) id w h.each
             (record { seen = prefix_self h.log; also = (h.log, refl); own = λ n owns. ((mine.own n owns).0, rests_self n h.log) })
             (λ j u apart was. was);
@@ -175,8 +216,8 @@ looks slots id me st s h len at small =
     )
 
 -- a pass that has seen just what it was told still fits
-pub catches : (slots id : ℕ) (me : Me ℕ View) (st : Step ℕ) → IsPrefix me.0.seen me.0.also → Allows Rule slots id me 0 (λ n. n) (TellsCatch st me)
-catches slots id me st on s h len at small =
+pub catches : (counted : Bool) (slots id : ℕ) (me : Me ℕ View) (st : Step ℕ) → IsPrefix me.0.seen me.0.also → Allows (Rule counted) slots id me 0 (λ n. n) (TellsCatch st me)
+catches counted slots id me st on s h len at small =
     let v = me.0 in
     let w = view v.from v.to v.also [] 0 in
     let mine = h.each id v at in (
@@ -186,7 +227,7 @@ catches slots id me st on s h len at small =
       record {
         log = h.log;
         seat = h.seat;
-        count = ap (λ ws. slice_set ws 0 (slice_index ws 0)) h.count;
+        count = reads counted s.words (length h.log) h.count;
         each = each_after s.views (FitsHistory h.log h.seat) (FitsHistory h.log h.seat) id w h.each
             (record { seen = mine.also; also = (h.log, refl); own = λ n owns. let had = mine.own n owns in (had.0, rests_behind n v.seen v.also h.log on mine.also had.1) })
             (λ j u apart was. was);

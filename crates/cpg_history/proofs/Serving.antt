@@ -1,5 +1,5 @@
 -- A session is heard by its own node alone, which is no spare.
-use Rattle.std.proofs.Common.{◌≡◌, ◌≢◌, is_some, ℕ, List, [], Bool, true, false, true≢false, Option, Some, None, refl, sym, ap, ◌∙◌, option_map, ⊎_elim, inl, inr, subst, arith}
+use Rattle.std.proofs.Common.{◌≡◌, ◌≢◌, is_some, ℕ, [], Bool, true, false, true≢false, Option, Some, None, refl, sym, ap, ◌∙◌, option_map, ⊎_elim, inl, inr, subst, arith}
 use Rattle.std.proofs.lemmas.Option.{none-some, same_Some}
 use Rattle.cpg_cred.specs.Admission.{via_of}
 use Rattle.cpg_cred.specs.Listed.{Listed}
@@ -98,35 +98,40 @@ refused_stays start id s spare pen m list node pid cred why new listed own not =
     by_why refusal.Memory not = same not.2
     by_why w not = absurd not
 
+-- a new trace that records was asked to
+asked_for : (traced : Bool) → (new_trace traced).lost ≡ None → traced ≡ true
+asked_for true records = refl
+asked_for false records = absurd (none-some 0 (sym records))
+
 -- a new member, and a spare
-pub begun : (start : WorldValue) (id : ℕ) (s : StationValue) (pen : View) (traced : Bool) → IsNewWorld start → IsPenOf start pen id s.node → pen.seen ≡ [] → IsMember start id s false pen × HasTrace start id false pen.seen (new_trace traced)
-begun start id s pen traced new own none = (
+pub begun : (k : Bool) (start : WorldValue) (id : ℕ) (s : StationValue) (pen : View) (traced : Bool) → (traced ≡ true → k ≡ true) → IsNewWorld start → IsPenOf start pen id s.node → pen.seen ≡ [] → IsMember start id s false pen × HasTrace k start id false pen.seen (new_trace traced)
+begun k start id s pen traced counted new own none = (
   record { begins = new; halts = λ yes. absurd (true≢false (sym yes)); holds = λ _. own },
-  record { spared = λ yes. absurd (true≢false (sym yes)); follows = subst (λ l. IsTraceOf start id l (new_trace traced)) (sym none) (trace_begins start id traced) },
+  record { spared = λ yes. absurd (true≢false (sym yes)); counts = λ records. counted (asked_for traced records); follows = subst (λ l. IsTraceOf start id l (new_trace traced)) (sym none) (trace_begins start id traced) },
 )
 
-pub spared : (start : WorldValue) (id : ℕ) (s : StationValue) (pen : View) → IsNewWorld start → s.halted ≡ true → IsMember start id s true pen × HasTrace start id true pen.seen (new_trace false)
-spared start id s pen new halts = (
+pub spared : (k : Bool) (start : WorldValue) (id : ℕ) (s : StationValue) (pen : View) → IsNewWorld start → s.halted ≡ true → IsMember start id s true pen × HasTrace k start id true pen.seen (new_trace false)
+spared k start id s pen new halts = (
   record { begins = new; halts = λ _. halts; holds = λ not. absurd (true≢false not) },
-  record { spared = λ _. refl; follows = trace_nothing start id pen.seen },
+  record { spared = λ _. refl; counts = λ records. absurd (none-some 0 (sym records)); follows = trace_nothing start id pen.seen },
 )
 
 -- a member that has caught up with a front
-pub caught_up : (start : WorldValue) (id : ℕ) (s : StationValue) (spare : Bool) (pen after : View) (f : FrontValue) (trace : TraceValue) → IsMember start id s spare pen → HasTrace start id spare pen.seen trace → Catches (told pen (front f)) after → IsMember start id s spare after × HasTrace start id spare after.seen trace
-caught_up start id s spare pen after f trace m has c = by_flag spare refl
+pub caught_up : {k : Bool} (start : WorldValue) (id : ℕ) (s : StationValue) (spare : Bool) (pen after : View) (f : FrontValue) (trace : TraceValue) → IsMember start id s spare pen → HasTrace k start id spare pen.seen trace → Catches (told pen (front f)) after → IsMember start id s spare after × HasTrace k start id spare after.seen trace
+caught_up {k} start id s spare pen after f trace m has c = by_flag spare refl
   where
     seen : after.seen ≡ f.seen
     seen = ap (λ (v : View). v.seen) c.same
 
-    by_flag : (flag : Bool) → spare ≡ flag → IsMember start id s spare after × HasTrace start id spare after.seen trace
+    by_flag : (flag : Bool) → spare ≡ flag → IsMember start id s spare after × HasTrace k start id spare after.seen trace
     by_flag true spares = (
       record { begins = m.begins; halts = m.halts; holds = λ not. absurd (true≢false (sym spares ∙ not)) },
-      record { spared = has.spared; follows = subst (IsTraceOf start id after.seen) (sym (has.spared spares)) (trace_nothing start id after.seen) },
+      record { spared = has.spared; counts = has.counts; follows = subst (IsTraceOf start id after.seen) (sym (has.spared spares)) (trace_nothing start id after.seen) },
     )
     by_flag false not =
         let own = m.holds not in
         let rests : Rests id pen.seen f.seen = c.rests id (owns_own pen id id s.node start refl own) in
         let at : IsAt start after.seen id s.node = subst (λ l. IsAt start l id s.node) (sym seen) (rests_same start id pen.seen f.seen rests ∙ own.2) in (
           record { begins = m.begins; halts = m.halts; holds = λ _. (ap (λ (v : View). v.from) c.same ∙ own.0, ap (λ (v : View). v.to) c.same ∙ own.1, at) },
-          record { spared = has.spared; follows = subst (λ l. IsTraceOf start id l trace) (sym seen) (trace_rests start id pen.seen f.seen trace rests has.follows) },
+          record { spared = has.spared; counts = has.counts; follows = subst (λ l. IsTraceOf start id l trace) (sym seen) (trace_rests start id pen.seen f.seen trace rests has.follows) },
         )

@@ -1,5 +1,5 @@
 -- One history of all events, which exists in proofs alone, and what threads know of it.
-use Rattle.std.specs.Prelude.{◌≡◌, ◌≢◌, Bool, ℕ, suc, ◌<◌, ◌≤◌, ◌%◌, ◌^◌, List, [], ◌∷◌, ◌++◌, length}
+use Rattle.std.specs.Prelude.{◌≡◌, ◌≢◌, Bool, ℕ, suc, ◌<◌, ◌≤◌, ◌==◌, ◌%◌, ◌^◌, true, false, List, [], ◌∷◌, ◌++◌, length}
 use Rattle.std.specs.List.{AllByRecursion}
 use mathlib.Core.Option.{some}
 use mathlib.Core.List.{IsPrefix}
@@ -47,18 +47,32 @@ pub record FitsHistory (log : List WorldEvent) (seat : ℕ → ℕ) (by : ℕ) (
 abbrev pub spread : ℕ → List ℕ
 spread count = 0 ∷ 0 ∷ 0 ∷ 0 ∷ 0 ∷ 0 ∷ 0 ∷ 0 ∷ count ∷ 0 ∷ 0 ∷ 0 ∷ 0 ∷ 0 ∷ 0 ∷ 0 ∷ 0 ∷ []
 
--- There is one history; the word of those that threads share which counts is its length, and each view fits it.
-pub record Kept (words : List ℕ) (views : List View) : Type 0 where
+-- Where so many events are counted, a word tells how many; else there is one word alone, which nobody writes.
+abbrev pub words_of : Bool → ℕ → List ℕ
+words_of true n = spread (n % 2 ^ 64)
+words_of false n = 0 ∷ []
+
+-- how many words these are
+abbrev pub many_words : Bool → ℕ
+many_words true = 17
+many_words false = 1
+
+-- whether the events of the table's history are counted
+abbrev pub is_counted : TableId → Bool
+is_counted table = table.words == 17
+
+-- There is one history; where its events are counted, the words that threads share tell its length; and each view fits it.
+pub record Kept (counted : Bool) (words : List ℕ) (views : List View) : Type 0 where
   pub log : List WorldEvent
   pub seat : ℕ → ℕ
-  pub count : words ≡ spread (length log % 2 ^ 64)
+  pub count : words ≡ words_of counted (length log)
   pub each : (by : ℕ) (v : View) → get_elem? views by ≡ some v → FitsHistory log seat by v
 
--- The event came after `log`, which begins with all that the view had seen, and in which nothing had happened at the node since. Its stamp
--- is how many came before it.
-pub record Came (v : View) (e : WorldEvent) (stamp : ℕ) (seen : List WorldEvent) : Type 0 where
+-- The event came after `log`, which begins with all that the view had seen, and in which nothing had happened at the node since. Where events
+-- are counted, its stamp is how many came before it.
+pub record Came (counted : Bool) (v : View) (e : WorldEvent) (stamp : ℕ) (seen : List WorldEvent) : Type 0 where
   pub log : List WorldEvent
-  pub stamped : stamp ≡ length log % 2 ^ 64
+  pub stamped : counted ≡ true → stamp ≡ length log % 2 ^ 64
   pub before : IsPrefix v.seen log
   pub also : IsPrefix v.also log
   pub rests : Rests (node_in e) v.seen log
@@ -69,8 +83,8 @@ abbrev pub later : View → List WorldEvent → View
 later v seen = view v.from v.to seen [] 0
 
 -- what a step that adds the event tells
-abbrev pub Adds : WorldEvent → Step ℕ → Me ℕ View → ℕ → Me ℕ View → Type 0
-Adds e s v found w = Came v.0 e found w.0.seen × (w.0 ≡ later v.0 w.0.seen) × (w.1 ≡ v.1)
+abbrev pub Adds : Bool → WorldEvent → Step ℕ → Me ℕ View → ℕ → Me ℕ View → Type 0
+Adds counted e s v found w = Came counted v.0 e found w.0.seen × (w.0 ≡ later v.0 w.0.seen) × (w.1 ≡ v.1)
 
 -- the view has seen all the history, in which nothing had happened at its nodes since
 pub record Sees (v w : View) : Type 0 where
@@ -132,7 +146,7 @@ abbrev pub seen_by : List View → FrontValue
 seen_by [] = record { seen = []; number = 0 }
 seen_by (v ∷ vs) = record { seen = v.seen; number = v.number }
 
--- A history that has no name yet: which table it is, what it begins with, and whether its pens record what they add.
+-- A history that has no name yet: which table it is, what it begins with, and whether what happens is recorded.
 pub record OpenedValue : Type 0 where
   pub table : TableId
   pub start : Beginning

@@ -55,9 +55,10 @@ pub record IsMember (start : WorldValue) (id : ℕ) (s : StationValue) (spare : 
   pub halts : spare ≡ true → s.halted ≡ true
   pub holds : spare ≡ false → IsPenOf start pen id s.node
 
--- A spare records nothing, and belongs to no node. Of any other station's node its events are recorded.
-pub record HasTrace (start : WorldValue) (id : ℕ) (spare : Bool) (seen : List WorldEvent) (trace : TraceValue) : Type 0 where
+-- A spare records nothing, and belongs to no node. Of any other station's node its events are recorded, which are counted then.
+pub record HasTrace (counted : Bool) (start : WorldValue) (id : ℕ) (spare : Bool) (seen : List WorldEvent) (trace : TraceValue) : Type 0 where
   pub spared : spare ≡ true → trace ≡ new_trace false
+  pub counts : trace.lost ≡ None → counted ≡ true
   pub follows : IsTraceOf start id seen trace
 
 -- The event came to the history after all that was seen. The world that this led to answers it so, and now the event has been seen too.

@@ -1,4 +1,6 @@
-//! One history of all that happens in running nodes. It exists in proofs alone; what threads share is its length, in a word.
+//! One history of all that happens in running nodes. It exists in proofs alone. Where it is recorded, what threads share is
+//! its length, in a word that each event adds one to; else it is a word that nobody writes, which each event reads, so that
+//! no thread waits for another.
 //!
 //! The form is our own: the rule of an `atomic_table` says that every view fits the one history, and who has a view of
 //! nodes may add their events.
@@ -6,7 +8,7 @@
 ghost use Rattle.std.specs.Prelude.{◌≡◌, ◌<◌, true, false, IfOk};
 ghost use mathlib.Core.List.{IsPrefix};
 ghost use Rattle.cpg_world_laws.specs.Worlds.{node_in};
-ghost use Rattle.cpg_history.specs.Histories.{Came, Catches, Owns, Sees, first_world, all_nodes, later, first_node, other_nodes, told, front as front_at};
+ghost use Rattle.cpg_history.specs.Histories.{Came, Catches, Owns, Sees, first_world, all_nodes, is_counted, later, first_node, other_nodes, told, front as front_at};
 ghost use Rattle.cpg_history.specs.Members.{IsNewWorld};
 
 use atomic_table::{Badge, Join, Play, Seat, Split, Table, TableRule};
@@ -18,8 +20,8 @@ use std::alloc::{AllocError, Global};
 use std::collections::LinkedList;
 use std::marker::{Brand, Model, PhantomData};
 
-/// How many words all threads share, and which of them counts the events. No other is ever written; as many as a cache
-/// line holds stand on either side, so that who reads the first one, as each front does, waits for nobody.
+/// How many words all threads share where events are counted, and which of them counts. No other is ever written; as many
+/// as a cache line holds stand on either side, so that who reads the first one waits for nobody.
 const WORDS: usize = 17;
 
 const COUNT: usize = 8;
@@ -29,6 +31,13 @@ const COUNT: usize = 8;
 pub struct Beginning {
     pub settings: Settings,
     pub list: AcceptList,
+}
+
+/// What the rule of a history's words goes by: what the history begins with, and whether its events are counted.
+#[derive(Drop)]
+struct Basis {
+    beginning: Beginning,
+    counted: bool,
 }
 
 /// What one may add to a history, and has seen of it. It is for contracts: no value of it is made.
@@ -79,21 +88,32 @@ impl Happens for Brand {
 /// The rule of the words and of all views: there is one history, and each view fits it.
 struct OneHistory;
 
-impl TableRule<u64, View, Beginning> for OneHistory {
+impl TableRule<u64, View, Basis> for OneHistory {
     ghost use Rattle.cpg_history.specs.Histories.{Kept, all_nodes};
 
-    ghost holds = { λ beginning s. Kept s.words s.views };
+    ghost holds = { λ basis s. Kept basis.counted s.words s.views };
 
-    ghost first = { λ beginning. all_nodes };
+    ghost first = { λ basis. all_nodes };
 }
 
-/// A step that adds an event.
+/// A step that adds an event, and counts it.
 struct Add<E>(PhantomData<E>);
 
 impl<E: Happens> Play<u64, View> for Add<E> {
+    ghost use Rattle.std.specs.Prelude.{true};
     ghost use Rattle.cpg_history.specs.Histories.{Adds};
 
-    ghost then = { Adds E.event };
+    ghost then = { Adds true E.event };
+}
+
+/// A step that adds an event where none is counted.
+struct Enter<E>(PhantomData<E>);
+
+impl<E: Happens> Play<u64, View> for Enter<E> {
+    ghost use Rattle.std.specs.Prelude.{false};
+    ghost use Rattle.cpg_history.specs.Histories.{Adds};
+
+    ghost then = { Adds false E.event };
 }
 
 /// The view of the next node, out of that of the nodes from there on.
@@ -140,7 +160,7 @@ impl Join<View> for Learns {
     ghost spent = { nobody };
 }
 
-type Line = Table<u64, View, Beginning, OneHistory, Global>;
+type Line = Table<u64, View, Basis, OneHistory, Global>;
 
 /// A step that sees the history as it is.
 struct Look;
@@ -163,21 +183,20 @@ impl Play<u64, View> for CatchUp {
 /// An empty history, which has no name yet, and what it begins with.
 #[derive(Drop)]
 pub struct Opened {
-    beginning: Beginning,
+    basis: Basis,
     line: Line,
     seat: Seat<u64, View>,
-    traced: bool,
 }
 
 impl Model for Opened {
     ghost use Rattle.std.specs.Prelude.{◌≡◌};
-    ghost use Rattle.cpg_history.specs.Histories.{OpenedValue, first_seat};
+    ghost use Rattle.cpg_history.specs.Histories.{OpenedValue, first_seat, many_words};
 
     ghost Value = { OpenedValue };
 
-    ghost view = { λ o. record { table = o.line.shared.table_id; start = o.beginning; traced = o.traced } };
+    ghost view = { λ o. record { table = o.line.shared.table_id; start = o.basis.beginning; traced = o.basis.counted } };
 
-    ghost invariant = { λ o. (o.line.shared.table_id.words ≡ 17) × (o.seat.table_id ≡ o.line.shared.table_id) × (o.seat.me ≡ first_seat) × (o.line.shared.key ≡ o.beginning) };
+    ghost invariant = { λ o. (o.line.shared.table_id.words ≡ many_words o.basis.counted) × (o.seat.table_id ≡ o.line.shared.table_id) × (o.seat.me ≡ first_seat) × (o.line.shared.key ≡ o.basis) };
 }
 
 impl Opened {
@@ -185,35 +204,51 @@ impl Opened {
     pub fn new(alloc: Global, beginning: Beginning) -> Result<Opened, AllocError>
         ensures { IfOk result (λ o. (o.start ≡ beginning) × (o.traced ≡ false)) }
     {
-        let (line, seat) = Table::of_words(alloc, &[0; WORDS], &beginning)?;
-        Ok(Opened {
-            beginning,
-            line,
-            seat,
-            traced: false,
-        })
+        Opened::on(
+            alloc,
+            Basis {
+                beginning,
+                counted: false,
+            },
+        )
     }
 
     /// The same, of which what happens at each node is recorded.
-    pub fn traced(mut self) -> Opened
-        ensures { result ≡ record { table = self.table; start = self.start; traced = true } }
+    pub fn traced(alloc: Global, beginning: Beginning) -> Result<Opened, AllocError>
+        ensures { IfOk result (λ o. (o.start ≡ beginning) × (o.traced ≡ true)) }
     {
-        self.traced = true;
-        self
+        Opened::on(
+            alloc,
+            Basis {
+                beginning,
+                counted: true,
+            },
+        )
+    }
+
+    fn on(alloc: Global, basis: Basis) -> Result<Opened, AllocError>
+        ensures { IfOk result (λ o. (o.start ≡ basis.beginning) × (o.traced ≡ basis.counted)) }
+    {
+        let (line, seat) = if basis.counted {
+            Table::of_words(alloc, &[0; WORDS], &basis)?
+        } else {
+            Table::of_words(alloc, &[0], &basis)?
+        };
+        Ok(Opened { basis, line, seat })
     }
 
     /// Whether what happens is recorded.
     pub fn is_traced(&self) -> bool
         ensures { result ≡ self.now.traced }
     {
-        self.traced
+        self.basis.counted
     }
 
     /// What it begins with.
     pub fn beginning(&self) -> &Beginning
         ensures { result.now ≡ self.now.start }
     {
-        &self.beginning
+        &self.basis.beginning
     }
 
     /// The history under a name, the pen of all nodes, and what it begins with.
@@ -222,14 +257,11 @@ impl Opened {
         ensures pen { result.1 ≡ all_nodes }
         ensures beginning { result.2 ≡ self.start }
     {
-        let Opened {
-            beginning,
-            line,
-            seat,
-            traced: _,
-        } = self;
+        let Opened { basis, line, seat } = self;
+        let Basis { beginning, counted } = basis;
         let history = History {
             line,
+            counted,
             of: PhantomData,
         };
         let pens = Pen {
@@ -240,22 +272,23 @@ impl Opened {
     }
 }
 
-/// A history: the words that all threads share, and their rule. One of them counts the events.
+/// A history: the words that all threads share, and their rule. Where it is recorded, one of them counts the events.
 #[derive(Drop)]
 pub struct History<B: HistoryName> {
     line: Line,
+    counted: bool,
     of: PhantomData<B>,
 }
 
 impl<B: HistoryName> Model for History<B> {
-    ghost use Rattle.cpg_history.specs.Histories.{first_world};
+    ghost use Rattle.cpg_history.specs.Histories.{first_world, many_words};
     ghost use Rattle.std.specs.Prelude.{◌≡◌, ℕ};
 
     ghost Value = { ℕ };
 
     ghost view = { λ h. h.line.shared.table_id.words };
 
-    ghost invariant = { λ h. (h.line.shared.table_id ≡ B.table) × (h.line.shared.table_id.words ≡ 17) × (first_world h.line.shared.key ≡ B.start) };
+    ghost invariant = { λ h. (h.line.shared.table_id ≡ B.table) × (h.line.shared.table_id.words ≡ many_words h.counted) × (h.line.shared.key.counted ≡ h.counted) × (first_world h.line.shared.key.beginning ≡ B.start) };
 }
 
 /// What adds the events of some nodes, which no other pen can. Contracts see which nodes these are, and what it has seen.
@@ -302,21 +335,31 @@ impl<B: HistoryName> History<B> {
         let _line = &self.line;
     }
 
-    /// Adds the event to the history, and gives its stamp: how many events came before it.
+    /// Whether its events are counted, so that they can be recorded.
+    pub fn is_counted(&self) -> bool
+        ensures { result ≡ is_counted B.table }
+    {
+        self.counted
+    }
+
+    /// Adds the event to the history, and gives its stamp: where events are counted, how many came before it.
     pub fn add<E: Happens>(&self, pen: &mut Pen<B>) -> u64
         requires { Owns pen.old (node_in E.event) }
-        ensures came { Came pen.old E.event result pen.new.seen }
+        ensures came { Came (is_counted B.table) pen.old E.event result pen.new.seen }
         ensures pen { pen.new ≡ later pen.old pen.new.seen }
     {
-        self.line
-            .shared
-            .fetch_add::<Add<E>>(&mut pen.seat, COUNT, 1)
+        let shared = &self.line.shared;
+        if self.counted {
+            shared.fetch_add::<Add<E>>(&mut pen.seat, COUNT, 1)
+        } else {
+            shared.load::<Enter<E>>(&mut pen.seat, 0)
+        }
     }
 
     /// Adds the event after all that the front has seen, which then has seen the event too. Gives its stamp.
     pub fn add_for<E: Happens>(&self, pen: &mut Pen<B>, front: &mut Front<B>) -> u64
         requires { Owns pen.old (node_in E.event) }
-        ensures came { Came (told pen.old (front_at front.old)) E.event result pen.new.seen }
+        ensures came { Came (is_counted B.table) (told pen.old (front_at front.old)) E.event result pen.new.seen }
         ensures pen { pen.new ≡ later pen.old pen.new.seen }
         ensures front { front.new.seen ≡ pen.new.seen }
     {

@@ -13,6 +13,7 @@ ghost use Rattle.cpg_world_laws.specs.declared.events.WorldEvent.TheVariants as 
 ghost use Rattle.cpg_world_laws.specs.declared.replies.Reply.TheVariants as reply;
 ghost use Rattle.cpg_station.specs.Delivering.{Delivers, DeliverRefuses};
 ghost use Rattle.cpg_station.specs.Serving.{halted_of};
+ghost use Rattle.cpg_history.specs.Histories.{is_counted};
 ghost use Rattle.cpg_history.specs.Members.{IsAt, IsNewWorld, IsPenOf, IsSafeAt, Replied, how_many};
 ghost use Rattle.cpg_history.specs.Traces.{IsTraceOf, new_trace};
 
@@ -45,6 +46,7 @@ pub struct Member<B: HistoryName> {
 impl<B: HistoryName> Model for Member<B> {
     ghost use Rattle.std.specs.Coded.{codes};
     ghost use Rattle.cpg_ring.specs.Kept.{held_code};
+    ghost use Rattle.cpg_history.specs.Histories.{is_counted};
     ghost use Rattle.cpg_history.specs.Members.{MemberValue, IsMember, HasTrace};
 
     ghost Value = { MemberValue };
@@ -53,7 +55,7 @@ impl<B: HistoryName> Model for Member<B> {
 
     ghost view = { λ m. record { id = m.id; station = m.station; spare = m.spare; seen = m.pen.seen; trace = m.trace } };
 
-    ghost invariant = { λ m. IsMember B.start m.id m.station m.spare m.pen × HasTrace B.start m.id m.spare m.pen.seen m.trace };
+    ghost invariant = { λ m. IsMember B.start m.id m.station m.spare m.pen × HasTrace (is_counted B.table) B.start m.id m.spare m.pen.seen m.trace };
 }
 
 /// How many frames there are, none or one.
@@ -68,7 +70,7 @@ fn how_many(frame: &Option<Bytes>) -> usize
 
 impl<B: HistoryName> Member<B> {
     /// The station of that node, with the node's pen, which has seen nothing, where the node is new. Its events are recorded
-    /// where that is asked for.
+    /// where that is asked for; they are counted then.
     pub fn new(
         alloc: Global,
         id: NodeId,
@@ -79,6 +81,7 @@ impl<B: HistoryName> Member<B> {
         requires begins { IsNewWorld B.start }
         requires pen { IsPenOf B.start pen id station.node }
         requires seen { pen.seen ≡ [] }
+        requires counted { traced ≡ true → is_counted B.table ≡ true }
         ensures { result ≡ record { id = id; station = station; spare = false; seen = []; trace = new_trace traced } }
     {
         Member {

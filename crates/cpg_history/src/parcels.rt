@@ -8,7 +8,8 @@ use std::alloc::AllocError;
 use std::marker::{Brand, Model};
 
 /// A frame on its way: it was sent in a world of the history. Contracts see its bytes, and its number among the frames
-/// sent. What it is recorded by goes with it: the stamp of the event that sent it, and its index among what that sent.
+/// sent. Where events are counted, what it is recorded by goes with it: the stamp of the event that sent it, and its index
+/// among what that sent.
 #[derive(Drop)]
 pub struct Parcel<B: HistoryName> {
     pub(crate) bytes: Bytes,
@@ -19,13 +20,15 @@ pub struct Parcel<B: HistoryName> {
 
 impl<B: HistoryName> Model for Parcel<B> {
     ghost use Rattle.cpg_history.specs.Members.{ParcelValue, WasSent};
+    ghost use Rattle.cpg_history.specs.Histories.{is_counted};
     ghost use Rattle.cpg_history.specs.Traces.{HasNumber};
+    ghost use Rattle.std.specs.Prelude.{◌≡◌, true};
 
     ghost Value = { ParcelValue };
 
     ghost view = { λ p. record { bytes = p.bytes; number = p.front.number } };
 
-    ghost invariant = { λ p. WasSent B.start p.front.seen p.front.number p.bytes × HasNumber B.start p.front.seen p.source p.index p.front.number };
+    ghost invariant = { λ p. WasSent B.start p.front.seen p.front.number p.bytes × (is_counted B.table ≡ true → HasNumber B.start p.front.seen p.source p.index p.front.number) };
 }
 
 impl<B: HistoryName> Parcel<B> {
@@ -59,8 +62,8 @@ impl<B: HistoryName> Parcel<B> {
     }
 }
 
-/// What an event sends. Contracts see its frames, and the number of the first of them among the frames sent. The event's
-/// stamp goes with them.
+/// What an event sends. Contracts see its frames, and the number of the first of them among the frames sent. Where events
+/// are counted, the event's stamp goes with them.
 #[derive(Drop)]
 pub struct Parcels<B: HistoryName> {
     pub(crate) frames: Vec<Bytes>,
@@ -70,13 +73,15 @@ pub struct Parcels<B: HistoryName> {
 
 impl<B: HistoryName> Model for Parcels<B> {
     ghost use Rattle.cpg_history.specs.Members.{ParcelsValue, WereSent};
+    ghost use Rattle.cpg_history.specs.Histories.{is_counted};
     ghost use Rattle.cpg_history.specs.Traces.{HasNumber};
+    ghost use Rattle.std.specs.Prelude.{◌≡◌, true};
 
     ghost Value = { ParcelsValue };
 
     ghost view = { λ m. record { frames = m.frames.items; number = m.front.number } };
 
-    ghost invariant = { λ m. WereSent B.start m.front.seen m.front.number m.frames.items × HasNumber B.start m.front.seen m.source 0 m.front.number };
+    ghost invariant = { λ m. WereSent B.start m.front.seen m.front.number m.frames.items × (is_counted B.table ≡ true → HasNumber B.start m.front.seen m.source 0 m.front.number) };
 }
 
 impl<B: HistoryName> Parcels<B> {

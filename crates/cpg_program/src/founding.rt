@@ -26,10 +26,11 @@ pub(crate) fn new_base(
     let Ok(board) = Board::new(alloc, settings.places) else {
         return Err(Refusal::Memory);
     };
-    let opened = Opened::new(alloc, Beginning { settings, list })?;
-    if traced {
-        Ok((board, opened.traced()))
+    let beginning = Beginning { settings, list };
+    let opened = if traced {
+        Opened::traced(alloc, beginning)?
     } else {
-        Ok((board, opened))
-    }
+        Opened::new(alloc, beginning)?
+    };
+    Ok((board, opened))
 }

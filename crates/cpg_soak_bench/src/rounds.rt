@@ -186,8 +186,12 @@ pub fn opened_for(alloc: Global, plan: Plan) -> Result<Opened, Refusal> {
         hops: 1 << 62,
     };
     let list = new_list(alloc)?;
-    let opened = Opened::new(alloc, Beginning { settings, list })?;
-    Ok(if plan.traced { opened.traced() } else { opened })
+    let beginning = Beginning { settings, list };
+    Ok(if plan.traced {
+        Opened::traced(alloc, beginning)?
+    } else {
+        Opened::new(alloc, beginning)?
+    })
 }
 
 /// What a round of that plan prints, on that board.

@@ -153,11 +153,15 @@ impl<B: HistoryName> Member<B> {
         ensures err { OnErr result (KeepsWatch self.old.station who.now self.new.station × (front.new ≡ front.old)) }
         ensures unheard { ¬ HearsSession self.old.station who.now → (result ≡ Err Stopped) × (self.new.station ≡ halted_of self.old.station) }
     {
-        self.station.close_for(who)?;
-        let stamp = history.add_for::<E>(&mut self.pen, front);
-        let event = WorldEvent::Disconnect(who.id.node, who.id.conn);
-        self.trace.note(stamp, 0, stamp, Some(event));
-        Ok(())
+        match self.station.close_for(who) {
+            Ok(()) => {
+                let stamp = history.add_for::<E>(&mut self.pen, front);
+                let event = WorldEvent::Disconnect(who.id.node, who.id.conn);
+                self.trace.note(stamp, 0, stamp, Some(event));
+                Ok(())
+            }
+            Err(refusal) => Err(refusal),
+        }
     }
 
     /// The next item of the session's inbox, if there is one, which the session then has taken. Refused as a station's

@@ -3,7 +3,7 @@ use Rattle.cpg_world_laws.specs.declared.events.WorldEvent.TheVariants.{Connect}
 use Rattle.cpg_world_laws.specs.declared.replies.Reply.TheVariants as reply
 use Rattle.cpg_station.specs.Admitting.{StopsAdmitting}
 use Rattle.cpg_station.specs.Stations.{StationValue}
-use Rattle.cpg_history.specs.Histories.{FrontValue}
+use Rattle.cpg_history.specs.Histories.{FrontValue, is_counted}
 use Rattle.cpg_history.specs.declared.histories.View.{View}
 use Rattle.cpg_history.specs.Members.{MemberValue, HasTrace, IsMember, Told}
 use Rattle.cpg_history.proofs.Answering.{connects, connects_at}
@@ -29,10 +29,10 @@ invariant_of-self-in-Ok g c =
     let event = Connect c.args.node c.args.pid c.args.cred in
     let after = pen_after start m.pen g.E.Happens.event event c.add-stamp.result m.id x c.add-stamp.new.pen.seen c.requires.event own (c.self.invariant.0.holds not) c.add-stamp.ensures.came c.add-stamp.new.pen c.admit.new.self.node refl c.add-stamp.ensures.pen
     (λ sent. connects_at sent c.args.node x c.admit.new.self.node c.args.pid c.args.cred c.in-Ok.ensures.room (ap (λ (u : StationValue). u.node) c.in-Ok.ensures.station.1)) in
-    subst (λ (v : View). IsMember start m.id c.admit.new.self m.spare v × HasTrace start m.id m.spare v.seen c.note.new.self) (sym c.front-front.ensures.pen) (
+    subst (λ (v : View). IsMember start m.id c.admit.new.self m.spare v × HasTrace (is_counted g.B.HistoryName.table) start m.id m.spare v.seen c.note.new.self) (sym c.front-front.ensures.pen) (
       is_member start m.id c.admit.new.self m.spare c.add-stamp.new.pen c.self.invariant.0.begins not after,
       has_noted start m.pen g.E.Happens.event event c.add-stamp.result m.id m.spare c.add-stamp.new.pen.seen m.trace c.note.new.self 0 c.add-stamp.result (Some event) c.self.invariant.1 not c.requires.event own c.add-stamp.ensures.came
-          (recorded_quiet start m.pen g.E.Happens.event event c.add-stamp.result m.id x c.add-stamp.new.pen.seen c.requires.event own (c.self.invariant.0.holds not) c.add-stamp.ensures.came (λ sent. unless_quiet (connect_refusal x c.args.cred) x (connected x c.args.pid c.args.cred)) (λ log. refl))
+          (λ counted. recorded_quiet counted start m.pen g.E.Happens.event event c.add-stamp.result m.id x c.add-stamp.new.pen.seen c.requires.event own (c.self.invariant.0.holds not) c.add-stamp.ensures.came (λ sent. unless_quiet (connect_refusal x c.args.cred) x (connected x c.args.pid c.args.cred)) (λ log. refl))
           c.note.ensures,
     )
 

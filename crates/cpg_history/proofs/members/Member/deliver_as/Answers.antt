@@ -25,7 +25,7 @@ invariant_of-self g c =
       is_member g.B.HistoryName.start m.id c.deliver.new.self m.spare c.add-stamp.new.pen c.self.invariant.0.begins c.if-self.false
           (stays g.B.HistoryName.start m.pen c.add-stamp.new.pen m.id m.station.node c.deliver.new.self.node c.add-stamp.ensures.pen own (inside g c).now),
       has_noted g.B.HistoryName.start m.pen g.E.Happens.event (Deliver m.id) c.add-stamp.result m.id m.spare c.add-stamp.new.pen.seen m.trace c.note.new.self 0 c.add-stamp.result (Some (Deliver m.id)) c.self.invariant.1 c.if-self.false is refl c.add-stamp.ensures.came
-          (recorded_quiet g.B.HistoryName.start m.pen g.E.Happens.event (Deliver m.id) c.add-stamp.result m.id m.station.node c.add-stamp.new.pen.seen is refl own c.add-stamp.ensures.came (λ sent. refl) (λ log. refl))
+          (λ counted. recorded_quiet counted g.B.HistoryName.start m.pen g.E.Happens.event (Deliver m.id) c.add-stamp.result m.id m.station.node c.add-stamp.new.pen.seen is refl own c.add-stamp.ensures.came (λ sent. refl) (λ log. refl))
           c.note.ensures,
     )
 
