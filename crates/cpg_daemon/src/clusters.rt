@@ -12,6 +12,7 @@ use crate::gates::Gate;
 use crate::lines::Lines;
 use crate::making::{first_token, new_links, new_locks, new_room, new_spares, peers, put_first};
 use crate::running::Running;
+use crate::signs::{Sign, new_signs};
 use crate::stopping::{Begun, Room, gather, pair, take_out};
 use cpg_board::Board;
 use cpg_cred::{AcceptList, Refusal};
@@ -69,7 +70,7 @@ pub struct Ends<B: HistoryName> {
     pub links: Vec<(LinkTx<Parcel<B>>, LinkRx<Parcel<B>>)>,
 }
 
-/// Running nodes with those stations and bells.
+/// Running nodes with those stations, bells and signs.
 fn new_running<B: HistoryName, G>(
     alloc: Global,
     board: Board,
@@ -77,6 +78,7 @@ fn new_running<B: HistoryName, G>(
     list: AcceptList,
     stations: Vec<Mutex<Member<B>>>,
     bells: Vec<Bell>,
+    signs: Vec<CachePadded<Sign>>,
     nodes: u8,
     gate: G,
 ) -> Result<Arc<Running<B, G>, Global>, Refusal>
@@ -84,7 +86,7 @@ where
     G: Drop,
     requires board { board ≡ B.cells }
     requires list { list ≡ B.start.list }
-    requires nodes { (vec_len stations ≡ nodes) × (vec_len bells ≡ nodes) × (nodes ≤ 8) }
+    requires nodes { (vec_len stations ≡ nodes) × (vec_len bells ≡ nodes) × (vec_len signs ≡ nodes) × (nodes ≤ 8) }
     ensures ok { IfOk result (λ running. arc_value running ≡ record { nodes = nodes; list = list }) }
     ensures memory { IsOkUnless result Refusal.Memory }
 {
@@ -98,6 +100,7 @@ where
             stations,
             gate,
             bells,
+            signs,
             calls: CachePadded::new(AtomicU64::new(0)),
             halted: AtomicBool::new(false),
         },
@@ -224,7 +227,8 @@ where
         put_first(&rt, nodes, token, lines.outgoing.as_mut_slice());
         let Beginning { settings: _, list } = beginning;
         let bells = new_bells(alloc, nodes)?;
-        let running = new_running(alloc, board, history, list, locks, bells, nodes, gate)?;
+        let signs = new_signs(alloc, nodes)?;
+        let running = new_running(alloc, board, history, list, locks, bells, signs, nodes, gate)?;
         begin(rt, alloc, running, lines, room)
     }
 

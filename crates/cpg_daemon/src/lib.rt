@@ -8,10 +8,12 @@
 mod beginning;
 mod clusters;
 mod gates;
+mod limits;
 mod lines;
 mod making;
 mod running;
 mod sessions;
+mod signs;
 mod stopping;
 mod turns;
 

@@ -5,6 +5,7 @@ ghost use Rattle.cpg_board.specs.Seats.{IsSeatOf};
 ghost use Rattle.cpg_history.specs.Members.{IsSafeAt};
 ghost use Rattle.cpg_daemon.specs.Links.{next_of};
 
+use crate::signs::Sign;
 use cpg_board::{Board, Seat};
 use cpg_cred::{AcceptList, NodeId};
 use cpg_history::{History, HistoryName, Member, Parcel};
@@ -25,8 +26,8 @@ const SPUN_LOOKS: u32 = 2;
 const PAUSES: u32 = 16;
 
 /// Running nodes: a station for each behind a lock, with its node's pen of their history, their board, the list that they
-/// accept by, and the bells of their threads. All threads may share it. Contracts see how many nodes there are, and the
-/// list.
+/// accept by, the bells of their threads, and what sessions may look at without a lock. All threads may share it. Contracts
+/// see how many nodes there are, and the list.
 #[derive(Drop)]
 pub struct Running<B: HistoryName, G> {
     pub(crate) board: Board,
@@ -36,6 +37,7 @@ pub struct Running<B: HistoryName, G> {
     pub(crate) stations: Vec<Mutex<Member<B>>>,
     pub(crate) gate: G,
     pub(crate) bells: Vec<Bell>,
+    pub(crate) signs: Vec<CachePadded<Sign>>,
     /// How many calls were admitted, at any node. All sessions count it up, and what else stands here is hardly ever
     /// written, so it stands alone.
     pub(crate) calls: CachePadded<AtomicU64>,
@@ -51,7 +53,7 @@ impl<B: HistoryName, G> Model for Running<B, G> {
 
     ghost view = { λ running. record { nodes = running.nodes; list = running.list } };
 
-    ghost invariant = { λ running. (running.board ≡ B.cells) × (running.list ≡ B.start.list) × (vec_len running.stations ≡ running.nodes) × (vec_len running.bells ≡ running.nodes) × (running.nodes ≤ 8) };
+    ghost invariant = { λ running. (running.board ≡ B.cells) × (running.list ≡ B.start.list) × (vec_len running.stations ≡ running.nodes) × (vec_len running.bells ≡ running.nodes) × (vec_len running.signs ≡ running.nodes) × (running.nodes ≤ 8) };
 }
 
 /// The pause after a look at a station that was held.
@@ -96,7 +98,8 @@ impl<B: HistoryName, G> Running<B, G> {
 
     /// A node's station, once nobody else holds it. A lock that was slept for twice is left to those who sleep, so that
     /// each of its sections then waits for a thread to be woken; they take some microseconds, so a thread looks
-    /// for a while before it sleeps.
+    /// for a while before it sleeps. A session that would only be answered as just before holds none: it looks at the node's
+    /// signs first, which change under this lock alone.
     pub(crate) fn hold<R: Wait>(&self, rt: &R, node: NodeId) -> MutexGuard<'_, Member<B>>
         requires { node ≤ self.now.nodes }
     {
@@ -145,6 +148,13 @@ impl<B: HistoryName, G> Running<B, G> {
         requires { node ≤ self.now.nodes }
     {
         &self.bells[usize::from(node.get()) - 1]
+    }
+
+    /// What a node's sessions may look at without its lock.
+    pub(crate) fn sign(&self, node: NodeId) -> &Sign
+        requires { node ≤ self.now.nodes }
+    {
+        &self.signs[usize::from(node.get()) - 1]
     }
 
     /// Rings all bells.

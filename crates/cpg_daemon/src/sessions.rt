@@ -1,17 +1,20 @@
 //! Sessions: a process at a node, with what it has seen.
 
-ghost use Rattle.std.specs.Prelude.{◌≡◌, ◌≤◌, ◌<◌, [], length, Ok, Err, IfOk, IfErr, OnOk, OnErr, IsOkUnless, IsOk};
+ghost use Rattle.std.specs.Prelude.{◌≡◌, ◌≤◌, ◌<◌, [], length, None, Ok, Err, IsTrue, IfSome, IfOk, IfErr, OnOk, OnErr, IsOkUnless, IsOk};
 ghost use Rattle.cpg_cred.specs.declared.refusals.Refusal.TheVariants.{Memory, Stopped};
 ghost use Rattle.cpg_record.specs.Places.{Begins};
 ghost use Rattle.cpg_board.specs.Seats.{IsSeatOf, IsLonger};
+ghost use Rattle.cpg_node.specs.Calls.{call_refusal};
 ghost use Rattle.cpg_station.specs.Serving.{SubmitRefuses, moved_on};
+ghost use Rattle.cpg_station.specs.Stations.{audit_of};
 ghost use Rattle.cpg_daemon.specs.Sessions.{IsNew, ConnectRefuses, IsTaken, IsListed, AreNamed, IsClosed, IsEndRefusal};
-ghost use Rattle.cpg_daemon.specs.Taking.{TakesOne, TakesNext, IsTakenMany};
+ghost use Rattle.cpg_daemon.specs.Taking.{TakeTold, TakesOne, TakesNext, IsTakenMany};
 ghost use Rattle.cpg_history.specs.Members.{Told, RefusalTold};
 ghost use mathlib.Core.List.{IsPrefix};
 ghost use Rattle.cpg_world_laws.specs.declared.events.WorldEvent.TheVariants as events;
 ghost use Rattle.cpg_world_laws.specs.declared.replies.Reply.TheVariants as reply;
 
+use crate::limits::keeps_limits;
 use crate::running::Running;
 use cpg_board::Seat;
 use cpg_cred::{Cred, NodeId, Refusal, Refused};
@@ -28,17 +31,22 @@ pub struct Session<B: HistoryName> {
     who: Connection,
     seat: Seat,
     front: Front<B>,
+    /// How often its node had delivered when it told the session that there is no event, where the session has seen nothing
+    /// since: while the node has delivered no more, that is still what it answers.
+    quiet: Option<u64>,
 }
 
 impl<B: HistoryName> Model for Session<B> {
+    ghost use Rattle.std.specs.Prelude.{IfSome};
     ghost use Rattle.cpg_board.specs.Seats.{IsSeatOf};
     ghost use Rattle.cpg_daemon.specs.Sessions.{SessionValue};
+    ghost use Rattle.cpg_daemon.specs.Taking.{HasNone};
 
     ghost Value = { SessionValue };
 
     ghost view = { λ session. record { who = session.who; seat = session.seat; seen = session.front.seen } };
 
-    ghost invariant = { λ session. IsSeatOf B.cells session.seat };
+    ghost invariant = { λ session. IsSeatOf B.cells session.seat × IfSome session.quiet (λ told. HasNone B.start (record { who = session.who; seat = session.seat; seen = session.front.seen })) };
 }
 
 impl<B: HistoryName> Session<B> {
@@ -80,11 +88,51 @@ impl<B: HistoryName, G> Running<B, G> {
             who,
             seat: self.auditor(),
             front,
+            quiet: None,
         })
     }
 
+    /// Whether the call would be refused with QueueFull, as far as can be seen without the node's lock: a call found the queue
+    /// full, and no token has come by since to take calls along. A call that is refused for itself is told why under the lock,
+    /// and so is any call once the nodes are halted.
+    fn is_full(&self, node: NodeId, call: &Call) -> bool
+        requires { node ≤ self.now.nodes }
+        ensures { IsTrue result → call_refusal call.now ≡ None }
+    {
+        self.sign(node).is_full() && !self.are_halted() && keeps_limits(call)
+    }
+
+    /// Puts a call of the session last among what waits at its station, whose lock is held. Refused as `submit` is. Where the
+    /// queue is full, the node's sign says so.
+    fn submit_to(
+        &self,
+        station: &mut Member<B>,
+        session: &mut Session<B>,
+        call: Call,
+    ) -> Result<(), Refused<Call>>
+        requires { session.old.who.id.node ≤ self.now.nodes }
+        ensures same { (session.new.who ≡ session.old.who) × (session.new.seat ≡ session.old.seat) }
+        ensures history { OnOk result (Told B.start session.old.seen (events.Submit session.old.who.id.node session.old.who.id.conn call) (Ok reply.Admitted) session.new.seen) }
+        ensures err { IfErr result (λ refused. (refused.back ≡ call) × SubmitRefuses call refused.refusal) }
+        ensures unchanged { OnErr result (session.new ≡ session.old) }
+    {
+        match station.submit_for(&self.history, &mut session.front, &session.who, call) {
+            Ok(()) => {
+                session.quiet = None;
+                Ok(())
+            }
+            Err(refused) => {
+                if refused.refusal == Refusal::QueueFull {
+                    self.sign(session.who.id.node).fill();
+                }
+                Err(refused)
+            }
+        }
+    }
+
     /// Puts a call of the session last among what waits at its node. Refused with Stopped; BadName or TooLong;
-    /// QueueFull; Memory. The call comes back.
+    /// QueueFull; Memory. The call comes back. Where a call found the queue full, and no token has come by the node since,
+    /// the queue still is: QueueFull is answered without the node's lock then.
     pub fn submit<R: Wait>(
         &self,
         rt: &R,
@@ -97,44 +145,93 @@ impl<B: HistoryName, G> Running<B, G> {
         ensures err { IfErr result (λ refused. (refused.back ≡ call) × SubmitRefuses call refused.refusal) }
         ensures unchanged { OnErr result (session.new ≡ session.old) }
     {
-        let answer = self
-            .hold(rt, session.who.id.node)
-            .submit_for(&self.history, &mut session.front, &session.who, call);
+        let node = session.who.id.node;
+        if self.is_full(node, &call) {
+            return Err(Refused {
+                refusal: Refusal::QueueFull,
+                back: call,
+            });
+        }
+        let mut station = self.hold(rt, node);
+        let answer = self.submit_to(&mut station, session, call);
+        drop(station);
         if answer.is_ok() {
             self.tell_call();
         }
         answer
     }
 
+    /// Whether the session would be told that there is no event, as far as can be seen without the node's lock: it was told so,
+    /// has seen nothing since, and its node has delivered nothing since. Once the nodes are halted, the node is asked.
+    #[tactic(auto, using(crate::proofs::Repeating::repeats))]
+    fn has_none(&self, session: &Session<B>) -> bool
+        requires { session.now.who.id.node ≤ self.now.nodes }
+        ensures { IsTrue result → TakesOne B.start session.now (Ok None) session.now }
+    {
+        match session.quiet {
+            Some(told) => told == self.sign(session.who.id.node).told() && !self.are_halted(),
+            None => false,
+        }
+    }
+
+    /// How often the node has delivered, where it has delivered just what the seat knows: the seat may know one record more,
+    /// which stands on the board already. Its lock is held.
+    fn told_at(&self, station: &Member<B>, node: NodeId, seat: &Seat) -> Option<u64>
+        requires { node ≤ self.now.nodes }
+        ensures { IfSome result (λ told. length (audit_of station.now.station.node) ≡ length seat.now) }
+    {
+        if station.station().delivered() as usize == seat.len() {
+            Some(self.sign(node).told())
+        } else {
+            None
+        }
+    }
+
     /// The next event of the session, if there is one. Refused with Stopped; with Behind where its node has
-    /// delivered fewer places than the session has seen; with Memory.
+    /// delivered fewer places than the session has seen; with Memory. Where the session was told last that there is none, and
+    /// its node has delivered nothing since, there still is none: that is answered without the node's lock then, and adds
+    /// nothing to the history, whose world after all that the session has seen answers so.
     pub fn take<R: Wait>(&self, rt: &R, session: &mut Session<B>) -> Result<Option<Event>, Refusal>
         requires { session.old.who.id.node ≤ self.now.nodes }
         ensures answer { IsTaken session.old session.new.seat result }
-        ensures history { IfOk result (λ event. Told B.start session.old.seen (events.Take session.old.who.id.node session.old.who.id.conn) (Ok (reply.Took event)) session.new.seen) }
+        ensures history { IfOk result (TakeTold B.start session.old session.new.seen) }
         ensures who { IfOk result (λ event. session.new.who ≡ moved_on session.old.who event) }
         ensures err { OnErr result ((session.new.who ≡ session.old.who) × (session.new.seen ≡ session.old.seen)) }
         ensures seat { Begins session.old.seat session.new.seat }
     {
+        if self.has_none(session) {
+            return Ok(None);
+        }
         let mut station = self.hold(rt, session.who.id.node);
         self.take_from(&mut station, session)
     }
 
-    /// The next event of the session, if there is one, from its station, whose lock is held.
+    /// The next event of the session, if there is one, from its station, whose lock is held. Where there is none, the session
+    /// keeps in mind how often the node has delivered.
+    #[tactic(auto, using(crate::proofs::Repeating::told_takes))]
     fn take_from(
         &self,
         station: &mut Member<B>,
         session: &mut Session<B>,
     ) -> Result<Option<Event>, Refusal>
+        requires { session.old.who.id.node ≤ self.now.nodes }
         ensures { TakesOne B.start session.old result session.new }
     {
-        station.take_for(
+        session.quiet = None;
+        let taken = station.take_for(
             &self.history,
             &mut session.front,
             &self.board,
             &mut session.who,
             &mut session.seat,
-        )
+        )?;
+        match taken {
+            Some(event) => Ok(Some(event)),
+            None => {
+                session.quiet = self.told_at(station, session.who.id.node, &session.seat);
+                Ok(None)
+            }
+        }
     }
 
     /// Takes an event more, and puts it behind those of the list. Says whether there was one. Room for it is made
@@ -145,6 +242,7 @@ impl<B: HistoryName, G> Running<B, G> {
         session: &mut Session<B>,
         events: &mut Vec<Event>,
     ) -> Result<bool, Refusal>
+        requires { session.old.who.id.node ≤ self.now.nodes }
         ensures ok { IfOk result (λ more. TakesNext B.start session.old events.old.items more events.new.items session.new) }
         ensures err { IfErr result (λ why. TakesOne B.start session.old (Err why) session.new × (events.new.items ≡ events.old.items)) }
     {
@@ -160,7 +258,8 @@ impl<B: HistoryName, G> Running<B, G> {
 
     /// The session's next events, behind those of the list: one after the other under one lock, as if by `take`, until so
     /// many were taken or there is none. Gives how many. Refused as `take` is, and with Memory where the list has to grow;
-    /// the events that were taken before stand in the list then, too.
+    /// the events that were taken before stand in the list then, too. It holds no lock where `take` would hold none.
+    #[tactic(auto, using(crate::proofs::Repeating::repeats_many))]
     pub fn take_many<R: Wait>(
         &self,
         rt: &R,
@@ -173,6 +272,9 @@ impl<B: HistoryName, G> Running<B, G> {
         ensures same { session.new.who.id ≡ session.old.who.id }
         ensures seat { Begins session.old.seat session.new.seat }
     {
+        if self.has_none(session) {
+            return Ok(0);
+        }
         let mut station = self.hold(rt, session.who.id.node);
         for taken in 0..most {
             if !self.take_onto(&mut station, session, events)? {
@@ -198,6 +300,7 @@ impl<B: HistoryName, G> Running<B, G> {
         ensures who { session.new.who ≡ session.old.who }
         ensures seat { Begins session.old.seat session.new.seat }
     {
+        session.quiet = None;
         self.hold(rt, session.who.id.node).list_for(
             &self.history,
             &mut session.front,
@@ -218,6 +321,7 @@ impl<B: HistoryName, G> Running<B, G> {
         ensures who { session.new.who ≡ session.old.who }
         ensures seat { Begins session.old.seat session.new.seat }
     {
+        session.quiet = None;
         self.hold(rt, session.who.id.node).groups_for(
             &self.history,
             &mut session.front,
@@ -252,6 +356,7 @@ impl<B: HistoryName, G> Running<B, G> {
         ensures history { OnOk result (Told B.start session.old.seen (events.Disconnect session.old.who.id.node session.old.who.id.conn) (Ok reply.Closed) session.new.seen) }
         ensures err { IfErr result (λ why. IsEndRefusal why × (session.new ≡ session.old)) }
     {
+        session.quiet = None;
         self.hold(rt, session.who.id.node)
             .close_for(&self.history, &mut session.front, &session.who)
     }
@@ -276,6 +381,7 @@ impl<B: HistoryName, G> Running<B, G> {
         ensures seat { Begins session.old.seat session.new.seat }
         ensures none { length seat.now ≤ length session.old.seat → IsOk result }
     {
+        session.quiet = None;
         self.board.catch_up(&mut session.seat, seat)
     }
 }

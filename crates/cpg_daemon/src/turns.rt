@@ -396,8 +396,22 @@ impl<B: HistoryName, G: Gate> Running<B, G> {
         }
     }
 
+    /// Has the node's signs say what became of its deliveries. A refusal may have halted the node.
+    fn show(&self, node: NodeId, delivered: Turn, refused: bool)
+        requires { node ≤ self.now.nodes }
+    {
+        let sign = self.sign(node);
+        if delivered == Turn::Busy || refused {
+            sign.tell();
+        }
+        if refused {
+            sign.open();
+        }
+    }
+
     /// One turn: what is heard is answered before anything is delivered. It takes no lock where no frame came and no
-    /// delivery is owed, and one where nothing is to be answered. Says, too, whether a delivery is owed then.
+    /// delivery is owed, and one where nothing is to be answered. Says, too, whether a delivery is owed then. Before a lock is
+    /// given back under which the token took calls along, or something was delivered or refused, the node's signs say so.
     fn turn<R: Wait>(
         &self,
         rt: &R,
@@ -415,11 +429,13 @@ impl<B: HistoryName, G: Gate> Running<B, G> {
         let mut station = self.hold(rt, node);
         let heard = self.hear_each(&mut station, incoming);
         if are_answered(incoming) {
+            self.sign(node).open();
             drop(station);
             self.answer_each(rt, node, incoming, outgoing);
             station = self.hold(rt, node);
         }
         let (delivered, refused) = self.deliver_all(rt, &mut station);
+        self.show(node, delivered, refused);
         (heard.and(delivered), refused)
     }
 

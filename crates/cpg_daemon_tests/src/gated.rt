@@ -144,7 +144,7 @@ fn two_nodes_run_at_once(rt: HostRuntime) -> Result<(), Fail> {
 
 /// The gate that holds node 2, and node 1 until it is opened.
 #[derive(Drop)]
-struct Holding {
+pub struct Holding {
     open: Arc<AtomicBool, Global>,
 }
 
@@ -396,7 +396,7 @@ where
 }
 
 /// What opens the gate, and the gate.
-fn new_holding(alloc: Global) -> Result<(Arc<AtomicBool, Global>, Holding), Refusal> {
+pub fn new_holding(alloc: Global) -> Result<(Arc<AtomicBool, Global>, Holding), Refusal> {
     let open = Arc::new(alloc, AtomicBool::new(false))?;
     let gate = Holding {
         open: Arc::try_clone(&open)?,

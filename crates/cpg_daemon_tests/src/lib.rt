@@ -1,6 +1,7 @@
 //! Tests of a cluster, with its threads: what sessions are told, one by one and in goes, what a stopped cluster answers,
-//! that two nodes run at once, settings out of their ranges; what each turn sends in rings of 1 to 8 nodes, how the gate is
-//! obeyed, and what a stopped cluster leaves; and links of each size. Nothing here is used by the other crates.
+//! that two nodes run at once, what ends an answer that took no lock, settings out of their ranges; what each turn sends in
+//! rings of 1 to 8 nodes, how the gate is obeyed, and what a stopped cluster leaves; and links of each size. Nothing here is
+//! used by the other crates.
 #![tactic(auto)]
 
 #[cfg(test)]
@@ -17,6 +18,8 @@ mod links;
 mod replaying;
 #[cfg(test)]
 mod sharing;
+#[cfg(test)]
+mod signs;
 #[cfg(test)]
 mod stepping;
 #[cfg(test)]

@@ -1,5 +1,5 @@
 -- What a node answers a session that knows its connection.
-use Rattle.std.proofs.Common.{◌≡◌, ◌⊎◌, inl, inr, ⊎_elim, ℕ, suc, ◌≤◌, Bool, true, false, List, length, nat_lt, Option, Some, None, Result, Ok, Err, refl, sym, ap, ◌∙◌, subst, slice_get, option_map, if◌then◌else◌}
+use Rattle.std.proofs.Common.{◌≡◌, ◌⊎◌, inl, inr, ⊎_elim, ℕ, suc, ◌≤◌, Bool, true, false, List, length, nat_lt, Option, Some, None, Result, Ok, Err, refl, sym, ap, ◌∙◌, subst, slice_get, option_map, IfNone, if◌then◌else◌}
 use Rattle.std.specs.Result.{IfErr, OnErr}
 use Rattle.std.proofs.lemmas.Option.{none-some, same_Some}
 use Rattle.cpg_cred.specs.declared.refusals.Refusal.{Refusal}
@@ -23,8 +23,9 @@ use Rattle.cpg_node.specs.declared.connections.Connection.{Connection}
 use Rattle.cpg_node.specs.Answers.{IsTakeAnswer, IsListAnswer, IsGroupsAnswer, connection_of}
 use Rattle.cpg_node.specs.Calls.{submit_refusal, submit_refusal_by, closed_refusal, call_refusal, first_of, took, node_after_take, counted, next_event}
 use Rattle.cpg_node.specs.Nodes.{NodeValue, open_client, if_open, conn_id, asker_by}
-use Rattle.cpg_board.specs.Seats.{SeatValue}
-use Rattle.cpg_station.specs.Serving.{BringsUp, StaysDown, GivesNot, IsKnown, asker_of, OverFront, IsTakeFor, IsListFor, IsGroupsFor, SubmitRefuses, KeepsWatch, WhereDenied, moved_on}
+use Rattle.cpg_record.specs.Places.{Begins}
+use Rattle.cpg_board.specs.Seats.{SeatValue, records_of}
+use Rattle.cpg_station.specs.Serving.{BringsUp, StaysDown, GivesNot, IsKnown, asker_of, OverFront, IsAtEnd, IsTakeFor, IsListFor, IsGroupsFor, SubmitRefuses, KeepsWatch, WhereDenied, moved_on}
 use Rattle.cpg_station.specs.Stations.{StationValue, audit_of}
 
 -- the node's own client behind the session's connection
@@ -87,6 +88,21 @@ said_take who before after s now result known up same kept answer = by_result re
     by_result : (r : Result (Option Event) Refusal) → IsTakeAnswer s.node who.id.conn (Some b.client) r → IsTakeFor who before now after r
     by_result (Ok event) is = over_front s before after (λ front. event ≡ slice_get (inbox front who.id) who.taken) up (is ∙ ap (λ (w : Connection). slice_get (inbox (audit_of s.node) w.id) w.taken) b.told)
     by_result (Err why) is = subst (λ w. GivesNot now before w) (sym is.0) (stays_up s now before after up same kept)
+
+-- where the node has no next event for the connection, the inbox ends at what the session took
+pub at_end : (who : Connection) (before after : SeatValue) (s now : StationValue) (event : Option Event) → IsKnown s.node who → BringsUp s before after → audit_of now.node ≡ audit_of s.node
+    → IsTakeAnswer s.node who.id.conn (open_client s.node who.id.conn) (Ok event) → IfNone event (IsAtEnd now.node who after)
+at_end who before after s now (Some event) known up kept answer = tt
+at_end who before after s now None known up kept answer = subst (λ l. (slice_get (inbox l who.id) who.taken ≡ None) × Begins l (records_of after)) (sym kept) (ends, up.front)
+  where
+    b : Behind s.node who
+    b = client_of s.node who known
+
+    none : None ≡ next_event s.node who.id.conn b.client
+    none = subst (λ o. IsTakeAnswer s.node who.id.conn o (Ok None)) b.is_open answer
+
+    ends : slice_get (inbox (audit_of s.node) who.id) who.taken ≡ None
+    ends = ap (λ (w : Connection). slice_get (inbox (audit_of s.node) w.id) w.taken) (sym b.told) ∙ sym none
 
 pub said_groups : (who : Connection) (before after : SeatValue) (s : StationValue) (result : Result (List (List ℕ)) Refusal) → IsKnown s.node who → BringsUp s before after
     → IsGroupsAnswer s.node (open_client s.node who.id.conn) result → IsGroupsFor who before s after result

@@ -93,6 +93,10 @@ abbrev pub IsTakeFor : Connection → SeatValue → StationValue → SeatValue �
 IsTakeFor who before s after (Ok event) = OverFront before after (λ front. event ≡ slice_get (inbox front who.id) who.taken)
 IsTakeFor who before s after (Err why) = GivesNot s before why
 
+-- the inbox of the session's connection, over what the node has delivered, ends at what it took; and the seat knows all that the node has delivered
+abbrev pub IsAtEnd : NodeValue → Connection → SeatValue → Type 0
+IsAtEnd node who seat = (slice_get (inbox (audit_of node) who.id) who.taken ≡ None) × Begins (audit_of node) (records_of seat)
+
 -- What `list_for` answers: the listing, or the denial.
 abbrev pub IsListFor : Connection → List ℕ → SeatValue → StationValue → SeatValue → Result (List (ℕ × ℕ)) Refusal → Type 0
 IsListFor who g before s after (Ok list) = OverFront before after (λ front. listing front (asker_of who) g ≡ Ok list)

@@ -1,7 +1,7 @@
 //! What a member is to the sessions at its node: their calls, each one event of the history, and so is a listing that is
 //! denied.
 
-ghost use Rattle.std.specs.Prelude.{◌≡◌, [], false, None, Ok, Err, IfOk, OnOk, OnErr, IfErr};
+ghost use Rattle.std.specs.Prelude.{◌≡◌, [], false, None, Ok, Err, IfOk, IfNone, OnOk, OnErr, IfErr};
 ghost use Rattle.cpg_cred.specs.declared.refusals.Refusal.TheVariants.{Stopped};
 ghost use Rattle.cpg_ring.specs.Answers.{IsAnswer, answer_of};
 ghost use Rattle.cpg_node.specs.Calls.{submit_refusal, submitted, disconnected};
@@ -10,7 +10,7 @@ ghost use Rattle.cpg_world_laws.specs.declared.replies.Reply.TheVariants as repl
 ghost use Rattle.cpg_record.specs.Places.{Begins};
 ghost use Rattle.cpg_board.specs.Seats.{IsSeatOf};
 ghost use Rattle.cpg_station.specs.Admitting.{IsAdmitted, AdmitsNot, with_newcomer};
-ghost use Rattle.cpg_station.specs.Serving.{IsKnown, HearsSession, IsTakeFor, IsListFor, IsGroupsFor, KeepsWatch, SubmitRefuses, taken_from, moved_on, halted_of, with_node};
+ghost use Rattle.cpg_station.specs.Serving.{IsKnown, HearsSession, IsAtEnd, IsTakeFor, IsListFor, IsGroupsFor, KeepsWatch, SubmitRefuses, taken_from, moved_on, halted_of, with_node};
 ghost use Rattle.cpg_history.specs.Members.{Told, RefusalTold, is_answer};
 
 use super::Member;
@@ -179,6 +179,7 @@ impl<B: HistoryName> Member<B> {
         ensures seat { IsSeatOf B.cells seat.new × Begins seat.old seat.new }
         ensures answer { IsTakeFor who.old seat.old self.new.station seat.new result }
         ensures who { IfOk result (λ event. who.new ≡ moved_on who.old event) }
+        ensures end { IfOk result (λ event. IfNone event (IsAtEnd self.new.station.node who.old seat.new)) }
         ensures ok { OnOk result (self.new.station ≡ taken_from self.old.station who.old) }
         ensures history { IfOk result (λ event. Told B.start front.old.seen (events.Take who.old.id.node who.old.id.conn) (Ok (reply.Took event)) front.new.seen) }
         ensures err { OnErr result (KeepsWatch self.old.station who.old self.new.station × (who.new ≡ who.old) × (front.new ≡ front.old)) }
@@ -200,6 +201,7 @@ impl<B: HistoryName> Member<B> {
         ensures seat { IsSeatOf B.cells seat.new × Begins seat.old seat.new }
         ensures answer { IsTakeFor who.old seat.old self.new.station seat.new result }
         ensures who { IfOk result (λ event. who.new ≡ moved_on who.old event) }
+        ensures end { IfOk result (λ event. IfNone event (IsAtEnd self.new.station.node who.old seat.new)) }
         ensures ok { OnOk result (self.new.station ≡ taken_from self.old.station who.old) }
         ensures history { IfOk result (λ event. Told B.start front.old.seen (events.Take who.old.id.node who.old.id.conn) (Ok (reply.Took event)) front.new.seen) }
         ensures err { OnErr result (KeepsWatch self.old.station who.old self.new.station × (who.new ≡ who.old) × (front.new ≡ front.old)) }

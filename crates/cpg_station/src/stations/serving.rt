@@ -1,6 +1,6 @@
 //! What a station is to the sessions at its node: their calls, each as one section under the station's lock.
 
-ghost use Rattle.std.specs.Prelude.{◌≡◌, ◌≢◌, ◌↔◌, suc, length, false, IsTrue, None, Ok, Err, IfOk, OnOk, OnErr, IfErr};
+ghost use Rattle.std.specs.Prelude.{◌≡◌, ◌≢◌, ◌↔◌, suc, length, false, IsTrue, None, Ok, Err, IfOk, IfNone, OnOk, OnErr, IfErr};
 ghost use Rattle.cpg_cred.specs.declared.refusals.Refusal.TheVariants.{Stopped};
 ghost use Rattle.cpg_record.specs.Places.{Begins};
 ghost use Rattle.cpg_board.specs.Seats.{IsSeatOf};
@@ -9,7 +9,7 @@ ghost use Rattle.cpg_node.specs.Calls.{connect_refusal, submit_refusal, submitte
 ghost use Rattle.cpg_node.specs.Nodes.{open_client};
 ghost use Rattle.cpg_ring.specs.Answers.{IsAnswer, answer_of};
 ghost use Rattle.cpg_station.specs.Admitting.{IsAdmitted, AdmitsNot, is_shut, with_newcomer};
-ghost use Rattle.cpg_station.specs.Serving.{IsKnown, HearsSession, BringsUp, StaysDown, IsTakeFor, IsListFor, IsGroupsFor, KeepsWatch, StaysOrHalts, SubmitRefuses, WhereDenied, taken_from, moved_on, halted_of, with_node};
+ghost use Rattle.cpg_station.specs.Serving.{IsKnown, HearsSession, BringsUp, StaysDown, IsAtEnd, IsTakeFor, IsListFor, IsGroupsFor, KeepsWatch, StaysOrHalts, SubmitRefuses, WhereDenied, taken_from, moved_on, halted_of, with_node};
 
 use super::Station;
 use crate::naming::BoardName;
@@ -136,7 +136,7 @@ impl<B: BoardName> Station<B> {
 
     /// The next item of the session's inbox, if there is one, which the session then has taken. Refused as
     /// `serve` is, and then with Memory.
-    #[tactic(auto, using(crate::proofs::Sessions::said_take, crate::proofs::Sessions::told_after, crate::proofs::Sessions::down_take))]
+    #[tactic(auto, using(crate::proofs::Sessions::said_take, crate::proofs::Sessions::at_end, crate::proofs::Sessions::told_after, crate::proofs::Sessions::down_take))]
     pub fn take_for(
         &mut self,
         board: &Board,
@@ -148,6 +148,7 @@ impl<B: BoardName> Station<B> {
         ensures seat { IsSeatOf B.cells seat.new × Begins seat.old seat.new }
         ensures answer { IsTakeFor who.old seat.old self.new seat.new result }
         ensures who { IfOk result (λ event. who.new ≡ moved_on who.old event) }
+        ensures end { IfOk result (λ event. IfNone event (IsAtEnd self.new.node who.old seat.new)) }
         ensures ok { OnOk result (self.new ≡ taken_from self.old who.old) }
         ensures exact { OnOk result (HearsSession self.old who.old × IsTakeAnswer self.old.node who.old.id.conn (open_client self.old.node who.old.id.conn) result) }
         ensures err { OnErr result (KeepsWatch self.old who.old self.new × StaysOrHalts self.old self.new × (who.new ≡ who.old)) }

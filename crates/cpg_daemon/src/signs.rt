@@ -1,0 +1,68 @@
+//! What a node's sessions may look at without its lock.
+//!
+//! A session that asks again what its node has just answered is answered the same for as long as nothing has happened at the
+//! node. Whether something has is written here under the node's lock, so that what is read between two sections under the
+//! lock is what the first of them left. All orderings are SeqCst.
+
+ghost use Rattle.std.specs.Prelude.{◌≡◌, IfOk, IsOkUnless, vec_len};
+
+use cpg_cred::Refusal;
+use crossbeam_utils::CachePadded;
+use std::alloc::Global;
+use std::sync::atomic::{AtomicBool, AtomicU64, Ordering};
+
+/// The signs of a node. They are written under its lock alone.
+#[derive(Drop)]
+pub(crate) struct Sign {
+    /// How often the node delivered, or was refused a delivery.
+    told: AtomicU64,
+    /// Whether a call found the node's queue full since the token last came by.
+    full: AtomicBool,
+}
+
+impl Sign {
+    /// The signs of a node that has delivered nothing, and whose queue was not found full.
+    pub fn new() -> Sign {
+        Sign {
+            told: AtomicU64::new(0),
+            full: AtomicBool::new(false),
+        }
+    }
+
+    /// The node has delivered, or was refused a delivery.
+    pub fn tell(&self) {
+        self.told.fetch_add(1, Ordering::SeqCst);
+    }
+
+    /// How often it did.
+    pub fn told(&self) -> u64 {
+        self.told.load(Ordering::SeqCst)
+    }
+
+    /// A call found the queue full.
+    pub fn fill(&self) {
+        self.full.store(true, Ordering::SeqCst);
+    }
+
+    /// The token came by, and took calls along; or the node may be halted. So calls are put to the node itself again.
+    pub fn open(&self) {
+        self.full.store(false, Ordering::SeqCst);
+    }
+
+    /// Whether a call found the queue full since the token last came by.
+    pub fn is_full(&self) -> bool {
+        self.full.load(Ordering::SeqCst)
+    }
+}
+
+/// Signs for each node, in their order. Each stands alone: its node's thread writes it, and all its sessions read it.
+pub(crate) fn new_signs(alloc: Global, nodes: u8) -> Result<Vec<CachePadded<Sign>>, Refusal>
+    ensures ok { IfOk result (λ signs. vec_len signs ≡ nodes) }
+    ensures memory { IsOkUnless result Refusal.Memory }
+{
+    let mut signs = Vec::new(alloc);
+    for _ in 0..nodes {
+        signs.push(CachePadded::new(Sign::new()))?;
+    }
+    Ok(signs)
+}
