@@ -11,7 +11,7 @@ use crate::beginning::begin_all;
 use crate::gates::Gate;
 use crate::lines::Lines;
 use crate::making::{first_token, new_links, new_locks, new_room, new_spares, peers, put_first};
-use crate::running::Running;
+use crate::running::{Lock, Running};
 use crate::signs::{Sign, new_signs};
 use crate::stopping::{Begun, Room, gather, pair, take_out};
 use cpg_board::Board;
@@ -24,7 +24,7 @@ use std::alloc::Global;
 use std::marker::Model;
 use std::ops::Deref;
 use std::sync::atomic::{AtomicBool, AtomicU64};
-use std::sync::{Arc, Mutex, Wait};
+use std::sync::{Arc, Wait};
 use std::thread::Threads;
 use std::time::Clock;
 
@@ -76,8 +76,8 @@ fn new_running<B: HistoryName, G>(
     board: Board,
     history: History<B>,
     list: AcceptList,
-    stations: Vec<Mutex<Member<B>>>,
-    bells: Vec<Bell>,
+    stations: Vec<Lock<B>>,
+    bells: Vec<CachePadded<Bell>>,
     signs: Vec<CachePadded<Sign>>,
     nodes: u8,
     gate: G,

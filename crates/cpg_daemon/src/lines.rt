@@ -76,11 +76,22 @@ impl<B: HistoryName> Outgoing<B> {
         }
     }
 
+    /// Puts the frame, unless the link is full: then it is lost.
+    fn put<R: Wait>(&mut self, rt: &R, frame: Parcel<B>) {
+        let _ = self.link.put(rt, frame);
+    }
+
     /// Puts the frame once more, unless memory is refused or the link is full: then it is lost.
-    fn put<R: Wait>(&mut self, rt: &R, history: &History<B>, frame: &mut Parcel<B>) {
+    fn put_again<R: Wait>(&mut self, rt: &R, history: &History<B>, frame: &mut Parcel<B>) {
         if let Ok(again) = frame.again(history) {
-            let _ = self.link.put(rt, again);
+            self.put(rt, again);
         }
+    }
+
+    /// What becomes of the next frame of this way.
+    fn next_fate<G: Gate>(&mut self, gate: &G) -> Fate {
+        self.index = self.index.saturating_add(1);
+        gate.fate(self.way.from, self.way.to, self.index)
     }
 
     /// Sends the frame, as the gate has it.
@@ -89,15 +100,32 @@ impl<B: HistoryName> Outgoing<B> {
         rt: &R,
         gate: &G,
         history: &History<B>,
-        frame: &mut Parcel<B>,
+        mut frame: Parcel<B>,
     ) {
-        self.index = self.index.saturating_add(1);
-        match gate.fate(self.way.from, self.way.to, self.index) {
-            Fate::Pass => self.put(rt, history, frame),
+        match self.next_fate(gate) {
+            Fate::Pass => self.put(rt, frame),
             Fate::Drop => {}
             Fate::Repeat => {
-                self.put(rt, history, frame);
-                self.put(rt, history, frame);
+                self.put_again(rt, history, &mut frame);
+                self.put(rt, frame);
+            }
+        }
+    }
+
+    /// Sends the frame once more, as the gate has it. What memory is refused for is lost.
+    pub fn send_again<G: Gate, R: Wait>(
+        &mut self,
+        rt: &R,
+        gate: &G,
+        history: &History<B>,
+        frame: &mut Parcel<B>,
+    ) {
+        match self.next_fate(gate) {
+            Fate::Pass => self.put_again(rt, history, frame),
+            Fate::Drop => {}
+            Fate::Repeat => {
+                self.put_again(rt, history, frame);
+                self.put_again(rt, history, frame);
             }
         }
     }

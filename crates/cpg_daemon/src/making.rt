@@ -8,6 +8,7 @@ ghost use Rattle.cpg_history.specs.Traces.{new_trace};
 ghost use Rattle.cpg_daemon.specs.Links.{peers_of, peer_of};
 
 use crate::lines::{Incoming, Lines, Outgoing, ROOM};
+use crate::running::Lock;
 use crate::stopping::Room;
 use cpg_board::Board;
 use cpg_cred::{AcceptList, NodeId, Refusal};
@@ -16,6 +17,7 @@ use cpg_history::{Beginning, History, HistoryName, Member, Parcel, Pen};
 use cpg_link::link;
 use cpg_node::{Node, Settings};
 use cpg_station::{BoardName, Station};
+use crossbeam_utils::CachePadded;
 use std::alloc::Global;
 use std::sync::{Mutex, Wait};
 
@@ -99,7 +101,7 @@ pub(crate) fn new_locks<B: HistoryName>(
     beginning: &Beginning,
     history: &History<B>,
     pens: &mut Pen<B>,
-) -> Result<Vec<Mutex<Member<B>>>, Refusal>
+) -> Result<Vec<Lock<B>>, Refusal>
     requires settings { IsSettings beginning.now.settings }
     requires begins { first_world beginning.now ≡ B.start }
     requires board { board.now ≡ B.cells }
@@ -114,7 +116,7 @@ pub(crate) fn new_locks<B: HistoryName>(
             return Err(Refusal::Range);
         };
         let member = new_member(alloc, id, board, beginning, history, pens)?;
-        locks.push(Mutex::new(member))?;
+        locks.push(CachePadded::new(Mutex::new(member)))?;
     }
     Ok(locks)
 }
@@ -210,7 +212,7 @@ pub(crate) fn new_links<B: HistoryName>(
 pub(crate) fn first_token<B: HistoryName, R: Wait>(
     rt: &R,
     history: &History<B>,
-    locks: &Vec<Mutex<Member<B>>>,
+    locks: &Vec<Lock<B>>,
 ) -> Result<Option<Parcel<B>>, Refusal>
     ensures { IsOkUnless result Refusal.Memory }
 {

@@ -25,6 +25,9 @@ const SPUN_LOOKS: u32 = 2;
 
 const PAUSES: u32 = 16;
 
+/// A node's station behind its lock. It stands alone: other threads write what lies on either side of it.
+pub(crate) type Lock<B> = CachePadded<Mutex<Member<B>>>;
+
 /// Running nodes: a station for each behind a lock, with its node's pen of their history, their board, the list that they
 /// accept by, the bells of their threads, and what sessions may look at without a lock. All threads may share it. Contracts
 /// see how many nodes there are, and the list.
@@ -34,9 +37,9 @@ pub struct Running<B: HistoryName, G> {
     pub(crate) history: History<B>,
     pub(crate) list: AcceptList,
     pub(crate) nodes: u8,
-    pub(crate) stations: Vec<Mutex<Member<B>>>,
+    pub(crate) stations: Vec<Lock<B>>,
     pub(crate) gate: G,
-    pub(crate) bells: Vec<Bell>,
+    pub(crate) bells: Vec<CachePadded<Bell>>,
     pub(crate) signs: Vec<CachePadded<Sign>>,
     /// How many calls were admitted, at any node. All sessions count it up, and what else stands here is hardly ever
     /// written, so it stands alone.

@@ -6,6 +6,7 @@ ghost use Rattle.cpg_history.specs.Members.{Began, HaveSeen};
 ghost use Rattle.cpg_daemon.specs.Links.{links_of, peers_of};
 
 use crate::lines::{Incoming, Lines, Outgoing};
+use crate::running::Lock;
 use cpg_history::{Front, History, HistoryName, Member, Parcel, Pen};
 use cpg_link::{LinkRx, LinkTx};
 use std::alloc::{AllocError, Global};
@@ -225,7 +226,7 @@ fn catch_up<B: HistoryName>(history: &History<B>, stations: &mut [Member<B>], fr
 pub(crate) fn take_out<B: HistoryName, R: Wait>(
     rt: &R,
     history: &History<B>,
-    locks: &Vec<Mutex<Member<B>>>,
+    locks: &Vec<Lock<B>>,
     mut pens: Pen<B>,
     mut spares: Vec<Member<B>>,
     mut stations: Vec<Member<B>>,

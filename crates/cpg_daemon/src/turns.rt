@@ -233,18 +233,22 @@ fn turn_of(answers: usize) -> Turn {
     }
 }
 
-/// Sends a frame to all other nodes.
+/// Sends a frame to all other nodes. The last link gets the frame itself, and the others share its bytes.
 fn send_data<B: HistoryName, G: Gate, R: Wait>(
     rt: &R,
     gate: &G,
     history: &History<B>,
-    packet: &mut Parcel<B>,
+    mut packet: Parcel<B>,
     outgoing: &mut [Outgoing<B>],
 ) {
-    for end in outgoing.iter_mut() {
-        if end.way.from != end.way.to {
-            end.send(rt, gate, history, packet);
-        }
+    let Some((last, others)) = outgoing.split_last_mut() else {
+        return;
+    };
+    for end in others.iter_mut() {
+        end.send_again(rt, gate, history, &mut packet);
+    }
+    if last.way.from != last.way.to {
+        last.send(rt, gate, history, packet);
     }
 }
 
@@ -254,13 +258,11 @@ fn send_token<B: HistoryName, G: Gate, R: Wait>(
     gate: &G,
     history: &History<B>,
     next: NodeId,
-    token: &mut Parcel<B>,
+    token: Parcel<B>,
     outgoing: &mut [Outgoing<B>],
 ) {
-    for end in outgoing.iter_mut() {
-        if end.way.to == next {
-            end.send(rt, gate, history, token);
-        }
+    if let Some(end) = outgoing.iter_mut().find(|end| end.way.to == next) {
+        end.send(rt, gate, history, token);
     }
 }
 
@@ -329,7 +331,8 @@ impl<B: HistoryName, G: Gate> Running<B, G> {
     }
 
     /// Sends what a frame is answered with: its last is a token, which goes to the next node, the others are data, which
-    /// goes to all others. What memory is refused for is lost.
+    /// goes to all others. What memory is refused for is lost. The next node is woken by the first of them, so that it hears
+    /// data while the rest is on its way: the token waits for it alone.
     fn send_all<R: Wait>(
         &self,
         rt: &R,
@@ -340,15 +343,18 @@ impl<B: HistoryName, G: Gate> Running<B, G> {
         requires { node ≤ self.now.nodes }
     {
         let count = sent.len();
+        let next = self.next(node);
         for index in 0..count {
-            let Ok(mut frame) = sent.parcel(&self.history, index) else {
+            let Ok(frame) = sent.parcel(&self.history, index) else {
                 continue;
             };
             if index + 1 < count {
-                send_data(rt, &self.gate, &self.history, &mut frame, outgoing);
+                send_data(rt, &self.gate, &self.history, frame, outgoing);
             } else {
-                let next = self.next(node);
-                send_token(rt, &self.gate, &self.history, next, &mut frame, outgoing);
+                send_token(rt, &self.gate, &self.history, next, frame, outgoing);
+            }
+            if index == 0 && count > 1 {
+                self.bell(next).ring(News::Data);
             }
         }
         self.ring_for(node, count);
@@ -389,9 +395,9 @@ impl<B: HistoryName, G: Gate> Running<B, G> {
     fn send_again<R: Wait>(&self, rt: &R, node: NodeId, outgoing: &mut [Outgoing<B>])
         requires { node ≤ self.now.nodes }
     {
-        if let Some(mut token) = self.timer(rt, node) {
+        if let Some(token) = self.timer(rt, node) {
             let next = self.next(node);
-            send_token(rt, &self.gate, &self.history, next, &mut token, outgoing);
+            send_token(rt, &self.gate, &self.history, next, token, outgoing);
             self.ring_for(node, 1);
         }
     }

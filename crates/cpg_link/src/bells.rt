@@ -9,6 +9,7 @@ ghost use Rattle.std.specs.Prelude.{◌≡◌, IfOk, IsOkUnless, vec_len};
 ghost use Rattle.cpg_link.specs.Sleeps.{ends_by};
 
 use cpg_cred::Refusal;
+use crossbeam_utils::CachePadded;
 use std::alloc::Global;
 use std::hint::spin_loop;
 use std::sync::Wait;
@@ -133,14 +134,14 @@ impl Bell {
     }
 }
 
-/// A bell for each node's thread, in their order.
-pub fn new_bells(alloc: Global, nodes: u8) -> Result<Vec<Bell>, Refusal>
+/// A bell for each node's thread, in their order. Each stands alone: threads look at their own while others are rung.
+pub fn new_bells(alloc: Global, nodes: u8) -> Result<Vec<CachePadded<Bell>>, Refusal>
     ensures ok { IfOk result (λ bells. vec_len bells ≡ nodes) }
     ensures memory { IsOkUnless result Refusal.Memory }
 {
     let mut bells = Vec::new(alloc);
     for _ in 0..nodes {
-        bells.push(Bell::new())?;
+        bells.push(CachePadded::new(Bell::new()))?;
     }
     Ok(bells)
 }
