@@ -1,5 +1,5 @@
 -- A take that finds nothing changes nothing for the next.
-use Rattle.std.proofs.Common.{◌≡◌, ℕ, zero, suc, List, [], ◌∷◌, ◌++◌, length, Option, Some, None, IfSome, IfNone, Result, Ok, Err, slice_get, inl, inr, refl, sym, ap, ◌∙◌, subst, arith, append-nil}
+use Rattle.std.proofs.Common.{◌≡◌, ℕ, zero, suc, List, [], ◌∷◌, ◌++◌, length, Option, Some, None, IfSome, IfNone, Ok, slice_get, inl, inr, refl, sym, ap, ◌∙◌, subst, arith, append-nil}
 use Rattle.std.proofs.lemmas.List.{take_all, length-map}
 use Rattle.std.proofs.lemmas.Option.{none-some}
 use Rattle.cpg_record.specs.declared.connections.ConnId.{ConnId}
@@ -7,13 +7,13 @@ use Rattle.cpg_record.specs.declared.events.Event.{Event}
 use Rattle.cpg_record.specs.declared.records.Record.{Record}
 use Rattle.cpg_record.specs.Events.{inbox}
 use Rattle.cpg_record.specs.Places.{Begins}
-use Rattle.cpg_board.specs.Seats.{SeatValue, records_of}
+use Rattle.cpg_board.specs.Seats.{records_of}
 use Rattle.cpg_ring.specs.Worlds.{item, with_item}
 use Rattle.cpg_ring.proofs.Lists.{item_with_same}
 use Rattle.cpg_node.specs.declared.connections.Client.{Client}
 use Rattle.cpg_node.specs.declared.connections.Connection.{Connection}
 use Rattle.cpg_node.specs.Nodes.{NodeValue, open_client}
-use Rattle.cpg_node.specs.Calls.{next_event, counted, node_after_take, took}
+use Rattle.cpg_node.specs.Calls.{counted, node_after_take, took}
 use Rattle.cpg_world_laws.specs.declared.events.WorldEvent.{WorldEvent}
 use Rattle.cpg_world_laws.specs.declared.events.WorldEvent.TheVariants.{Take}
 use Rattle.cpg_world_laws.specs.declared.replies.Reply.TheVariants.{Took}

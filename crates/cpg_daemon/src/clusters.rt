@@ -228,7 +228,9 @@ where
         let Beginning { settings: _, list } = beginning;
         let bells = new_bells(alloc, nodes)?;
         let signs = new_signs(alloc, nodes)?;
-        let running = new_running(alloc, board, history, list, locks, bells, signs, nodes, gate)?;
+        let running = new_running(
+            alloc, board, history, list, locks, bells, signs, nodes, gate,
+        )?;
         begin(rt, alloc, running, lines, room)
     }
 

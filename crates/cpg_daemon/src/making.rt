@@ -116,7 +116,7 @@ pub(crate) fn new_locks<B: HistoryName>(
             return Err(Refusal::Range);
         };
         let member = new_member(alloc, id, board, beginning, history, pens)?;
-        locks.push(CachePadded::new(Mutex::new(member)))?;
+        locks.push(Mutex::new(CachePadded::new(member)))?;
     }
     Ok(locks)
 }

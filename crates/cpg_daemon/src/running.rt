@@ -25,8 +25,12 @@ const SPUN_LOOKS: u32 = 2;
 
 const PAUSES: u32 = 16;
 
-/// A node's station behind its lock. It stands alone: other threads write what lies on either side of it.
-pub(crate) type Lock<B> = CachePadded<Mutex<Member<B>>>;
+/// A node's station behind its lock. It stands alone, away from the lock itself, which whoever waits for it looks at, and
+/// from those of other nodes.
+pub(crate) type Lock<B> = Mutex<CachePadded<Member<B>>>;
+
+/// A node's station, while its lock is held.
+pub(crate) type Held<'a, B> = MutexGuard<'a, CachePadded<Member<B>>>;
 
 /// Running nodes: a station for each behind a lock, with its node's pen of their history, their board, the list that they
 /// accept by, the bells of their threads, and what sessions may look at without a lock. All threads may share it. Contracts
@@ -93,7 +97,7 @@ impl<B: HistoryName, G> Running<B, G> {
     }
 
     /// The lock of a node.
-    pub(crate) fn station(&self, node: NodeId) -> &Mutex<Member<B>>
+    pub(crate) fn station(&self, node: NodeId) -> &Lock<B>
         requires { node ≤ self.now.nodes }
     {
         &self.stations[usize::from(node.get()) - 1]
@@ -103,7 +107,7 @@ impl<B: HistoryName, G> Running<B, G> {
     /// each of its sections then waits for a thread to be woken; they take some microseconds, so a thread looks
     /// for a while before it sleeps. A session that would only be answered as just before holds none: it looks at the node's
     /// signs first, which change under this lock alone.
-    pub(crate) fn hold<R: Wait>(&self, rt: &R, node: NodeId) -> MutexGuard<'_, Member<B>>
+    pub(crate) fn hold<R: Wait>(&self, rt: &R, node: NodeId) -> Held<'_, B>
         requires { node ≤ self.now.nodes }
     {
         let station = self.station(node);

@@ -31,8 +31,8 @@ pub struct Session<B: HistoryName> {
     who: Connection,
     seat: Seat,
     front: Front<B>,
-    /// How often its node had delivered when it told the session that there is no event, where the session has seen nothing
-    /// since: while the node has delivered no more, that is still what it answers.
+    /// The number that the session noted when its node told it that there is no event, where it has seen nothing since: while
+    /// the node's number is that, the node has delivered nothing, and still answers so.
     quiet: Option<u64>,
 }
 
@@ -174,14 +174,14 @@ impl<B: HistoryName, G> Running<B, G> {
         }
     }
 
-    /// How often the node has delivered, where it has delivered just what the seat knows: the seat may know one record more,
+    /// Notes the node's number, where the node has delivered just what the seat knows: the seat may know one record more,
     /// which stands on the board already. Its lock is held.
     fn told_at(&self, station: &Member<B>, node: NodeId, seat: &Seat) -> Option<u64>
         requires { node ≤ self.now.nodes }
         ensures { IfSome result (λ told. length (audit_of station.now.station.node) ≡ length seat.now) }
     {
         if station.station().delivered() as usize == seat.len() {
-            Some(self.sign(node).told())
+            Some(self.sign(node).note())
         } else {
             None
         }
@@ -207,7 +207,7 @@ impl<B: HistoryName, G> Running<B, G> {
     }
 
     /// The next event of the session, if there is one, from its station, whose lock is held. Where there is none, the session
-    /// keeps in mind how often the node has delivered.
+    /// notes the node's number.
     #[tactic(auto, using(crate::proofs::Repeating::told_takes))]
     fn take_from(
         &self,

@@ -14,8 +14,10 @@ use std::sync::atomic::{AtomicBool, AtomicU64, Ordering};
 /// The signs of a node. They are written under its lock alone.
 #[derive(Drop)]
 pub(crate) struct Sign {
-    /// How often the node delivered, or was refused a delivery.
+    /// A number that is another as soon as the node has delivered, or was refused a delivery, since somebody noted it.
     told: AtomicU64,
+    /// Whether somebody noted it since it last changed.
+    noted: AtomicBool,
     /// Whether a call found the node's queue full since the token last came by.
     full: AtomicBool,
 }
@@ -25,16 +27,27 @@ impl Sign {
     pub fn new() -> Sign {
         Sign {
             told: AtomicU64::new(0),
+            noted: AtomicBool::new(false),
             full: AtomicBool::new(false),
         }
     }
 
-    /// The node has delivered, or was refused a delivery.
+    /// The node has delivered, or was refused a delivery. Where nobody noted the number, nothing is written, so that a
+    /// busy thread doesn't take this from those who look.
     pub fn tell(&self) {
-        self.told.fetch_add(1, Ordering::SeqCst);
+        if self.noted.load(Ordering::SeqCst) {
+            self.noted.store(false, Ordering::SeqCst);
+            self.told.fetch_add(1, Ordering::SeqCst);
+        }
     }
 
-    /// How often it did.
+    /// The number, for whoever is told that there is nothing: it is another as soon as there may be something.
+    pub fn note(&self) -> u64 {
+        self.noted.store(true, Ordering::SeqCst);
+        self.told()
+    }
+
+    /// The number as it is.
     pub fn told(&self) -> u64 {
         self.told.load(Ordering::SeqCst)
     }
@@ -44,9 +57,12 @@ impl Sign {
         self.full.store(true, Ordering::SeqCst);
     }
 
-    /// The token came by, and took calls along; or the node may be halted. So calls are put to the node itself again.
+    /// The token came by, and took calls along; or the node may be halted. So calls are put to the node itself again. Where
+    /// the queue was not found full, nothing is written.
     pub fn open(&self) {
-        self.full.store(false, Ordering::SeqCst);
+        if self.is_full() {
+            self.full.store(false, Ordering::SeqCst);
+        }
     }
 
     /// Whether a call found the queue full since the token last came by.

@@ -11,7 +11,7 @@ use cpg_history::{Front, History, HistoryName, Member, Parcel, Pen};
 use cpg_link::{LinkRx, LinkTx};
 use std::alloc::{AllocError, Global};
 use std::marker::Brand;
-use std::sync::{Mutex, Wait};
+use std::sync::Wait;
 use std::thread::{Promise, PromisedHandle, Threads};
 
 /// That a thread gives back so many ends of each kind.
@@ -190,7 +190,7 @@ fn meet<B: HistoryName>(
 fn take_one<B: HistoryName, R: Wait>(
     rt: &R,
     history: &History<B>,
-    lock: &Mutex<Member<B>>,
+    lock: &Lock<B>,
     pens: &mut Pen<B>,
     spares: &mut Vec<Member<B>>,
     stations: &mut Vec<Member<B>>,
@@ -206,7 +206,7 @@ fn take_one<B: HistoryName, R: Wait>(
         return;
     };
     let mut guard = lock.lock(rt);
-    let station = std::mem::replace(&mut *guard, spare);
+    let station = std::mem::replace(&mut **guard, spare);
     stations.push_reserved(meet(history, pens, station));
 }
 

@@ -53,10 +53,14 @@ counts words log e count =
     ap (λ ws. slice_set ws 8 ((slice_index ws 8 + 1) % 2 ^ 64)) count
     ∙ ap spread (mod-add-mod (length log) (2 ^ 64) 1 ∙ ap (λ n. n % 2 ^ 64) (sym (length-append log (e ∷ []))))
 
--- there is a first word
+-- there is a first word, and one in the middle
 pub has_word : (counted : Bool) (words : ℕ) → words ≡ many_words counted → 0 < words
 has_word true words is = omega (arith, is)
 has_word false words is = omega (arith, is)
+
+pub has_middle : (counted : Bool) (words : ℕ) → words ≡ many_words counted → 8 < words
+has_middle true words is = omega (arith, is)
+has_middle false words is = omega (arith, is)
 
 -- by their number, whether events are counted
 pub tells_counted : (counted : Bool) (words : ℕ) → words ≡ many_words counted → (words == 17) ≡ counted
@@ -70,6 +74,9 @@ reads counted words n count = ap (λ ws. slice_set ws 0 (slice_index ws 0)) coun
     by_flag : (c : Bool) → slice_set (words_of c n) 0 (slice_index (words_of c n) 0) ≡ words_of c n
     by_flag true = refl
     by_flag false = refl
+
+reads_middle : (words : List ℕ) (n : ℕ) → words ≡ words_of false n → slice_set words 8 (slice_index words 8) ≡ words_of false n
+reads_middle words n count = ap (λ ws. slice_set ws 8 (slice_index ws 8)) count
 
 -- an event is added where it is counted
 pub adds : (e : WorldEvent) (slots id : ℕ) (me : Me ℕ View) (st : Step ℕ) → Owns me.0 (node_in e) → Allows (Rule true) slots id me 8 (λ n. (n + 1) % 2 ^ 64) (Adds true e st me)
@@ -94,7 +101,7 @@ adds e slots id me st owns s h len at small =
     )
 
 -- an event is added where none is counted
-pub enters : (e : WorldEvent) (slots id : ℕ) (me : Me ℕ View) (st : Step ℕ) → Owns me.0 (node_in e) → Allows (Rule false) slots id me 0 (λ n. n) (Adds false e st me)
+pub enters : (e : WorldEvent) (slots id : ℕ) (me : Me ℕ View) (st : Step ℕ) → Owns me.0 (node_in e) → Allows (Rule false) slots id me 8 (λ n. n) (Adds false e st me)
 enters e slots id me st owns s h len at small =
     let v = me.0 in
     let log = h.log ++ e ∷ [] in
@@ -107,7 +114,7 @@ enters e slots id me st owns s h len at small =
       record {
         log = log;
         seat = h.seat;
-        count = reads false s.words (length log) h.count;
+        count = reads_middle s.words (length log) h.count;
         each = each_after s.views (FitsHistory h.log h.seat) (FitsHistory log h.seat) id w h.each
             (record { seen = prefix_self log; also = (log, refl); own = λ n owns. ((mine.own n owns).0, rests_self n log) })
             (λ j u apart was. other_fits h.log e h.seat id j u here.0 apart was);

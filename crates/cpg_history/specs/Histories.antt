@@ -47,15 +47,15 @@ pub record FitsHistory (log : List WorldEvent) (seat : ℕ → ℕ) (by : ℕ) (
 abbrev pub spread : ℕ → List ℕ
 spread count = 0 ∷ 0 ∷ 0 ∷ 0 ∷ 0 ∷ 0 ∷ 0 ∷ 0 ∷ count ∷ 0 ∷ 0 ∷ 0 ∷ 0 ∷ 0 ∷ 0 ∷ 0 ∷ 0 ∷ []
 
--- Where so many events are counted, a word tells how many; else there is one word alone, which nobody writes.
+-- Where so many events are counted, a word tells how many; else no word is ever written, and there is one more.
 abbrev pub words_of : Bool → ℕ → List ℕ
 words_of true n = spread (n % 2 ^ 64)
-words_of false n = 0 ∷ []
+words_of false n = 0 ∷ spread 0
 
 -- how many words these are
 abbrev pub many_words : Bool → ℕ
 many_words true = 17
-many_words false = 1
+many_words false = 18
 
 -- whether the events of the table's history are counted
 abbrev pub is_counted : TableId → Bool

@@ -1,6 +1,6 @@
 //! One history of all that happens in running nodes. It exists in proofs alone. Where it is recorded, what threads share is
-//! its length, in a word that each event adds one to; else it is a word that nobody writes, which each event reads, so that
-//! no thread waits for another.
+//! its length, in a word that each event adds one to; else it is words that nobody writes, one of which each event reads, so
+//! that no thread waits for another.
 //!
 //! The form is our own: the rule of an `atomic_table` says that every view fits the one history, and who has a view of
 //! nodes may add their events.
@@ -20,11 +20,14 @@ use std::alloc::{AllocError, Global};
 use std::collections::LinkedList;
 use std::marker::{Brand, Model, PhantomData};
 
-/// How many words all threads share where events are counted, and which of them counts. No other is ever written; as many
-/// as a cache line holds stand on either side, so that who reads the first one waits for nobody.
-const WORDS: usize = 17;
+/// How many words all threads share where events are counted, and how many where they are not.
+const COUNTED: usize = 17;
 
-const COUNT: usize = 8;
+const UNCOUNTED: usize = 18;
+
+/// Which of them each event is added by: it counts, if any does, and no other is ever written. As many as a cache line holds
+/// stand on either side, so that neither who reads the first one nor what lies beside them waits for it.
+const MIDDLE: usize = 8;
 
 /// What a history begins with: a new world of these.
 #[derive(Drop)]
@@ -230,9 +233,9 @@ impl Opened {
         ensures { IfOk result (λ o. (o.start ≡ basis.beginning) × (o.traced ≡ basis.counted)) }
     {
         let (line, seat) = if basis.counted {
-            Table::of_words(alloc, &[0; WORDS], &basis)?
+            Table::of_words(alloc, &[0; COUNTED], &basis)?
         } else {
-            Table::of_words(alloc, &[0], &basis)?
+            Table::of_words(alloc, &[0; UNCOUNTED], &basis)?
         };
         Ok(Opened { basis, line, seat })
     }
@@ -350,9 +353,9 @@ impl<B: HistoryName> History<B> {
     {
         let shared = &self.line.shared;
         if self.counted {
-            shared.fetch_add::<Add<E>>(&mut pen.seat, COUNT, 1)
+            shared.fetch_add::<Add<E>>(&mut pen.seat, MIDDLE, 1)
         } else {
-            shared.load::<Enter<E>>(&mut pen.seat, 0)
+            shared.load::<Enter<E>>(&mut pen.seat, MIDDLE)
         }
     }
 

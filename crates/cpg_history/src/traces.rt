@@ -4,9 +4,9 @@
 //! one order. A frame that arrives is told by the event that sent it, since how many frames were sent in the whole world
 //! before that event no node knows: it follows from how many each event sent.
 
-ghost use Rattle.std.specs.Prelude.{◌≡◌, ◌++◌, ◌∷◌, [], IfSome, IsTrue, IsFalse, is_none};
+ghost use Rattle.std.specs.Prelude.{◌≡◌, ◌++◌, ◌∷◌, [], None, IfSome, IsTrue, IsFalse, is_none};
 ghost use Rattle.cpg_world_laws.specs.declared.events.WorldEvent.TheVariants.{Submit, List};
-ghost use Rattle.cpg_history.specs.Traces.{Notes, new_trace};
+ghost use Rattle.cpg_history.specs.Traces.{Notes, NotesOf, new_trace};
 
 use cpg_cred::NodeId;
 use cpg_entry::{Call, Name};
@@ -125,13 +125,20 @@ impl Trace {
     }
 
     /// Records the event, if it records and the event is there; from the first on that is not, or for which memory is
-    /// refused, it does not.
+    /// refused, it does not. It is put where it is called, so that no event is made where none is recorded.
+    #[inline(always)]
     pub(crate) fn note(&mut self, stamp: u64, sent: usize, source: u64, event: Option<WorldEvent>)
         ensures { Notes self.old stamp sent source event self.new }
     {
-        if !self.records() {
-            return;
+        if self.records() {
+            self.record(stamp, sent, source, event);
         }
+    }
+
+    fn record(&mut self, stamp: u64, sent: usize, source: u64, event: Option<WorldEvent>)
+        requires { self.old.lost ≡ None }
+        ensures { NotesOf self.old stamp sent source event self.new }
+    {
         let kept = match event {
             None => false,
             Some(event) => keep(

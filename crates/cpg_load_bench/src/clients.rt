@@ -167,8 +167,11 @@ fn send_and_take<B: HistoryName, R: Wait>(
         if load.is_done(tally, signals.is_over()) {
             break;
         }
-        tally = step(rt, running, session, load, signals, outbox, taken, tally)?;
-        signals.tell(index, tally.told);
+        let next = step(rt, running, session, load, signals, outbox, taken, tally)?;
+        if next.told != tally.told {
+            signals.tell(index, next.told);
+        }
+        tally = next;
         if load.together && tally.sent >= load.messages {
             signals.end();
         }
