@@ -266,11 +266,12 @@ fn send_token<B: HistoryName, G: Gate, R: Wait>(
     }
 }
 
-/// Takes at most one frame from each link. Says whether there was one.
-fn take_each<B: HistoryName, R: Wait>(rt: &R, incoming: &mut [Incoming<B>]) -> bool {
+/// Takes at most one frame from each link. Says whether there was one. A frame that is still being put is left to the next
+/// turn.
+fn take_each<B: HistoryName>(incoming: &mut [Incoming<B>]) -> bool {
     let mut some = false;
     for end in incoming.iter_mut() {
-        end.frame = end.link.take(rt);
+        end.frame = end.link.take_now();
         some = some || end.frame.is_some();
     }
     some
@@ -428,7 +429,7 @@ impl<B: HistoryName, G: Gate> Running<B, G> {
     ) -> (Turn, bool)
         requires { node ≤ self.now.nodes }
     {
-        let came = take_each(rt, incoming);
+        let came = take_each(incoming);
         if !came && !owes {
             return (Turn::Idle, false);
         }

@@ -102,6 +102,13 @@ impl<T: Drop> LinkRx<T> {
     {
         self.line.pop_as::<Takes, R>(rt, &mut self.pass)
     }
+
+    /// Takes the next frame, if it is there at once: none also while its sender is still putting it. It never waits.
+    pub fn take_now(&mut self) -> Option<T>
+        ensures { MatchOption result (self.new ≡ self.old) (λ frame. self.new ≡ with_frame self.old frame) }
+    {
+        self.line.try_pop_as::<Takes>(&mut self.pass)
+    }
 }
 
 /// What was left in a link whose two ends are given up: what was put is what was taken, followed by this.
