@@ -81,20 +81,7 @@ impl<B: HistoryName> Outgoing<B> {
         let _ = self.link.put(rt, frame);
     }
 
-    /// Puts the frame once more, unless memory is refused or the link is full: then it is lost.
-    fn put_again<R: Wait>(&mut self, rt: &R, history: &History<B>, frame: &mut Parcel<B>) {
-        if let Ok(again) = frame.again(history) {
-            self.put(rt, again);
-        }
-    }
-
-    /// What becomes of the next frame of this way.
-    fn next_fate<G: Gate>(&mut self, gate: &G) -> Fate {
-        self.index = self.index.saturating_add(1);
-        gate.fate(self.way.from, self.way.to, self.index)
-    }
-
-    /// Sends the frame, as the gate has it.
+    /// Sends the frame, as the gate has it. Where it is to be repeated and memory is refused for that, it is put once.
     pub fn send<G: Gate, R: Wait>(
         &mut self,
         rt: &R,
@@ -102,30 +89,15 @@ impl<B: HistoryName> Outgoing<B> {
         history: &History<B>,
         mut frame: Parcel<B>,
     ) {
-        match self.next_fate(gate) {
+        self.index = self.index.saturating_add(1);
+        match gate.fate(self.way.from, self.way.to, self.index) {
             Fate::Pass => self.put(rt, frame),
             Fate::Drop => {}
             Fate::Repeat => {
-                self.put_again(rt, history, &mut frame);
+                if let Ok(again) = frame.again(history) {
+                    self.put(rt, again);
+                }
                 self.put(rt, frame);
-            }
-        }
-    }
-
-    /// Sends the frame once more, as the gate has it. What memory is refused for is lost.
-    pub fn send_again<G: Gate, R: Wait>(
-        &mut self,
-        rt: &R,
-        gate: &G,
-        history: &History<B>,
-        frame: &mut Parcel<B>,
-    ) {
-        match self.next_fate(gate) {
-            Fate::Pass => self.put_again(rt, history, frame),
-            Fate::Drop => {}
-            Fate::Repeat => {
-                self.put_again(rt, history, frame);
-                self.put_again(rt, history, frame);
             }
         }
     }

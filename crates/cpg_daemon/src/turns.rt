@@ -233,7 +233,8 @@ fn turn_of(answers: usize) -> Turn {
     }
 }
 
-/// Sends a frame to all other nodes. The last link gets the frame itself, and the others share its bytes.
+/// Sends a frame to all other nodes. The last link gets the frame itself, and the others share its bytes; those for which
+/// memory is refused are lost.
 fn send_data<B: HistoryName, G: Gate, R: Wait>(
     rt: &R,
     gate: &G,
@@ -245,7 +246,9 @@ fn send_data<B: HistoryName, G: Gate, R: Wait>(
         return;
     };
     for end in others.iter_mut() {
-        end.send_again(rt, gate, history, &mut packet);
+        if let Ok(again) = packet.again(history) {
+            end.send(rt, gate, history, again);
+        }
     }
     if last.way.from != last.way.to {
         last.send(rt, gate, history, packet);
@@ -332,8 +335,7 @@ impl<B: HistoryName, G: Gate> Running<B, G> {
     }
 
     /// Sends what a frame is answered with: its last is a token, which goes to the next node, the others are data, which
-    /// goes to all others. What memory is refused for is lost. The next node is woken by the first of them, so that it hears
-    /// data while the rest is on its way: the token waits for it alone.
+    /// goes to all others. What memory is refused for is lost.
     fn send_all<R: Wait>(
         &self,
         rt: &R,
@@ -353,9 +355,6 @@ impl<B: HistoryName, G: Gate> Running<B, G> {
                 send_data(rt, &self.gate, &self.history, frame, outgoing);
             } else {
                 send_token(rt, &self.gate, &self.history, next, frame, outgoing);
-            }
-            if index == 0 && count > 1 {
-                self.bell(next).ring(News::Data);
             }
         }
         self.ring_for(node, count);
