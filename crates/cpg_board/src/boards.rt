@@ -1,7 +1,8 @@
 //! The board, with its calls.
 
-ghost use Rattle.std.specs.Prelude.{◌≡◌, ◌≢◌, ◌++◌, ◌∷◌, ◌<◌, ◌≤◌, [], length, take, Some, None, Ok, IsOk, slice_get, IfOk, IfErr, OnOk, OnErr, IsOkUnless, MatchOption, MatchResult, vec_len, vec_capacity};
+ghost use Rattle.std.specs.Prelude.{◌≡◌, ◌≢◌, ◌/◌, ◌++◌, ◌∷◌, ◌<◌, ◌≤◌, [], length, take, Some, None, Ok, IsOk, slice_get, IfOk, IfErr, OnOk, OnErr, IsOkUnless, MatchOption, MatchResult, vec_len, vec_capacity};
 ghost use Rattle.cpg_record.specs.Places.{record_at, Begins};
+ghost use Rattle.cpg_ledger.specs.declared.limits.TheConstants.{BLOCK};
 ghost use Rattle.cpg_board.specs.Making.{HasBoard, IsUnmade};
 ghost use Rattle.cpg_board.specs.Noted.{known_of, AllKnow};
 ghost use Rattle.cpg_board.specs.Seats.{IsSeatOf, records_of, Meets, IsLonger};
@@ -12,6 +13,7 @@ use crate::notes::learn;
 use crate::seats::Seat;
 use crate::settling::Settled;
 use cpg_cred::Refusal;
+use cpg_ledger::Shelf;
 use cpg_record::{MOST_PLACES, Record};
 use once_cell::race::{Note, OnceBox};
 use std::alloc::Global;
@@ -23,15 +25,19 @@ use std::marker::Model;
 pub struct Board {
     alloc: Global,
     cells: Vec<OnceBox<Record>>,
+    shelf: Shelf,
 }
 
 impl Model for Board {
-    ghost use Rattle.std.specs.Prelude.{ℕ, List, map};
+    ghost use Rattle.std.specs.Prelude.{◌≡◌, ◌/◌, ℕ, List, map, length};
     ghost use Rattle.once_cell.specs.Once.{cell_name};
+    ghost use Rattle.cpg_ledger.specs.declared.limits.TheConstants.{BLOCK};
 
     ghost Value = { List ℕ };
 
     ghost view = { λ board. map cell_name board.cells.items };
+
+    ghost invariant = { λ board. board.shelf ≡ length (map cell_name board.cells.items) / BLOCK };
 }
 
 impl Board {
@@ -47,7 +53,20 @@ impl Board {
         for _ in 0..places {
             cells.push(OnceBox::new(alloc))?;
         }
-        Ok(Board { alloc, cells })
+        let shelf = Shelf::new(alloc, places)?;
+        Ok(Board {
+            alloc,
+            cells,
+            shelf,
+        })
+    }
+
+    /// Where the nodes that share the board lay down what each of them delivered: there is a place for each block of
+    /// entries that it has places for.
+    pub fn shelf(&self) -> &Shelf
+        ensures { result.now ≡ length self.now / BLOCK }
+    {
+        &self.shelf
     }
 
     /// A seat that has seen nothing.

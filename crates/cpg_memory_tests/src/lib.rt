@@ -16,6 +16,8 @@ mod entering;
 #[cfg(test)]
 mod frames;
 #[cfg(test)]
+mod ledgers;
+#[cfg(test)]
 mod links;
 #[cfg(test)]
 mod nodes;

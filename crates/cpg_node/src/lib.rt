@@ -17,4 +17,5 @@ mod ringing;
 pub use connections::{Client, Connection};
 pub use cpg_group::{Event, Names, Processes, Record};
 pub use cpg_ring::Settings;
+pub use names::call_refusal;
 pub use nodes::Node;

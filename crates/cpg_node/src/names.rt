@@ -19,8 +19,8 @@ fn name_refusal(group: &Name) -> Option<Refusal>
     }
 }
 
-/// Why the call is refused wherever it comes from: BadName or TooLong.
-pub(crate) fn call_refusal(call: &Call) -> Option<Refusal>
+/// Why the call is refused whatever the node and its connections are: BadName or TooLong.
+pub fn call_refusal(call: &Call) -> Option<Refusal>
     ensures told { result ≡ call_refusal call.now }
     // What is not refused keeps the rules of a frame.
     ensures ruled { result ≡ None → IsCall call.now }

@@ -26,6 +26,7 @@ use bytes::Bytes;
 use cpg_cred::{AcceptList, Cred, NodeId, Refusal, Refused};
 use cpg_entry::{Call, Entry, Frame, MOST_CONNECTIONS, Op, Token, token_fits};
 use cpg_group::{ConnId, Event, Names, Processes, Record};
+use cpg_ledger::Shelf;
 use cpg_ring::{Ring, Settings};
 use cpg_rules::{Asker, Table};
 use cpg_wire::{FrameView, encode_token};
@@ -307,6 +308,15 @@ impl Node {
             }
             Err(refused) => Err(refused.refusal),
         }
+    }
+
+    /// Takes the first delivered entries that its ring has of its own from the shelf, where they lie for all nodes of
+    /// the ring: who asks the node sees no difference.
+    #[inline(always)]
+    pub fn share(&mut self, shelf: &Shelf)
+        ensures { self.new ≡ self.old }
+    {
+        self.ring.share(shelf);
     }
 
     /// The next item of the connection's inbox, if there is one.

@@ -32,7 +32,8 @@ use std::mem;
 /// Runs the script over a new world of those settings, whose nodes let in whom the words let in, and writes what it
 /// prints in that form.
 ///
-/// A wrong word comes first, then settings out of their ranges, then the faults of the script.
+/// A wrong word comes first, then settings out of their ranges, then the faults of the script. It is for a process that
+/// ends next: what the world keeps is left to the system.
 #[tactic(auto, using(crate::proofs::Started::none_stepped, crate::proofs::Started::none_late, crate::proofs::Started::all_stepped, crate::proofs::Started::part_stepped, crate::proofs::Started::part_late))]
 pub fn step_over_world<R: Read, W: Write>(
     alloc: Global,
@@ -64,8 +65,8 @@ pub fn step_over_world<R: Read, W: Write>(
     }
 }
 
-/// Leaves what the world keeps to the system, which takes it back at once when the process ends, as it does next; to give
-/// it back record by record would cost some 30 instructions for each command.
+/// Leaves what the world keeps to the system, which takes it back at once when the process ends, as it does next: to give
+/// it back record by record costs one instruction in twenty.
 fn leave(world: World) {
     mem::forget(world);
 }

@@ -7,6 +7,7 @@ use Rattle.std.proofs.Math.Seq.{take-append_seam}
 use Rattle.std.specs.Cmp.{nat_cmp_total}
 use Rattle.std.specs.Ordering.{nat_cmp}
 use Rattle.std.specs.FinMap.{get, insert, empty, get-empty, same_map, nat_cmp-IsAntisymmetric}
+use Rattle.cpg_entry.specs.declared.ranges.TheConstants.{MOST_PLACES}
 use Rattle.cpg_ring.specs.States.{Entry, HeldPlaces}
 use Rattle.cpg_ring.specs.Worlds.{item}
 use Rattle.cpg_ring.specs.Laws.{AllHeld, NoneAbove}
@@ -186,8 +187,20 @@ module _ (done : List Entry) (slots : List (Option Entry)) (e : Entry) (count : 
   }
 
 -- there is room for the next place
-pub next_room : (done : List Entry) (most : ℕ) (slots : List (Option Entry)) → IsKept done most slots → (e : Entry) → in_slot slots (suc (length done)) ≡ Some e → length done < most
-next_room done most slots h e is = let w = (h.within (suc (length done)) e (kept_slot done slots (suc (length done)) (omega arith) (omega arith) ∙ is)).1 in omega arith
+pub next_room : (done : List Entry) (most : ℕ) (slots : List (Option Entry)) → IsKept done most slots → (e : Entry) → in_slot slots (suc (length done)) ≡ Some e → (length done < MOST_PLACES) × (length done < most)
+next_room done most slots h e is =
+    let within = h.within (suc (length done)) e (kept_slot done slots (suc (length done)) (omega arith) (omega arith) ∙ is) in
+    let place = within.0 in
+    let room = within.1 in
+    (omega arith, omega arith)
+
+-- there is room for each place yet where there is no less
+pub roomier_kept : (done : List Entry) (most more : ℕ) (slots : List (Option Entry)) → most ≤ more → IsKept done most slots → IsKept done more slots
+roomier_kept done most more slots no_less h = record {
+  count = h.count;
+  counted = h.counted;
+  within = λ place e is. let within = h.within place e is in let room = within.1 in (within.0, omega arith);
+}
 
 -- the next place is in its slot
 pub next_slot : (done : List Entry) (slots : List (Option Entry)) → get (held_map done slots) (suc (length done)) ≡ in_slot slots (suc (length done))

@@ -14,7 +14,8 @@ ghost use Rattle.cpg_ring.specs.Laws.{AllHeld, NoneAbove};
 ghost use Rattle.cpg_ring.specs.Kept.{in_slot, kept_at};
 
 use crate::settings::{Settings, WINDOW};
-use cpg_entry::{Entry, MOST_PLACES, Packet, Refusal, reserve_ahead};
+use cpg_entry::{Entry, MOST_PLACES, Packet, Refusal};
+use cpg_ledger::{Ledger, Shelf};
 use std::alloc::Global;
 use std::marker::Model;
 
@@ -22,13 +23,12 @@ use std::marker::Model;
 /// place there is room to deliver.
 #[derive(Debug, Drop)]
 pub struct Held {
-    done: Vec<Entry>,
+    done: Ledger,
     slots: Vec<Option<Entry>>,
 }
 
 impl Model for Held {
     ghost use Rattle.std.specs.Prelude.{length};
-    ghost use Rattle.std.specs.Vec.{vec_capacity};
     ghost use Rattle.std.specs.Coded.{codes};
     ghost use Rattle.cpg_ring.specs.Kept.{HeldValue, held_code, held_map, IsKept};
 
@@ -36,9 +36,9 @@ impl Model for Held {
 
     ghost coded = { Prim.hlevel (codes, held_code) };
 
-    ghost view = { λ a. record { places = held_map a.done.items a.slots.items; delivered = length a.done.items; room = vec_capacity a.done } };
+    ghost view = { λ a. record { places = held_map a.done.items a.slots.items; delivered = length a.done.items; room = a.done.room } };
 
-    ghost invariant = { λ a. IsKept a.done.items (vec_capacity a.done) a.slots.items };
+    ghost invariant = { λ a. IsKept a.done.items a.done.room a.slots.items };
 }
 
 /// As many empty slots as the window has places.
@@ -55,17 +55,16 @@ fn empty_slots(alloc: Global) -> Result<Vec<Option<Entry>>, Refusal>
 }
 
 /// What is kept for a place.
-fn entry_at<'a>(done: &'a [Entry], slots: &'a [Option<Entry>], place: u32) -> Option<&'a Entry>
-    requires count { length slots.now ≡ WINDOW }
-    requires counted { length done.now ≤ MOST_PLACES }
-    ensures { option_copied result ≡ kept_at done.now slots.now place }
+fn entry_at<'a>(done: &'a Ledger, slots: &'a [Option<Entry>], place: u32) -> Option<&'a Entry>
+    requires { length slots.now ≡ WINDOW }
+    ensures { option_copied result ≡ kept_at done.now.items slots.now place }
 {
     if place == 0 {
         return None;
     }
     let index = place as usize - 1;
     if index < done.len() {
-        return Some(&done[index]);
+        return Some(done.at(index));
     }
     if index < done.len() + WINDOW as usize {
         return slots[(place % WINDOW) as usize].as_ref();
@@ -99,7 +98,7 @@ impl Held {
     {
         let slots = empty_slots(alloc)?;
         Ok(Held {
-            done: Vec::new(alloc),
+            done: Ledger::new(alloc),
             slots,
         })
     }
@@ -152,7 +151,7 @@ impl Held {
         ensures room { OnOk result (self.new.delivered + WINDOW ≤ self.new.room) }
         ensures memory { IsOkUnless result Refusal.Memory }
     {
-        reserve_ahead(&mut self.done, WINDOW as usize)
+        self.done.reserve(WINDOW as usize)
     }
 
     /// Holds the entry at a place of the window.
@@ -175,6 +174,16 @@ impl Held {
         if let Some(entry) = vacate(&mut self.slots, place) {
             self.done.push_reserved(entry);
         }
+    }
+
+    /// Takes the first delivered entries that it has of its own from the shelf, where they lie for all that delivered
+    /// the same.
+    #[tactic(auto, using(crate::proofs::Slots::roomier_kept))]
+    pub fn share(&mut self, shelf: &Shelf)
+        ensures places { self.new.places ≡ self.old.places }
+        ensures delivered { self.new.delivered ≡ self.old.delivered }
+    {
+        self.done.share(shelf);
     }
 
     /// The packets of the places asked for that are held.

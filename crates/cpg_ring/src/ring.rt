@@ -22,6 +22,7 @@ use crate::settings::{MOST_WAITING, Settings, WINDOW};
 use crate::waiting::Waiting;
 use cpg_cred::{MOST_NODES, Refused};
 use cpg_entry::{Entry, MOST_HOPS, MOST_PLACES, NodeId, Packet, Places, Refusal, Token};
+use cpg_ledger::Shelf;
 use std::alloc::Global;
 use std::marker::Model;
 
@@ -148,6 +149,16 @@ impl Ring {
         ensures { self.new ≡ with_state self.old (after_delivery self.old.state) }
     {
         self.held.advance();
+    }
+
+    /// Takes the first delivered entries that it has of its own from the shelf, where they lie for all that delivered
+    /// the same: who asks the ring sees no difference. A ring of one node shares nothing.
+    pub fn share(&mut self, shelf: &Shelf)
+        ensures { self.new ≡ self.old }
+    {
+        if self.settings.nodes > 1 {
+            self.held.share(shelf);
+        }
     }
 
     /// Puts a call last among the waiting entries. Refused with QueueFull exactly where 256 calls or more

@@ -1,8 +1,11 @@
-//! Tests of a ring alone, by worked visits, and of the node that C calls. Nothing here is used by the other crates.
+//! Tests of a ring alone, by worked visits, of the ledgers in which rings keep what they delivered, and of the node
+//! that C calls. Nothing here is used by the other crates.
 #![tactic(auto)]
 
 #[cfg(test)]
 mod endpoints;
+#[cfg(test)]
+mod ledgers;
 #[cfg(test)]
 mod rings;
 

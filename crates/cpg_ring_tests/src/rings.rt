@@ -4,6 +4,7 @@ ghost use Rattle.std.specs.Prelude.{None, [], ◌≡◌, ◌≤◌, IsTrue, IfOk
 ghost use Rattle.cpg_entry.specs.Ranges.{IsEntry, IsToken};
 
 use cpg_entry::{Call, Cred, Entry, NodeId, Op, Packet, Places, Refusal, Token};
+use cpg_ledger::Shelf;
 use cpg_ring::{MOST_HOPS, MOST_PLACES, Ring, Settings, Visit, WINDOW};
 use std::alloc::Global;
 
@@ -438,6 +439,34 @@ fn recovers(alloc: Global) -> Result<bool, Refusal> {
 #[test]
 fn lost_frame(rt: HostRuntime) {
     assert!(rt; recovers(rt.alloc()) == Ok(true));
+}
+
+/// So many places come and are delivered, and what was delivered is shared as soon as it may be.
+fn deliver_shared(ring: &mut Ring, shelf: &Shelf, count: u32) -> Result<bool, Refusal> {
+    for before in 0..count {
+        if hear_place(ring, 1, before.saturating_add(1))?.is_some() {
+            return Ok(false);
+        }
+        deliver(ring);
+        ring.share(shelf);
+    }
+    Ok(ring.delivered() == count)
+}
+
+/// Node 2 of 2, which holds nothing, asks node 1 for the first 32 of 600 places, which stand in a shared block there.
+fn serves_what_is_shared(alloc: Global) -> Result<bool, Refusal> {
+    let shelf = Shelf::new(alloc, 1000)?;
+    let mut one = ring(alloc, 2, 1000, 1)?;
+    let mut two = ring(alloc, 2, 1000, 2)?;
+    let delivered = deliver_shared(&mut one, &shelf, 600)?;
+    let asked = hear_token(alloc, &mut two, 600, 600)?;
+    let sent = pass(alloc, &two, &mut one)?;
+    Ok(delivered && asked.requests == 32 && sent.packets == 32 && sent.first == Some((1, 1)))
+}
+
+#[test]
+fn shared_places_are_served(rt: HostRuntime) {
+    assert!(rt; serves_what_is_shared(rt.alloc()) == Ok(true));
 }
 
 /// Whether there is no such ring.

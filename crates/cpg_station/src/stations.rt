@@ -167,7 +167,10 @@ impl<B: BoardName> Station<B> {
         };
         match stand(board, &mut self.seat, &self.node, &judgement) {
             Ok(place) => match self.node.commit(judgement) {
-                Ok(()) => Ok(Some(place)),
+                Ok(()) => {
+                    self.node.share(board.shelf());
+                    Ok(Some(place))
+                }
                 Err(_) => Err(Refusal::Memory),
             },
             Err(Refusal::Differs) => {

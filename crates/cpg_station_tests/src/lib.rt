@@ -1,5 +1,5 @@
-//! Tests of bells, boards, links and stations, each alone or two that are fed by hand. Nothing here is used by the other
-//! crates.
+//! Tests of bells, boards, links and stations, each alone or two that are fed by hand, and of what stations lay down on
+//! a board's shelf. Nothing here is used by the other crates.
 #![tactic(auto)]
 
 #[cfg(test)]
@@ -8,6 +8,8 @@ mod bells;
 mod boards;
 #[cfg(test)]
 mod links;
+#[cfg(test)]
+mod sharing;
 #[cfg(test)]
 mod stations;
 

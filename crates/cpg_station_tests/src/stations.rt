@@ -49,7 +49,7 @@ fn node_with(alloc: Global, id: NodeId, list: AcceptList) -> Result<Node, Refusa
     let settings = Settings {
         ring: 1,
         nodes: 2,
-        places: 100,
+        places: 1000,
         hops: 100,
     };
     Node::new(alloc, settings, id, list).map_err(|refused| refused.into_refusal())
@@ -66,7 +66,7 @@ fn new_node(alloc: Global, number: u8) -> Result<Node, Refusal>
 }
 
 /// Its station, with a new seat of the board.
-fn new_station<B: BoardName>(
+pub fn new_station<B: BoardName>(
     alloc: Global,
     board: &Board,
     number: u8,

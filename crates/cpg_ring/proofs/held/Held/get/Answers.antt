@@ -7,6 +7,6 @@ use Rattle.cpg_ring.proofs.held.Held.get.Goals as goal
 pub returns : goal.returns
 returns c =
     c.entry_at.ensures
-    ∙ ((λ i. kept_at (c.deref.ensures.value i) (c.deref-2.ensures.value i) c.args.place)
+    ∙ (ap (λ slots. kept_at c.self.inside.done.items slots c.args.place) c.deref.ensures.value
     ∙ (sym (held_at c.self.inside.done.items c.self.inside.slots.items c.args.place)
     ∙ ap (λ (h : HeldValue). get h.places c.args.place) c.self.view_is))

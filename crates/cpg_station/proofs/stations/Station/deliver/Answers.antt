@@ -9,9 +9,9 @@ use Rattle.cpg_station.proofs.stations.Station.deliver.Goals as goal
 pub invariant_of-self : goal.invariant_of-self
 invariant_of-self g c = (
   subst (λ cells. IsSeatOf cells c.stand.new.seat) c.requires c.stand.ensures.seat.0,
-  kept_delivered c.self.inside.node c.commit.new.self c.stand.new.seat c.in-Some.judgement c.stand.ensures.kept (sym c.in_ok-judgement.ensures.ok ∙ c.in-Some.is)
+  kept_delivered c.self.inside.node c.share.new.self c.stand.new.seat c.in-Some.judgement c.stand.ensures.kept (sym c.in_ok-judgement.ensures.ok ∙ c.in-Some.is)
       (ap (record_at (records_of c.stand.new.seat)) (sym c.in-Ok.ensures.ok.0) ∙ c.in-Ok.ensures.ok.1)
-      c.in-Ok-commit.ensures.ok,
+      (c.share.ensures ∙ c.in-Ok-commit.ensures.ok),
 )
 
 pub returns-in-Ok-commit-clause-place : goal.returns-in-Ok-commit-clause-place
