@@ -10,7 +10,8 @@
 //!
 //! With `locked` a running cluster goes by the proved one's steps: each call, each lot of events that is taken, the
 //! frames of a turn and its deliveries are one section of the node's lock, and each record is settled on a board.
-//! Without it there is no board, and sessions meet the node at locks of their own.
+//! Without it there is no board, and sessions meet the node at locks of their own. Both deliver at the end of each turn,
+//! where the proved one hears several in a row first.
 //!
 //! The ring is in `frames`, `reading`, `policy` and `node`; a running cluster in `door`, `session`, `worker` and
 //! `cluster`, with `load` and `rest` over it; the commands on scripts in `step`, `judge` and `accept`.

@@ -22,6 +22,12 @@ pub trait Gate {
     /// Whether that turn of the node may begin; it is asked again until it may. Turns are numbered from 1, and
     /// the number stays at its last value.
     fn may_turn(&self, node: NodeId, turn: u64) -> bool;
+
+    /// Whether every turn may begin at once. A thread takes several turns in a row under one lock then, and asks before the
+    /// first of them alone; it asks no gate while it holds a lock.
+    fn lets_all_begin(&self) -> bool {
+        false
+    }
 }
 
 /// The gate that passes every frame and lets every turn begin.
@@ -34,6 +40,10 @@ impl Gate for PassAll {
     }
 
     fn may_turn(&self, _node: NodeId, _turn: u64) -> bool {
+        true
+    }
+
+    fn lets_all_begin(&self) -> bool {
         true
     }
 }

@@ -8,7 +8,6 @@
 mod beginning;
 mod clusters;
 mod gates;
-mod limits;
 mod lines;
 mod making;
 mod running;

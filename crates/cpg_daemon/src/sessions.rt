@@ -14,13 +14,12 @@ ghost use mathlib.Core.List.{IsPrefix};
 ghost use Rattle.cpg_world_laws.specs.declared.events.WorldEvent.TheVariants as events;
 ghost use Rattle.cpg_world_laws.specs.declared.replies.Reply.TheVariants as reply;
 
-use crate::limits::keeps_limits;
 use crate::running::Running;
 use cpg_board::Seat;
 use cpg_cred::{Cred, NodeId, Refusal, Refused};
 use cpg_entry::Call;
 use cpg_history::{Front, HistoryName, Member};
-use cpg_node::{Connection, Event, Names, Processes};
+use cpg_node::{Connection, Event, Names, Processes, call_refusal};
 use std::marker::{Brand, Model};
 use std::sync::Wait;
 
@@ -99,7 +98,7 @@ impl<B: HistoryName, G> Running<B, G> {
         requires { node ≤ self.now.nodes }
         ensures { IsTrue result → call_refusal call.now ≡ None }
     {
-        self.sign(node).is_full() && !self.are_halted() && keeps_limits(call)
+        self.sign(node).is_full() && !self.are_halted() && call_refusal(call).is_none()
     }
 
     /// Puts a call of the session last among what waits at its station, whose lock is held. Refused as `submit` is. Where the

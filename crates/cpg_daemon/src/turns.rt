@@ -47,6 +47,11 @@ const REST_TOKENS: u32 = 12;
 /// ends, and so comes round within eight of these.
 const DUE_TURNS: u32 = 32;
 
+/// How many turns in a row a thread takes at most before it delivers: so many frames are a burst and the token behind it.
+/// Between two visits of the token at most 56 places come, of seven other nodes, so that no frame is too far ahead of a node
+/// that has yet to deliver, unless it is late by a round.
+const TURNS_AT_ONCE: u32 = 9;
+
 /// How many frames refused in a row show that a token was lost, and not only sent again too early: the ring is calm no more.
 const LOST_STALE: u32 = 2;
 
@@ -209,7 +214,7 @@ impl Pace {
     };
 
     /// After one turn more, and so many calls.
-    fn after(self, turn: Turn, owes: bool, calls: u64) -> Pace {
+    fn after(self, turn: Turn, calls: u64) -> Pace {
         let lull = self.lull.after(turn);
         Pace {
             turn: self.turn.saturating_add(1),
@@ -219,7 +224,19 @@ impl Pace {
                 lull.after_calls()
             },
             calls,
+            ..self
+        }
+    }
+
+    /// Once the same turn delivered something, too, or was refused to, or neither.
+    fn after_delivery(self, has_delivered: bool, owes: bool) -> Pace
+        ensures same { (result.turn ≡ self.turn) × (result.calls ≡ self.calls) × (result.owes ≡ owes) }
+        ensures idle { result.lull.idle ≤ self.lull.idle }
+    {
+        Pace {
+            lull: if has_delivered { Lull::NONE } else { self.lull },
             owes,
+            ..self
         }
     }
 }
@@ -377,18 +394,30 @@ impl<B: HistoryName, G: Gate> Running<B, G> {
         }
     }
 
-    /// Delivers what the node can. Says, too, whether it was refused.
-    fn deliver_all<R: Wait>(&self, rt: &R, station: &mut Member<B>) -> (Turn, bool) {
-        let mut delivered = Turn::Idle;
+    /// Delivers what the node can, at the end of a turn. Before the lock is given back the node's signs say so.
+    fn deliver_all<R: Wait>(
+        &self,
+        rt: &R,
+        node: NodeId,
+        pace: Pace,
+        station: &mut Member<B>,
+    ) -> Pace
+        requires { node ≤ self.now.nodes }
+    {
+        let mut has_delivered = false;
+        let mut is_refused = false;
         for _ in rt.forever() {
             match station.deliver(&self.history, &self.board) {
                 Ok(None) => break,
-                Err(_) => return (delivered, true),
-                Ok(Some(_)) => {}
+                Ok(Some(_)) => has_delivered = true,
+                Err(_) => {
+                    is_refused = true;
+                    break;
+                }
             }
-            delivered = Turn::Busy;
         }
-        (delivered, false)
+        self.show(node, has_delivered, is_refused);
+        pace.after_delivery(has_delivered, is_refused)
     }
 
     /// Sends the node's last token again.
@@ -403,46 +432,117 @@ impl<B: HistoryName, G: Gate> Running<B, G> {
     }
 
     /// Has the node's signs say what became of its deliveries. A refusal may have halted the node.
-    fn show(&self, node: NodeId, delivered: Turn, refused: bool)
+    fn show(&self, node: NodeId, has_delivered: bool, is_refused: bool)
         requires { node ≤ self.now.nodes }
     {
         let sign = self.sign(node);
-        if delivered == Turn::Busy || refused {
+        if has_delivered || is_refused {
             sign.tell();
         }
-        if refused {
+        if is_refused {
             sign.open();
         }
     }
 
-    /// One turn: what is heard is answered before anything is delivered. It takes no lock where no frame came and no
-    /// delivery is owed, and one where nothing is to be answered. Says, too, whether a delivery is owed then. Before a lock is
-    /// given back under which the token took calls along, or something was delivered or refused, the node's signs say so.
+    /// What the thread goes by after what it heard in a turn. After a busy turn no call can make the ring less calm, so that
+    /// it doesn't look for one.
+    fn paced(&self, pace: Pace, heard: Turn) -> Pace {
+        let calls = if heard == Turn::Busy {
+            pace.calls
+        } else {
+            self.calls()
+        };
+        pace.after(heard, calls)
+    }
+
+    /// How many turns in a row a thread takes under one lock at most, before it delivers what they brought.
+    fn turns_at_once(&self) -> u32
+        ensures { (1 ≤ result) × (result ≤ 9) }
+    {
+        if self.gate.lets_all_begin() {
+            TURNS_AT_ONCE
+        } else {
+            1
+        }
+    }
+
+    /// Turns in a row, the first of which has taken its frames. They end with one that is to be answered, with one that finds
+    /// no frame, and where all are halted.
+    fn hear_on(&self, pace: Pace, station: &mut Member<B>, incoming: &mut [Incoming<B>]) -> Pace {
+        let mut pace = self.paced(pace, self.hear_each(station, incoming));
+        for _ in 1..self.turns_at_once() {
+            if are_answered(incoming) || self.are_halted() {
+                break;
+            }
+            if !take_each(incoming) {
+                return self.paced(pace, Turn::Idle);
+            }
+            pace = self.paced(pace, self.hear_each(station, incoming));
+        }
+        pace
+    }
+
+    /// Whether what was heard is answered before anything is delivered, since other nodes wait for it. A node that is alone
+    /// waits for itself only, so that it delivers under the lock that it has.
+    fn is_awaited(&self, incoming: &[Incoming<B>]) -> bool
+        ensures { IsTrue result → 2 ≤ self.now.nodes }
+    {
+        self.nodes > 1 && are_answered(incoming)
+    }
+
+    /// Such turns under one lock, the last of which delivers what the node can, where it is not to be answered first. Before
+    /// the lock is given back under which the token took calls along, the node's signs say so.
+    fn hear_under_lock<R: Wait>(
+        &self,
+        rt: &R,
+        node: NodeId,
+        pace: Pace,
+        incoming: &mut [Incoming<B>],
+    ) -> Pace
+        requires { node ≤ self.now.nodes }
+    {
+        let mut station = self.hold(rt, node);
+        let heard = self.hear_on(pace, &mut station, incoming);
+        if are_answered(incoming) {
+            self.sign(node).open();
+        }
+        if self.is_awaited(incoming) {
+            return heard;
+        }
+        self.deliver_all(rt, node, heard, &mut station)
+    }
+
+    /// What is left of a turn once its frames were answered.
+    fn deliver_after<R: Wait>(&self, rt: &R, node: NodeId, pace: Pace) -> Pace
+        requires { node ≤ self.now.nodes }
+    {
+        let mut station = self.hold(rt, node);
+        self.deliver_all(rt, node, pace, &mut station)
+    }
+
+    /// One turn, or several under one lock: what is heard is answered before anything is delivered. It takes no lock where no
+    /// frame came and no delivery is owed.
     fn turn<R: Wait>(
         &self,
         rt: &R,
         node: NodeId,
-        owes: bool,
+        pace: Pace,
         incoming: &mut [Incoming<B>],
         outgoing: &mut [Outgoing<B>],
-    ) -> (Turn, bool)
+    ) -> Pace
         requires { node ≤ self.now.nodes }
     {
-        let came = take_each(incoming);
-        if !came && !owes {
-            return (Turn::Idle, false);
+        if !take_each(incoming) && !pace.owes {
+            return self.paced(pace, Turn::Idle);
         }
-        let mut station = self.hold(rt, node);
-        let heard = self.hear_each(&mut station, incoming);
-        if are_answered(incoming) {
-            self.sign(node).open();
-            drop(station);
-            self.answer_each(rt, node, incoming, outgoing);
-            station = self.hold(rt, node);
+        let next = self.hear_under_lock(rt, node, pace, incoming);
+        let is_awaited = self.is_awaited(incoming);
+        self.answer_each(rt, node, incoming, outgoing);
+        if is_awaited {
+            self.deliver_after(rt, node, next)
+        } else {
+            next
         }
-        let (delivered, refused) = self.deliver_all(rt, &mut station);
-        self.show(node, delivered, refused);
-        (heard.and(delivered), refused)
     }
 
     /// Whether the thread is to end. A station halts by itself only where it refuses a delivery, so that no lock is taken
@@ -453,8 +553,7 @@ impl<B: HistoryName, G: Gate> Running<B, G> {
         self.are_halted() || owes && self.is_halted(rt, node)
     }
 
-    /// One turn, and what the thread goes by after it. After so many idle turns the last token is sent again. After a busy
-    /// turn no call can make the ring less calm, so that the thread doesn't look for one.
+    /// One turn or several, and what the thread goes by after them. After so many idle turns the last token is sent again.
     fn go_on<R: Wait>(
         &self,
         rt: &R,
@@ -465,13 +564,7 @@ impl<B: HistoryName, G: Gate> Running<B, G> {
     ) -> Pace
         requires { node ≤ self.now.nodes }
     {
-        let (turn, owes) = self.turn(rt, node, pace.owes, incoming, outgoing);
-        let calls = if turn == Turn::Busy {
-            pace.calls
-        } else {
-            self.calls()
-        };
-        let next = pace.after(turn, owes, calls);
+        let next = self.turn(rt, node, pace, incoming, outgoing);
         if next.lull.idle < IDLE_TURNS {
             return next;
         }

@@ -1,9 +1,9 @@
 //! How nodes' threads sleep, and how they are woken.
 //!
-//! A thread that found nothing to do announces at its bell how deep it is going to sleep, takes one turn more, and
-//! sleeps only then. Whoever has news for it first puts them where that turn looks, and then rings. So either the
-//! ringer sees the sleep announced, or the turn sees the news: no wake-up is lost. All orderings are SeqCst, which lets
-//! both agree on what came first. A time limit ends each sleep nevertheless.
+//! A thread that found nothing to do announces at its bell how deep it is going to sleep, takes turns until one more
+//! finds nothing, and sleeps only then. Whoever has news for it first puts them where those turns look, and then rings. So
+//! either the ringer sees the sleep announced, or a turn sees the news: no wake-up is lost. All orderings are SeqCst,
+//! which lets both agree on what came first. A time limit ends each sleep nevertheless.
 
 ghost use Rattle.std.specs.Prelude.{◌≡◌, IfOk, IsOkUnless, vec_len};
 ghost use Rattle.cpg_link.specs.Sleeps.{ends_by};

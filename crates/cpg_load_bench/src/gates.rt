@@ -43,4 +43,8 @@ impl Gate for Deaf {
     fn may_turn(&self, _node: NodeId, _turn: u64) -> bool {
         true
     }
+
+    fn lets_all_begin(&self) -> bool {
+        true
+    }
 }
