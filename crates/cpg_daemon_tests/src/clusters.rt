@@ -3,7 +3,7 @@
 ghost use Rattle.std.specs.Prelude.{◌≡◌, ◌≤◌};
 ghost use Rattle.cpg_history.specs.Histories.{first_world};
 
-use crate::sharing::{MOST_ASKS, ROOT, Told, next_told, opened_of, refusal_in, settings_of};
+use crate::sharing::{MOST_ASKS, ROOT, Told, next_told, opened_of, pause, refusal_in, settings_of};
 use cpg_board::Board;
 use cpg_cred::{NodeId, Refusal};
 use cpg_daemon::{Cluster, Ends, HistoryName, Opened, PassAll, Running, Session};
@@ -14,7 +14,6 @@ use std::alloc::Global;
 use std::marker::Brand;
 use std::sync::Wait;
 use std::test::Fail;
-use std::thread;
 use std::thread::Threads;
 use std::time::Clock;
 
@@ -33,20 +32,24 @@ fn leave<B: HistoryName, R: Wait>(
 }
 
 /// Whether the node's safe mark gets to place 1.
-fn gets_safe<B: HistoryName, R: Wait>(rt: &R, running: &Running<B, PassAll>, node: NodeId) -> bool
+fn gets_safe<B: HistoryName, R: Wait + Clock>(
+    rt: &R,
+    running: &Running<B, PassAll>,
+    node: NodeId,
+) -> bool
     requires { node ≤ running.now.nodes }
 {
-    for _ in 0..MOST_ASKS {
+    for asked in 0..MOST_ASKS {
         if running.safe(rt, node) == 1 {
             return true;
         }
-        thread::yield_now();
+        pause(rt, asked);
     }
     false
 }
 
 /// Whether a process leaves, in no group, and then all nodes hold place 1.
-fn leaves_and_gets_safe<B: HistoryName, R: Wait>(
+fn leaves_and_gets_safe<B: HistoryName, R: Wait + Clock>(
     rt: &R,
     running: &Running<B, PassAll>,
     node: NodeId,
@@ -93,7 +96,7 @@ fn submits_hundred<B: HistoryName, R: Wait>(
 }
 
 /// Whether the session is told a hundred verdicts.
-fn takes_hundred<B: HistoryName, R: Wait>(
+fn takes_hundred<B: HistoryName, R: Wait + Clock>(
     rt: &R,
     running: &Running<B, PassAll>,
     session: &mut Session<B>,
@@ -111,7 +114,7 @@ fn takes_hundred<B: HistoryName, R: Wait>(
 
 /// Whether a session leaves, in no group, 1,100 times, is told each verdict, and another session, which has seen nothing, is
 /// told all that it saw.
-fn goes_on<B: HistoryName, R: Wait>(
+fn goes_on<B: HistoryName, R: Wait + Clock>(
     rt: &R,
     running: &Running<B, PassAll>,
     mut session: Session<B>,
@@ -130,7 +133,11 @@ fn goes_on<B: HistoryName, R: Wait>(
 }
 
 /// Whether two sessions at the node do so.
-fn serves_long<B: HistoryName, R: Wait>(rt: &R, running: &Running<B, PassAll>, node: NodeId) -> bool
+fn serves_long<B: HistoryName, R: Wait + Clock>(
+    rt: &R,
+    running: &Running<B, PassAll>,
+    node: NodeId,
+) -> bool
     requires { node ≤ running.now.nodes }
 {
     match (
@@ -149,7 +156,7 @@ fn counts_of<B: HistoryName>(ends: Ends<B>) -> (usize, usize) {
 
 /// Whether a process at node 1 leaves, in no group, all nodes then hold place 1, sessions are served for long, and the node
 /// gives the numbers left.
-fn first_gets_safe<B: HistoryName, R: Wait>(rt: &R, running: &Running<B, PassAll>) -> bool
+fn first_gets_safe<B: HistoryName, R: Wait + Clock>(rt: &R, running: &Running<B, PassAll>) -> bool
     requires { 1 ≤ running.now.nodes }
 {
     match node(1) {
@@ -163,7 +170,7 @@ fn first_gets_safe<B: HistoryName, R: Wait>(rt: &R, running: &Running<B, PassAll
 }
 
 /// Whether the cluster of one node gets safe, and leaves one station and one link.
-fn one_runs<B, R: Threads + Wait>(rt: &R, cluster: Cluster<B, PassAll>) -> bool
+fn one_runs<B, R: Threads + Wait + Clock>(rt: &R, cluster: Cluster<B, PassAll>) -> bool
 where
     B: HistoryName + Send + Sync + 'static,
     requires { 1 ≤ cluster.nodes }

@@ -2,7 +2,7 @@
 
 ghost use Rattle.std.specs.Prelude.{◌≡◌, ◌≤◌, IfOk};
 
-use crate::sharing::{MOST_ASKS, Told, next_told, refusal_in};
+use crate::sharing::{MOST_ASKS, Told, next_told, pause, refusal_in};
 use crate::stepping::{Marks, Plan, Stepping};
 use cpg_cred::{By, Cred, NodeId, Refusal};
 use cpg_daemon::{HistoryName, Running, Session};
@@ -11,7 +11,7 @@ use cpg_record::{Reason, Verdict};
 use cpg_short::join_db;
 use std::alloc::Global;
 use std::sync::Wait;
-use std::thread;
+use std::time::Clock;
 
 /// What a row does over its nodes.
 #[derive(Debug, Clone, Copy, PartialEq, Eq)]
@@ -102,29 +102,8 @@ fn long_message(alloc: Global) -> Result<Call, Refusal> {
     Ok(Call::Send(Message::from_slice(alloc, text.as_slice())?))
 }
 
-/// How often a session is asked again, each time so often as other tests ask at most: the machine may be busy.
-const MOST_ROUNDS: u32 = 30;
-
-/// What the session is told next.
-fn told_next<B: HistoryName, R: Wait>(
-    rt: &R,
-    running: &Running<B, Stepping>,
-    session: &mut Session<B>,
-) -> Told
-    requires { session.old.who.id.node ≤ running.now.nodes }
-    ensures { session.new.who.id.node ≡ session.old.who.id.node }
-{
-    for _ in 0..MOST_ROUNDS {
-        match next_told(rt, running, session) {
-            Told::Nothing => {}
-            told => return told,
-        }
-    }
-    Told::Nothing
-}
-
 /// Whether the session is told next that its entry at that place is allowed by default.
-fn is_allowed<B: HistoryName, R: Wait>(
+fn is_allowed<B: HistoryName, R: Wait + Clock>(
     rt: &R,
     running: &Running<B, Stepping>,
     session: &mut Session<B>,
@@ -133,11 +112,11 @@ fn is_allowed<B: HistoryName, R: Wait>(
     requires { session.old.who.id.node ≤ running.now.nodes }
     ensures { session.new.who.id.node ≡ session.old.who.id.node }
 {
-    told_next(rt, running, session) == Told::Verdict(place, Verdict::Allowed(By::Default))
+    next_told(rt, running, session) == Told::Verdict(place, Verdict::Allowed(By::Default))
 }
 
 /// Whether a join and the longest message of the session are allowed and told in the first turn of its node.
-fn takes_turn<B: HistoryName, R: Wait>(
+fn takes_turn<B: HistoryName, R: Wait + Clock>(
     rt: &R,
     alloc: Global,
     running: &Running<B, Stepping>,
@@ -150,13 +129,13 @@ fn takes_turn<B: HistoryName, R: Wait>(
         && submits(rt, running, session, long_message(alloc))
         && marks.one.go_on(1)
         && is_allowed(rt, running, session, 1)
-        && told_next(rt, running, session) == Told::Other
+        && next_told(rt, running, session) == Told::Other
         && is_allowed(rt, running, session, 2)
-        && told_next(rt, running, session) == Told::Other
+        && next_told(rt, running, session) == Told::Other
 }
 
 /// Whether node 1 does so, and asks for the fates of the data to all others, and of the token to the next.
-fn turn_goes<B: HistoryName, R: Wait>(
+fn turn_goes<B: HistoryName, R: Wait + Clock>(
     rt: &R,
     alloc: Global,
     running: &Running<B, Stepping>,
@@ -219,7 +198,7 @@ fn lists_one<B: HistoryName, R: Wait>(
 
 /// Whether a join at node 1 is told there in its first turn, delivered at node 2 in the first turn of that, and
 /// the token passed on in the second turns; and whether the safe mark of node 1 is 1 once it sent the token twice.
-fn joins_safely<B: HistoryName, R: Wait>(
+fn joins_safely<B: HistoryName, R: Wait + Clock>(
     rt: &R,
     alloc: Global,
     running: &Running<B, Stepping>,
@@ -245,7 +224,7 @@ fn joins_safely<B: HistoryName, R: Wait>(
 }
 
 /// Whether nodes 1 and 2 do so, and the safe marks stay once they are halted.
-fn rounds_go<B: HistoryName, R: Wait>(
+fn rounds_go<B: HistoryName, R: Wait + Clock>(
     rt: &R,
     alloc: Global,
     running: &Running<B, Stepping>,
@@ -262,19 +241,23 @@ fn rounds_go<B: HistoryName, R: Wait>(
 }
 
 /// Whether a process at the node leaves, in no group, and is told so at the place of that number.
-fn leaves<B: HistoryName, R: Wait>(rt: &R, running: &Running<B, Stepping>, number: u8) -> bool {
+fn leaves<B: HistoryName, R: Wait + Clock>(
+    rt: &R,
+    running: &Running<B, Stepping>,
+    number: u8,
+) -> bool {
     match connect(rt, running, number) {
         Ok(mut session) => {
             let wanted = Told::Verdict(u32::from(number), Verdict::Denied(Reason::Closed));
             submits(rt, running, &mut session, Ok(Call::Leave))
-                && told_next(rt, running, &mut session) == wanted
+                && next_told(rt, running, &mut session) == wanted
         }
         Err(_) => false,
     }
 }
 
 /// Whether the node's safe mark gets to that place.
-fn gets_safe<B: HistoryName, R: Wait>(
+fn gets_safe<B: HistoryName, R: Wait + Clock>(
     rt: &R,
     running: &Running<B, Stepping>,
     number: u8,
@@ -283,17 +266,17 @@ fn gets_safe<B: HistoryName, R: Wait>(
     let Ok(node) = node_in(running, number) else {
         return false;
     };
-    for _ in 0..MOST_ROUNDS * MOST_ASKS {
+    for asked in 0..MOST_ASKS {
         if running.safe(rt, node) == place {
             return true;
         }
-        thread::yield_now();
+        pause(rt, asked);
     }
     false
 }
 
 /// Whether a process at each node, one after the other, is told so, and then all nodes hold all.
-fn free_goes<B: HistoryName, R: Wait>(
+fn free_goes<B: HistoryName, R: Wait + Clock>(
     rt: &R,
     running: &Running<B, Stepping>,
     marks: &Marks,
@@ -314,7 +297,7 @@ fn free_goes<B: HistoryName, R: Wait>(
 }
 
 /// Whether the session leaves, in no group, so often, and is told so each time.
-fn leaves_often<B: HistoryName, R: Wait>(
+fn leaves_often<B: HistoryName, R: Wait + Clock>(
     rt: &R,
     running: &Running<B, Stepping>,
     session: &mut Session<B>,
@@ -325,7 +308,7 @@ fn leaves_often<B: HistoryName, R: Wait>(
     for place in 1..=times {
         let wanted = Told::Verdict(place, Verdict::Denied(Reason::Closed));
         if !(submits(rt, running, session, Ok(Call::Leave))
-            && told_next(rt, running, session) == wanted)
+            && next_told(rt, running, session) == wanted)
         {
             return false;
         }
@@ -334,7 +317,11 @@ fn leaves_often<B: HistoryName, R: Wait>(
 }
 
 /// Whether a session does so, and another, which has seen nothing, then is told all that it saw.
-fn many_go<B: HistoryName, R: Wait>(rt: &R, running: &Running<B, Stepping>, marks: &Marks) -> bool {
+fn many_go<B: HistoryName, R: Wait + Clock>(
+    rt: &R,
+    running: &Running<B, Stepping>,
+    marks: &Marks,
+) -> bool {
     marks.let_all_go();
     match (connect(rt, running, 1), connect(rt, running, 1)) {
         (Ok(mut one), Ok(mut two)) => {
@@ -347,7 +334,7 @@ fn many_go<B: HistoryName, R: Wait>(rt: &R, running: &Running<B, Stepping>, mark
 }
 
 /// Whether all goes as the course says.
-pub fn goes<B: HistoryName, R: Wait>(
+pub fn goes<B: HistoryName, R: Wait + Clock>(
     rt: &R,
     alloc: Global,
     running: &Running<B, Stepping>,

@@ -15,7 +15,6 @@ use std::marker::Brand;
 use std::sync::atomic::{AtomicBool, Ordering};
 use std::sync::{Arc, Wait};
 use std::test::Fail;
-use std::thread;
 use std::thread::Threads;
 use std::time::Clock;
 
@@ -187,7 +186,7 @@ fn submits_join<B: HistoryName, R: Wait>(
 }
 
 /// Whether the session joins `db`, and then, the gate being open, is allowed at place 1.
-fn joins<B: HistoryName, R: Wait>(
+fn joins<B: HistoryName, R: Wait + Clock>(
     rt: &R,
     alloc: Global,
     running: &Running<B, Holding>,
@@ -264,7 +263,7 @@ fn is_stopped<B: HistoryName, R: Wait>(
 }
 
 /// Whether the second session, behind the first, is refused, and then all are.
-fn refuses_behind<B: HistoryName, R: Wait>(
+fn refuses_behind<B: HistoryName, R: Wait + Clock>(
     rt: &R,
     alloc: Global,
     running: &Running<B, Holding>,
@@ -285,7 +284,7 @@ fn refuses_behind<B: HistoryName, R: Wait>(
 }
 
 /// Whether a session at the second node is refused so.
-fn refuses_second<B: HistoryName, R: Wait>(
+fn refuses_second<B: HistoryName, R: Wait + Clock>(
     rt: &R,
     alloc: Global,
     running: &Running<B, Holding>,
@@ -303,7 +302,7 @@ fn refuses_second<B: HistoryName, R: Wait>(
 }
 
 /// Whether a session ahead of its node is refused, and then all are.
-fn refuses<B: HistoryName, R: Wait>(
+fn refuses<B: HistoryName, R: Wait + Clock>(
     rt: &R,
     alloc: Global,
     running: &Running<B, Holding>,
@@ -344,7 +343,7 @@ fn leaves_two<B: HistoryName>(ends: Ends<B>) -> bool {
 }
 
 /// Whether the running nodes 1 and 2 do so.
-fn two_refuse<B: HistoryName, R: Wait>(
+fn two_refuse<B: HistoryName, R: Wait + Clock>(
     rt: &R,
     alloc: Global,
     running: &Running<B, Holding>,
@@ -359,7 +358,7 @@ fn two_refuse<B: HistoryName, R: Wait>(
 }
 
 /// Whether the cluster, whose node 2 is held, does so.
-fn held_runs<B, R: Threads + Wait>(
+fn held_runs<B, R: Threads + Wait + Clock>(
     rt: &R,
     alloc: Global,
     cluster: Cluster<B, Holding>,

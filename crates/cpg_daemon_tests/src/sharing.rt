@@ -11,9 +11,14 @@ use cpg_short::list_of;
 use std::alloc::Global;
 use std::sync::Wait;
 use std::thread;
+use std::time::{Clock, Duration};
 
-/// How often a call that may come too early is made at most.
-pub const MOST_ASKS: u32 = 1_000_000;
+/// How often a call that may come too early is made at most: for over half a minute, so that a test fails where nothing comes,
+/// and not where the machine is busy.
+pub const MOST_ASKS: u32 = 40_000;
+
+/// After how many of these a thread sleeps for a millisecond behind each, where it only yielded before.
+const YIELDED_ASKS: u32 = 10_000;
 
 /// The root user.
 pub const ROOT: Cred = Cred { uid: 0, gid: 0 };
@@ -108,8 +113,17 @@ pub fn ask<B: HistoryName, G: Gate, R: Wait>(
     }
 }
 
+/// The pause behind an ask in vain, by how many there were before.
+pub fn pause<R: Clock>(rt: &R, asked: u32) {
+    if asked < YIELDED_ASKS {
+        thread::yield_now();
+    } else {
+        thread::sleep(rt, Duration::from_millis(1));
+    }
+}
+
 /// What the session is told next, which asks again after None or Behind.
-pub fn next_told<B: HistoryName, G: Gate, R: Wait>(
+pub fn next_told<B: HistoryName, G: Gate, R: Wait + Clock>(
     rt: &R,
     running: &Running<B, G>,
     session: &mut Session<B>,
@@ -117,9 +131,9 @@ pub fn next_told<B: HistoryName, G: Gate, R: Wait>(
     requires { session.old.who.id.node ≤ running.now.nodes }
     ensures { session.new.who.id.node ≡ session.old.who.id.node }
 {
-    for _ in 0..MOST_ASKS {
+    for asked in 0..MOST_ASKS {
         match ask(rt, running, session) {
-            Told::Nothing | Told::Refused(Refusal::Behind(_)) => thread::yield_now(),
+            Told::Nothing | Told::Refused(Refusal::Behind(_)) => pause(rt, asked),
             told => return told,
         }
     }

@@ -4,7 +4,9 @@ ghost use Rattle.std.specs.Prelude.{◌≡◌, ◌≤◌};
 ghost use Rattle.cpg_history.specs.Histories.{first_world};
 
 use crate::gated::{Holding, new_holding};
-use crate::sharing::{MOST_ASKS, ROOT, Told, ask, next_told, opened_of, refusal_in, settings_of};
+use crate::sharing::{
+    MOST_ASKS, ROOT, Told, ask, next_told, opened_of, pause, refusal_in, settings_of,
+};
 use cpg_board::Board;
 use cpg_cred::{NodeId, Refusal};
 use cpg_daemon::{Cluster, Gate, HistoryName, Opened, PassAll, Running, Session};
@@ -15,7 +17,6 @@ use std::marker::Brand;
 use std::sync::Wait;
 use std::sync::atomic::{AtomicBool, Ordering};
 use std::test::Fail;
-use std::thread;
 use std::thread::Threads;
 use std::time::Clock;
 
@@ -58,7 +59,7 @@ fn takes_all<B: HistoryName, R: Wait>(
 }
 
 /// Whether the session joins `db`, and is told so.
-fn joins<B: HistoryName, R: Wait>(
+fn joins<B: HistoryName, R: Wait + Clock>(
     rt: &R,
     alloc: Global,
     running: &Running<B, PassAll>,
@@ -73,7 +74,7 @@ fn joins<B: HistoryName, R: Wait>(
 
 /// Whether a member that was told that there is nothing comes to be told what another one of its group did meanwhile, though
 /// it made no other call; and then of another's message.
-fn is_told_later<B: HistoryName, R: Wait>(
+fn is_told_later<B: HistoryName, R: Wait + Clock>(
     rt: &R,
     alloc: Global,
     running: &Running<B, PassAll>,
@@ -93,7 +94,7 @@ fn is_told_later<B: HistoryName, R: Wait>(
 }
 
 /// Whether a member at the first node is, where the other one is at the second.
-fn nodes_are_told_later<B: HistoryName, R: Wait>(
+fn nodes_are_told_later<B: HistoryName, R: Wait + Clock>(
     rt: &R,
     alloc: Global,
     running: &Running<B, PassAll>,
@@ -112,7 +113,7 @@ fn nodes_are_told_later<B: HistoryName, R: Wait>(
 }
 
 /// Whether those of nodes 1 and 2 are.
-fn two_are_told_later<B: HistoryName, R: Wait>(
+fn two_are_told_later<B: HistoryName, R: Wait + Clock>(
     rt: &R,
     alloc: Global,
     running: &Running<B, PassAll>,
@@ -126,7 +127,11 @@ fn two_are_told_later<B: HistoryName, R: Wait>(
 }
 
 /// Whether those of the cluster are.
-fn two_run<B, R: Threads + Wait>(rt: &R, alloc: Global, cluster: Cluster<B, PassAll>) -> bool
+fn two_run<B, R: Threads + Wait + Clock>(
+    rt: &R,
+    alloc: Global,
+    cluster: Cluster<B, PassAll>,
+) -> bool
 where
     B: HistoryName + Send + Sync + 'static,
     requires { 2 ≤ cluster.nodes }
@@ -182,7 +187,7 @@ fn fills<B: HistoryName, R: Wait>(
 }
 
 /// Whether a message of the session comes to be admitted, which is refused with QueueFull before.
-fn is_admitted<B: HistoryName, R: Wait>(
+fn is_admitted<B: HistoryName, R: Wait + Clock>(
     rt: &R,
     alloc: Global,
     running: &Running<B, Holding>,
@@ -191,10 +196,10 @@ fn is_admitted<B: HistoryName, R: Wait>(
     requires { session.old.who.id.node ≤ running.now.nodes }
     ensures { session.new.who.id.node ≡ session.old.who.id.node }
 {
-    for _ in 0..MOST_ASKS {
+    for asked in 0..MOST_ASKS {
         match submits(rt, running, session, say_hi(alloc)) {
             None => return true,
-            Some(Refusal::QueueFull) => thread::yield_now(),
+            Some(Refusal::QueueFull) => pause(rt, asked),
             Some(_) => return false,
         }
     }
@@ -203,7 +208,7 @@ fn is_admitted<B: HistoryName, R: Wait>(
 
 /// Whether the node's queue, once full, takes calls again when the gate is opened; and whether all calls are refused with
 /// Stopped once the nodes are halted, though the queue was full.
-fn fills_and_empties<B: HistoryName, R: Wait>(
+fn fills_and_empties<B: HistoryName, R: Wait + Clock>(
     rt: &R,
     alloc: Global,
     running: &Running<B, Holding>,
@@ -222,7 +227,7 @@ fn fills_and_empties<B: HistoryName, R: Wait>(
 }
 
 /// Whether that of node 1 does so.
-fn first_empties<B: HistoryName, R: Wait>(
+fn first_empties<B: HistoryName, R: Wait + Clock>(
     rt: &R,
     alloc: Global,
     running: &Running<B, Holding>,
@@ -240,7 +245,7 @@ fn first_empties<B: HistoryName, R: Wait>(
 }
 
 /// Whether that of the cluster does so.
-fn held_runs<B, R: Threads + Wait>(
+fn held_runs<B, R: Threads + Wait + Clock>(
     rt: &R,
     alloc: Global,
     cluster: Cluster<B, Holding>,

@@ -22,7 +22,7 @@ use std::time::Clock;
 const PLACES: u32 = 1_048_576;
 
 /// Whether the cluster goes as the row says, and leaves what it says.
-fn cluster_goes<B, R: Threads + Wait>(
+fn cluster_goes<B, R: Threads + Wait + Clock>(
     rt: &R,
     alloc: Global,
     cluster: Cluster<B, Stepping>,

@@ -61,7 +61,7 @@ fn sends_all<B: HistoryName, R: Wait>(
 }
 
 /// Whether the session comes to be told what its last message was answered.
-fn is_told_last<B: HistoryName, R: Wait>(
+fn is_told_last<B: HistoryName, R: Wait + Clock>(
     rt: &R,
     running: &Running<B, PassAll>,
     session: &mut Session<B>,
@@ -114,7 +114,7 @@ fn takes_in_goes<B: HistoryName, R: Wait>(
 }
 
 /// Whether the session, which takes one by one, is told its own verdict and then just those events, from the third on.
-fn takes_the_same<B: HistoryName, R: Wait>(
+fn takes_the_same<B: HistoryName, R: Wait + Clock>(
     rt: &R,
     running: &Running<B, PassAll>,
     session: &mut Session<B>,
@@ -147,7 +147,7 @@ fn stops<B: HistoryName, R: Wait>(
 }
 
 /// Whether one of two members takes in goes what the other takes one by one.
-fn take_alike<B: HistoryName, R: Wait>(
+fn take_alike<B: HistoryName, R: Wait + Clock>(
     rt: &R,
     alloc: Global,
     running: &Running<B, PassAll>,
@@ -164,7 +164,7 @@ fn take_alike<B: HistoryName, R: Wait>(
 }
 
 /// Whether two members do so that were told the joins of both and of a third, and the messages of that.
-fn members_take_alike<B: HistoryName, R: Wait>(
+fn members_take_alike<B: HistoryName, R: Wait + Clock>(
     rt: &R,
     alloc: Global,
     running: &Running<B, PassAll>,
@@ -185,7 +185,7 @@ fn members_take_alike<B: HistoryName, R: Wait>(
 }
 
 /// Whether processes of the root user at the node do so.
-fn node_gives_alike<B: HistoryName, R: Wait>(
+fn node_gives_alike<B: HistoryName, R: Wait + Clock>(
     rt: &R,
     alloc: Global,
     running: &Running<B, PassAll>,
@@ -204,7 +204,7 @@ fn node_gives_alike<B: HistoryName, R: Wait>(
 }
 
 /// Whether those of node 1 do so.
-fn first_gives_alike<B: HistoryName, R: Wait>(
+fn first_gives_alike<B: HistoryName, R: Wait + Clock>(
     rt: &R,
     alloc: Global,
     running: &Running<B, PassAll>,
@@ -218,7 +218,11 @@ fn first_gives_alike<B: HistoryName, R: Wait>(
 }
 
 /// Whether those of the cluster do so.
-fn one_runs<B, R: Threads + Wait>(rt: &R, alloc: Global, cluster: Cluster<B, PassAll>) -> bool
+fn one_runs<B, R: Threads + Wait + Clock>(
+    rt: &R,
+    alloc: Global,
+    cluster: Cluster<B, PassAll>,
+) -> bool
 where
     B: HistoryName + Send + Sync + 'static,
     requires { 1 ≤ cluster.nodes }

@@ -65,7 +65,7 @@ fn submits_ten<B: HistoryName, R: Wait>(
 }
 
 /// Whether the session is told next that its removal is denied, since no rule has that number.
-fn takes_denial<B: HistoryName, R: Wait>(
+fn takes_denial<B: HistoryName, R: Wait + Clock>(
     rt: &R,
     running: &Running<B, PassAll>,
     session: &mut Session<B>,
@@ -80,7 +80,7 @@ fn takes_denial<B: HistoryName, R: Wait>(
 }
 
 /// Whether it is told so ten times.
-fn takes_ten<B: HistoryName, R: Wait>(
+fn takes_ten<B: HistoryName, R: Wait + Clock>(
     rt: &R,
     running: &Running<B, PassAll>,
     session: &mut Session<B>,
@@ -97,7 +97,7 @@ fn takes_ten<B: HistoryName, R: Wait>(
 }
 
 /// Whether a hundred removals are denied, ten at a time.
-fn goes<B: HistoryName, R: Wait>(
+fn goes<B: HistoryName, R: Wait + Clock>(
     rt: &R,
     alloc: Global,
     running: &Running<B, PassAll>,
@@ -117,7 +117,7 @@ fn goes<B: HistoryName, R: Wait>(
 }
 
 /// The session of a process of the root user at the node, once it was denied a hundred removals.
-fn serve<B: HistoryName, R: Wait>(
+fn serve<B: HistoryName, R: Wait + Clock>(
     rt: &R,
     alloc: Global,
     running: &Running<B, PassAll>,
@@ -139,7 +139,7 @@ fn serve<B: HistoryName, R: Wait>(
 }
 
 /// Such a session at the node of that number.
-fn client<B: HistoryName, R: Wait>(
+fn client<B: HistoryName, R: Wait + Clock>(
     rt: &R,
     alloc: Global,
     running: &Running<B, PassAll>,
@@ -154,7 +154,7 @@ fn client<B: HistoryName, R: Wait>(
 }
 
 /// Such sessions at nodes 2 and 3, in two threads.
-fn two_clients<B: HistoryName + Send + Sync, R: Threads + Wait + Sync>(
+fn two_clients<B: HistoryName + Send + Sync, R: Threads + Wait + Clock + Sync>(
     rt: &R,
     alloc: Global,
     running: &Running<B, PassAll>,
@@ -169,7 +169,7 @@ fn two_clients<B: HistoryName + Send + Sync, R: Threads + Wait + Sync>(
 }
 
 /// Such sessions at the three nodes, in three threads.
-fn three_clients<B: HistoryName + Send + Sync, R: Threads + Wait + Sync>(
+fn three_clients<B: HistoryName + Send + Sync, R: Threads + Wait + Clock + Sync>(
     rt: &R,
     alloc: Global,
     running: &Running<B, PassAll>,
@@ -242,7 +242,7 @@ fn audited_all<B: HistoryName>(
 }
 
 /// What the sessions of three clients saw, once all have gone.
-fn seen_by_three<B: HistoryName + Send + Sync, R: Threads + Wait + Sync>(
+fn seen_by_three<B: HistoryName + Send + Sync, R: Threads + Wait + Clock + Sync>(
     rt: &R,
     alloc: Global,
     running: &Running<B, PassAll>,
@@ -322,7 +322,7 @@ fn are_served<B: HistoryName>(
 }
 
 /// Whether the cluster serves three clients so.
-fn three_run<B, R: Threads + Wait + Sync>(
+fn three_run<B, R: Threads + Wait + Clock + Sync>(
     rt: &R,
     alloc: Global,
     cluster: Cluster<B, PassAll>,
