@@ -520,8 +520,8 @@ impl<B: HistoryName, G: Gate> Running<B, G> {
         self.deliver_all(rt, node, pace, &mut station)
     }
 
-    /// One turn, or several under one lock: what is heard is answered before anything is delivered. It takes no lock where no
-    /// frame came and no delivery is owed.
+    /// One turn, or several under one lock: what is heard is answered before anything is delivered, where others wait for the
+    /// answer. It takes no lock where no frame came and no delivery is owed.
     fn turn<R: Wait>(
         &self,
         rt: &R,
