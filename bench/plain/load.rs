@@ -9,6 +9,7 @@ use crate::output::print_all;
 use crate::session::Session;
 use crate::values::{Cred, Event, Op, Refusal, Told};
 use crate::worker::Worker;
+use std::collections::VecDeque;
 use std::sync::atomic::{AtomicBool, AtomicU32, Ordering};
 use std::sync::Arc;
 use std::thread::{self, JoinHandle};
@@ -24,6 +25,8 @@ pub struct Load {
     size: usize,
     /// How many messages a client has in flight at most.
     window: u32,
+    /// How many calls a client submits in one go at most; 0: it submits them one by one.
+    many: u32,
     /// Whether the cluster goes by the proved one's steps.
     locked: bool,
 }
@@ -93,41 +96,69 @@ struct Client {
     session: Session,
     load: Load,
     text: Vec<u8>,
-    kept: Option<Op>,
+    /// Calls that came back, or were not submitted yet.
+    calls: VecDeque<Op>,
+    made: u32,
     tally: Tally,
 }
 
 impl Client {
     fn new(session: Session, load: Load) -> Client {
         let tally = Tally { sent: 0, answered: 0, told: 0, order: 0 };
-        Client { session, load, text: vec![b'x'; load.size], kept: None, tally }
+        Client { session, load, text: vec![b'x'; load.size], calls: VecDeque::new(), made: 0, tally }
     }
 
-    /// The call that came back, if one did, else a message that begins with the number of those sent.
-    fn next_call(&mut self) -> Op {
-        if let Some(op) = self.kept.take() {
-            return op;
-        }
-        for (byte, digit) in self.text.iter_mut().zip(self.tally.sent.to_be_bytes().iter()) {
+    /// A message more, which begins with its number.
+    fn make(&mut self) -> Op {
+        for (byte, digit) in self.text.iter_mut().zip(self.made.to_be_bytes().iter()) {
             *byte = *digit;
         }
+        self.made += 1;
         Op::Send(Bytes::copy_of(&self.text))
     }
 
-    /// Submits until the queue is full, or as many as may be submitted now were admitted.
-    fn submit_all(&mut self) -> bool {
-        for _ in 0..self.load.room(&self.tally) {
-            let op = self.next_call();
+    /// Submits so many one by one at most, until the queue is full.
+    fn submit_each(&mut self, most: u32) -> bool {
+        for _ in 0..most {
+            let op = match self.calls.pop_front() {
+                Some(op) => op,
+                None => self.make(),
+            };
             match self.session.submit(op) {
                 Ok(()) => self.tally.sent += 1,
                 Err((Refusal::QueueFull, op)) => {
-                    self.kept = Some(op);
+                    self.calls.push_front(op);
                     break;
                 }
                 Err(_) => return false,
             }
         }
         true
+    }
+
+    /// Submits so many in one go, until the queue is full.
+    fn submit_many(&mut self, most: u32) -> bool {
+        while self.calls.len() < most as usize {
+            let op = self.make();
+            self.calls.push_back(op);
+        }
+        let before = self.calls.len();
+        let answer = self.session.submit_many(&mut self.calls);
+        self.tally.sent += (before - self.calls.len()) as u32;
+        match answer {
+            Ok(()) | Err(Refusal::QueueFull) => true,
+            Err(_) => false,
+        }
+    }
+
+    /// Submits until the queue is full, or as many as may be submitted now were admitted.
+    fn submit_all(&mut self) -> bool {
+        let room = self.load.room(&self.tally);
+        if self.load.many == 0 {
+            self.submit_each(room)
+        } else {
+            self.submit_many(room.min(self.load.many))
+        }
     }
 
     fn take_all(&mut self) -> bool {
@@ -243,7 +274,7 @@ pub fn run_load(load: Load) {
     print_all(&rounds_line(&cluster.stop(), &load));
 }
 
-/// The load that NODES MESSAGES SIZE ask for, and WINDOW where it is there, of a cluster by the proved one's steps
+/// The load that NODES MESSAGES SIZE ask for, and WINDOW and MANY where they are there, of a cluster by the proved one's steps
 /// where it is `locked`.
 pub fn read_load(words: &[String], locked: bool) -> Option<Load> {
     let number = |at: usize| words.get(at)?.parse::<u32>().ok();
@@ -255,6 +286,10 @@ pub fn read_load(words: &[String], locked: bool) -> Option<Load> {
         window: match words.get(3) {
             None => u32::MAX,
             Some(_) => Some(number(3)?).filter(|window| *window > 0).unwrap_or(u32::MAX),
+        },
+        many: match words.get(4) {
+            None => 0,
+            Some(_) => number(4)?,
         },
         locked,
     };

@@ -19,8 +19,9 @@
 //! Build: rustc -O -C target-cpu=x86-64 bench/plain/plain.rs -o /tmp/plain
 //!
 //! Usage: plain NODES MESSAGES SIZE             a cluster at full load, as bench/load runs it with --beside
-//!        plain full NODES MESSAGES SIZE WINDOW the same, with at most WINDOW messages of a client in flight (0: any)
-//!        plain locked NODES MESSAGES SIZE WINDOW the same by the proved cluster's steps, with its lock and its board
+//!        plain full NODES MESSAGES SIZE WINDOW MANY the same, with at most WINDOW messages of a client in flight (0: any),
+//!                                              which submits up to MANY calls in one go (0: one by one)
+//!        plain locked NODES MESSAGES SIZE WINDOW MANY the same by the proved cluster's steps, with its lock and its board
 //!        plain rest NODES ROUNDS               a cluster that rests for a second, and then answers a call, so often
 //!        plain step [--ring R] [--nodes N] [--places P] [--hops H] [uid:N | gid:N]...
 //!        plain judge

@@ -61,6 +61,33 @@ impl Session {
         Ok(())
     }
 
+    /// Puts the calls last among what waits, from the first on, under one lock, until one is refused; those left stay.
+    pub fn submit_many(&self, calls: &mut VecDeque<Op>) -> Result<(), Refusal> {
+        let door = self.shared.door(self.node);
+        if self.shared.board.is_none() && door.count.load(Ordering::Relaxed) >= MOST_WAITING {
+            return Err(Refusal::QueueFull);
+        }
+        let mut answer = Ok(());
+        let before = calls.len();
+        let mut desk = door.desk.lock().unwrap();
+        while let Some(op) = calls.pop_front() {
+            let refusal =
+                call_refusal(&op).or_else(|| Some(Refusal::QueueFull).filter(|_| desk.waiting.len() >= MOST_WAITING));
+            if let Some(refusal) = refusal {
+                calls.push_front(op);
+                answer = Err(refusal);
+                break;
+            }
+            desk.waiting.push_back(Entry { node: self.node, conn: self.conn, pid: self.pid, cred: self.cred, op });
+        }
+        door.count.store(desk.waiting.len(), Ordering::SeqCst);
+        drop(desk);
+        if calls.len() < before && self.shared.resting.load(Ordering::SeqCst) > 0 {
+            self.shared.ring_all(DEEP);
+        }
+        answer
+    }
+
     /// Takes events by the proved steps, so many at most in one section of the node's lock, which is not asked for
     /// where nothing was told since the last one.
     fn take_some(&mut self) {

@@ -1,4 +1,5 @@
 pub mod Clusters
 pub mod Links
 pub mod Sessions
+pub mod Submitting
 pub mod Taking

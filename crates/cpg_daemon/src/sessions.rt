@@ -8,6 +8,7 @@ ghost use Rattle.cpg_node.specs.Calls.{call_refusal};
 ghost use Rattle.cpg_station.specs.Serving.{SubmitRefuses, moved_on};
 ghost use Rattle.cpg_station.specs.Stations.{audit_of};
 ghost use Rattle.cpg_daemon.specs.Sessions.{IsNew, ConnectRefuses, IsTaken, IsListed, AreNamed, IsClosed, IsEndRefusal};
+ghost use Rattle.cpg_daemon.specs.Submitting.{IsSubmitted, IsSubmittedMany};
 ghost use Rattle.cpg_daemon.specs.Taking.{TakeTold, TakesOne, TakesNext, IsTakenMany};
 ghost use Rattle.cpg_history.specs.Members.{Told, RefusalTold};
 ghost use mathlib.Core.List.{IsPrefix};
@@ -20,6 +21,7 @@ use cpg_cred::{Cred, NodeId, Refusal, Refused};
 use cpg_entry::Call;
 use cpg_history::{Front, HistoryName, Member};
 use cpg_node::{Connection, Event, Names, Processes, call_refusal};
+use std::collections::VecDeque;
 use std::marker::{Brand, Model};
 use std::sync::Wait;
 
@@ -110,10 +112,7 @@ impl<B: HistoryName, G> Running<B, G> {
         call: Call,
     ) -> Result<(), Refused<Call>>
         requires { session.old.who.id.node ≤ self.now.nodes }
-        ensures same { (session.new.who ≡ session.old.who) × (session.new.seat ≡ session.old.seat) }
-        ensures history { OnOk result (Told B.start session.old.seen (events.Submit session.old.who.id.node session.old.who.id.conn call) (Ok reply.Admitted) session.new.seen) }
-        ensures err { IfErr result (λ refused. (refused.back ≡ call) × SubmitRefuses call refused.refusal) }
-        ensures unchanged { OnErr result (session.new ≡ session.old) }
+        ensures { IsSubmitted B.start session.old call result session.new }
     {
         match station.submit_for(&self.history, &mut session.front, &session.who, call) {
             Ok(()) => {
@@ -155,6 +154,60 @@ impl<B: HistoryName, G> Running<B, G> {
         let answer = self.submit_to(&mut station, session, call);
         drop(station);
         if answer.is_ok() {
+            self.tell_call();
+        }
+        answer
+    }
+
+    /// Puts the calls of the list among what waits at the session's station, whose lock is held, from the first on, until one
+    /// is refused. The admitted ones leave the list.
+    #[tactic(auto, using(crate::proofs::Submitting::none_yet))]
+    fn submit_each(
+        &self,
+        station: &mut Member<B>,
+        session: &mut Session<B>,
+        calls: &mut VecDeque<Call>,
+    ) -> Result<(), Refusal>
+        requires { session.old.who.id.node ≤ self.now.nodes }
+        ensures calls { IsSubmittedMany B.start session.old calls.old.items result calls.new.items session.new }
+        ensures same { (session.new.who ≡ session.old.who) × (session.new.seat ≡ session.old.seat) }
+    {
+        while let Some(call) = calls.pop_front() {
+            if let Err(refused) = self.submit_to(station, session, call) {
+                calls.push_front_reserved(refused.back);
+                return Err(refused.refusal);
+            }
+        }
+        Ok(())
+    }
+
+    /// Puts the calls of the list last among what waits at the session's node, from the first on: one after the other under
+    /// one lock, as if by `submit`, until one is refused or none is left. The admitted ones leave the list, so that a refused
+    /// one is its first then. Refused as `submit` is. It holds no lock where there is no call, and where `submit` would hold
+    /// none for the first.
+    #[tactic(auto, using(crate::proofs::Submitting::none_yet))]
+    pub fn submit_many<R: Wait>(
+        &self,
+        rt: &R,
+        session: &mut Session<B>,
+        calls: &mut VecDeque<Call>,
+    ) -> Result<(), Refusal>
+        requires { session.old.who.id.node ≤ self.now.nodes }
+        ensures calls { IsSubmittedMany B.start session.old calls.old.items result calls.new.items session.new }
+        ensures same { (session.new.who ≡ session.old.who) × (session.new.seat ≡ session.old.seat) }
+    {
+        let node = session.who.id.node;
+        let Some(first) = calls.front() else {
+            return Ok(());
+        };
+        if self.is_full(node, first) {
+            return Err(Refusal::QueueFull);
+        }
+        let before = calls.len();
+        let mut station = self.hold(rt, node);
+        let answer = self.submit_each(&mut station, session, calls);
+        drop(station);
+        if calls.len() < before {
             self.tell_call();
         }
         answer

@@ -13,6 +13,7 @@ use cpg_daemon::{Cluster, Gate, HistoryName, Opened, PassAll, Running, Session};
 use cpg_entry::Call;
 use cpg_short::{Ask, call, join_db, node, say_hi};
 use std::alloc::Global;
+use std::collections::VecDeque;
 use std::marker::Brand;
 use std::sync::Wait;
 use std::sync::atomic::{AtomicBool, Ordering};
@@ -186,44 +187,71 @@ fn fills<B: HistoryName, R: Wait>(
     false
 }
 
-/// Whether a message of the session comes to be admitted, which is refused with QueueFull before.
-fn is_admitted<B: HistoryName, R: Wait + Clock>(
+/// What refuses the first of the calls that are submitted in one go, if any does, and how many are left.
+fn submits_many<B: HistoryName, R: Wait>(
     rt: &R,
-    alloc: Global,
     running: &Running<B, Holding>,
     session: &mut Session<B>,
+    calls: &mut VecDeque<Call>,
+) -> (Option<Refusal>, usize)
+    requires { session.old.who.id.node ≤ running.now.nodes }
+    ensures { session.new.who.id.node ≡ session.old.who.id.node }
+{
+    let refusal = running.submit_many(rt, session, calls).err();
+    (refusal, calls.len())
+}
+
+/// Whether the calls of the session come to be admitted, which are refused with QueueFull before.
+fn are_admitted<B: HistoryName, R: Wait + Clock>(
+    rt: &R,
+    running: &Running<B, Holding>,
+    session: &mut Session<B>,
+    calls: &mut VecDeque<Call>,
 ) -> bool
     requires { session.old.who.id.node ≤ running.now.nodes }
     ensures { session.new.who.id.node ≡ session.old.who.id.node }
 {
     for asked in 0..MOST_ASKS {
-        match submits(rt, running, session, say_hi(alloc)) {
-            None => return true,
-            Some(Refusal::QueueFull) => pause(rt, asked),
-            Some(_) => return false,
+        match submits_many(rt, running, session, calls) {
+            (None, left) => return left == 0,
+            (Some(Refusal::QueueFull), _) => pause(rt, asked),
+            _ => return false,
         }
     }
     false
 }
 
 /// Whether the node's queue, once full, takes calls again when the gate is opened; and whether all calls are refused with
-/// Stopped once the nodes are halted, though the queue was full.
+/// Stopped once the nodes are halted, though the queue was full. Calls that are submitted in one go stay where they are refused.
 fn fills_and_empties<B: HistoryName, R: Wait + Clock>(
     rt: &R,
     alloc: Global,
     running: &Running<B, Holding>,
     mut session: Session<B>,
+    mut calls: VecDeque<Call>,
     open: &AtomicBool,
 ) -> bool
     requires { session.who.id.node ≤ running.now.nodes }
 {
-    let fills = fills(rt, alloc, running, &mut session);
+    let wanted = (Some(Refusal::QueueFull), calls.len());
+    let fills = fills(rt, alloc, running, &mut session)
+        && submits_many(rt, running, &mut session, &mut calls) == wanted;
     open.store(true, Ordering::SeqCst);
-    let empties = is_admitted(rt, alloc, running, &mut session);
+    let empties = are_admitted(rt, running, &mut session, &mut calls);
     running.halt(rt);
-    let stops = submits(rt, running, &mut session, say_hi(alloc)) == Some(Refusal::Stopped);
+    let stops = submits(rt, running, &mut session, say_hi(alloc)) == Some(Refusal::Stopped)
+        && submits_many(rt, running, &mut session, &mut calls) == (None, 0);
     drop(session);
     fills && empties && stops
+}
+
+/// Three messages.
+fn three(alloc: Global) -> Result<VecDeque<Call>, Refusal> {
+    let mut calls = VecDeque::new(alloc);
+    for _ in 0u8..3 {
+        calls.push_back(say_hi(alloc)?)?;
+    }
+    Ok(calls)
 }
 
 /// Whether that of node 1 does so.
@@ -238,9 +266,9 @@ fn first_empties<B: HistoryName, R: Wait + Clock>(
     let Ok(first) = node(1) else {
         return false;
     };
-    match running.connect(rt, first, 41, ROOT) {
-        Ok(session) => fills_and_empties(rt, alloc, running, session, open),
-        Err(_) => false,
+    match (running.connect(rt, first, 41, ROOT), three(alloc)) {
+        (Ok(session), Ok(calls)) => fills_and_empties(rt, alloc, running, session, calls, open),
+        _ => false,
     }
 }
 

@@ -1,4 +1,4 @@
-//! Many events taken in one go, beside the same events taken one by one.
+//! Many calls submitted in one go, and many events taken in one go, beside the same events taken one by one.
 
 ghost use Rattle.std.specs.Prelude.{◌≡◌, ◌≤◌};
 ghost use Rattle.cpg_history.specs.Histories.{first_world};
@@ -7,10 +7,11 @@ use crate::sharing::{ROOT, Told, next_told, opened_of, refusal_in, settings_of};
 use cpg_board::Board;
 use cpg_cred::{NodeId, Refusal};
 use cpg_daemon::{Cluster, HistoryName, Opened, PassAll, Running, Session};
-use cpg_entry::Call;
+use cpg_entry::{Call, Message};
 use cpg_node::Event;
-use cpg_short::{in_short, join_db, node, say_hi, told_by};
+use cpg_short::{in_short, join_db, node, told_by};
 use std::alloc::Global;
+use std::collections::VecDeque;
 use std::marker::Brand;
 use std::sync::Wait;
 use std::test::Fail;
@@ -42,7 +43,16 @@ fn submits<B: HistoryName, R: Wait>(
     }
 }
 
-/// Whether the session's messages are put there.
+/// The messages that are sent: each is its number.
+fn numbered(alloc: Global) -> Result<VecDeque<Call>, Refusal> {
+    let mut calls = VecDeque::new(alloc);
+    for number in 0..MESSAGES {
+        calls.push_back(Call::Send(Message::from_slice(alloc, &[number])?))?;
+    }
+    Ok(calls)
+}
+
+/// Whether the session's messages are put there in one go.
 fn sends_all<B: HistoryName, R: Wait>(
     rt: &R,
     alloc: Global,
@@ -52,12 +62,27 @@ fn sends_all<B: HistoryName, R: Wait>(
     requires { session.old.who.id.node ≤ running.now.nodes }
     ensures { session.new.who.id.node ≡ session.old.who.id.node }
 {
-    for _ in 0..MESSAGES {
-        if !submits(rt, running, session, say_hi(alloc)) {
-            return false;
+    match numbered(alloc) {
+        Ok(mut calls) => {
+            let all = running.submit_many(rt, session, &mut calls) == Ok(());
+            all && calls.is_empty()
+        }
+        Err(_) => false,
+    }
+}
+
+/// Whether the messages among the events are those that were sent, in their order.
+fn are_in_order(events: &[Event]) -> bool {
+    let mut next = 0u8;
+    for event in events {
+        if let Event::Message { message, .. } = event {
+            if message.as_slice() != [next] {
+                return false;
+            }
+            next = next.saturating_add(1);
         }
     }
-    true
+    next == MESSAGES
 }
 
 /// Whether the session comes to be told what its last message was answered.
@@ -159,6 +184,7 @@ fn take_alike<B: HistoryName, R: Wait + Clock>(
 {
     let mut events = Vec::new(alloc);
     takes_in_goes(rt, running, one, &mut events)
+        && are_in_order(events.as_slice())
         && takes_the_same(rt, running, two, events.as_slice())
         && stops(rt, running, one, &mut events)
 }
@@ -248,7 +274,7 @@ where
 }
 
 #[test]
-fn many_are_taken_as_one_by_one(rt: HostRuntime) -> Result<(), Fail> {
+fn many_go_as_one_by_one(rt: HostRuntime) -> Result<(), Fail> {
     let board = Board::new(rt.alloc(), 4_096)?;
     let alloc = rt.alloc();
     let opened = opened_of(alloc, settings_of(1))?;

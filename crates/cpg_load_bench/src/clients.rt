@@ -87,7 +87,49 @@ fn submit<B: HistoryName, R: Wait>(
     }
 }
 
-/// Submits until the queue is full, or as many as may be submitted now were admitted.
+/// Submits so many calls of the outbox at most, one by one, until the queue is full. Gives how many were admitted.
+fn submit_each<B: HistoryName, R: Wait>(
+    rt: &R,
+    running: &Running<B, Deaf>,
+    session: &mut Session<B>,
+    outbox: &mut Outbox,
+    most: u32,
+) -> Result<u32, Refusal> {
+    for sent in 0..most {
+        outbox.fill(1)?;
+        let Some(call) = outbox.calls.pop_front() else {
+            return Ok(sent);
+        };
+        if let Some(back) = submit(rt, running, session, call)? {
+            outbox.calls.push_front(back)?;
+            return Ok(sent);
+        }
+    }
+    Ok(most)
+}
+
+/// Submits so many calls of the outbox in one go, until the queue is full. Gives how many were admitted.
+fn submit_many<B: HistoryName, R: Wait>(
+    rt: &R,
+    running: &Running<B, Deaf>,
+    session: &mut Session<B>,
+    outbox: &mut Outbox,
+    most: u32,
+) -> Result<u32, Refusal> {
+    if !is_here(running, session) {
+        return Err(Refusal::Range);
+    }
+    outbox.fill(most)?;
+    let before = outbox.calls.len();
+    match running.submit_many(rt, session, &mut outbox.calls) {
+        Ok(()) | Err(Refusal::QueueFull) => {}
+        Err(refusal) => return Err(refusal),
+    }
+    Ok(before.saturating_sub(outbox.calls.len()) as u32)
+}
+
+/// Submits until the queue is full, or as many as may be submitted now were admitted: one by one, or where the load says so
+/// that many in one go.
 fn submit_all<B: HistoryName, R: Wait>(
     rt: &R,
     running: &Running<B, Deaf>,
@@ -96,14 +138,13 @@ fn submit_all<B: HistoryName, R: Wait>(
     outbox: &mut Outbox,
     mut tally: Tally,
 ) -> Result<Tally, Refusal> {
-    for _ in 0..load.room(tally) {
-        let call = outbox.next(tally.sent)?;
-        if let Some(back) = submit(rt, running, session, call)? {
-            outbox.keep(back);
-            break;
-        }
-        tally.sent = tally.sent.saturating_add(1);
-    }
+    let room = load.room(tally);
+    let sent = if load.many == 0 {
+        submit_each(rt, running, session, outbox, room)?
+    } else {
+        submit_many(rt, running, session, outbox, room.min(load.many))?
+    };
+    tally.sent = tally.sent.saturating_add(sent);
     Ok(tally)
 }
 

@@ -23,6 +23,8 @@ pub struct Load {
     pub size: usize,
     /// How many messages a client has in flight at most: admitted, and their verdicts not taken yet.
     pub window: u32,
+    /// How many calls a client submits in one go at most, where its window is open; 0: it submits them one by one.
+    pub many: u32,
     /// Whether all clients stop once one of them has sent all its messages.
     pub together: bool,
 }

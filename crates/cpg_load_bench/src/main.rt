@@ -4,8 +4,8 @@
 //! Each client joins the group `load`, and waits until all were told of the join of all. Then each submits messages
 //! of SIZE bytes, and takes all that it is told, until all is done.
 //!
-//! Arguments: `full NODES MESSAGES SIZE WINDOW` for so many messages of each client; printed is how many of them all
-//! clients were told of a second. `behind NODES MILLISECONDS SIZE WINDOW LOST`, of 3 nodes or more, for clients that
+//! Arguments: `full NODES MESSAGES SIZE WINDOW MANY` for so many messages of each client; printed is how many of them all
+//! clients were told of a second. With a MANY above 0 a client submits so many in one go at most, and WINDOW is 0. `behind NODES MILLISECONDS SIZE WINDOW LOST`, of 3 nodes or more, for clients that
 //! send for so long, while data to the last node is lost for the first LOST milliseconds; printed is how many messages
 //! each client was told of, second after second. A WINDOW above 0 is how many messages a client has in flight at most.
 //! Without arguments one client sends ten messages, and no times are printed.
@@ -37,6 +37,7 @@ const SMALL: Plan = Plan {
         messages: 10,
         size: 16,
         window: u32::MAX,
+        many: 0,
         together: false,
     },
     course: None,
@@ -60,8 +61,14 @@ fn read_nodes(words: &[String]) -> Option<u8>
     }
 }
 
-/// The load whose size and window are the arguments from that index on.
-fn read_load(words: &[String], nodes: u8, messages: u32, together: bool) -> Option<Load> {
+/// The load whose size and window are the third and the fourth of the numbers.
+fn read_load(
+    words: &[String],
+    nodes: u8,
+    messages: u32,
+    many: u32,
+    together: bool,
+) -> Option<Load> {
     let size = read_number(words, 4)?.min(MOST_BYTES) as usize;
     let window = match read_number(words, 5)? {
         0 => u32::MAX,
@@ -72,15 +79,16 @@ fn read_load(words: &[String], nodes: u8, messages: u32, together: bool) -> Opti
         messages,
         size,
         window,
+        many,
         together,
     })
 }
 
 /// A load of so many messages.
 fn read_full(words: &[String]) -> Option<Plan> {
-    let messages = read_number(words, 3)?;
+    let (messages, many) = (read_number(words, 3)?, read_number(words, 6)?);
     Some(Plan {
-        load: read_load(words, read_nodes(words)?, messages, false)?,
+        load: read_load(words, read_nodes(words)?, messages, many, false)?,
         course: None,
         timed: true,
     })
@@ -99,7 +107,7 @@ fn read_behind(words: &[String]) -> Option<Plan> {
         lost: u64::from(read_number(words, 6)?),
     };
     Some(Plan {
-        load: read_load(words, nodes, messages, true)?,
+        load: read_load(words, nodes, messages, 0, true)?,
         course: Some(course),
         timed: true,
     })

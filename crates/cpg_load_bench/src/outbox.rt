@@ -3,13 +3,15 @@
 use cpg_cred::Refusal;
 use cpg_entry::{Call, Message};
 use std::alloc::Global;
+use std::collections::VecDeque;
 
-/// What a client submits next: a call that came back, or a new message.
+/// What a client submits next: calls that came back, or were not submitted yet, and then new messages.
 #[derive(Drop)]
 pub struct Outbox {
     alloc: Global,
     text: Vec<u8>,
-    kept: Option<Call>,
+    made: u32,
+    pub calls: VecDeque<Call>,
 }
 
 impl Outbox {
@@ -18,31 +20,29 @@ impl Outbox {
         Ok(Outbox {
             alloc,
             text: vec![in alloc; b'x'; size]?,
-            kept: None,
+            made: 0,
+            calls: VecDeque::new(alloc),
         })
     }
 
-    /// The first bytes of the text, up to four, become the number's.
-    fn number(&mut self, number: u32) {
-        let bytes = number.to_be_bytes();
+    /// A message more, which begins with its number: the first bytes of the text, up to four.
+    fn make(&mut self) -> Result<Call, Refusal> {
+        let bytes = self.made.to_be_bytes();
         for at in 0usize..4 {
             if at < self.text.len() {
                 self.text[at] = bytes[at];
             }
         }
-    }
-
-    /// The call that came back, if one did, else a message that begins with the number.
-    pub fn next(&mut self, number: u32) -> Result<Call, Refusal> {
-        if let Some(call) = self.kept.take() {
-            return Ok(call);
-        }
-        self.number(number);
+        self.made = self.made.saturating_add(1);
         Ok(Call::Send(Message::from_slice(self.alloc, self.text.as_slice())?))
     }
 
-    /// The call came back.
-    pub fn keep(&mut self, call: Call) {
-        self.kept = Some(call);
+    /// Makes messages until so many calls are there.
+    pub fn fill(&mut self, count: u32) -> Result<(), Refusal> {
+        for _ in self.calls.len()..count as usize {
+            let call = self.make()?;
+            self.calls.push_back(call)?;
+        }
+        Ok(())
     }
 }

@@ -12,7 +12,7 @@ use cpg_entry::{MOST_HOPS, MOST_PLACES};
 use std::alloc::{AllocError, Global};
 
 /// The version of the program, with the toolchain that proves it.
-const VERSION: &str = "0.1.0 (rattle-kit-13b logic dac8208d650f15bf)";
+const VERSION: &str = "0.1.0 (rattle-kit-13f logic dac8208d650f15bf)";
 
 /// The options that set a ring up, and the words that let users and groups in.
 pub const RING: &str = "ring";
