@@ -76,7 +76,7 @@ fn are_in_order(events: &[Event]) -> bool {
     let mut next = 0u8;
     for event in events {
         if let Event::Message { message, .. } = event {
-            if message.as_slice() != [next] {
+            if message.as_slice() != [next].as_slice() {
                 return false;
             }
             next = next.saturating_add(1);

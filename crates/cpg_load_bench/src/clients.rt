@@ -125,7 +125,8 @@ fn submit_many<B: HistoryName, R: Wait>(
         Ok(()) | Err(Refusal::QueueFull) => {}
         Err(refusal) => return Err(refusal),
     }
-    Ok(before.saturating_sub(outbox.calls.len()) as u32)
+    let sent = before.saturating_sub(outbox.calls.len());
+    Ok(u32::try_from(sent).unwrap_or(most))
 }
 
 /// Submits until the queue is full, or as many as may be submitted now were admitted: one by one, or where the load says so
