@@ -10,7 +10,7 @@ ghost use Rattle.cpg_board.specs.Seats.{IsSeatOf};
 
 use cpg_board::{Board, Record, Seat};
 use cpg_cred::{By, Cred, NodeId, Refusal};
-use cpg_entry::{Call, Entry, Name, Op};
+use cpg_entry::{Call, Entry, Name, Op, SharedEntry};
 use cpg_record::{Member, Members, Verdict};
 use std::alloc::Global;
 use std::rt::Clock;
@@ -27,15 +27,17 @@ fn join(alloc: Global) -> Result<Record, Refusal> {
         conn: 1,
         pid: 40,
     };
+    let group = name.copy(alloc)?;
+    let entry = Entry {
+        node,
+        conn: 1,
+        pid: 40,
+        cred: Cred { uid: 7, gid: 100 },
+        op: Op::Act(Call::Join(name)),
+    };
     Ok(Record {
-        group: Some(name.copy(alloc)?),
-        entry: Entry {
-            node,
-            conn: 1,
-            pid: 40,
-            cred: Cred { uid: 7, gid: 100 },
-            op: Op::Act(Call::Join(name)),
-        },
+        entry: SharedEntry::copy_of(alloc, &entry)?,
+        group: Some(group),
         verdict: Verdict::Allowed(By::Default),
         members: Members::from_slice(alloc, &[member])?,
     })

@@ -67,17 +67,17 @@ impl Audited {
             Some(group) => group.as_slice().len(),
             None => 0,
         };
-        let message_len = match sent_in(&past.entry.op) {
+        let message_len = match sent_in(&past.entry().op) {
             Some(message) => message.len(),
             None => 0,
         };
         Audited {
-            node: u32::from(past.entry.node.get()),
-            conn: u32::from(past.entry.conn),
-            pid: past.entry.pid,
-            uid: past.entry.cred.uid,
-            gid: past.entry.cred.gid,
-            call: call_number(&past.entry.op),
+            node: u32::from(past.entry().node.get()),
+            conn: u32::from(past.entry().conn),
+            pid: past.entry().pid,
+            uid: past.entry().cred.uid,
+            gid: past.entry().cred.gid,
+            call: call_number(&past.entry().op),
             verdict: verdict_number(past.verdict),
             basis: basis_number(past.verdict),
             rule: rule_number(past.verdict),
@@ -130,7 +130,7 @@ impl Endpoint {
         ensures { AreHanded (message_at (record_at (records_of self.now.node) place)) buffer.old result buffer.new }
     {
         match self.record(place) {
-            Some(past) => match sent_in(&past.entry.op) {
+            Some(past) => match sent_in(&past.entry().op) {
                 Some(message) => hand(message, buffer),
                 None => NONE,
             },

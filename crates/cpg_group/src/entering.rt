@@ -1,9 +1,11 @@
 //! An entry judged and put among the records in one go: the trail of its connection and its group are each
 //! looked up once, where they are kept, and first where those of the entry before are.
 
-ghost use Rattle.std.specs.Prelude.{◌≡◌, ◌+◌, ◌++◌, ◌∷◌, [], ℕ, List, length, true, None, if◌then◌else◌, OnOk, OnErr, IsOkUnless};
+ghost use Rattle.std.specs.Prelude.{◌≡◌, ◌+◌, ◌++◌, ◌∷◌, [], ℕ, List, length, true, None, if◌then◌else◌, IfOk, IfSome, OnOk, OnErr, IsOkUnless};
 ghost use Rattle.std.specs.Map.{lookup};
 ghost use Rattle.std.specs.Option.{option_copied};
+ghost use Rattle.cpg_entry.specs.declared.calls.Call.TheVariants.{Join};
+ghost use Rattle.cpg_entry.specs.declared.calls.Op.TheVariants.{Act};
 ghost use Rattle.cpg_record.specs.Connections.{conn_of, is_conn};
 ghost use Rattle.cpg_record.specs.Judging.{entry_group, record_of};
 ghost use Rattle.cpg_record.specs.Membership.{group_of, is_allowed};
@@ -17,7 +19,7 @@ use crate::places::find_record;
 use crate::standing::{Group, Groups};
 use crate::trails::{Stop, Stops, Trails, group_now, make_room, stop_of};
 use cpg_cred::Refusal;
-use cpg_entry::{Call, Entry, Name, Op};
+use cpg_entry::{Call, Entry, Name, Op, SharedEntry};
 use cpg_record::{ConnId, Record};
 use std::alloc::Global;
 
@@ -27,30 +29,48 @@ fn latest_name<'a>(records: &'a [Record], places: &[u32]) -> Option<&'a Name> {
     past.group.as_ref()
 }
 
-/// Lets a join share the bytes of its name with the latest record of the group, where that has the same name: so the
-/// name of a group with many joins is kept once.
-#[inline(never)]
-fn share_name(alloc: Global, records: &[Record], places: &[u32], name: &mut Name)
-    ensures { name.new ≡ name.old }
+/// The entry, a join to that name.
+fn join_of(alloc: Global, entry: &Entry, name: &Name) -> Result<SharedEntry, Refusal>
+    requires { (entry.now).op ≡ Act (Join name.now) }
+    ensures ok { IfOk result (λ joining. joining ≡ entry.now) }
 {
-    let Some(kept) = latest_name(records, places) else {
-        return;
-    };
+    let op = Op::Act(Call::Join(name.copy(alloc)?));
+    match SharedEntry::new(alloc, Entry { op, ..*entry }) {
+        Ok(joining) => Ok(joining),
+        Err(refused) => Err(refused.refusal),
+    }
+}
+
+/// The join again, with the bytes of its name in common with the latest record of the group, where that has the same
+/// name: so the name of a group with many joins is kept once.
+#[inline(never)]
+fn with_kept_name(
+    alloc: Global,
+    records: &[Record],
+    places: &[u32],
+    entry: &Entry,
+    name: &Name,
+) -> Option<SharedEntry>
+    requires { (entry.now).op ≡ Act (Join name.now) }
+    ensures { IfSome result (λ joining. joining ≡ entry.now) }
+{
+    let kept = latest_name(records, places)?;
     if !kept.equals(name) {
-        return;
+        return None;
     }
-    if let Ok(copy) = kept.copy(alloc) {
-        *name = copy;
-    }
+    join_of(alloc, entry, kept).ok()
 }
 
 /// The same for an entry, if it is a join.
 #[inline(always)]
-fn share_joined(alloc: Global, records: &[Record], places: &[u32], entry: &mut Entry)
+fn share_joined(alloc: Global, records: &[Record], places: &[u32], entry: &mut SharedEntry)
     ensures { entry.new ≡ entry.old }
 {
-    if let Op::Act(Call::Join(name)) = &mut entry.op {
-        share_name(alloc, records, places, name);
+    let Op::Act(Call::Join(name)) = &entry.get().op else {
+        return;
+    };
+    if let Some(joining) = with_kept_name(alloc, records, places, entry.get(), name) {
+        *entry = joining;
     }
 }
 
@@ -125,7 +145,7 @@ fn enter_groups(
     ensures memory { IsOkUnless result Refusal.Memory }
 {
     let joined = group_now(records, trail);
-    match judging::find_entry_group(records, joined, &next.entry) {
+    match judging::find_entry_group(records, joined, next.entry()) {
         None => judging::judge_draft_in(alloc, records, &groups.none, joined, next),
         Some(name) => match groups.index_of(name.as_slice()) {
             Some(index) => {
@@ -195,7 +215,7 @@ fn enter_first(
     let mut trail = Stops::new(*trails.kept.allocator());
     enter_trail(&mut trail, groups, records, place, next)?;
     trails.last = trails.kept.len();
-    trails.kept.insert(ConnId::of(&next.entry), trail)?;
+    trails.kept.insert(ConnId::of(next.entry()), trail)?;
     Ok(())
 }
 
@@ -220,7 +240,7 @@ pub(crate) fn enter(
     ensures err { OnErr result (next.new.entry ≡ next.old.entry) }
     ensures memory { IsOkUnless result Refusal.Memory }
 {
-    match trails.index_of(&ConnId::of(&next.entry)) {
+    match trails.index_of(&ConnId::of(next.entry())) {
         Some(index) => {
             trails.last = index;
             let (_, trail) = trails.kept.pair_mut(index);

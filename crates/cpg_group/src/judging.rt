@@ -12,7 +12,7 @@ ghost use Rattle.cpg_group.specs.Trails.{IsTrail};
 use crate::standing::{Group, Groups};
 use crate::trails::{Stop, group_now};
 use cpg_cred::{By, Refusal, Refused};
-use cpg_entry::{Call, Entry, Name, Op};
+use cpg_entry::{Call, Entry, Name, Op, SharedEntry};
 use cpg_record::{MOST_MEMBERS, Members, Reason, Record, Verdict};
 use cpg_rules::{Decision, MOST_RULES, Right, Table};
 use std::alloc::Global;
@@ -185,7 +185,7 @@ fn copy_name(alloc: Global, group: Option<&Name>) -> Result<Option<Name>, Refusa
 }
 
 /// A record of the entry that is not judged yet.
-pub(crate) fn draft_of(alloc: Global, entry: Entry) -> Record
+pub(crate) fn draft_of(alloc: Global, entry: SharedEntry) -> Record
     ensures entry { result.entry ≡ entry }
     ensures members { result.members ≡ [] }
 {
@@ -214,8 +214,8 @@ pub(crate) fn judge_draft_in(
     ensures memory { IsOkUnless result Refusal.Memory }
     ensures some { OnErr result (entry_group records.now next.old.entry next.old.entry.op ≢ None) }
 {
-    next.verdict = judge_entry(records, standing, joined, &next.entry);
-    let group = copy_name(alloc, find_entry_group(records, joined, &next.entry))?;
+    next.verdict = judge_entry(records, standing, joined, next.entry());
+    let group = copy_name(alloc, find_entry_group(records, joined, next.entry()))?;
     next.group = group;
     let members = collect_members_with(alloc, records, standing, next)?;
     next.members = members;
@@ -239,7 +239,7 @@ pub(crate) fn judge_draft(
     ensures some { OnErr result (entry_group records.now next.old.entry next.old.entry.op ≢ None) }
 {
     let joined = group_now(records, trail);
-    let standing = groups.of_name(find_entry_group(records, joined, &next.entry));
+    let standing = groups.of_name(find_entry_group(records, joined, next.entry()));
     judge_draft_in(alloc, records, standing, joined, next)
 }
 
@@ -250,8 +250,8 @@ pub(crate) fn judge(
     records: &[Record],
     groups: &Groups,
     trail: &[Stop],
-    entry: Entry,
-) -> Result<Record, Refused<Entry>>
+    entry: SharedEntry,
+) -> Result<Record, Refused<SharedEntry>>
     requires groups { AreStanding groups.now records.now }
     requires trail { IsTrail records.now (conn_of entry) trail.now }
     ensures ok { IfOk result (λ next. next ≡ record_of records.now entry) }

@@ -1,12 +1,10 @@
 //! The judged entries, and what they come to.
 
 ghost use Rattle.std.specs.Prelude.{◌≡◌, ◌≢◌, ◌<◌, ◌≤◌, ◌++◌, ◌∷◌, [], None, length, OnOk, OnErr, IfOk, IfErr, IfSome, MatchOption, IsOkUnless};
-ghost use Rattle.cpg_entry.specs.declared.calls.Op.TheVariants.{Gone};
-ghost use Rattle.cpg_record.specs.Connections.{conn_of, conns_of};
+ghost use Rattle.cpg_record.specs.Connections.{conns_of};
 ghost use Rattle.cpg_record.specs.Events.{events};
 ghost use Rattle.cpg_record.specs.Judging.{entry_group, judged, most_places, record_of, IsNext};
 ghost use Rattle.cpg_record.specs.Listings.{AnswersListing, AreGroups, listing};
-ghost use Rattle.cpg_record.specs.Membership.{group_of};
 ghost use Rattle.cpg_record.specs.Nexts.{acts_in, IsNextTold, TellsNoMore};
 ghost use Rattle.cpg_record.specs.Places.{places_of};
 ghost use Rattle.cpg_record.specs.RuleTables.{rules_of};
@@ -19,7 +17,7 @@ use crate::standing::Groups;
 use crate::trails::{Trail, Trails};
 use crate::{entering, judging, nexts, telling, told};
 use cpg_cred::{Refusal, Refused};
-use cpg_entry::{Entry, Name, reserve_ahead};
+use cpg_entry::{Entry, Name, SharedEntry, reserve_ahead};
 use cpg_record::{ConnId, Event, Events, Record};
 use cpg_rules::{Asker, Table};
 use std::alloc::Global;
@@ -71,11 +69,8 @@ impl Policy {
         requires { length self.now < most_places }
         ensures ok { IfOk result (λ next. next ≡ record_of (judged self.now) entry.now) }
         ensures memory { IsOkUnless result Refusal.Memory }
-
-        // The end of a connection that is in no group takes no memory.
-        ensures gone { OnErr result (entry.now.op ≡ Gone → group_of (judged self.now) (conn_of entry.now) ≢ None) }
     {
-        let entry = entry.copy(*self.records.allocator())?;
+        let entry = SharedEntry::copy_of(*self.records.allocator(), entry)?;
         match self.judge_owned(entry) {
             Ok(next) => Ok(next),
             Err(refused) => Err(refused.refusal),
@@ -85,7 +80,7 @@ impl Policy {
     /// The record that the entry would have as the next one, with the entry moved into it. A refusal gives
     /// the entry back.
     #[inline(always)]
-    pub fn judge_owned(&self, entry: Entry) -> Result<Record, Refused<Entry>>
+    pub fn judge_owned(&self, entry: SharedEntry) -> Result<Record, Refused<SharedEntry>>
         requires { length self.now < most_places }
         ensures ok { IfOk result (λ next. next ≡ record_of (judged self.now) entry) }
         ensures err { IfErr result (λ refused. refused ≡ record { refusal = Refusal.Memory; back = entry }) }
@@ -97,7 +92,7 @@ impl Policy {
             *self.records.allocator(),
             self.records.as_slice(),
             &self.groups,
-            self.trails.of(&ConnId::of(&entry)),
+            self.trails.of(&ConnId::of(entry.get())),
             entry,
         )
     }
@@ -133,7 +128,7 @@ impl Policy {
 
     /// Judges the entry and puts it last, with its record. A refusal changes nothing and gives the entry back.
     #[inline(always)]
-    pub fn enter(&mut self, entry: Entry) -> Result<(), Refused<Entry>>
+    pub fn enter(&mut self, entry: SharedEntry) -> Result<(), Refused<SharedEntry>>
         requires { length self.old < most_places }
         ensures ok { OnOk result (self.new ≡ self.old ++ entry ∷ []) }
         ensures unchanged { OnErr result (self.new ≡ self.old) }

@@ -53,7 +53,7 @@ pub(crate) fn put_judged(
     ensures memory { IsOkUnless result Refusal.Memory }
 {
     put_number(line, "place", u64::from(place))?;
-    put_after_place(line, numbers, place, &past.entry)?;
+    put_after_place(line, numbers, place, past.entry())?;
     put_verdict(line, past.verdict)
 }
 
@@ -66,7 +66,7 @@ fn put_object(line: &mut Vec<u8>, numbers: &[u32], place: u32, past: &Record) ->
 {
     put(line, "{\"place\":")?;
     push_number(line, u64::from(place))?;
-    put_after_place(line, numbers, place, &past.entry)?;
+    put_after_place(line, numbers, place, past.entry())?;
     put(line, "}")
 }
 

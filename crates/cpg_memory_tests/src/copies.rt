@@ -55,8 +55,8 @@ fn has_copied_packet(alloc: Global, entry: &Entry) -> Result<bool, Refusal> {
 
 fn copy_record(alloc: Global, past: &Record) -> Result<Short, Refusal> {
     let record = is_copied(alloc, past)?;
-    let entry = has_copied_entry(alloc, &past.entry)?;
-    let packet = has_copied_packet(alloc, &past.entry)?;
+    let entry = has_copied_entry(alloc, past.entry())?;
+    let packet = has_copied_packet(alloc, past.entry())?;
     Ok(Short::Is(record && entry && packet))
 }
 

@@ -5,7 +5,7 @@ use crate::entering::{Ask, Source, entry, node, short_of_entry};
 use crate::short::Short;
 use crate::tables::{MEMBER, ROOT, deny, let_edit, member_by};
 use cpg_cred::{By, Cred, NodeId, Refusal};
-use cpg_entry::Entry;
+use cpg_entry::{Entry, SharedEntry};
 use cpg_group::{ConnId, MOST_PLACES, Policy, Reason, Record, Verdict, verify};
 use cpg_rules::{Asker, Right, Who};
 use std::alloc::Global;
@@ -66,10 +66,10 @@ fn enter(alloc: Global, policy: &mut Policy, entry: Entry) -> Result<Short, Refu
     if policy.len() >= MOST_PLACES as usize {
         return Err(Refusal::BoardFull);
     }
-    let handed = entry.copy(alloc)?;
-    match policy.enter(entry) {
+    let handed = SharedEntry::copy_of(alloc, &entry)?;
+    match policy.enter(handed) {
         Ok(()) => Ok(last_verdict(policy)),
-        Err(refused) => short_of_entry(&refused.back, &handed, refused.refusal),
+        Err(refused) => short_of_entry(refused.back.get(), &entry, refused.refusal),
     }
 }
 

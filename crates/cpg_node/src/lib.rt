@@ -10,6 +10,7 @@ mod connections;
 mod cursors;
 mod inboxes;
 mod judged;
+mod keepers;
 mod names;
 mod nodes;
 mod ringing;

@@ -1,7 +1,7 @@
 //! What ledgers of delivered entries have in common, and that nobody who reads them sees it.
 
-use cpg_entry::{Call, Cred, Entry, Message, NodeId, Op, Refusal};
-use cpg_ledger::{BLOCK, Ledger, Shelf};
+use cpg_entry::{Call, Cred, Entry, Message, NodeId, Op, Refusal, SharedEntry};
+use cpg_ledger::{BLOCK, Keeper, Ledger, Shelf};
 use std::alloc::Global;
 
 /// A leave by connection 1 of node 1, of that process.
@@ -15,12 +15,21 @@ fn leave(pid: u32) -> Result<Entry, Refusal> {
     })
 }
 
+/// Nobody keeps the entries.
+pub(crate) struct NoKeeper;
+
+impl Keeper for NoKeeper {
+    fn kept_at(&self, _index: usize) -> Option<&SharedEntry> {
+        None
+    }
+}
+
 /// Puts the entry last, where the ledger has less than 1,000 entries, and asks it to share.
 fn put(ledger: &mut Ledger, shelf: &Shelf, entry: Entry) -> Result<(), Refusal> {
     ledger.reserve(1)?;
     if ledger.len() < 1000 {
         ledger.push_reserved(entry);
-        ledger.share(shelf);
+        ledger.share(shelf, &NoKeeper);
     }
     Ok(())
 }

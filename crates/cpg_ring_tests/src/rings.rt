@@ -3,6 +3,7 @@
 ghost use Rattle.std.specs.Prelude.{None, [], ◌≡◌, ◌≤◌, IsTrue, IfOk, IfSome};
 ghost use Rattle.cpg_entry.specs.Ranges.{IsEntry, IsToken};
 
+use crate::ledgers::NoKeeper;
 use cpg_entry::{Call, Cred, Entry, NodeId, Op, Packet, Places, Refusal, Token};
 use cpg_ledger::Shelf;
 use cpg_ring::{MOST_HOPS, MOST_PLACES, Ring, Settings, Visit, WINDOW};
@@ -448,7 +449,7 @@ fn deliver_shared(ring: &mut Ring, shelf: &Shelf, count: u32) -> Result<bool, Re
             return Ok(false);
         }
         deliver(ring);
-        ring.share(shelf);
+        ring.share(shelf, &NoKeeper);
     }
     Ok(ring.delivered() == count)
 }

@@ -5,7 +5,7 @@ ghost use Rattle.cpg_board.specs.Seats.{IsSeatOf};
 
 use cpg_board::{Board, Record, Seat, Settled};
 use cpg_cred::{By, Cred, NodeId, Refusal};
-use cpg_entry::{Call, Entry, Message, Name, Op};
+use cpg_entry::{Call, Entry, Message, Name, Op, SharedEntry};
 use cpg_record::{Member, Members, Reason, Verdict};
 use cpg_rules::{Effect, Right, Rule, Who};
 use std::alloc::Global;
@@ -85,7 +85,7 @@ fn record_of(alloc: Global, row: Row) -> Result<Record, Refusal> {
     let group = Name::from_slice(alloc, b"db")?;
     let members = Members::from_slice(alloc, &[source_of(node, Row::Join)])?;
     Ok(Record {
-        entry,
+        entry: SharedEntry::copy_of(alloc, &entry)?,
         group: Some(group),
         verdict: verdict_of(row),
         members,

@@ -203,7 +203,7 @@ fn copies_entry_parts(alloc: Global, entry: &Entry) -> bool {
 
 /// Whether copies of the record and of all its parts equal their sources.
 fn copies_parts(alloc: Global, past: &Record) -> bool {
-    copies_entry_parts(alloc, &past.entry)
+    copies_entry_parts(alloc, past.entry())
         && copies_record(alloc, past)
         && copies_members(alloc, &past.members)
 }

@@ -212,7 +212,7 @@ fn delivered_alike(world: &World, plain: &PlainNode, id: NodeId) -> bool {
     }
     let records = world.node(id).audit();
     let same = records.iter().enumerate().all(|(i, record)| says(
-        &record.entry.op,
+        &record.entry().op,
         plain.entry_at(i as u64 + 1),
     ));
     same && records.len() as u64 == plain.delivered()
