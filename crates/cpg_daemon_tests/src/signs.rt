@@ -221,6 +221,34 @@ fn are_admitted<B: HistoryName, R: Wait + Clock>(
     false
 }
 
+/// A message, a join that names no group, and a message.
+fn mixed(alloc: Global) -> Result<VecDeque<Call>, Refusal> {
+    let mut calls = VecDeque::new(alloc);
+    calls.push_back(say_hi(alloc)?)?;
+    calls.push_back(call(alloc, &Ask::Join("d b"))?)?;
+    calls.push_back(say_hi(alloc)?)?;
+    Ok(calls)
+}
+
+/// Whether of these the first alone is admitted, and the others stay, since the second is refused for itself; and whether
+/// they stay once the nodes are halted.
+fn stays_where_refused<B: HistoryName, R: Wait>(
+    rt: &R,
+    alloc: Global,
+    running: &Running<B, Holding>,
+    session: &mut Session<B>,
+) -> bool
+    requires { session.old.who.id.node ≤ running.now.nodes }
+    ensures { session.new.who.id.node ≡ session.old.who.id.node }
+{
+    let Ok(mut calls) = mixed(alloc) else {
+        return false;
+    };
+    let named = submits_many(rt, running, session, &mut calls) == (Some(Refusal::BadName), 2);
+    running.halt(rt);
+    named && submits_many(rt, running, session, &mut calls) == (Some(Refusal::Stopped), 2)
+}
+
 /// Whether the node's queue, once full, takes calls again when the gate is opened; and whether all calls are refused with
 /// Stopped once the nodes are halted, though the queue was full. Calls that are submitted in one go stay where they are refused.
 fn fills_and_empties<B: HistoryName, R: Wait + Clock>(
@@ -238,11 +266,11 @@ fn fills_and_empties<B: HistoryName, R: Wait + Clock>(
         && submits_many(rt, running, &mut session, &mut calls) == wanted;
     open.store(true, Ordering::SeqCst);
     let empties = are_admitted(rt, running, &mut session, &mut calls);
-    running.halt(rt);
+    let stays = stays_where_refused(rt, alloc, running, &mut session);
     let stops = submits(rt, running, &mut session, say_hi(alloc)) == Some(Refusal::Stopped)
         && submits_many(rt, running, &mut session, &mut calls) == (None, 0);
     drop(session);
-    fills && empties && stops
+    fills && empties && stays && stops
 }
 
 /// Three messages.

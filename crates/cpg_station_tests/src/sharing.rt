@@ -7,8 +7,8 @@ use crate::stations::new_station;
 use bytes::Bytes;
 use cpg_board::Board;
 use cpg_cred::{Cred, NodeId, Refusal};
-use cpg_entry::{Call, Entry, Op, Packet};
-use cpg_ledger::{Ledger, Shelf};
+use cpg_entry::{Call, Entry, Op, Packet, SharedEntry};
+use cpg_ledger::{Keeper, Ledger, Shelf};
 use cpg_station::{BoardName, Station};
 use cpg_wire::encode_data;
 use std::alloc::Global;
@@ -76,6 +76,15 @@ fn delivers_all<B: BoardName>(
     Ok(station.delivered() == COUNT)
 }
 
+/// Nobody keeps the entries of the new ledger.
+struct NoKeeper;
+
+impl Keeper for NoKeeper {
+    fn kept_at(&self, _index: usize) -> Option<&SharedEntry> {
+        None
+    }
+}
+
 /// Whether other entries lie on the shelf than those of a new ledger, which takes none of them then, and else lays its
 /// own down.
 fn holds_others(alloc: Global, shelf: &Shelf) -> Result<bool, Refusal> {
@@ -85,7 +94,7 @@ fn holds_others(alloc: Global, shelf: &Shelf) -> Result<bool, Refusal> {
         let entry = leave(41)?;
         if ledger.len() < COUNT as usize {
             ledger.push_reserved(entry);
-            ledger.share(shelf);
+            ledger.share(shelf, &NoKeeper);
         }
     }
     Ok(ledger.in_blocks() == 0)

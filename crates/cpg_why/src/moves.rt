@@ -37,8 +37,9 @@ impl Moves {
         ensures ok { OnOk result ((conn : ConnId) → kept_move self.new.kept.entries conn ≡ moved conn (kept_move self.old.kept.entries conn) (place, past.now)) }
         ensures memory { IsOkUnless result Refusal.Memory }
     {
-        if past.verdict.is_allowed() && past.entry().op.is_move() {
-            self.kept.insert(ConnId::of(past.entry()), place)?;
+        let entry = past.entry();
+        if past.verdict.is_allowed() && entry.op.is_move() {
+            self.kept.insert(ConnId::of(entry), place)?;
         }
         Ok(())
     }

@@ -34,11 +34,12 @@ fn judge_states(policy: &Policy, past: &Record, by: By) -> Verdict
     requires { past.now ≡ record_of (judged policy.now) past.now.entry }
     ensures { (g : List ℕ) → past.now.entry.op ≡ op.Act (call.Join g) → result ≡ join_states (judged policy.now) past.now.entry g by }
 {
+    let entry = past.entry();
     if past.verdict.is_allowed() {
         Verdict::Allowed(by)
-    } else if is_in_some(policy, ConnId::of(past.entry())) {
+    } else if is_in_some(policy, ConnId::of(entry)) {
         Verdict::Denied(Reason::Joined)
-    } else if past.members.has_process(past.entry()) {
+    } else if past.members.has_process(entry) {
         Verdict::Denied(Reason::Twice)
     } else if past.members.len() >= MOST_MEMBERS {
         Verdict::Denied(Reason::Full)
@@ -131,12 +132,13 @@ fn judge_under(policy: &Policy, table: &Table, past: &Record) -> Verdict
     requires { past.now ≡ record_of (judged policy.now) past.now.entry }
     ensures { result ≡ verdict_under table.now (judged policy.now) past.now.entry past.now.entry.op }
 {
-    match &past.entry().op {
+    let entry = past.entry();
+    match &entry.op {
         Op::Act(Call::Join(_)) => judge_join(policy, table, past),
         Op::Act(Call::Leave) => judge_leave(&past.group),
-        Op::Act(Call::Send(_)) => judge_send(table, past.entry(), &past.group),
-        Op::Act(Call::Insert(_, index, _)) => judge_insert(table, past.entry(), *index),
-        Op::Act(Call::Remove(_, id)) => judge_remove(table, past.entry(), *id),
+        Op::Act(Call::Send(_)) => judge_send(table, entry, &past.group),
+        Op::Act(Call::Insert(_, index, _)) => judge_insert(table, entry, *index),
+        Op::Act(Call::Remove(_, id)) => judge_remove(table, entry, *id),
         Op::Gone => Verdict::Allowed(By::Free),
     }
 }
