@@ -2,8 +2,8 @@
 
 ghost use Rattle.std.specs.Prelude.{◌≡◌, ◌≤◌, ◌++◌, codes, OnOk, IsOkUnless};
 ghost use Rattle.std.specs.Option.{option_copied};
-ghost use Rattle.cpg_json.specs.Objects.{after_comma, field, more};
-ghost use Rattle.cpg_json_why.specs.Whys.{after_place, entry_at, entry_by, entry_fields, judged_fields, line_fields, since_value};
+ghost use Rattle.cpg_json.specs.Objects.{after_comma, field, more, object};
+ghost use Rattle.cpg_json_why.specs.Whys.{after_place, entry_at, entry_fields, judged_fields, line_fields, since_value};
 
 use cpg_cred::Refusal;
 use cpg_entry::Entry;
@@ -59,14 +59,14 @@ pub(crate) fn put_judged(
 
 /// Puts an entry at its place in braces at the line's end.
 #[tactic(auto, unfolding(cpg_json::specs::Objects::field))]
-fn put_object(line: &mut Vec<u8>, numbers: &[u32], place: u32, past: &Record) -> Result<(), Refusal>
+fn put_object(line: &mut Vec<u8>, numbers: &[u32], place: u32, entry: &Entry) -> Result<(), Refusal>
     requires { 1 ≤ place }
-    ensures ok { OnOk result (line.new.items ≡ line.old.items ++ entry_by numbers.now place (Some past.now)) }
+    ensures ok { OnOk result (line.new.items ≡ line.old.items ++ object (entry_fields numbers.now place entry.now)) }
     ensures memory { IsOkUnless result Refusal.Memory }
 {
     put(line, "{\"place\":")?;
     push_number(line, u64::from(place))?;
-    put_after_place(line, numbers, place, past.entry())?;
+    put_after_place(line, numbers, place, entry)?;
     put(line, "}")
 }
 
@@ -82,7 +82,7 @@ fn put_entry_at(
 {
     match find_record(records, place) {
         None => put(line, "null"),
-        Some(past) => put_object(line, numbers, place, past),
+        Some(past) => put_object(line, numbers, place, past.entry()),
     }
 }
 
