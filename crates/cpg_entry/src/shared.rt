@@ -1,6 +1,6 @@
 //! Entries that records have in common.
 
-ghost use Rattle.std.specs.Prelude.{◌≡◌, ◌↔◌, IsTrue, IfOk, IfErr, IsOkUnless};
+ghost use Rattle.std.specs.Prelude.{◌≡◌, ◌↔◌, ◌<◌, IsTrue, IfOk, IfErr, IsOkUnless};
 
 use crate::entries::Entry;
 use cpg_cred::{Refusal, Refused};
@@ -70,6 +70,13 @@ impl SharedEntry {
         Ok(SharedEntry {
             entry: Arc::try_clone(&self.entry)?,
         })
+    }
+
+    /// How many have the entry in common. Contracts see the entry alone, so they say no more of it.
+    pub fn owners(&self) -> usize
+        ensures { 0 < result }
+    {
+        Arc::strong_count(&self.entry)
     }
 
     /// Whether the entries are the same.

@@ -88,10 +88,6 @@ module _ {T Y Z : Type 0} where
   pub laid_more : (blocks : List (Arc (Vec T Y) Z)) (b : Arc (Vec T Y) Z) → IsBlock b → length (laid (blocks ++ b ∷ [])) ≡ length (laid blocks) + 256
   laid_more blocks b is = let more = ap length (laid_push blocks b) ∙ length-append (laid blocks) (arc_value b).items in omega arith
 
-  -- it stands behind all that were laid
-  pub laid_longer : (blocks : List (Arc (Vec T Y) Z)) (b : Arc (Vec T Y) Z) → length (laid blocks) ≤ length (laid (blocks ++ b ∷ []))
-  laid_longer blocks b = let more = ap length (laid_push blocks b) ∙ length-append (laid blocks) (arc_value b).items in omega arith
-
   -- all are blocks then, too
   pub blocks_push : (blocks : List (Arc (Vec T Y) Z)) (b : Arc (Vec T Y) Z) → All IsBlock blocks → IsBlock b → All IsBlock (blocks ++ b ∷ [])
   blocks_push blocks b = All-push IsBlock blocks b

@@ -79,7 +79,7 @@ fn item_laid(blocks: &[Block], index: usize) -> &Entry
 }
 
 /// Puts the block behind the others in place of the first own entries, which it has, too, where there is memory to.
-#[tactic(auto, using(crate::proofs::Laid::first_full, crate::proofs::Laid::blocks_push, crate::proofs::Laid::moved_over, crate::proofs::Laid::laid_longer, crate::proofs::Laid::laid_more))]
+#[tactic(auto, using(crate::proofs::Laid::first_full, crate::proofs::Laid::blocks_push, crate::proofs::Laid::moved_over, crate::proofs::Laid::laid_more))]
 fn lay(blocks: &mut Vec<Block>, own: &mut Vec<Entry>, block: Block)
     requires blocks { All IsBlock blocks.old.items }
     requires enough { BLOCK ≤ length own.old.items }

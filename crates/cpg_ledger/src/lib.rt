@@ -13,4 +13,4 @@ mod shelves;
 
 pub use ledgers::Ledger;
 pub use limits::BLOCK;
-pub use shelves::{Keeper, Shelf};
+pub use shelves::{Keeper, NoKeeper, Shelf};

@@ -22,6 +22,15 @@ pub trait Keeper {
     fn kept_at(&self, index: usize) -> Option<&SharedEntry>;
 }
 
+/// Nobody: each entry of the ledger is its own.
+pub struct NoKeeper;
+
+impl Keeper for NoKeeper {
+    fn kept_at(&self, _index: usize) -> Option<&SharedEntry> {
+        None
+    }
+}
+
 /// Blocks of entries in a row, each laid down once by the first ledger that has it. Contracts see how many there is a
 /// place for.
 #[derive(Drop)]

@@ -2,22 +2,13 @@
 
 use crate::again::Stop;
 use cpg_cred::{Cred, NodeId, Refusal};
-use cpg_entry::{Entry, Op, SharedEntry};
-use cpg_ledger::{Keeper, Ledger, Shelf};
+use cpg_entry::{Entry, Op};
+use cpg_ledger::{Ledger, NoKeeper, Shelf};
 use std::alloc::Global;
 use std::test::Fail;
 
 /// How many entries the ledger has: once it has so many it asks its shelf.
 const COUNT: u32 = 512;
-
-/// Nobody keeps the entries.
-struct NoKeeper;
-
-impl Keeper for NoKeeper {
-    fn kept_at(&self, _index: usize) -> Option<&SharedEntry> {
-        None
-    }
-}
 
 /// Puts the end of a connection of that process last, and asks the shelf.
 fn add(ledger: &mut Ledger, shelf: &Shelf, node: NodeId, pid: u32) -> Result<(), Refusal> {

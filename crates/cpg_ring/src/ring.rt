@@ -152,13 +152,11 @@ impl Ring {
     }
 
     /// Takes the first delivered entries that it has of its own from the shelf, where they lie for all that delivered
-    /// the same: who asks the ring sees no difference. A ring of one node shares nothing.
+    /// the same: who asks the ring sees no difference.
     pub fn share<K: Keeper>(&mut self, shelf: &Shelf, keeper: &K)
         ensures { self.new ≡ self.old }
     {
-        if self.settings.nodes > 1 {
-            self.held.share(shelf, keeper);
-        }
+        self.held.share(shelf, keeper);
     }
 
     /// Puts a call last among the waiting entries. Refused with QueueFull exactly where 256 calls or more

@@ -1,7 +1,7 @@
 //! What ledgers of delivered entries have in common, and that nobody who reads them sees it.
 
-use cpg_entry::{Call, Cred, Entry, Message, NodeId, Op, Refusal, SharedEntry};
-use cpg_ledger::{BLOCK, Keeper, Ledger, Shelf};
+use cpg_entry::{Call, Cred, Entry, Message, NodeId, Op, Refusal};
+use cpg_ledger::{BLOCK, Ledger, NoKeeper, Shelf};
 use std::alloc::Global;
 
 /// A leave by connection 1 of node 1, of that process.
@@ -13,15 +13,6 @@ fn leave(pid: u32) -> Result<Entry, Refusal> {
         cred: Cred { uid: 7, gid: 100 },
         op: Op::Act(Call::Leave),
     })
-}
-
-/// Nobody keeps the entries.
-pub(crate) struct NoKeeper;
-
-impl Keeper for NoKeeper {
-    fn kept_at(&self, _index: usize) -> Option<&SharedEntry> {
-        None
-    }
 }
 
 /// Puts the entry last, where the ledger has less than 1,000 entries, and asks it to share.

@@ -3,9 +3,8 @@
 ghost use Rattle.std.specs.Prelude.{None, [], ◌≡◌, ◌≤◌, IsTrue, IfOk, IfSome};
 ghost use Rattle.cpg_entry.specs.Ranges.{IsEntry, IsToken};
 
-use crate::ledgers::NoKeeper;
 use cpg_entry::{Call, Cred, Entry, NodeId, Op, Packet, Places, Refusal, Token};
-use cpg_ledger::Shelf;
+use cpg_ledger::{NoKeeper, Shelf};
 use cpg_ring::{MOST_HOPS, MOST_PLACES, Ring, Settings, Visit, WINDOW};
 use std::alloc::Global;
 

@@ -7,8 +7,8 @@ use crate::stations::new_station;
 use bytes::Bytes;
 use cpg_board::Board;
 use cpg_cred::{Cred, NodeId, Refusal};
-use cpg_entry::{Call, Entry, Op, Packet, SharedEntry};
-use cpg_ledger::{Keeper, Ledger, Shelf};
+use cpg_entry::{Call, Entry, Op, Packet};
+use cpg_ledger::{Ledger, NoKeeper, Shelf};
 use cpg_station::{BoardName, Station};
 use cpg_wire::encode_data;
 use std::alloc::Global;
@@ -76,15 +76,6 @@ fn delivers_all<B: BoardName>(
     Ok(station.delivered() == COUNT)
 }
 
-/// Nobody keeps the entries of the new ledger.
-struct NoKeeper;
-
-impl Keeper for NoKeeper {
-    fn kept_at(&self, _index: usize) -> Option<&SharedEntry> {
-        None
-    }
-}
-
 /// Whether other entries lie on the shelf than those of a new ledger, which takes none of them then, and else lays its
 /// own down.
 fn holds_others(alloc: Global, shelf: &Shelf) -> Result<bool, Refusal> {
@@ -122,5 +113,32 @@ fn a_station_lays_down_what_it_delivered(rt: HostRuntime) -> Result<(), Fail> {
 fn an_empty_shelf_holds_no_others(rt: HostRuntime) -> Result<(), Fail> {
     let board = Board::new(rt.alloc(), COUNT)?;
     assert!(rt; holds_others(rt.alloc(), board.shelf()) == Ok(false));
+    Ok(())
+}
+
+/// How many have the entry of the station's record of that index in common; 0 where there is no such record.
+fn owners_at<B: BoardName>(station: &Station<B>, index: usize) -> usize {
+    match station.audit().get(index) {
+        Some(record) => record.entry.owners(),
+        None => 0,
+    }
+}
+
+/// Whether two stations that delivered all places keep each entry once: the board and the records of both have the last
+/// one in common, and the shelf the first one, too.
+fn keep_once<B: BoardName>(alloc: Global, board: &Board) -> Result<bool, Refusal>
+    requires { board.now ≡ B.cells }
+{
+    let mut one = new_station::<B>(alloc, board, 1)?;
+    let mut other = new_station::<B>(alloc, board, 2)?;
+    let all = delivers_all(alloc, board, &mut one)? && delivers_all(alloc, board, &mut other)?;
+    let last = COUNT as usize - 1;
+    Ok(all && owners_at(&one, 0) == 4 && owners_at(&other, last) == 3)
+}
+
+#[test]
+fn stations_keep_each_entry_once(rt: HostRuntime) -> Result<(), Fail> {
+    let board = Board::new(rt.alloc(), COUNT)?;
+    assert!(rt; keep_once::<Brand>(rt.alloc(), &board) == Ok(true));
     Ok(())
 }
