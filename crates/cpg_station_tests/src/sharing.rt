@@ -124,16 +124,43 @@ fn owners_at<B: BoardName>(station: &Station<B>, index: usize) -> usize {
     }
 }
 
-/// Whether two stations that delivered all places keep each entry once: the board and the records of both have the last
-/// one in common, and the shelf the first one, too.
+/// Whether both stations deliver all places and keep each entry once then: the board and the records of both have the
+/// last one in common, and the shelf the first one, too.
+fn share_all<B: BoardName>(
+    alloc: Global,
+    board: &Board,
+    one: &mut Station<B>,
+    other: &mut Station<B>,
+) -> Result<bool, Refusal>
+    requires { board.now ≡ B.cells }
+{
+    let all = delivers_all(alloc, board, one)? && delivers_all(alloc, board, other)?;
+    let last = COUNT as usize - 1;
+    Ok(all && owners_at(&*one, 0) == 4 && owners_at(&*other, last) == 3)
+}
+
+/// Whether the station and another one of the board keep each entry once.
+fn shares_with_another<B: BoardName>(
+    alloc: Global,
+    board: &Board,
+    one: &mut Station<B>,
+) -> Result<bool, Refusal>
+    requires { board.now ≡ B.cells }
+{
+    let mut other = new_station::<B>(alloc, board, 2)?;
+    let kept = share_all(alloc, board, one, &mut other);
+    drop(other);
+    kept
+}
+
+/// Whether two stations of the board keep each entry once.
 fn keep_once<B: BoardName>(alloc: Global, board: &Board) -> Result<bool, Refusal>
     requires { board.now ≡ B.cells }
 {
     let mut one = new_station::<B>(alloc, board, 1)?;
-    let mut other = new_station::<B>(alloc, board, 2)?;
-    let all = delivers_all(alloc, board, &mut one)? && delivers_all(alloc, board, &mut other)?;
-    let last = COUNT as usize - 1;
-    Ok(all && owners_at(&one, 0) == 4 && owners_at(&other, last) == 3)
+    let kept = shares_with_another(alloc, board, &mut one);
+    drop(one);
+    kept
 }
 
 #[test]
