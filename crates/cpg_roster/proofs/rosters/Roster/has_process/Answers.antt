@@ -1,8 +1,8 @@
 use Rattle.std.proofs.Common.{ap, subst, ◌∙◌}
 use Rattle.std.specs.List.{list_any}
 use Rattle.cpg_record.specs.Verdicts.{has_process}
-use Rattle.cpg_group.specs.Processes.{kept_of, process_in, is_process, AreKept}
-use Rattle.cpg_group.proofs.rosters.Roster.has_process.Goals as goal
+use Rattle.cpg_roster.specs.Processes.{kept_of, process_in, is_process, AreKept}
+use Rattle.cpg_roster.proofs.rosters.Roster.has_process.Goals as goal
 
 pub returns-in-Some : goal.returns-in-Some
 returns-in-Some c =

@@ -1,8 +1,8 @@
 use Rattle.std.proofs.Common.{sym, ap, subst, arith, ◌∙◌}
 use Rattle.cpg_record.specs.Connections.{conn_of}
-use Rattle.cpg_group.specs.Processes.{kept_of, AreKept, TakesOut}
-use Rattle.cpg_group.proofs.Indexed.{few_stay, leavers_out}
-use Rattle.cpg_group.proofs.rosters.keep_rest.Goals as goal
+use Rattle.cpg_roster.specs.Processes.{kept_of, AreKept, TakesOut}
+use Rattle.cpg_roster.proofs.Indexed.{few_stay, leavers_out}
+use Rattle.cpg_roster.proofs.rosters.keep_rest.Goals as goal
 
 pub returns-in-Some : goal.returns-in-Some
 returns-in-Some c = (

@@ -1,7 +1,7 @@
 use Rattle.std.proofs.Common.{ap, subst, take_all, ◌∙◌}
-use Rattle.cpg_group.specs.Processes.{process_in, AreProcesses}
-use Rattle.cpg_group.proofs.Indexed.{one_more}
-use Rattle.cpg_group.proofs.rosters.processes_of.Goals as goal
+use Rattle.cpg_roster.specs.Processes.{process_in, AreProcesses}
+use Rattle.cpg_roster.proofs.Indexed.{one_more}
+use Rattle.cpg_roster.proofs.rosters.processes_of.Goals as goal
 
 pub loop-member-preserved : goal.loop-member-preserved
 loop-member-preserved c =

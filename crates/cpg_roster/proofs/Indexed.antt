@@ -8,8 +8,8 @@ use Rattle.cpg_record.specs.declared.connections.ConnId.{ConnId}
 use Rattle.cpg_record.specs.declared.memberships.Member.{Member}
 use Rattle.cpg_record.specs.Connections.{conn_in, is_conn}
 use Rattle.cpg_record.specs.Steps.{without}
-use Rattle.cpg_group.specs.declared.rosters.Process.{Process}
-use Rattle.cpg_group.specs.Processes.{process_in, is_leaver, is_process, AreProcesses, OnceEach, TakesOut}
+use Rattle.cpg_roster.specs.declared.rosters.Process.{Process}
+use Rattle.cpg_roster.specs.Processes.{process_in, is_leaver, is_process, AreProcesses, OnceEach, TakesOut}
 
 -- how many pass, by the first of them
 count-cons : {X : Type 0} (p : X → Bool) (x : X) (xs : List X) → count_by p (x ∷ xs) ≡ cond (p x) 1 0 + count_by p xs

@@ -10,8 +10,8 @@ use Rattle.cpg_record.specs.declared.connections.ConnId.{ConnId}
 use Rattle.cpg_record.specs.declared.memberships.Member.{Member}
 use Rattle.cpg_record.specs.Connections.{conn_of, conn_in, is_conn, member_of}
 use Rattle.cpg_record.specs.Steps.{without}
-use Rattle.cpg_group.specs.declared.rosters.Process.{Process}
-use Rattle.cpg_group.specs.declared.rosters.TheConstants.{FEW}
+use Rattle.cpg_roster.specs.declared.rosters.Process.{Process}
+use Rattle.cpg_roster.specs.declared.rosters.TheConstants.{FEW}
 
 -- the process of a member
 abbrev pub process_in : Member → Process

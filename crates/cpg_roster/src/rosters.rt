@@ -5,7 +5,7 @@
 ghost use Rattle.std.specs.Prelude.{◌≡◌, ◌++◌, ◌∷◌, [], OnOk, OnErr, IfOk, IsOkUnless};
 ghost use Rattle.cpg_record.specs.Connections.{conn_of, member_of};
 ghost use Rattle.cpg_record.specs.Verdicts.{has_process};
-ghost use Rattle.cpg_group.specs.Processes.{kept_of, process_in, process_of, AreKept, AreProcesses, ComesTo, Leaves, TakesOut};
+ghost use Rattle.cpg_roster.specs.Processes.{kept_of, process_in, process_of, AreKept, AreProcesses, ComesTo, Leaves, TakesOut};
 
 use cpg_cred::{NodeId, Refusal};
 use cpg_entry::{Call, Entry, Op};
@@ -107,7 +107,7 @@ fn keep_rest(processes: &mut Option<Box<IndexSet<Process>>>, before: &Members, p
 /// The members of a group in the order of their joins, with the set of their processes where they are more
 /// than a few. A group with few members has no set. Contracts see it as the list of members.
 #[derive(Debug, Drop)]
-pub(crate) struct Roster {
+pub struct Roster {
     members: Members,
     processes: Option<Box<IndexSet<Process>>>,
 }
@@ -115,7 +115,7 @@ pub(crate) struct Roster {
 impl Model for Roster {
     ghost use Rattle.std.specs.Prelude.{List};
     ghost use Rattle.cpg_record.specs.declared.memberships.Member.{Member};
-    ghost use Rattle.cpg_group.specs.Processes.{kept_of, AreKept};
+    ghost use Rattle.cpg_roster.specs.Processes.{kept_of, AreKept};
 
     ghost Value = { List Member };
 
@@ -126,7 +126,7 @@ impl Model for Roster {
 
 impl Roster {
     /// Nobody.
-    pub(crate) fn new(alloc: Global) -> Roster
+    pub fn new(alloc: Global) -> Roster
         ensures { result ≡ [] }
     {
         Roster {
@@ -136,14 +136,14 @@ impl Roster {
     }
 
     /// The members.
-    pub(crate) fn members(&self) -> &Members
+    pub fn members(&self) -> &Members
         ensures { result.now ≡ self.now }
     {
         &self.members
     }
 
     /// Whether the entry's process is a member. Looks at each member where they are few, and else into the set.
-    pub(crate) fn has_process(&self, entry: &Entry) -> bool
+    pub fn has_process(&self, entry: &Entry) -> bool
         ensures { result ≡ has_process entry.now self.now }
     {
         match &self.processes {
@@ -184,7 +184,7 @@ impl Roster {
     }
 
     /// Lists the members of an allowed record of the group. A refusal changes nothing.
-    pub(crate) fn take_in(&mut self, alloc: Global, past: &Record) -> Result<(), Refusal>
+    pub fn take_in(&mut self, alloc: Global, past: &Record) -> Result<(), Refusal>
         requires { ComesTo self.old past.now.entry past.now.entry.op past.now.members }
         ensures ok { OnOk result (self.new ≡ past.now.members) }
         ensures err { OnErr result (self.new ≡ self.old) }
