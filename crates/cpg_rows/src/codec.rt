@@ -1,13 +1,13 @@
 //! `%codec`: frames as bytes. Its rows also stand where no object could be made.
 
 use crate::player::{Plays, Row};
+use crate::printing::put_frame;
 use crate::spelling::put_spelled;
 use crate::words::{NO_COMMAND, put_hex, put_number_line};
 use bytes::Bytes;
 use cpg_cred::Refusal;
 use cpg_entry::Frame;
 use cpg_script::put;
-use cpg_step::put_frame;
 use cpg_text::push_number;
 use cpg_wire::{decode, encode_data, encode_token};
 use std::alloc::Global;

@@ -3,20 +3,21 @@
 //! node 1. Their commands are those of `step`.
 
 use crate::codec::put_decoded;
+use crate::events::event_of;
 use crate::looks::put_server;
 use crate::nodes::{Server, Shared};
 use crate::player::{Plays, Row};
+use crate::printing;
 use crate::spelling::put_spelled;
 use crate::states::put_audits;
 use crate::tables::put_rules_of;
-use crate::words::{NO_COMMAND, command_of, first, is_word, put_number_line, settings};
+use crate::words::{NO_COMMAND, first, index, is_word, node_of, one, put_number_line, settings};
 use bytes::Bytes;
 use cpg_cred::{NodeId, Refusal, Refused, is_memory};
 use cpg_entry::Call;
 use cpg_node::Settings;
 use cpg_script::put;
 use cpg_station::BoardName;
-use cpg_step::{Command, Look, put_answer, read_node};
 use cpg_world::{Reply, WorldEvent};
 use std::alloc::Global;
 
@@ -80,10 +81,9 @@ fn send(sent: &mut Vec<Bytes>, frames: Vec<Bytes>) -> usize {
 }
 
 /// Puts the line of the reply, which is let go.
-fn put_reply(alloc: Global, line: &mut Vec<u8>, reply: Reply) -> Result<(), Refusal> {
-    let answer = Ok(reply);
-    let put = put_answer(alloc, line, &answer);
-    drop(answer);
+fn put_reply(line: &mut Vec<u8>, reply: Reply) -> Result<(), Refusal> {
+    let put = printing::put_reply(line, &reply);
+    drop(reply);
     put
 }
 
@@ -192,8 +192,7 @@ impl<B: BoardName> Crew<B> {
     /// The node that the command names, and what follows.
     fn node_of<'r>(&self, row: &Row<'r>) -> Result<(NodeId, &'r [u8]), Refusal> {
         let (node, text) = first(row.rest)?;
-        let node = read_node(self.nodes, node).ok_or(NO_COMMAND)?;
-        Ok((node, text))
+        Ok((node_of(self.nodes, node)?, text))
     }
 
     /// Delivers the next place, again after Memory.
@@ -227,7 +226,7 @@ impl<B: BoardName> Crew<B> {
         let count = self.hear_sent(alloc, node, self.sent.len())?;
         put_number_line(line, "sent", count as u64)?;
         let last = self.deliver_all(node, row.tries)?;
-        put_reply(alloc, line, Reply::Delivered(last))
+        put_reply(line, Reply::Delivered(last))
     }
 
     fn commit(&mut self, row: &Row<'_>) -> Result<Reply, Refusal> {
@@ -269,61 +268,55 @@ impl<B: BoardName> Crew<B> {
         self.shared.ask(server, event)
     }
 
-    fn look(&mut self, alloc: Global, line: &mut Vec<u8>, look: &Look) -> Result<(), Refusal> {
-        match look {
-            Look::Show(number) => put_decoded(
-                alloc,
-                line,
-                sent_at(self.sent.as_slice(), *number as usize)?,
-            ),
-            Look::Audit(node) => put_audits(line, server_of(&mut self.servers, *node)?.audit()),
-            Look::Rules(node, group) => put_rules_of(
-                line,
-                server_of(&mut self.servers, *node)?.table(group.as_slice()),
-            ),
-            Look::Safe(node) => {
-                let place = server_of(&mut self.servers, *node)?.safe();
-                put_number_line(line, "safe", u64::from(place))
-            }
+    /// `show K`: the frame of that number.
+    fn show(&self, alloc: Global, line: &mut Vec<u8>, row: &Row<'_>) -> Result<(), Refusal> {
+        let bytes = sent_at(self.sent.as_slice(), index(one(row.rest)?)?)?;
+        put_decoded(alloc, line, bytes)
+    }
+
+    /// The commands that look at a server.
+    fn look(&mut self, line: &mut Vec<u8>, row: &Row<'_>) -> Result<(), Refusal> {
+        let (node, rest) = self.node_of(row)?;
+        let server = server_of(&mut self.servers, node)?;
+        if row.is("audit") {
+            return put_audits(line, server.audit());
         }
+        if row.is("rules") {
+            return put_rules_of(line, server.table(one(rest)?));
+        }
+        put_number_line(line, "safe", u64::from(server.safe()))
     }
 
     /// Does what a command of `step` says.
-    fn obey(
-        &mut self,
-        alloc: Global,
-        line: &mut Vec<u8>,
-        command: &Command,
-    ) -> Result<(), Refusal> {
-        match command {
-            Command::Act(event) => put_reply(alloc, line, self.act(alloc, event)?),
-            Command::Look(look) => self.look(alloc, line, look),
-        }
-    }
-
-    fn obey_line(&mut self, alloc: Global, line: &mut Vec<u8>, text: &[u8]) -> Result<(), Refusal> {
-        let command = command_of(alloc, self.nodes, text)?;
-        let obeyed = self.obey(alloc, line, &command);
-        drop(command);
-        obeyed
+    fn obey(&mut self, alloc: Global, line: &mut Vec<u8>, text: &[u8]) -> Result<(), Refusal> {
+        let event = event_of(alloc, self.nodes, text)?;
+        let reply = self.act(alloc, &event);
+        drop(event);
+        put_reply(line, reply?)
     }
 }
 
 impl<B: BoardName> Plays for Crew<B> {
     fn make(&mut self, alloc: Global, line: &mut Vec<u8>, row: &Row<'_>) -> Result<(), Refusal> {
         if row.is("hear") {
-            return put_reply(alloc, line, self.hear_said(alloc, row)?);
+            return put_reply(line, self.hear_said(alloc, row)?);
         }
         if row.is("turn") {
             return self.turn(alloc, line, row);
         }
         if row.is("commit") {
-            return put_reply(alloc, line, self.commit(row)?);
+            return put_reply(line, self.commit(row)?);
         }
         if row.is("halt") {
             return self.halt(line, row);
         }
-        self.obey_line(alloc, line, row.text)
+        if row.is("show") {
+            return self.show(alloc, line, row);
+        }
+        if row.is("audit") || row.is("rules") || row.is("safe") {
+            return self.look(line, row);
+        }
+        self.obey(alloc, line, row.text)
     }
 
     fn put_state(&self, alloc: Global, text: &mut Vec<u8>) -> Result<(), Refusal> {

@@ -33,11 +33,18 @@ fn put_text(line: &mut Vec<u8>, word: &str, text: &[u8]) -> Result<(), Refusal> 
 }
 
 /// Puts a line for each of the texts.
-fn put_left(line: &mut Vec<u8>, left: &[Vec<u8>]) -> Result<(), Refusal> {
+fn put_each_left(line: &mut Vec<u8>, left: &[Vec<u8>]) -> Result<(), Refusal> {
     for text in left {
         put_text(line, "left ", text.as_slice())?;
     }
     put(line, "closed\n")
+}
+
+/// The same, where the texts are let go.
+fn put_left(line: &mut Vec<u8>, left: Vec<Vec<u8>>) -> Result<(), Refusal> {
+    let put = put_each_left(line, left.as_slice());
+    drop(left);
+    put
 }
 
 /// The text that the word spells.
@@ -93,13 +100,15 @@ impl<'r, R: Wait> Linked<'r, R> {
 
     /// Closes the link, which comes back where that is refused.
     fn close(&mut self, alloc: Global, line: &mut Vec<u8>) -> Result<(), Refusal> {
-        let Pair { sender, receiver } = self.pair.take().ok_or(NO_COMMAND)?;
-        match close(self.rt, alloc, sender, receiver) {
-            Ok(left) => {
-                let put = put_left(line, left.as_slice());
-                drop(left);
-                put
-            }
+        match self.pair.take() {
+            Some(pair) => self.close_pair(alloc, line, pair),
+            None => Err(NO_COMMAND),
+        }
+    }
+
+    fn close_pair(&mut self, alloc: Global, line: &mut Vec<u8>, pair: Pair) -> Result<(), Refusal> {
+        match close(self.rt, alloc, pair.sender, pair.receiver) {
+            Ok(left) => put_left(line, left),
             Err(refused) => {
                 let (sender, receiver) = refused.back;
                 self.pair = Some(Pair { sender, receiver });

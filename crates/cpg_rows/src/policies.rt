@@ -1,6 +1,7 @@
 //! `%policy`: entries that are judged, one a row, and what comes of them.
 
 use crate::player::{Plays, Row};
+use crate::printing;
 use crate::states::{put_audits, put_last, put_policy, put_processes};
 use crate::tables::{put_copied_rules, put_rules_of};
 use crate::words::{
@@ -8,12 +9,11 @@ use crate::words::{
     put_whether, two,
 };
 use cpg_cred::{By, Refusal, Refused};
-use cpg_entry::{Entry, Frame, Name, Packet, SharedEntry};
+use cpg_entry::{Entry, Name, Packet, SharedEntry};
 use cpg_group::{MOST_PLACES, Policy, verify};
 use cpg_print::{put_event, put_groups_line, put_members, put_members_line};
 use cpg_record::{ConnId, Events, Members, Reason, Record, Verdict};
 use cpg_script::{put, put_byte};
-use cpg_step::put_frame;
 use std::alloc::Global;
 
 #[derive(Drop)]
@@ -269,9 +269,9 @@ fn put_copies(alloc: Global, line: &mut Vec<u8>, records: &[Record]) -> Result<(
 fn put_packet(alloc: Global, line: &mut Vec<u8>, packet: Packet) -> Result<(), Refusal> {
     let copy = packet.copy(alloc);
     drop(packet);
-    let frame = Frame::Packet(copy?);
-    let put = put_frame(line, &frame);
-    drop(frame);
+    let copy = copy?;
+    let put = printing::put_packet(line, &copy);
+    drop(copy);
     put
 }
 

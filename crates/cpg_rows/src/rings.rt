@@ -4,15 +4,14 @@ ghost use Rattle.std.specs.Prelude.{IfOk};
 ghost use Rattle.cpg_entry.specs.Ranges.{IsFrame};
 
 use crate::player::{Plays, Row};
+use crate::printing::{put_packet, put_token};
 use crate::spelling::put_spelled;
 use crate::words::{NO_COMMAND, entry, first, is_word, node, put_number_line, settings};
 use cpg_cred::{Refusal, Refused};
-use cpg_entry::{Entry, Frame, Packet, Token};
+use cpg_entry::{Entry, Frame, Packet};
 use cpg_print::put_entry;
 use cpg_ring::{Ring, Visit};
 use cpg_script::{put, put_bytes};
-use cpg_step::put_frame;
-use cpg_text::push_number;
 use cpg_wire::decode;
 use std::alloc::Global;
 
@@ -75,22 +74,6 @@ fn read_frame(alloc: Global, text: &[u8]) -> Result<Frame, Refusal>
     }
 }
 
-fn put_packet(line: &mut Vec<u8>, packet: &Packet) -> Result<(), Refusal> {
-    put(line, "data ")?;
-    push_number(line, u64::from(packet.place))?;
-    put(line, " ")?;
-    put_entry(line, &packet.entry)?;
-    put(line, "\n")
-}
-
-/// Puts the line of the token, which is let go.
-fn put_token(line: &mut Vec<u8>, token: Token) -> Result<(), Refusal> {
-    let frame = Frame::Token(token);
-    let put = put_frame(line, &frame);
-    drop(frame);
-    put
-}
-
 fn put_packets(line: &mut Vec<u8>, packets: &[Packet]) -> Result<(), Refusal> {
     for packet in packets {
         put_packet(line, packet)?;
@@ -102,7 +85,7 @@ fn put_packets(line: &mut Vec<u8>, packets: &[Packet]) -> Result<(), Refusal> {
 fn put_visit(line: &mut Vec<u8>, visit: Visit) -> Result<(), Refusal> {
     let put = put_packets(line, visit.packets.as_slice());
     match put {
-        Ok(()) => put_token(line, visit.token),
+        Ok(()) => put_token(line, &visit.token),
         Err(refusal) => Err(refusal),
     }
 }
@@ -162,9 +145,9 @@ fn advance(line: &mut Vec<u8>, ring: &mut Ring) -> Result<(), Refusal> {
 }
 
 /// Puts the last token that it sent.
-fn put_resent(alloc: Global, line: &mut Vec<u8>, ring: &Ring) -> Result<(), Refusal> {
+fn put_resent(line: &mut Vec<u8>, ring: &Ring) -> Result<(), Refusal> {
     match ring.resend() {
-        Some(token) => put_token(line, token.copy(alloc)?),
+        Some(token) => put_token(line, token),
         None => put(line, "none\n"),
     }
 }
@@ -197,7 +180,7 @@ impl Ringing {
             return put_number_line(line, "safe", u64::from(ring.safe()));
         }
         if row.is("resend") {
-            return put_resent(alloc, line, ring);
+            return put_resent(line, ring);
         }
         Err(NO_COMMAND)
     }

@@ -3,7 +3,7 @@
 use crate::tables::put_rules_of;
 use cpg_cred::Refusal;
 use cpg_entry::{Call, Entry, Name, Op};
-use cpg_group::{MOST_PLACES, Policy};
+use cpg_group::{MOST_PLACES, Policy, Trail};
 use cpg_print::{put_audit, put_conn, put_members, put_verdict};
 use cpg_record::{ConnId, Member, Record};
 use cpg_script::{put, put_bytes};
@@ -49,6 +49,15 @@ fn last_group<'r>(record: &'r Record, later: &[Record]) -> Option<&'r Name> {
     Some(name)
 }
 
+/// Puts the places, each behind a space.
+fn put_places(line: &mut Vec<u8>, places: &[u32]) -> Result<(), Refusal> {
+    for place in places {
+        put(line, " ")?;
+        push_number(line, u64::from(*place))?;
+    }
+    Ok(())
+}
+
 /// Puts the members and the places of a group, by its last record.
 fn put_group_line(
     line: &mut Vec<u8>,
@@ -61,10 +70,7 @@ fn put_group_line(
     put(line, " members ")?;
     put_members(line, record.members.as_slice())?;
     put(line, " places")?;
-    for place in policy.places_in(name.as_slice()) {
-        put(line, " ")?;
-        push_number(line, u64::from(*place))?;
-    }
+    put_places(line, policy.places_in(name.as_slice()))?;
     put(line, "\n")
 }
 
@@ -84,38 +90,41 @@ fn put_each_group(line: &mut Vec<u8>, policy: &Policy) -> Result<(), Refusal> {
     Ok(())
 }
 
-/// Puts a connection's own places.
-fn put_trail(line: &mut Vec<u8>, policy: &Policy, conn: ConnId) -> Result<(), Refusal> {
-    let trail = policy.trail(conn);
-    for number in 0..policy.len() {
-        let Some(place) = trail.own(number) else {
-            break;
-        };
-        put(line, " ")?;
-        push_number(line, u64::from(place))?;
+/// Puts the own places of a connection, each behind a space.
+fn put_trail(line: &mut Vec<u8>, trail: &Trail<'_>, most: usize) -> Result<(), Refusal> {
+    for number in 0..most {
+        match trail.own(number) {
+            Some(place) => put_places(line, &[place])?,
+            None => break,
+        }
     }
     Ok(())
 }
 
-/// Puts the group that a connection is in.
-fn put_present(line: &mut Vec<u8>, policy: &Policy, conn: ConnId) -> Result<(), Refusal> {
-    let last = u32::try_from(policy.len()).unwrap_or(0);
-    match policy.trail(conn).group_after(last) {
-        Some(name) => put_bytes(line, name.as_slice()),
-        None => put(line, "-"),
+/// The name's bytes, or a dash.
+fn bytes_of(name: Option<&Name>) -> &[u8] {
+    match name {
+        Some(name) => name.as_slice(),
+        None => b"-",
     }
 }
 
-/// Puts each connection's own places and the group that it is in.
-fn put_trails(line: &mut Vec<u8>, policy: &Policy) -> Result<(), Refusal> {
+/// Puts a connection's own places and the group that it is in.
+fn put_connection(line: &mut Vec<u8>, policy: &Policy, conn: &ConnId) -> Result<(), Refusal> {
+    let trail = policy.trail(*conn);
+    let last = u32::try_from(policy.len()).unwrap_or(0);
+    put(line, "connection ")?;
+    put_conn(line, conn)?;
+    put(line, " places")?;
+    put_trail(line, &trail, policy.len())?;
+    put(line, " group ")?;
+    put_bytes(line, bytes_of(trail.group_after(last)))?;
+    put(line, "\n")
+}
+
+fn put_connections(line: &mut Vec<u8>, policy: &Policy) -> Result<(), Refusal> {
     for conn in policy.connections() {
-        put(line, "connection ")?;
-        put_conn(line, conn)?;
-        put(line, " places")?;
-        put_trail(line, policy, *conn)?;
-        put(line, " group ")?;
-        put_present(line, policy, *conn)?;
-        put(line, "\n")?;
+        put_connection(line, policy, conn)?;
     }
     Ok(())
 }
@@ -124,7 +133,7 @@ fn put_trails(line: &mut Vec<u8>, policy: &Policy) -> Result<(), Refusal> {
 pub fn put_policy(line: &mut Vec<u8>, policy: &Policy) -> Result<(), Refusal> {
     put_audits(line, policy.records())?;
     put_each_group(line, policy)?;
-    put_trails(line, policy)
+    put_connections(line, policy)
 }
 
 /// A join of the group by the member's process, with a connection of its own.

@@ -9,8 +9,7 @@ use cpg_record::ConnId;
 use cpg_ring::Settings;
 use cpg_rules::{Asker, Right, Rule};
 use cpg_script::{cut, is, put, read_u32, strip_name};
-use cpg_step::{Command, read_commands};
-use cpg_text::{MOST_BYTES, only_word, push_number, read_number, take_word};
+use cpg_text::{only_word, push_number, read_number, take_word};
 use std::alloc::Global;
 
 /// Why a row is no command.
@@ -58,7 +57,17 @@ pub fn node(word: &[u8]) -> Result<NodeId, Refusal> {
     NodeId::new(byte(word)?).ok_or(NO_COMMAND)
 }
 
-fn conn(word: &[u8]) -> Result<u16, Refusal> {
+/// A node of so many.
+pub fn node_of(nodes: u8, word: &[u8]) -> Result<NodeId, Refusal> {
+    let node = node(word)?;
+    if node.get() <= nodes {
+        Ok(node)
+    } else {
+        Err(NO_COMMAND)
+    }
+}
+
+pub fn conn(word: &[u8]) -> Result<u16, Refusal> {
     u16::try_from(number(word)?).map_err(|_| NO_COMMAND)
 }
 
@@ -172,18 +181,6 @@ pub fn add_to(list: &mut AcceptList, word: &[u8]) -> Result<(), Refusal> {
     }
     match strip_name(b"gid:", word) {
         Some(gid) => list.add_gid(number(gid)?),
-        None => Err(NO_COMMAND),
-    }
-}
-
-/// The one command of `step` that the text is.
-pub fn command_of(alloc: Global, nodes: u8, text: &[u8]) -> Result<Command, Refusal> {
-    if text.len() > MOST_BYTES {
-        return Err(NO_COMMAND);
-    }
-    let mut commands = read_commands(alloc, nodes, text)?;
-    match commands.pop() {
-        Some(command) => Ok(command),
         None => Err(NO_COMMAND),
     }
 }

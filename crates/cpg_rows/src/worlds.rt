@@ -1,15 +1,18 @@
 //! `%world RING NODES PLACES HOPS WORD ..`: a world, by the commands of `step`; `run` runs the block as one list.
 
-ghost use Rattle.std.specs.Prelude.{IsTrue};
-ghost use Rattle.cpg_step.specs.Commands.{LooksWithin};
-
+use crate::events::event_of;
 use crate::player::{Plays, Row};
-use crate::words::{NO_COMMAND, accept_list, command_of, put_number_line, settings};
+use crate::printing::{put_frame, put_reply};
+use crate::states::put_audits;
+use crate::tables::put_rules_of;
+use crate::words::{NO_COMMAND, accept_list, first, index, node, one, put_number_line, settings};
 use cpg_cred::Refusal;
+use cpg_node::Node;
+use cpg_print::put_refused_line;
 use cpg_script::put_bytes;
-use cpg_step::{Command, Look, put_answer, put_look};
 use cpg_text::{Lines, is_ignored};
-use cpg_world::{World, WorldEvent};
+use cpg_wire::decode;
+use cpg_world::{Reply, World, WorldEvent};
 use std::alloc::Global;
 
 #[derive(Drop)]
@@ -17,29 +20,35 @@ pub struct Worldly {
     world: World,
 }
 
-/// Whether what is looked at is there.
-fn is_within(nodes: u8, look: &Look) -> bool
-    ensures { IsTrue result → LooksWithin nodes look.now }
-{
-    match look {
-        Look::Show(_) => true,
-        Look::Audit(node) => node.get() <= nodes,
-        Look::Rules(node, _) => node.get() <= nodes,
-        Look::Safe(node) => node.get() <= nodes,
+/// Puts what a command sees of the node.
+fn put_look(line: &mut Vec<u8>, node: &Node, row: &Row<'_>, rest: &[u8]) -> Result<(), Refusal> {
+    if row.is("audit") {
+        return put_audits(line, node.audit());
+    }
+    if row.is("rules") {
+        return put_rules_of(line, node.table(one(rest)?));
+    }
+    put_number_line(line, "safe", u64::from(node.safe()))
+}
+
+/// Puts the line of what an event was answered.
+fn put_answer(
+    alloc: Global,
+    line: &mut Vec<u8>,
+    answer: &Result<Reply, Refusal>,
+) -> Result<(), Refusal> {
+    match answer {
+        Ok(reply) => put_reply(line, reply),
+        Err(refusal) => put_refused_line(alloc, line, *refusal),
     }
 }
 
-/// Puts the event of the line behind the others.
-fn push_event(
-    alloc: Global,
-    events: &mut Vec<WorldEvent>,
-    nodes: u8,
-    text: &[u8],
-) -> Result<(), Refusal> {
-    match command_of(alloc, nodes, text)? {
-        Command::Act(event) => Ok(events.push(event)?),
-        Command::Look(_) => Err(NO_COMMAND),
-    }
+/// Puts the line of the frame that the bytes spell.
+fn put_spelled(alloc: Global, line: &mut Vec<u8>, bytes: &[u8]) -> Result<(), Refusal> {
+    let frame = decode(alloc, bytes)?;
+    let put = put_frame(line, &frame);
+    drop(frame);
+    put
 }
 
 impl Worldly {
@@ -51,36 +60,36 @@ impl Worldly {
         Ok(Worldly { world: made? })
     }
 
-    fn step(
-        &mut self,
-        alloc: Global,
-        line: &mut Vec<u8>,
-        event: WorldEvent,
-    ) -> Result<(), Refusal> {
+    fn step(&mut self, line: &mut Vec<u8>, event: WorldEvent) -> Result<(), Refusal> {
         if event.node().get() > self.world.nodes() {
             return Err(NO_COMMAND);
         }
-        let answer = self.world.step(event);
-        let put = match &answer {
-            Ok(_) => put_answer(alloc, line, &answer),
-            Err(refusal) => Err(*refusal),
-        };
-        drop(answer);
+        let reply = self.world.step(event)?;
+        let put = put_reply(line, &reply);
+        drop(reply);
         put
     }
 
-    fn look(&self, alloc: Global, line: &mut Vec<u8>, look: &Look) -> Result<(), Refusal> {
-        if is_within(self.world.nodes(), look) {
-            put_look(alloc, line, &self.world, look)
-        } else {
-            Err(NO_COMMAND)
-        }
+    fn step_said(&mut self, alloc: Global, line: &mut Vec<u8>, text: &[u8]) -> Result<(), Refusal> {
+        let event = event_of(alloc, self.world.nodes(), text)?;
+        self.step(line, event)
     }
 
-    fn obey_line(&mut self, alloc: Global, line: &mut Vec<u8>, text: &[u8]) -> Result<(), Refusal> {
-        match command_of(alloc, self.world.nodes(), text)? {
-            Command::Act(event) => self.step(alloc, line, event),
-            Command::Look(look) => self.look(alloc, line, &look),
+    /// The commands that look at a node.
+    fn look(&self, line: &mut Vec<u8>, row: &Row<'_>) -> Result<(), Refusal> {
+        let (at, rest) = first(row.rest)?;
+        let id = node(at)?;
+        if id.get() > self.world.nodes() {
+            return Err(NO_COMMAND);
+        }
+        put_look(line, self.world.node(id), row, rest)
+    }
+
+    /// `show K`.
+    fn show(&self, alloc: Global, line: &mut Vec<u8>, text: &[u8]) -> Result<(), Refusal> {
+        match self.world.sent_frame(index(one(text)?)?) {
+            Some(bytes) => put_spelled(alloc, line, bytes.as_slice()),
+            None => Err(Refusal::NoFrame),
         }
     }
 
@@ -126,7 +135,7 @@ impl Worldly {
     ) -> Result<(), Refusal> {
         for text in Lines::of(row.block) {
             if !is_ignored(text) {
-                push_event(alloc, events, self.world.nodes(), text)?;
+                events.push(event_of(alloc, self.world.nodes(), text)?)?;
             }
         }
         self.run_all(alloc, line, events.as_slice(), row.tries)
@@ -145,7 +154,13 @@ impl Plays for Worldly {
         if row.is("run") {
             return self.run(alloc, line, row);
         }
-        self.obey_line(alloc, line, row.text)
+        if row.is("show") {
+            return self.show(alloc, line, row.rest);
+        }
+        if row.is("audit") || row.is("rules") || row.is("safe") {
+            return self.look(line, row);
+        }
+        self.step_said(alloc, line, row.text)
     }
 
     fn put_state(&self, alloc: Global, text: &mut Vec<u8>) -> Result<(), Refusal> {

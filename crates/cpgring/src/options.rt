@@ -128,7 +128,7 @@ fn taking(arg: Arg<'static>, name: &'static str, takes: Takes) -> Arg<'static> {
             .value_name(word)
             .action(ArgAction::Set)
             .required(true),
-        Takes::Number(numbers, usual) => within(
+        Takes::Number(numbers, usual) => limited(
             arg.long(name)
                 .value_name("N")
                 .action(ArgAction::Set)
@@ -142,7 +142,7 @@ fn taking(arg: Arg<'static>, name: &'static str, takes: Takes) -> Arg<'static> {
 }
 
 /// The argument, which takes numbers of that range.
-fn within(arg: Arg<'static>, numbers: Within) -> Arg<'static> {
+fn limited(arg: Arg<'static>, numbers: Within) -> Arg<'static> {
     match numbers {
         Within::Rings => arg.value_parser(value_parser!(u32)),
         Within::Nodes => { arg.value_parser(value_parser!(u8).range(1..=i64::from(MOST_NODES))) }

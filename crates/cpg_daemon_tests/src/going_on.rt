@@ -1,18 +1,16 @@
-//! Sessions at a running cluster of one node, whose calls go on after Memory. What the node's thread meets it at, the
-//! node makes up for by itself.
+//! A session at a running cluster of one node, whose calls go on after Memory. What the node's thread meets it at, the
+//! node makes up for by itself. `tools/refuse-growths` runs the test again and again, with other requests refused.
 
 ghost use Rattle.std.specs.Prelude.{◌≡◌, ◌≤◌, IfOk};
 ghost use Rattle.cpg_history.specs.Histories.{first_world};
 
-use crate::again::Stop;
-use crate::entering::{Ask, call, cred, node};
-use crate::short::{Short, event_in_short};
 use cpg_board::Board;
-use cpg_cred::{AcceptList, By, NodeId, Refusal};
+use cpg_cred::{AcceptList, By, Cred, NodeId, Refusal};
 use cpg_daemon::{Beginning, Cluster, HistoryName, Opened, PassAll, Running, Session};
 use cpg_entry::Call;
 use cpg_node::{Event, Settings};
 use cpg_record::Verdict;
+use cpg_short::{ALLOWED, Ask, Told, call, in_short, node};
 use std::alloc::Global;
 use std::marker::Brand;
 use std::sync::Wait;
@@ -36,7 +34,30 @@ const SETTINGS: Settings = Settings {
     hops: 1 << 62,
 };
 
-const ALLOWED: Verdict = Verdict::Allowed(By::Default);
+/// The credentials of user 0.
+const ROOT: Cred = Cred { uid: 0, gid: 0 };
+
+/// Why the row stops.
+#[derive(Debug, Clone, Copy, PartialEq, Eq)]
+enum Stop {
+    /// Memory was refused at each try, or where the row itself asked for it.
+    Memory,
+    /// What the row begins with was refused.
+    Refused,
+    /// A call that answered Memory changed something.
+    Changed,
+    /// The answer of that number, from 0, is another than the row says.
+    Wrong(usize),
+}
+
+impl From<Refusal> for Stop {
+    fn from(refusal: Refusal) -> Stop {
+        match refusal {
+            Refusal::Memory => Stop::Memory,
+            _ => Stop::Refused,
+        }
+    }
+}
 
 /// A session of the process, which belongs to user 0.
 fn connected<B: HistoryName, R: Wait>(
@@ -49,7 +70,7 @@ fn connected<B: HistoryName, R: Wait>(
     ensures { IfOk result (λ session. session.who.id.node ≤ running.now.nodes) }
 {
     for _ in 0..TRIES {
-        match running.connect(rt, id, pid, cred(0)) {
+        match running.connect(rt, id, pid, ROOT) {
             Ok(session) => return Ok(session),
             Err(Refusal::Memory) => (),
             Err(_) => return Err(Stop::Refused),
@@ -90,7 +111,7 @@ fn submitted<B: HistoryName, R: Wait>(
     alloc: Global,
     running: &Running<B, PassAll>,
     session: &mut Session<B>,
-    ask: &Ask,
+    ask: &Ask<'_>,
 ) -> Result<(), Stop>
     requires { session.old.who.id.node ≤ running.now.nodes }
     ensures { session.new.who.id.node ≡ session.old.who.id.node }
@@ -110,13 +131,13 @@ fn told_once<B: HistoryName, R: Wait>(
     rt: &R,
     running: &Running<B, PassAll>,
     session: &mut Session<B>,
-) -> Result<Short, Stop>
+) -> Result<Option<Told>, Stop>
     requires { session.old.who.id.node ≤ running.now.nodes }
     ensures { session.new.who.id.node ≡ session.old.who.id.node }
 {
     match running.take(rt, session) {
-        Ok(None) | Err(Refusal::Memory | Refusal::Behind(_)) => Ok(Short::NoEvent),
-        Ok(Some(event)) => Ok(event_in_short(&event)),
+        Ok(None) | Err(Refusal::Memory | Refusal::Behind(_)) => Ok(None),
+        Ok(Some(event)) => Ok(Some(in_short(&event))),
         Err(_) => Err(Stop::Refused),
     }
 }
@@ -126,14 +147,13 @@ fn told<B: HistoryName, R: Wait>(
     rt: &R,
     running: &Running<B, PassAll>,
     session: &mut Session<B>,
-) -> Result<Short, Stop>
+) -> Result<Told, Stop>
     requires { session.old.who.id.node ≤ running.now.nodes }
     ensures { session.new.who.id.node ≡ session.old.who.id.node }
 {
     for _ in 0..MOST_ASKS {
-        let short = told_once(rt, running, session)?;
-        if short != Short::NoEvent {
-            return Ok(short);
+        if let Some(told) = told_once(rt, running, session)? {
+            return Ok(told);
         }
         thread::yield_now();
     }
@@ -146,8 +166,8 @@ fn goes_on<B: HistoryName, R: Wait>(
     alloc: Global,
     running: &Running<B, PassAll>,
     session: &mut Session<B>,
-    ask: &Ask,
-    events: [Short; 2],
+    ask: &Ask<'_>,
+    events: [Told; 2],
 ) -> Result<(), Stop>
     requires { session.old.who.id.node ≤ running.now.nodes }
     ensures { session.new.who.id.node ≡ session.old.who.id.node }
@@ -216,8 +236,8 @@ fn leaves<B: HistoryName, R: Wait>(
     told_together(rt, running, session, &mut events)?;
     match events.as_slice() {
         [verdict, change]
-            if event_in_short(verdict) == Short::Verdict(3, Verdict::Allowed(By::Free))
-                && event_in_short(change) == Short::Change(3, 0, 1, 0) => { Ok(()) }
+            if in_short(verdict) == Told::Verdict(3, Verdict::Allowed(By::Free))
+                && in_short(change) == Told::Change(3, 0, 1, 0) => { Ok(()) }
         _ => Err(Stop::Wrong(4)),
     }
 }
@@ -325,9 +345,9 @@ fn serves<B: HistoryName, R: Wait>(
     requires { id ≤ running.now.nodes }
 {
     let mut session = connected(rt, running, id, 40)?;
-    let joined = [Short::Verdict(1, ALLOWED), Short::Change(1, 1, 0, 1)];
+    let joined = [Told::Verdict(1, ALLOWED), Told::Change(1, 1, 0, 1)];
     goes_on(rt, alloc, running, &mut session, &Ask::Join("db"), joined)?;
-    let said = [Short::Verdict(2, ALLOWED), Short::Message(2, id, 40)];
+    let said = [Told::Verdict(2, ALLOWED), Told::Message(2, id, 40)];
     goes_on(rt, alloc, running, &mut session, &Ask::Send("hi"), said)?;
     lists_one(rt, running, &mut session)?;
     tells_all(running, &session, connected(rt, running, id, 50)?)?;
