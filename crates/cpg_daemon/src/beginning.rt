@@ -53,14 +53,14 @@ where
     Ok(thread)
 }
 
-/// A thread for each node. Where one is refused, some have begun.
+/// A thread for each node, with its part of the ends of links. Where one is refused, some have begun.
 #[tactic(auto, using(crate::proofs::Counting::last_fits))]
 pub(crate) fn begin_all<B, G, R>(
     rt: R,
     running: &Arc<Running<B, G>, Global>,
     nodes: u8,
     peers: usize,
-    mut lines: Lines<B>,
+    lines: &mut Lines<B>,
     threads: &mut Begun<B>,
 ) -> Result<(), AllocError>
 where
@@ -68,7 +68,7 @@ where
     G: Gate + Send + Sync + Drop + 'static,
     R: Threads + Wait + Clock + Copy + Send + 'static,
     requires nodes { nodes ≡ (arc_value running.now).nodes }
-    requires lines { (vec_len lines.outgoing ≡ nodes * peers) × (vec_len lines.incoming ≡ nodes * peers) }
+    requires lines { (vec_len lines.old.outgoing ≡ nodes * peers) × (vec_len lines.old.incoming ≡ nodes * peers) }
     requires room { (vec_len threads.old.threads ≡ 0) × (nodes ≤ vec_capacity threads.old.threads) }
     ensures all { All (λ thread. thread.promise.0 ≡ peers) threads.new.threads.items }
     ensures few { vec_len threads.new.threads ≤ nodes }
@@ -78,7 +78,7 @@ where
         let Some(node) = NodeId::new(nodes - before) else {
             return Err(AllocError);
         };
-        let ends = last_lines(&mut lines, peers)?;
+        let ends = last_lines(lines, peers)?;
         let thread = begin_one(rt, running, node, ends, peers)?;
         threads.add(thread, peers);
     }

@@ -1,6 +1,6 @@
 //! A cluster: running nodes with their threads, from start to stop.
 
-ghost use Rattle.std.specs.Prelude.{◌≡◌, ◌≤◌, ◌*◌, All, IfOk, IfErr, IsOkUnless, vec_len};
+ghost use Rattle.std.specs.Prelude.{◌≡◌, ◌≤◌, ◌*◌, All, IfOk, IfErr, IsOkUnless, vec_len, vec_capacity};
 ghost use Rattle.std.specs.Arc.{arc_value};
 ghost use Rattle.cpg_history.specs.Histories.{first_world};
 ghost use Rattle.cpg_history.specs.Members.{HaveSeen};
@@ -10,14 +10,13 @@ ghost use Rattle.cpg_daemon.specs.Links.{peers_of, links_of};
 use crate::beginning::begin_all;
 use crate::gates::Gate;
 use crate::lines::Lines;
-use crate::making::{first_token, new_links, new_locks, new_room, new_spares, peers, put_first};
+use crate::making::{Parts, Wakers, new_parts, peers};
 use crate::running::{Lock, Running};
-use crate::signs::{Sign, new_signs};
 use crate::stopping::{Begun, Room, gather, pair, take_out};
 use cpg_board::Board;
 use cpg_cred::{AcceptList, Refusal};
 use cpg_history::{Beginning, Front, History, HistoryName, Member, Opened, Parcel};
-use cpg_link::{Bell, LinkRx, LinkTx, new_bells};
+use cpg_link::{LinkRx, LinkTx};
 use cpg_ring::are_settings;
 use crossbeam_utils::CachePadded;
 use std::alloc::Global;
@@ -70,15 +69,14 @@ pub struct Ends<B: HistoryName> {
     pub links: Vec<(LinkTx<Parcel<B>>, LinkRx<Parcel<B>>)>,
 }
 
-/// Running nodes with those stations, bells and signs.
+/// Running nodes with those stations and wakers.
 fn new_running<B: HistoryName, G>(
     alloc: Global,
     board: Board,
     history: History<B>,
     list: AcceptList,
     stations: Vec<Lock<B>>,
-    bells: Vec<CachePadded<Bell>>,
-    signs: Vec<CachePadded<Sign>>,
+    wakers: Wakers,
     nodes: u8,
     gate: G,
 ) -> Result<Arc<Running<B, G>, Global>, Refusal>
@@ -86,10 +84,11 @@ where
     G: Drop,
     requires board { board ≡ B.cells }
     requires list { list ≡ B.start.list }
-    requires nodes { (vec_len stations ≡ nodes) × (vec_len bells ≡ nodes) × (vec_len signs ≡ nodes) × (nodes ≤ 8) }
+    requires nodes { (vec_len stations ≡ nodes) × (vec_len wakers.bells ≡ nodes) × (vec_len wakers.signs ≡ nodes) × (nodes ≤ 8) }
     ensures ok { IfOk result (λ running. arc_value running ≡ record { nodes = nodes; list = list }) }
     ensures memory { IsOkUnless result Refusal.Memory }
 {
+    let Wakers { bells, signs } = wakers;
     Ok(Arc::new(
         alloc,
         Running {
@@ -164,7 +163,52 @@ fn cluster_of<B: HistoryName, G>(
     }
 }
 
-/// Begins the threads of running nodes. Where one is refused, those that began are halted and joined.
+/// Halts and joins the threads that have begun, and lets go of what they leave.
+fn undo<B: HistoryName, G: Drop, R: Threads + Wait>(
+    rt: &R,
+    running: Arc<Running<B, G>, Global>,
+    threads: Begun<B>,
+    room: Room<B>,
+)
+    requires room { room.nodes ≡ (arc_value running).nodes }
+    requires few { vec_len threads.threads ≤ (arc_value running).nodes }
+    requires threads { All (λ thread. thread.promise.0 ≡ peers_of room.nodes) threads.threads.items }
+{
+    running.halt(rt);
+    drop(leave(rt, &running, threads, room));
+}
+
+/// Begins the threads of running nodes, for which there is room. Where one is refused, those that began are halted and
+/// joined.
+fn begin_within<B, G, R>(
+    rt: R,
+    running: Arc<Running<B, G>, Global>,
+    mut lines: Lines<B>,
+    room: Room<B>,
+    mut threads: Begun<B>,
+) -> Result<Cluster<B, G>, Refusal>
+where
+    B: HistoryName + Send + Sync + 'static,
+    G: Gate + Send + Sync + Drop + 'static,
+    R: Threads + Wait + Clock + Copy + Send + 'static,
+    requires nodes { room.nodes ≡ (arc_value running).nodes }
+    requires lines { (vec_len lines.outgoing ≡ links_of room.nodes) × (vec_len lines.incoming ≡ links_of room.nodes) }
+    requires threads { (vec_len threads.threads ≡ 0) × (room.nodes ≤ vec_capacity threads.threads) }
+    ensures ok { IfOk result (λ cluster. cluster ≡ arc_value running) }
+    ensures memory { IsOkUnless result Refusal.Memory }
+{
+    let nodes = room.nodes;
+    let each = usize::from(peers(nodes));
+    let begun = begin_all(rt, &running, nodes, each, &mut lines, &mut threads);
+    drop(lines);
+    if begun.is_err() {
+        undo(&rt, running, threads, room);
+        return Err(Refusal::Memory);
+    }
+    Ok(cluster_of(running, threads, room))
+}
+
+/// Begins the threads of running nodes.
 fn begin<B, G, R>(
     rt: R,
     alloc: Global,
@@ -181,15 +225,8 @@ where
     ensures ok { IfOk result (λ cluster. cluster ≡ arc_value running) }
     ensures memory { IsOkUnless result Refusal.Memory }
 {
-    let nodes = room.nodes;
-    let mut threads = Begun::none(alloc, usize::from(nodes))?;
-    let each = usize::from(peers(nodes));
-    if begin_all(rt, &running, nodes, each, lines, &mut threads).is_err() {
-        running.halt(&rt);
-        drop(leave(&rt, &running, threads, room));
-        return Err(Refusal::Memory);
-    }
-    Ok(cluster_of(running, threads, room))
+    let threads = Begun::none(alloc, usize::from(room.nodes))?;
+    begin_within(rt, running, lines, room, threads)
 }
 
 impl<B, G> Cluster<B, G>
@@ -216,20 +253,24 @@ where
         if !are_settings(&opened.beginning().settings) {
             return Err(Refusal::Range);
         }
-        let (history, mut pens, beginning) = opened.named::<B>();
-        let settings = beginning.settings;
-        let nodes = settings.nodes;
-        let locks = new_locks(alloc, &board, &beginning, &history, &mut pens)?;
-        let spares = new_spares(alloc, settings, &board, &history, &mut pens)?;
-        let room = new_room(alloc, nodes, pens, spares)?;
-        let mut lines = new_links(alloc, nodes, peers(nodes))?;
-        let token = first_token(&rt, &history, &locks)?;
-        put_first(&rt, nodes, token, lines.outgoing.as_mut_slice());
-        let Beginning { settings: _, list } = beginning;
-        let bells = new_bells(alloc, nodes)?;
-        let signs = new_signs(alloc, nodes)?;
+        let (history, pens, beginning) = opened.named::<B>();
+        let parts = new_parts(&rt, alloc, &board, &beginning, &history, pens)?;
+        let Beginning { settings, list } = beginning;
+        let Parts {
+            stations,
+            wakers,
+            lines,
+            room,
+        } = parts;
         let running = new_running(
-            alloc, board, history, list, locks, bells, signs, nodes, gate,
+            alloc,
+            board,
+            history,
+            list,
+            stations,
+            wakers,
+            settings.nodes,
+            gate,
         )?;
         begin(rt, alloc, running, lines, room)
     }

@@ -1,97 +1,21 @@
 //! What a cluster is made of: stations, links, and the first token on its way.
 
-ghost use Rattle.std.specs.Prelude.{◌≡◌, ◌≤◌, ◌<◌, ◌+◌, ◌*◌, ◌^◌, suc, [], false, IfOk, OnOk, IsOkUnless, vec_len};
+ghost use Rattle.std.specs.Prelude.{◌≡◌, ◌≤◌, ◌<◌, ◌+◌, ◌*◌, suc, IfOk, OnOk, IsOkUnless, vec_len, vec_capacity};
 ghost use Rattle.cpg_ring.specs.States.{IsSettings};
-ghost use Rattle.cpg_node.specs.Nodes.{new_value};
-ghost use Rattle.cpg_history.specs.Histories.{first_world, all_nodes, is_counted};
-ghost use Rattle.cpg_history.specs.Traces.{new_trace};
-ghost use Rattle.cpg_daemon.specs.Links.{peers_of, peer_of};
+ghost use Rattle.cpg_history.specs.Histories.{first_world, all_nodes};
+ghost use Rattle.cpg_daemon.specs.Links.{links_of, peers_of, peer_of};
 
 use crate::lines::{Incoming, Lines, Outgoing, ROOM};
 use crate::running::Lock;
+use crate::signs::{Sign, new_signs};
 use crate::stopping::Room;
 use cpg_board::Board;
-use cpg_cred::{AcceptList, NodeId, Refusal};
-use cpg_history::laws::first_nodes;
-use cpg_history::{Beginning, History, HistoryName, Member, Parcel, Pen};
-use cpg_link::link;
-use cpg_node::{Node, Settings};
-use cpg_station::{BoardName, Station};
+use cpg_cred::{NodeId, Refusal};
+use cpg_history::{Beginning, History, HistoryName, Member, Parcel, Pen, new_member, new_spares};
+use cpg_link::{Bell, LinkRx, LinkTx, link, new_bells};
 use crossbeam_utils::CachePadded;
 use std::alloc::Global;
 use std::sync::{Mutex, Wait};
-
-/// A new station of that node, with a list of the same users and groups and a seat that has seen nothing.
-fn new_station<B: BoardName>(
-    alloc: Global,
-    settings: Settings,
-    id: NodeId,
-    board: &Board,
-    list: &AcceptList,
-) -> Result<Station<B>, Refusal>
-    requires settings { IsSettings settings }
-    requires number { id ≤ settings.nodes }
-    requires board { board.now ≡ B.cells }
-    ensures ok { IfOk result (λ station. station ≡ record { node = new_value settings id list.now; seat = []; halted = false }) }
-    ensures memory { IsOkUnless result Refusal.Memory }
-{
-    match Node::new(alloc, settings, id, list.copy(alloc)?) {
-        Ok(node) => Ok(Station::new(node, board.seat())),
-        Err(refused) => Err(refused.into_refusal()),
-    }
-}
-
-/// A spare for each node, to be left in the place of its station.
-pub(crate) fn new_spares<B: HistoryName>(
-    alloc: Global,
-    settings: Settings,
-    board: &Board,
-    history: &History<B>,
-    pens: &mut Pen<B>,
-) -> Result<Vec<Member<B>>, Refusal>
-    requires settings { IsSettings settings }
-    requires board { board.now ≡ B.cells }
-    requires pens { pens.old.from + settings.nodes ≤ pens.old.to }
-    ensures ok { IfOk result (λ spares. vec_len spares ≡ settings.nodes) }
-    ensures memory { IsOkUnless result Refusal.Memory }
-{
-    history.begins();
-    let none = AcceptList::new(alloc);
-    let mut spares = Vec::new(alloc);
-    for before in 0..settings.nodes {
-        let Some(id) = NodeId::new(before + 1) else {
-            return Err(Refusal::Range);
-        };
-        let station = new_station(alloc, settings, id, board, &none)?;
-        spares.push(Member::spare(alloc, id, station, history.next(pens)))?;
-    }
-    Ok(spares)
-}
-
-/// The next node's new station, with its pen. Its events are recorded where they are counted.
-fn new_member<B: HistoryName>(
-    alloc: Global,
-    id: NodeId,
-    board: &Board,
-    beginning: &Beginning,
-    history: &History<B>,
-    pens: &mut Pen<B>,
-) -> Result<Member<B>, Refusal>
-    requires settings { IsSettings beginning.now.settings }
-    requires number { id ≤ beginning.now.settings.nodes }
-    requires begins { first_world beginning.now ≡ B.start }
-    requires board { board.now ≡ B.cells }
-    requires pens { (pens.old.from ≡ id) × (id < pens.old.to) × (pens.old.seen ≡ []) }
-    ensures ok { IfOk result (λ member. member ≡ record { id = id; station = record { node = new_value beginning.now.settings id beginning.now.list; seat = []; halted = false }; spare = false; seen = []; trace = new_trace (is_counted B.table) }) }
-    ensures rest { OnOk result ((pens.new.from ≡ suc id) × (pens.new.to ≡ pens.old.to) × (pens.new.seen ≡ [])) }
-    ensures memory { IsOkUnless result Refusal.Memory }
-{
-    first_nodes();
-    history.begins();
-    let station = new_station(alloc, beginning.settings, id, board, &beginning.list)?;
-    let pen = history.next(pens);
-    Ok(Member::new(alloc, id, station, pen, history.is_counted()))
-}
 
 /// A lock for each node, in their order, with a new station in it and the node's pen. What happens is recorded where
 /// the history counts it.
@@ -241,28 +165,120 @@ pub(crate) fn put_first<B: HistoryName, R: Wait>(
     }
 }
 
-/// Room for what a cluster of so many nodes leaves, with that pen and those spares.
-pub(crate) fn new_room<B: HistoryName>(
-    alloc: Global,
-    nodes: u8,
-    pens: Pen<B>,
-    spares: Vec<Member<B>>,
-) -> Result<Room<B>, Refusal>
+/// Room for the stations and the ends of links of so many nodes.
+struct Space<B: HistoryName> {
+    stations: Vec<Member<B>>,
+    ends: Lines<B>,
+    links: Vec<(LinkTx<Parcel<B>>, LinkRx<Parcel<B>>)>,
+}
+
+fn new_space<B: HistoryName>(alloc: Global, nodes: u8) -> Result<Space<B>, Refusal>
     requires nodes { (1 ≤ nodes) × (nodes ≤ 8) }
-    requires spares { vec_len spares ≡ nodes }
-    ensures ok { IfOk result (λ room. room.nodes ≡ nodes) }
+    ensures stations { IfOk result (λ space. (vec_len space.stations ≡ 0) × (nodes ≤ vec_capacity space.stations)) }
+    ensures outgoing { IfOk result (λ space. (vec_len space.ends.outgoing ≡ 0) × (links_of nodes ≤ vec_capacity space.ends.outgoing)) }
+    ensures incoming { IfOk result (λ space. (vec_len space.ends.incoming ≡ 0) × (links_of nodes ≤ vec_capacity space.ends.incoming)) }
+    ensures links { IfOk result (λ space. (vec_len space.links ≡ 0) × (links_of nodes ≤ vec_capacity space.links)) }
     ensures memory { IsOkUnless result Refusal.Memory }
 {
     let ends = usize::from(nodes) * usize::from(peers(nodes));
-    Ok(Room {
-        nodes,
+    let stations = Vec::with_capacity(alloc, usize::from(nodes))?;
+    let outgoing = Vec::with_capacity(alloc, ends)?;
+    let incoming = Vec::with_capacity(alloc, ends)?;
+    let links = Vec::with_capacity(alloc, ends)?;
+    Ok(Space {
+        stations,
+        ends: Lines { outgoing, incoming },
+        links,
+    })
+}
+
+/// A lock for each node with a new station in it, and room for what a cluster of them leaves.
+fn new_nodes<B: HistoryName>(
+    alloc: Global,
+    board: &Board,
+    beginning: &Beginning,
+    history: &History<B>,
+    mut pens: Pen<B>,
+) -> Result<(Vec<Lock<B>>, Room<B>), Refusal>
+    requires settings { IsSettings beginning.now.settings }
+    requires begins { first_world beginning.now ≡ B.start }
+    requires board { board.now ≡ B.cells }
+    requires pens { pens ≡ all_nodes }
+    ensures ok { IfOk result (λ made. (vec_len made.0 ≡ beginning.now.settings.nodes) × (made.1.nodes ≡ beginning.now.settings.nodes)) }
+    ensures memory { IsOkUnless result Refusal.Memory }
+{
+    let settings = beginning.settings;
+    let Space {
+        stations,
+        ends,
+        links,
+    } = new_space(alloc, settings.nodes)?;
+    let locks = new_locks(alloc, board, beginning, history, &mut pens)?;
+    let spares = new_spares(alloc, settings, board, history, &mut pens)?;
+    let room = Room {
+        nodes: settings.nodes,
         pens,
         spares,
-        stations: Vec::with_capacity(alloc, usize::from(nodes))?,
-        ends: Lines {
-            outgoing: Vec::with_capacity(alloc, ends)?,
-            incoming: Vec::with_capacity(alloc, ends)?,
-        },
-        links: Vec::with_capacity(alloc, ends)?,
+        stations,
+        ends,
+        links,
+    };
+    Ok((locks, room))
+}
+
+/// What wakes the threads and the sessions of nodes, in their order.
+#[derive(Drop)]
+pub(crate) struct Wakers {
+    pub bells: Vec<CachePadded<Bell>>,
+    pub signs: Vec<CachePadded<Sign>>,
+}
+
+fn new_wakers(alloc: Global, nodes: u8) -> Result<Wakers, Refusal>
+    ensures ok { IfOk result (λ wakers. (vec_len wakers.bells ≡ nodes) × (vec_len wakers.signs ≡ nodes)) }
+    ensures memory { IsOkUnless result Refusal.Memory }
+{
+    let bells = new_bells(alloc, nodes)?;
+    let signs = new_signs(alloc, nodes)?;
+    Ok(Wakers { bells, signs })
+}
+
+/// What a cluster is made of but for its board, its history and its gate: all that asks for memory.
+#[derive(Drop)]
+pub(crate) struct Parts<B: HistoryName> {
+    pub stations: Vec<Lock<B>>,
+    pub wakers: Wakers,
+    pub lines: Lines<B>,
+    pub room: Room<B>,
+}
+
+/// The parts of a new cluster, with the first token on its way.
+pub(crate) fn new_parts<B: HistoryName, R: Wait>(
+    rt: &R,
+    alloc: Global,
+    board: &Board,
+    beginning: &Beginning,
+    history: &History<B>,
+    pens: Pen<B>,
+) -> Result<Parts<B>, Refusal>
+    requires settings { IsSettings beginning.now.settings }
+    requires begins { first_world beginning.now ≡ B.start }
+    requires board { board.now ≡ B.cells }
+    requires pens { pens ≡ all_nodes }
+    ensures nodes { IfOk result (λ parts. (vec_len parts.stations ≡ beginning.now.settings.nodes) × (parts.room.nodes ≡ beginning.now.settings.nodes)) }
+    ensures wakers { IfOk result (λ parts. (vec_len parts.wakers.bells ≡ beginning.now.settings.nodes) × (vec_len parts.wakers.signs ≡ beginning.now.settings.nodes)) }
+    ensures lines { IfOk result (λ parts. (vec_len parts.lines.outgoing ≡ links_of beginning.now.settings.nodes) × (vec_len parts.lines.incoming ≡ links_of beginning.now.settings.nodes)) }
+    ensures memory { IsOkUnless result Refusal.Memory }
+{
+    let nodes = beginning.settings.nodes;
+    let (stations, room) = new_nodes(alloc, board, beginning, history, pens)?;
+    let token = first_token(rt, history, &stations)?;
+    let mut lines = new_links(alloc, nodes, peers(nodes))?;
+    put_first(rt, nodes, token, lines.outgoing.as_mut_slice());
+    let wakers = new_wakers(alloc, nodes)?;
+    Ok(Parts {
+        stations,
+        wakers,
+        lines,
+        room,
     })
 }

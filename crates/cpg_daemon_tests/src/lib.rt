@@ -1,5 +1,5 @@
 //! Tests of a cluster, with its threads: what sessions are told, one by one and in goes, what a stopped cluster answers,
-//! that two nodes run at once, what ends an answer that took no lock, settings out of their ranges; what each turn sends in
+//! that two nodes run at once, how a session goes on where memory is refused, what ends an answer that took no lock, settings out of their ranges; what each turn sends in
 //! rings of 1 to 8 nodes, how the gate is obeyed, and what a stopped cluster leaves; and links of each size. Nothing here is
 //! used by the other crates.
 #![tactic(auto)]
@@ -10,6 +10,8 @@ mod clusters;
 mod courses;
 #[cfg(test)]
 mod gated;
+#[cfg(test)]
+mod going_on;
 #[cfg(test)]
 mod left;
 #[cfg(test)]

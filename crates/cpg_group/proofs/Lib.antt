@@ -3,7 +3,6 @@ mod Shown
 mod Kept
 pub mod Placed
 mod Entered
-mod Indexed
 mod Applying
 mod Beside
 mod Between

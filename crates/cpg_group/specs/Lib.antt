@@ -2,7 +2,6 @@ pub mod Entering
 pub mod Groups
 pub mod Heard
 pub mod Places
-pub mod Processes
 pub mod Standing
 pub mod Telling
 pub mod Trails

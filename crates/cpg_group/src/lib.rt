@@ -12,7 +12,6 @@ mod listing;
 mod nexts;
 mod places;
 mod policies;
-mod rosters;
 mod standing;
 mod telling;
 mod told;

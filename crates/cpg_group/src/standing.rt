@@ -13,10 +13,10 @@ ghost use Rattle.cpg_record.specs.Named.{names_of};
 ghost use Rattle.cpg_group.specs.Standing.{kept_for, kept_group, changed, group_past, no_group, AreStanding, CanChange, CanTake};
 
 use crate::listing::shows_group;
-use crate::rosters::Roster;
 use cpg_cred::{NameHasher, Refusal};
 use cpg_entry::{Call, Entry, Name, Op};
 use cpg_record::{Members, Record};
+use cpg_roster::Roster;
 use cpg_rules::{Asker, Table};
 use indexmap::IndexMap;
 use std::alloc::Global;

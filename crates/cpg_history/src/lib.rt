@@ -8,6 +8,6 @@ mod parcels;
 mod traces;
 
 pub use histories::{Beginning, Front, Happens, History, HistoryName, Numbers, Opened, Pen, View};
-pub use members::Member;
+pub use members::{Member, new_member, new_spares};
 pub use parcels::{Parcel, Parcels};
 pub use traces::{Recorded, Trace};

@@ -29,7 +29,10 @@ use cpg_world_laws::WorldEvent;
 use std::alloc::Global;
 use std::marker::{Brand, Model};
 
+mod making;
 mod serving;
+
+pub use making::{new_member, new_spares};
 
 /// A station with its node's pen of the history; or a spare one, which was put in the place of one that was taken away,
 /// is halted, and belongs to no node. Contracts see its number, the station, whether it is a spare, what its pen has seen:

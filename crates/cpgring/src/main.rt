@@ -11,6 +11,7 @@ mod completions;
 mod filtering;
 mod help;
 mod loading;
+mod options;
 mod questions;
 mod sources;
 mod tracing;
@@ -22,16 +23,18 @@ use asking::{
 };
 use clap::error::ErrorKind;
 use clap::{ArgMatches, Error};
-use commands::{SHELL, build_command};
+use commands::build_command;
 use completions::completion_of;
+use cpg_cred::Cred;
 use cpg_program::{
     Counted, Ended, KeepsEnds, Piped, Run, Tracer, Untraced, perform, perform_admit, perform_shell,
     perform_with_hint, write_text,
 };
 use loading::{Loaded, NotLoaded, wrong_ask};
+use options::SHELL;
 use sources::{Source, greet, greet_shell, open_file, tell_unread};
-use std::alloc::AllocError;
-use std::io::{BufWriter, IsTerminal, Read};
+use std::alloc::{AllocError, Global};
+use std::io::{BufWriter, IsTerminal, Read, Write};
 use std::process::ExitCode;
 use std::rt::Stderr;
 use std::sync::Wait;
@@ -136,31 +139,43 @@ where
     R: Read,
     K: KeepsEnds,
 {
-    let alloc = rt.alloc();
     let stream = Counted::new(rt.stdout(), progress_of(rt, run), threads);
-    let mut writer = BufWriter::new(alloc, Piped::new(stream)).map_err(|_| AllocError)?;
-    let mut errors = rt.stderr();
-    Ok(if verbose {
-        perform_with_hint(
-            threads,
-            alloc,
-            run,
-            reader,
-            &mut writer,
-            &mut errors,
-            keeper,
-        )
+    let mut writer = BufWriter::new(rt.alloc(), Piped::new(stream)).map_err(|_| AllocError)?;
+    Ok(run_to(
+        threads,
+        rt.alloc(),
+        run,
+        verbose,
+        reader,
+        &mut writer,
+        &mut rt.stderr(),
+        keeper,
+    ))
+}
+
+/// The run of a script over these streams, with a hint behind a fault's line where that is asked for.
+fn run_to<H, R, W, E, K>(
+    threads: H,
+    alloc: Global,
+    run: &Run<'_>,
+    verbose: bool,
+    reader: &mut R,
+    writer: &mut BufWriter<Piped<W>>,
+    errors: &mut E,
+    keeper: &mut K,
+) -> Ended
+where
+    H: Threads + Wait + Clock + Copy + Send + 'static,
+    R: Read,
+    W: Write + Drop,
+    E: Write,
+    K: KeepsEnds,
+{
+    if verbose {
+        perform_with_hint(threads, alloc, run, reader, writer, errors, keeper)
     } else {
-        perform(
-            threads,
-            alloc,
-            run,
-            reader,
-            &mut writer,
-            &mut errors,
-            keeper,
-        )
-    })
+        perform(threads, alloc, run, reader, writer, errors, keeper)
+    }
 }
 
 /// Where the progress of a judgement is told: on standard error, where that is a terminal and standard output is none.
@@ -174,21 +189,27 @@ fn progress_of(rt: &HostRuntime, run: &Run<'_>) -> Option<Stderr> {
 
 /// The exit status of `admit`: its files are read, and whom they let in is printed.
 fn admit(rt: &HostRuntime, given: &ArgMatches<'_>) -> Result<u8, Error> {
-    let alloc = rt.alloc();
-    let Some(asks) = read_asks(alloc, given)? else {
-        return Err(wrong_ask(alloc)?);
-    };
+    match read_asks(rt.alloc(), given)? {
+        Some(asks) => admit_asks(rt, given, asks.as_slice()),
+        None => Err(wrong_ask(rt.alloc())?),
+    }
+}
+
+/// The exit status of `admit`, which is asked for those.
+fn admit_asks(rt: &HostRuntime, given: &ArgMatches<'_>, asks: &[Cred]) -> Result<u8, Error> {
     match Loaded::read(rt, &files_of(given)) {
         Ok(loaded) => Ok(perform_admit(
-            alloc,
+            rt.alloc(),
             form_of(given),
             &loaded.admission(),
-            asks.as_slice(),
+            asks,
             &mut Piped::new(rt.stdout()),
             &mut rt.stderr(),
         )),
         Err(NotLoaded::Memory) => Err(Error::from(AllocError)),
-        Err(NotLoaded::Unread(path, why)) => Ok(tell_unread(alloc, &mut rt.stderr(), path, why)),
+        Err(NotLoaded::Unread(path, why)) => {
+            Ok(tell_unread(rt.alloc(), &mut rt.stderr(), path, why))
+        }
     }
 }
 

@@ -1,4 +1,0 @@
-pub mod BadLines
-pub mod RunReasons
-pub mod StepReasons
-pub mod ToldLines

@@ -1,0 +1,81 @@
+//! Frames and replies as `step` prints them.
+
+use crate::words::put_number_line;
+use cpg_cred::Refusal;
+use cpg_entry::{Frame, Packet, Token};
+use cpg_print::{node_number, put_entry, put_groups_line, put_members_line, put_took_line};
+use cpg_script::put;
+use cpg_text::push_number;
+use cpg_world::Reply;
+
+pub fn put_packet(line: &mut Vec<u8>, packet: &Packet) -> Result<(), Refusal> {
+    put(line, "data ")?;
+    push_number(line, u64::from(packet.place))?;
+    put(line, " ")?;
+    put_entry(line, &packet.entry)?;
+    put(line, "\n")
+}
+
+/// Puts the places with commas, or a dash.
+fn put_asked(line: &mut Vec<u8>, places: &[u32]) -> Result<(), Refusal> {
+    if places.is_empty() {
+        return put(line, "-");
+    }
+    let mut comma = "";
+    for place in places {
+        put(line, comma)?;
+        push_number(line, u64::from(*place))?;
+        comma = ",";
+    }
+    Ok(())
+}
+
+/// Puts the text and a number.
+fn put_field(line: &mut Vec<u8>, name: &str, number: u64) -> Result<(), Refusal> {
+    put(line, name)?;
+    push_number(line, number)
+}
+
+fn put_number_or_none(line: &mut Vec<u8>, number: Option<u32>) -> Result<(), Refusal> {
+    match number {
+        Some(number) => push_number(line, u64::from(number)),
+        None => put(line, "none"),
+    }
+}
+
+pub fn put_token(line: &mut Vec<u8>, token: &Token) -> Result<(), Refusal> {
+    put_field(line, "token hop ", token.hop)?;
+    put_field(line, " seq ", u64::from(token.seq))?;
+    put_field(line, " aru ", u64::from(token.aru))?;
+    put(line, " id ")?;
+    put_number_or_none(line, node_number(token.aru_id))?;
+    put(line, " rtr ")?;
+    put_asked(line, token.rtr.as_slice())?;
+    put(line, "\n")
+}
+
+pub fn put_frame(line: &mut Vec<u8>, frame: &Frame) -> Result<(), Refusal> {
+    match frame {
+        Frame::Packet(packet) => put_packet(line, packet),
+        Frame::Token(token) => put_token(line, token),
+    }
+}
+
+fn put_delivered(line: &mut Vec<u8>, place: Option<u32>) -> Result<(), Refusal> {
+    put(line, "delivered ")?;
+    put_number_or_none(line, place)?;
+    put(line, "\n")
+}
+
+pub fn put_reply(line: &mut Vec<u8>, reply: &Reply) -> Result<(), Refusal> {
+    match reply {
+        Reply::Connected(conn) => put_number_line(line, "connected", u64::from(*conn)),
+        Reply::Admitted => put(line, "admitted\n"),
+        Reply::Closed => put(line, "closed\n"),
+        Reply::Sent(count) => put_number_line(line, "sent", *count as u64),
+        Reply::Delivered(place) => put_delivered(line, *place),
+        Reply::Took(event) => put_took_line(line, event.as_ref()),
+        Reply::Members(processes) => put_members_line(line, processes.as_slice()),
+        Reply::Groups(names) => put_groups_line(line, names.as_slice()),
+    }
+}
