@@ -12,7 +12,7 @@ use cpg_cred::{By, Refusal, Refused};
 use cpg_entry::{Entry, Name, Packet, SharedEntry};
 use cpg_group::{MOST_PLACES, Policy, verify};
 use cpg_print::{put_event, put_groups_line, put_members, put_members_line};
-use cpg_record::{ConnId, Events, Members, Reason, Record, Verdict};
+use cpg_record::{ConnId, Events, Members, Reason, Record, Records, Verdict};
 use cpg_script::{put, put_byte};
 use std::alloc::Global;
 
@@ -247,20 +247,29 @@ fn put_verified(
     put
 }
 
-/// Puts copies of all records, in the place of the list's.
-fn put_copies_in(
-    alloc: Global,
-    line: &mut Vec<u8>,
-    list: &mut Vec<Record>,
-    records: &[Record],
-) -> Result<(), Refusal> {
-    copy_first(alloc, list, records, records.len())?;
-    put_audits(line, list.as_slice())
+/// Puts copies of the records behind those of the list.
+fn push_copies(alloc: Global, list: &mut Records, records: &[Record]) -> Result<(), Refusal> {
+    for record in records {
+        list.push(record.copy(alloc)?)?;
+    }
+    Ok(())
 }
 
+/// Puts the records of a copy of the list.
+fn put_copied_records(alloc: Global, line: &mut Vec<u8>, list: &Records) -> Result<(), Refusal> {
+    let copy = list.copy(alloc)?;
+    let put = put_audits(line, copy.as_slice());
+    drop(copy);
+    put
+}
+
+/// Puts copies of all records, which are put together in a list that is copied, too.
 fn put_copies(alloc: Global, line: &mut Vec<u8>, records: &[Record]) -> Result<(), Refusal> {
-    let mut list = Vec::new(alloc);
-    let put = put_copies_in(alloc, line, &mut list, records);
+    let mut list = Records::new(alloc);
+    let mut put = push_copies(alloc, &mut list, records);
+    if put.is_ok() {
+        put = put_copied_records(alloc, line, &list);
+    }
     drop(list);
     put
 }

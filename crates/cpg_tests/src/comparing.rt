@@ -8,10 +8,9 @@
 //! other than 0 edit tables: each of these is counted, and has to come up more than 200 times.
 
 use crate::drawing::{conn_by, drawn};
-use crate::entering::{Change, are_equal, changed_at, enter};
+use crate::entering::{Change, are_equal, changed_at, enter, events_at};
 use crate::plain::{decide, entry_group, group_in, is_over, member_at, rules_of, verdict_on};
 use crate::plain_events::{acts_in, are_told, hears, is_news_of, is_own};
-use crate::rejoining::events_at;
 use cpg_entry::{Asker, By, Call, Entry, Name, NodeId, Op, Refusal};
 use cpg_group::{
     ConnId, Event, Member, Policy, Processes, Reason, Record, Verdict, count_upto, verify,

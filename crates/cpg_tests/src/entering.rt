@@ -1,8 +1,7 @@
 //! Calls in short words, and their way into a policy.
 
-use cpg_entry::{Cred, Entry, Name, NodeId, Op, Refusal, Rule};
-use cpg_group::{MOST_PLACES, Members, Policy, Record, Records, Verdict};
-use cpg_rules::{Effect, Right, Who};
+use cpg_entry::{Cred, Entry, NodeId, Op, Refusal};
+use cpg_group::{ConnId, Events, MOST_PLACES, Members, Policy, Record, Records, Verdict};
 use cpg_short::{Ask, node, op};
 use std::alloc::Global;
 
@@ -14,27 +13,6 @@ pub struct Source {
     pub pid: u32,
     pub uid: u32,
     pub gid: u32,
-}
-
-/// A connection whose group is 100.
-pub fn client(node: u8, conn: u16, pid: u32, uid: u32) -> Source {
-    Source {
-        node,
-        conn,
-        pid,
-        uid,
-        gid: 100,
-    }
-}
-
-/// An insert of a denial at the front of the group's table.
-pub fn deny(group: &str, right: Right, who: Who) -> Ask<'_> {
-    let rule = Rule {
-        effect: Effect::Deny,
-        right,
-        who,
-    };
-    Ask::Insert(group, 0, rule)
 }
 
 /// The entry of a connection of that node that asks it.
@@ -68,29 +46,6 @@ pub fn enter(policy: &mut Policy, entry: &Entry) -> Result<Verdict, Refusal> {
         Ok(()) => Ok(verdict),
         Err(refused) => Err(refused.refusal),
     }
-}
-
-/// What the connection is answered when it asks it.
-pub fn answer(
-    alloc: Global,
-    policy: &mut Policy,
-    from: &Source,
-    ask: &Ask,
-) -> Result<Verdict, Refusal> {
-    let entry = entry(alloc, from, ask)?;
-    let answer = enter(policy, &entry);
-    drop(entry);
-    answer
-}
-
-/// Judges those rows, from the first on, and says whether all were judged.
-pub fn enter_rows(alloc: Global, policy: &mut Policy, rows: &[(Source, Ask)]) -> bool {
-    for (from, ask) in rows {
-        if answer(alloc, policy, from, ask).is_err() {
-            return false;
-        }
-    }
-    true
 }
 
 /// What is changed in a record.
@@ -171,20 +126,10 @@ pub fn are_equal(a: &[Record], b: &[Record]) -> bool {
     true
 }
 
-/// Whether the names are those, in that order.
-pub fn are_named(names: &[Name], texts: &[&[u8]]) -> bool {
-    for (name, text) in names.iter().zip(texts) {
-        if !name.is(text) {
-            return false;
-        }
+/// What the place tells the connection; `Range` where the policy has no such place.
+pub fn events_at(policy: &Policy, place: u32, conn: &ConnId) -> Result<Events, Refusal> {
+    if place == 0 || place as usize > policy.len() {
+        return Err(Refusal::Range);
     }
-    names.len() == texts.len()
-}
-
-/// How many rules the group's table has.
-pub fn count_rules(policy: &Policy, group: &[u8]) -> usize {
-    match policy.table(group) {
-        Some(table) => table.len(),
-        None => 0,
-    }
+    policy.events_at(place, *conn)
 }
