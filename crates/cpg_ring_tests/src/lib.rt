@@ -1,5 +1,5 @@
-//! Tests of a ring alone, by worked visits, of the ledgers in which rings keep what they delivered, and of the node
-//! that C calls. Nothing here is used by the other crates.
+//! Tests of a ring beside a plain list of the places that came, of the ledgers in which rings keep what they delivered, and
+//! of the node that C calls. Nothing here is used by the other crates.
 #![tactic(auto)]
 
 #[cfg(test)]

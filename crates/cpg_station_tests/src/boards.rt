@@ -1,6 +1,5 @@
-//! Records settle on a board, by one thread and by two.
+//! Records settle on a board by two threads.
 
-ghost use Rattle.std.specs.Prelude.{◌≡◌, IsTrue, []};
 ghost use Rattle.cpg_board.specs.Seats.{IsSeatOf};
 
 use cpg_board::{Board, Record, Seat, Settled};
@@ -147,98 +146,6 @@ fn settles(alloc: Global, board: &Board, seat: &mut Seat, row: Row) -> bool
     settle(alloc, board, seat, row, row) == Answer::Settled
 }
 
-/// Whether the seat knows the row's record at the place.
-fn knows(alloc: Global, board: &Board, seat: &Seat, place: u32, row: Row) -> bool
-    requires { IsSeatOf board.now seat.now }
-{
-    place >= 1 && place as usize <= seat.len() && is_row(alloc, board.known(seat, place), row)
-}
-
-/// Whether the seat knows the join and the denial, and nothing more.
-fn knows_both(alloc: Global, board: &Board, seat: &Seat) -> bool
-    requires { IsSeatOf board.now seat.now }
-{
-    seat.len() == 2
-        && knows(alloc, board, seat, 1, Row::Join)
-        && knows(alloc, board, seat, 2, Row::Deny)
-}
-
-/// Whether the next thing that the seat reads is the row's record.
-fn reads(alloc: Global, board: &Board, seat: &mut Seat, row: Row) -> bool
-    requires { IsSeatOf board.now seat.old }
-    ensures { IsSeatOf board.now seat.new }
-{
-    match board.read_next(seat) {
-        Ok(Some(standing)) => is_row(alloc, standing, row),
-        _ => false,
-    }
-}
-
-/// Whether the seat finds nothing to read.
-fn reads_nothing(board: &Board, seat: &mut Seat) -> bool
-    requires { IsSeatOf board.now seat.old }
-{
-    matches!(board.read_next(seat), Ok(None))
-}
-
-/// Whether two seats fill a board of two: what one settles the other may settle too, and another record
-/// may not stand there.
-fn fills(alloc: Global, board: &Board, one: &mut Seat, other: &mut Seat) -> bool
-    requires { IsSeatOf board.now one.old × IsSeatOf board.now other.old }
-    ensures { IsSeatOf board.now one.new × IsSeatOf board.now other.new }
-{
-    settles(alloc, board, one, Row::Join)
-        && settles(alloc, board, other, Row::Join)
-        && settles(alloc, board, one, Row::Deny)
-        && settle(alloc, board, other, Row::Twice, Row::Deny) == Answer::Differs(Row::Deny)
-        && settle(alloc, board, one, Row::Send, Row::Deny) == Answer::BoardFull
-}
-
-/// Whether a new seat reads both records of the full board.
-fn is_read(alloc: Global, board: &Board) -> bool {
-    let mut seat = board.seat();
-    reads(alloc, board, &mut seat, Row::Join)
-        && reads(alloc, board, &mut seat, Row::Deny)
-        && reads_nothing(board, &mut seat)
-}
-
-/// Whether a new seat that catches up with the seat knows both records, and meets it as an equal.
-fn is_reached(alloc: Global, board: &Board, seat: &Seat) -> bool
-    requires { IsSeatOf board.now seat.now }
-{
-    let mut late = board.seat();
-    board.catch_up(&mut late, seat).is_ok()
-        && knows_both(alloc, board, &late)
-        && board.meet(seat, &late) == Ordering::Equal
-}
-
-fn settles_two(alloc: Global, board: &Board) -> bool {
-    let (mut one, mut other) = (board.seat(), board.seat());
-    fills(alloc, board, &mut one, &mut other)
-        && knows_both(alloc, board, &other)
-        && is_read(alloc, board)
-        && is_reached(alloc, board, &one)
-}
-
-#[test]
-fn a_board_of_two(rt: HostRuntime) -> Result<(), Fail> {
-    let board = Board::new(rt.alloc(), 2)?;
-    assert!(rt; settles_two(rt.alloc(), &board));
-    Ok(())
-}
-
-/// Why a board of so many places is not made.
-fn refusal_of(alloc: Global, places: u32) -> Option<Refusal> {
-    Board::new(alloc, places).err()
-}
-
-#[test]
-fn boards_have_places(rt: HostRuntime) {
-    assert!(rt; refusal_of(rt.alloc(), 0) == Some(Refusal::Range));
-    assert!(rt; refusal_of(rt.alloc(), 1_048_577) == Some(Refusal::Range));
-    assert!(rt; refusal_of(rt.alloc(), 1).is_none());
-}
-
 /// A new seat that settles three records, and whether all settled.
 fn settle_three(alloc: Global, board: &Board) -> (Seat, bool)
     ensures { IsSeatOf board.now result.0 }
@@ -308,50 +215,5 @@ fn two_threads_settle_different_records(rt: HostRuntime) -> Result<(), Fail> {
     );
     assert!(rt; one_wins(join, twice));
     assert!(rt; know_the_same(&board, &one, &other));
-    Ok(())
-}
-
-/// A board has room for more places than a few.
-const MANY: u32 = 130;
-
-/// Whether the seat settles so many records in a row.
-fn settles_many(alloc: Global, board: &Board, seat: &mut Seat, count: u32) -> bool
-    requires { IsSeatOf board.now seat.old }
-    ensures { IsSeatOf board.now seat.new }
-{
-    for _ in 0..count {
-        if !settles(alloc, board, seat, Row::Join) {
-            return false;
-        }
-    }
-    true
-}
-
-/// Whether the seat reads so many records in a row.
-fn reads_many(alloc: Global, board: &Board, seat: &mut Seat, count: u32) -> bool
-    requires { IsSeatOf board.now seat.old }
-    ensures { IsSeatOf board.now seat.new }
-{
-    for _ in 0..count {
-        if !reads(alloc, board, seat, Row::Join) {
-            return false;
-        }
-    }
-    true
-}
-
-/// Whether all places of a board settle, are read by a seat that has seen nothing, and refuse another record
-/// at the last place.
-fn fills_many(alloc: Global, board: &Board) -> bool {
-    let (mut one, mut other) = (board.seat(), board.seat());
-    settles_many(alloc, board, &mut one, MANY)
-        && reads_many(alloc, board, &mut other, MANY - 1)
-        && settle(alloc, board, &mut other, Row::Twice, Row::Join) == Answer::Differs(Row::Join)
-}
-
-#[test]
-fn a_board_of_many(rt: HostRuntime) -> Result<(), Fail> {
-    let board = Board::new(rt.alloc(), MANY)?;
-    assert!(rt; fills_many(rt.alloc(), &board));
     Ok(())
 }

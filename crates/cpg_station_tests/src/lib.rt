@@ -1,13 +1,11 @@
-//! Tests of bells, boards, links and stations, each alone or two that are fed by hand, and of what stations lay down on
-//! a board's shelf. Nothing here is used by the other crates.
+//! Tests of bells, of boards under two threads, of a station that lags behind a session, and of what stations lay down on a
+//! board's shelf. Nothing here is used by the other crates.
 #![tactic(auto)]
 
 #[cfg(test)]
 mod bells;
 #[cfg(test)]
 mod boards;
-#[cfg(test)]
-mod links;
 #[cfg(test)]
 mod sharing;
 #[cfg(test)]

@@ -1,11 +1,9 @@
-//! Tests of the world: a worked row as one list of events, settings out of their ranges, and a plain program
-//! of the ring beside a long schedule of eight nodes. Nothing here is used by the other crates.
+//! Tests of the world: a plain program of the ring beside a long schedule of eight nodes. Nothing here is used by the other
+//! crates.
 #![tactic(auto)]
 
 #[cfg(test)]
 mod plain;
-#[cfg(test)]
-mod rows;
 #[cfg(test)]
 mod schedule;
 #[cfg(test)]
