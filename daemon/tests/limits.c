@@ -1,0 +1,72 @@
+/* limits WHAT: what the daemon allows of connections.
+ *     ungreeted    --ungreeted=4 --greet-seconds=1: the oldest of five silent ones is ended at once, the others in time
+ *     connections  --user-connections=5: the sixth is turned away, and let in once one is gone
+ *     descriptors  under `ulimit -n` of some 30: who comes is turned away or waits, and is let in once there is room */
+#include "common.h"
+
+enum { MOST = 100 };
+
+static void ungreeted(void) {
+    int fds[5];
+    cpg_handle_t h;
+    for (unsigned k = 0; k < 5; k++) EXPECT((fds[k] = raw_dial()) >= 0, 1);
+    EXPECT(raw_is_ended(fds[0], 900), 1); /* it is pushed out before its second is over */
+    EXPECT(cpg_initialize(&h, NULL), CS_OK);
+    for (unsigned k = 1; k < 5; k++) EXPECT(raw_is_ended(fds[k], 5000), 1);
+    pause_ms(1500);
+    EXPECT(cpg_finalize(h), CS_OK); /* who greeted stays */
+    int fd = raw_dial();
+    EXPECT(raw_greet(fd), CS_OK);
+    EXPECT(raw_is_ended(fd, 1500), 0);
+    close(fd);
+}
+
+static void connections(void) {
+    int fds[6];
+    for (unsigned k = 0; k < 6; k++) EXPECT((fds[k] = raw_dial()) >= 0, 1);
+    for (unsigned k = 0; k < 5; k++) EXPECT(raw_greet(fds[k]), CS_OK);
+    EXPECT(raw_is_ended(fds[5], 5000), 1);
+    close(fds[0]);
+    uint32_t status = 0;
+    for (uint64_t end = now_ms() + 5000; status != CS_OK && now_ms() < end; pause_ms(10)) {
+        close(fds[5]);
+        EXPECT((fds[5] = raw_dial()) >= 0, 1);
+        status = raw_greet(fds[5]);
+    }
+    EXPECT(status, CS_OK);
+    for (unsigned k = 1; k < 6; k++) close(fds[k]);
+}
+
+static void descriptors(void) {
+    int fds[MOST];
+    unsigned greeted = 0;
+    for (unsigned k = 0; k < MOST; k++) EXPECT((fds[k] = raw_dial()) >= 0, 1);
+    for (unsigned k = 0; k < MOST; k++) {
+        struct head head = {4, ASK_HELLO, 7};
+        uint32_t version = PROTOCOL_VERSION;
+        if (send(fds[k], &head, sizeof head, MSG_NOSIGNAL) > 0) send(fds[k], &version, sizeof version, MSG_NOSIGNAL);
+    }
+    pause_ms(500);
+    for (unsigned k = 0; k < MOST; k++) {
+        struct pollfd p = {fds[k], POLLIN, 0};
+        char bytes[64];
+        if (poll(&p, 1, 0) > 0 && recv(fds[k], bytes, sizeof bytes, MSG_DONTWAIT) > 0) greeted++;
+    }
+    EXPECT(greeted > 5 && greeted < 60, 1);
+    for (unsigned k = 0; k < MOST; k++) close(fds[k]);
+    uint32_t status = 0;
+    for (uint64_t end = now_ms() + 10000; status != CS_OK && now_ms() < end; pause_ms(50)) {
+        int fd = raw_dial();
+        status = raw_greet(fd);
+        close(fd);
+    }
+    EXPECT(status, CS_OK);
+}
+
+int main(int count, char **words) {
+    if (count != 2) return 2;
+    if (!strcmp(words[1], "ungreeted")) ungreeted();
+    else if (!strcmp(words[1], "connections")) connections();
+    else descriptors();
+    return finish("limits");
+}
