@@ -137,7 +137,7 @@ static bool settle(struct ring *ring) {
 }
 
 static uint32_t connect_clients(struct node *node) {
-    for (unsigned k = 0; k < MOST_CONNECTIONS; k++) node->by_conn[k] = NULL;
+    for (struct client *c = node->clients; c; c = c->next) node->by_conn[c->conn] = NULL;
     for (struct client *c = node->clients; c; c = c->next) {
         if (!c->conn) continue;
         uint32_t status = cpgring_connect(&node->ring, c->pid, c->uid, c->gid, &c->conn);
