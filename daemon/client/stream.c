@@ -198,13 +198,14 @@ static void wait_for_answer(struct instance *i, uint64_t end) {
 static cs_error_t await(struct instance *i, uint64_t end) {
     for (;;) {
         pthread_mutex_lock(&i->in);
-        while (i->wanted != 0 && stream_fetch(i)) {}
-        bool there = i->wanted == 0, late = clock_ms() >= end;
-        if (!there && (late || i->broken)) i->wanted = 0;
+        while (i->wanted != 0 && i->read.end - i->read.begin < 2 * (size_t)MOST_KEPT && stream_fetch(i)) {}
+        bool there = i->wanted == 0, late = clock_ms() >= end, full = i->read.end - i->read.begin >= 2 * (size_t)MOST_KEPT;
+        if (!there && (late || full || i->broken)) i->wanted = 0;
         stream_mark(i);
         pthread_mutex_unlock(&i->in);
         if (there) return CS_OK;
         if (i->broken) return CS_ERR_LIBRARY;
+        if (full) return CS_ERR_NO_MEMORY; /* so many events wait for a dispatch */
         if (late) return CS_ERR_TIMEOUT;
         wait_for_answer(i, end);
     }

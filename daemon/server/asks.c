@@ -147,6 +147,11 @@ static uint32_t call_remove(struct client *c, const uint8_t *body, uint32_t len)
 /* false: the node's queue is full, and the ask stays. */
 static bool hear_call(struct client *c, const struct head *head, const uint8_t *body) {
     uint32_t status;
+    unsigned *waiting = &c->user->waiting[c->node->setup.node - 1];
+    if (*waiting >= limits.user_calls) {
+        c->blocked = true;
+        return false;
+    }
     switch (head->kind) {
     case ASK_SEND: status = cpgring_send(&c->node->ring, c->conn, body, head->len); break;
     case ASK_JOIN: status = call_join(c, body, head->len); break;
@@ -158,6 +163,7 @@ static bool hear_call(struct client *c, const struct head *head, const uint8_t *
         c->blocked = true;
         return false;
     }
+    if (status == CPGRING_OK) ++*waiting;
     if (status != CPGRING_OK) {
         uint32_t told = status == CPGRING_TOO_LONG && head->kind != ASK_SEND ? CS_ERR_NAME_TOO_LONG : status_of_refusal(status);
         if (head->kind == ASK_SEND) tell_denied(c, told, 0, 0);

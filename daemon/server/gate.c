@@ -155,14 +155,14 @@ static uint32_t highest_place(const struct gate *gate) {
     uint32_t highest = 0, places;
     uint64_t hops;
     for (unsigned k = 0; k < gate->count; k++)
-        if (cpgring_reached((cpgring *)&gate->nodes[k].ring, &places, &hops) == CPGRING_OK && places > highest) highest = places;
+        if (cpgring_reached(&gate->nodes[k].ring, &places, &hops) == CPGRING_OK && places > highest) highest = places;
     return highest;
 }
 
 bool gate_settled(const struct gate *gate) {
     size_t count;
     for (unsigned k = 0; k < gate->count; k++)
-        if (cpgring_waiting((cpgring *)&gate->nodes[k].ring, &count) == CPGRING_OK && count > 0) return false;
+        if (cpgring_waiting(&gate->nodes[k].ring, &count) == CPGRING_OK && count > 0) return false;
     if (gate->count == 1) return true;
     uint32_t highest = highest_place(gate);
     for (unsigned k = 0; k < gate->count; k++)

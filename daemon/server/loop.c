@@ -22,7 +22,7 @@ static struct {
     const struct options *options;
     bool stopping;
     uint64_t stop_by; /* in milliseconds */
-    uint64_t paused_until;
+    uint64_t paused_until, again_at;
 } loop;
 
 static uint64_t now_ms(void) { return now_us() / 1000; }
@@ -108,7 +108,10 @@ static void take_events(int wait) {
             if (events[k].events & (EPOLLHUP | EPOLLERR)) {
                 client_read_out(c);
                 epoll_ctl(loop.epoll, EPOLL_CTL_DEL, c->fd, NULL);
-            } else if (events[k].events & EPOLLIN) client_read(c);
+            } else if (events[k].events & EPOLLIN) {
+                client_read(c);
+                if (c->hung) epoll_ctl(loop.epoll, EPOLL_CTL_DEL, c->fd, NULL); /* else it would say so again and again */
+            }
         }
     }
 }
@@ -120,13 +123,15 @@ static void hear(struct node *node) {
     for (struct client *c = node->first_active; c; c = c->next_active) active++;
     if (active == 0) return;
     unsigned each = MOST_WAITING / active > 0 ? MOST_WAITING / active : 1;
-    for (struct client *c = node->first_active, *next; c; c = next) {
-        next = c->next_active;
-        client_hear(c, each);
+    struct client *c = node->first_active;
+    for (unsigned k = 0; k < active && c; k++) {
+        struct client *next = c->next_active;
+        if (client_hear(c, each) > 0) { /* who was not heard is first the next time */
+            client_rest(c);
+            client_activate(c);
+        }
+        c = next;
     }
-    struct client *first = node->first_active; /* another one is first the next time */
-    client_rest(first);
-    client_activate(first);
 }
 
 static void drop(struct client *c) {
@@ -144,7 +149,7 @@ static bool has_work(const struct client *c) {
 
 /* Writes what a client is told. Whether it has work at once; one that needs nothing more is no longer active. */
 static bool tend(struct client *c, bool queue_full) {
-    if (!queue_full) c->blocked = false;
+    if (!queue_full && c->user->waiting[c->node->setup.node - 1] < limits.user_calls) c->blocked = false;
     if (c->audit_tag && c->end == END_NOT) control_go_on(c);
     if (c->hung) bytes_drop(&c->out, bytes_held(&c->out));
     else if (!c->full && bytes_held(&c->out) > 0) c->full = !client_write(c);
@@ -202,7 +207,7 @@ static int rest(void) {
     if (oldest) at = oldest->came + 1000 * (uint64_t)limits.greet_seconds;
     if (loop.paused_until && loop.paused_until < at) at = loop.paused_until;
     if (loop.stopping && loop.stop_by < at) at = loop.stop_by;
-    if (loop.ring->gate.fault && now + AGAIN_MS < at) at = now + AGAIN_MS;
+    if (loop.again_at && loop.again_at < at) at = loop.again_at;
     if (at == UINT64_MAX) return -1;
     return at <= now ? 0 : (int)(at - now);
 }
@@ -222,8 +227,13 @@ static bool is_broken(void) {
         log_line(LOG_ERROR, "the ring's places are used up");
         return true;
     }
-    if (fault) log_line(LOG_WARNING, "no memory for a frame: it is tried again");
-    loop.ring->gate.fault = CPGRING_OK;
+    if (fault && !loop.again_at) {
+        log_line(LOG_WARNING, "no memory for a frame: it is tried again");
+        loop.again_at = now_ms() + AGAIN_MS;
+    } else if (fault && loop.again_at <= now_ms()) {
+        loop.again_at = 0;
+        loop.ring->gate.fault = CPGRING_OK;
+    }
     return false;
 }
 

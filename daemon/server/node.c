@@ -106,7 +106,7 @@ void client_end(struct client *c, enum end end) {
     if (c->end != END_NOT) return;
     c->end = end;
     client_activate(c);
-    enum level level = end == END_CLOSED ? LOG_DEBUG : end == END_REFUSED ? LOG_INFO : LOG_NOTICE;
+    enum level level = end == END_CLOSED ? LOG_DEBUG : end == END_BEHIND || end == END_NO_MEMORY ? LOG_NOTICE : LOG_INFO;
     log_line(level, "node %u: process %u of user %u %s: its connection ends", c->node->setup.node, c->pid, c->uid, end_text(end));
 }
 

@@ -17,6 +17,7 @@ struct limits {
     uint64_t user_unread;      /* and all clients of one user */
     unsigned user_connections; /* connections of one user at all nodes */
     unsigned connections;      /* and of all users */
+    unsigned user_calls;       /* calls of one user that wait at a node */
     unsigned user_ungreeted;   /* of them, connections that did not greet yet */
     unsigned greet_seconds;    /* for so long */
     size_t room;               /* bytes kept ready for a socket: a client with more is told nothing more, and not heard */
@@ -27,6 +28,7 @@ struct user {
     struct user *next;
     uint32_t uid;
     unsigned connections, ungreeted;
+    unsigned waiting[CPGRING_MOST_NODES]; /* calls that wait at each node for a place */
     uint64_t unread;
 };
 
@@ -62,7 +64,7 @@ struct client {
     uint64_t told_messages, heard_asks;
     struct bytes in, out;
     enum end end;
-    bool greeted, active, told, blocked; /* blocked: the node's queue was full */
+    bool greeted, active, told, blocked; /* blocked: the node's queue was full, or its user's share of it */
     bool hung, full;                     /* hung: the other end is closed; full: the socket takes no more now */
     uint32_t audit_next, audit_last;     /* places that an audit still has to tell: next to last */
     uint16_t audit_tag;

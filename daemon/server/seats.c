@@ -3,6 +3,7 @@
  * The daemon's own listings, which no rule denies, and the next ring's members come from here. */
 #include "node.h"
 #include "log.h"
+#include "users.h"
 #include <stdlib.h>
 #include <string.h>
 
@@ -112,6 +113,7 @@ void node_delivered(struct node *node, uint32_t place, const cpgring_record *r) 
     node->delivered = place;
     node->delivered_bytes += r->message_len;
     if (asker) note_told(node, asker, sizeof(struct head) + sizeof(struct tell_denied));
+    if (r->node == node->setup.node && r->call != CALL_GONE) user_call_placed(r->uid, r->node - 1);
     if (r->verdict != CPGRING_ALLOWED || r->group_len == 0) return;
     if (r->call == CALL_JOIN || r->call == CALL_INSERT || r->call == CALL_REMOVE) {
         if (cpgring_audit_group(&node->ring, place, name.at, sizeof name.at) != CPGRING_OK) return;

@@ -31,6 +31,8 @@ static bool take_lock(struct sockets *s) {
         if (flock(s->lock, LOCK_EX | LOCK_NB) != 0) {
             if (errno == EWOULDBLOCK) log_line(LOG_ERROR, "%s: another daemon is using it", s->path[0]);
             else log_line(LOG_ERROR, "%s: %s", s->lock_path, strerror(errno));
+            close(s->lock); /* the file is the other's */
+            s->lock = -1;
             return false;
         }
         if (fstat(s->lock, &held) == 0 && stat(s->lock_path, &there) == 0 && held.st_ino == there.st_ino && held.st_dev == there.st_dev)
@@ -142,7 +144,7 @@ static bool turn_away(struct sockets *s, int listener) {
     int fd = accept4(listener, NULL, NULL, SOCK_CLOEXEC);
     if (fd >= 0) close(fd);
     s->spare = open("/dev/null", O_RDONLY | O_CLOEXEC);
-    log_line(LOG_WARNING, "no file descriptor is left: a connection is turned away");
+    log_line(LOG_INFO, "no file descriptor is left: a connection is turned away");
     return fd >= 0 && s->spare >= 0;
 }
 

@@ -22,10 +22,20 @@ struct user *user_get(uint32_t uid) {
 
 void user_put(struct user *user) {
     if (user->connections > 0) return;
+    for (unsigned k = 0; k < CPGRING_MOST_NODES; k++)
+        if (user->waiting[k] > 0) return;
     struct user **at = &users;
     while (*at != user) at = &(*at)->next;
     *at = user->next;
     free(user);
+}
+
+void user_call_placed(uint32_t uid, unsigned node) {
+    struct user *user = users;
+    while (user && user->uid != uid) user = user->next;
+    if (!user || user->waiting[node] == 0) return; /* of the daemon's own, as those of a ring's begin are */
+    user->waiting[node]--;
+    user_put(user);
 }
 
 void user_ungreeted_add(struct client *c) {

@@ -7,8 +7,10 @@
 
 /* The user of that number, who is made where there is none. NULL: no memory. */
 struct user *user_get(uint32_t uid);
-/* Forgets a user who has no connections any more. */
+/* Forgets a user who has no connections any more, and no calls that wait. */
 void user_put(struct user *user);
+/* A call of that user at that node, from 0, came to its place. */
+void user_call_placed(uint32_t uid, unsigned node);
 
 void user_ungreeted_add(struct client *c);
 void user_ungreeted_drop(struct client *c);

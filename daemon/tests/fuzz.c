@@ -94,7 +94,7 @@ static void begin(void) {
     static const char conf[] = "uidgid {\nuid: 7\n}\n";
     cpgring_fault fault;
     uint32_t version = PROTOCOL_VERSION;
-    limits = (struct limits){.unread = 1 << 20, .user_unread = 4 << 20, .connections = 100, .user_connections = 100,
+    limits = (struct limits){.unread = 1 << 20, .user_unread = 4 << 20, .connections = 100, .user_connections = 100, .user_calls = 200,
                              .user_ungreeted = 10, .greet_seconds = 5, .room = 64 << 10};
     memset(&ring, 0, sizeof ring);
     ring.conf = conf, ring.conf_len = sizeof conf - 1, ring.names = "", ring.names_len = 0;
