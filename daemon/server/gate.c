@@ -149,6 +149,8 @@ static void visit(struct gate *gate) {
     if (again_len) cpgring_frame(&gate->nodes[to].ring, again, again_len);
 }
 
+unsigned gate_next(const struct gate *gate) { return gate->token_len ? gate->token_to : (gate->token_from + 1) % gate->count; }
+
 /* ---- pumping ---- */
 
 static uint32_t highest_place(const struct gate *gate) {

@@ -40,6 +40,9 @@ void gate_let(struct gate *gate, unsigned node);
  * Whether there is more to do at once. */
 bool gate_pump(struct gate *gate, unsigned visits);
 
+/* The node that the token visits next, from 0. */
+unsigned gate_next(const struct gate *gate);
+
 /* Whether nothing waits at any node, and all have delivered the same places. */
 bool gate_settled(const struct gate *gate);
 #endif

@@ -3,6 +3,7 @@
  * connected, members join in the order in which they stand, rules are inserted; nothing of that is told. */
 #include "ring.h"
 #include "audit.h"
+#include "carry.h"
 #include "control.h"
 #include "log.h"
 #include "users.h"
@@ -10,7 +11,7 @@
 #include <string.h>
 #include <time.h>
 
-enum { MOST_LONG_BEFORE_END = MOST_LONG_NAMES * 3 / 4, MOST_CONNECTED = 60000, BATCH = 200 };
+enum { MOST_LONG_BEFORE_END = MOST_LONG_NAMES * 3 / 4, MOST_CONNECTED = 60000 };
 
 uint64_t now_us(void) {
     struct timespec t;
@@ -55,125 +56,7 @@ bool ring_is_due(const struct ring *ring) {
     return false;
 }
 
-/* ---- what is carried over ---- */
-
-struct member { /* a member, by where it is */
-    struct client *client;
-    struct node *node;
-    struct name code;
-    uint32_t place;
-};
-
-struct carried_table {
-    struct name name;
-    size_t count;
-    cpgring_rule rules[CPGRING_MOST_RULES];
-};
-
-struct carried {
-    struct member *members;
-    size_t count_members;
-    struct carried_table *tables;
-    size_t count_tables;
-};
-
-static int by_place(const void *a, const void *b) {
-    uint32_t x = ((const struct member *)a)->place, y = ((const struct member *)b)->place;
-    return (x > y) - (x < y);
-}
-
-static bool carry_members(struct ring *ring, struct carried *carried) {
-    const struct node *first = &ring->nodes[0];
-    size_t count = 0;
-    for (unsigned b = 0; b < BUCKETS; b++)
-        for (const struct process_group *g = first->groups[b]; g; g = g->next) count += g->count;
-    carried->members = calloc(count + 1, sizeof *carried->members);
-    if (!carried->members) return false;
-    for (unsigned b = 0; b < BUCKETS; b++)
-        for (const struct process_group *g = first->groups[b]; g; g = g->next)
-            for (const struct seat *seat = g->first; seat; seat = seat->next) {
-                struct node *node = &ring->nodes[seat->node - 1];
-                struct client *c = node->by_conn[seat->conn];
-                if (c) carried->members[carried->count_members++] = (struct member){c, node, g->name, seat->place};
-            }
-    qsort(carried->members, carried->count_members, sizeof *carried->members, by_place);
-    return true;
-}
-
-static bool carry_tables(struct ring *ring, struct carried *carried) {
-    struct node *first = &ring->nodes[0];
-    size_t count = 0;
-    for (const struct table *t = first->tables; t; t = t->next) count++;
-    carried->tables = calloc(count + 1, sizeof *carried->tables);
-    if (!carried->tables) return false;
-    for (const struct table *t = first->tables; t; t = t->next) {
-        struct carried_table *to = &carried->tables[carried->count_tables];
-        to->name = t->name;
-        while (to->count < CPGRING_MOST_RULES &&
-               cpgring_table(&first->ring, t->name.at, t->name.len, to->count, &to->rules[to->count]) == CPGRING_OK)
-            to->count++;
-        if (to->count > 0) carried->count_tables++;
-    }
-    return true;
-}
-
-static void sweep_names(const struct carried *carried) {
-    names_unmark();
-    for (size_t k = 0; k < carried->count_members; k++) names_mark(&carried->members[k].code);
-    for (size_t k = 0; k < carried->count_tables; k++) names_mark(&carried->tables[k].name);
-    names_sweep();
-}
-
-static void carried_free(struct carried *carried) {
-    free(carried->members);
-    free(carried->tables);
-}
-
 /* ---- the next ring ---- */
-
-static bool settle(struct ring *ring) {
-    while (gate_pump(&ring->gate, 1000)) {}
-    return ring->gate.fault == CPGRING_OK;
-}
-
-static uint32_t connect_clients(struct node *node) {
-    for (struct client *c = node->clients; c; c = c->next) node->by_conn[c->conn] = NULL;
-    for (struct client *c = node->clients; c; c = c->next) {
-        if (!c->conn) continue;
-        uint32_t status = cpgring_connect(&node->ring, c->pid, c->uid, c->gid, &c->conn);
-        if (status != CPGRING_OK) return status;
-        node->by_conn[c->conn] = c;
-        node->connected++;
-    }
-    return CPGRING_OK;
-}
-
-static uint32_t seat_members(struct ring *ring, const struct carried *carried) {
-    unsigned batch = 0;
-    for (size_t k = 0; k < carried->count_members; k++) {
-        const struct member *m = &carried->members[k];
-        uint32_t status = cpgring_join(&m->node->ring, m->client->conn, m->code.at, m->code.len);
-        if (status != CPGRING_OK) return status;
-        bool last = k + 1 == carried->count_members;
-        if (!last && carried->members[k + 1].node == m->node && ++batch < BATCH) continue;
-        batch = 0;
-        if (!settle(ring)) return ring->gate.fault;
-    }
-    return CPGRING_OK;
-}
-
-static uint32_t insert_rules(struct ring *ring, const struct carried *carried) {
-    struct node *first = &ring->nodes[0];
-    for (size_t t = 0; t < carried->count_tables; t++) {
-        const struct carried_table *table = &carried->tables[t];
-        for (size_t k = 0; k < table->count; k++) {
-            uint32_t status = cpgring_insert(&first->ring, first->own, table->name.at, table->name.len, (uint8_t)k, &table->rules[k]);
-            if (status != CPGRING_OK) return status;
-        }
-        if (!settle(ring)) return ring->gate.fault;
-    }
-    return CPGRING_OK;
-}
 
 static uint32_t open_next(struct ring *ring, const struct carried *carried) {
     cpgring_fault fault;
@@ -187,10 +70,7 @@ static uint32_t open_next(struct ring *ring, const struct carried *carried) {
     ring->number++;
     gate_forget(&ring->gate);
     uint32_t status = open_nodes(ring, &fault);
-    for (unsigned k = 0; k < ring->count && status == CPGRING_OK; k++) status = connect_clients(&ring->nodes[k]);
-    if (status == CPGRING_OK) status = seat_members(ring, carried);
-    if (status == CPGRING_OK) status = insert_rules(ring, carried);
-    return status;
+    return status == CPGRING_OK ? carry_into(ring, carried) : status;
 }
 
 /* Losses and cuts are for what clients ask: the next ring is made ready without them. */
@@ -214,12 +94,8 @@ static bool renew(struct ring *ring) {
     for (unsigned k = 0; k < ring->count; k++) node_tell(&ring->nodes[k], true);
     control_ring_ends(ring);
     audit_ring_ends(ring);
-    uint32_t status = carry_members(ring, &carried) && carry_tables(ring, &carried) ? CPGRING_OK : CPGRING_MEMORY;
-    if (status == CPGRING_OK) {
-        sweep_names(&carried);
-        status = open_next_quietly(ring, &carried);
-    }
-    carried_free(&carried);
+    uint32_t status = carry_out(ring, &carried) ? open_next_quietly(ring, &carried) : CPGRING_MEMORY;
+    carry_free(&carried);
     if (status != CPGRING_OK) {
         log_line(LOG_ERROR, "ring %u can't be made: %s", ring->number, cpgring_refusal_text(status));
         return false;

@@ -1,6 +1,7 @@
 /* limits WHAT: what the daemon allows of connections.
  *     ungreeted    --ungreeted=4 --greet-seconds=1: the oldest of five silent ones is ended at once, the others in time
  *     connections  --user-connections=5: the sixth is turned away, and let in once one is gone
+ *     calls CTL    --user-calls=10: while a node is held, ten calls of a user are heard and no more; CTL is cpgringctl
  *     descriptors  under `ulimit -n` of some 30: who comes is turned away or waits, and is let in once there is room */
 #include "common.h"
 
@@ -63,8 +64,47 @@ static void descriptors(void) {
     EXPECT(status, CS_OK);
 }
 
+/* How many asks the daemon heard of this process. */
+static unsigned heard(const char *ctl) {
+    char line[400];
+    unsigned pid, asks, found = 0;
+    snprintf(line, sizeof line, "%s clients", ctl);
+    FILE *from = popen(line, "r");
+    while (from && fgets(line, sizeof line, from))
+        if (sscanf(line, "client node %*u connection %*u pid %u uid %*u gid %*u asks %u", &pid, &asks) == 2 && pid == (unsigned)getpid())
+            found = asks;
+    if (from) pclose(from);
+    return found;
+}
+
+static void control(const char *ctl, const char *words) {
+    char line[400];
+    snprintf(line, sizeof line, "%s %s", ctl, words);
+    EXPECT(system(line), 0);
+}
+
+static void calls(const char *ctl) {
+    struct head head = {0, ASK_SEND, 0};
+    int fd = raw_dial();
+    EXPECT(raw_greet(fd), CS_OK);
+    EXPECT(raw_ask(fd, ASK_JOIN, "calls", 5), CS_OK);
+    control(ctl, "hold 1");
+    for (unsigned k = 0; k < 100; k++) EXPECT(send(fd, &head, sizeof head, MSG_NOSIGNAL), sizeof head);
+    for (uint64_t end = now_ms() + 10000; heard(ctl) < 12 && now_ms() < end;) pause_ms(20);
+    pause_ms(200);
+    EXPECT(heard(ctl), 12); /* the greeting, the join and ten */
+    control(ctl, "let 1");
+    for (uint64_t end = now_ms() + 10000; heard(ctl) < 102 && now_ms() < end;) pause_ms(20);
+    EXPECT(heard(ctl), 102);
+    close(fd);
+}
+
 int main(int count, char **words) {
-    if (count != 2) return 2;
+    if (count < 2) return 2;
+    if (!strcmp(words[1], "calls") && count == 3) {
+        calls(words[2]);
+        return finish("limits");
+    }
     if (!strcmp(words[1], "ungreeted")) ungreeted();
     else if (!strcmp(words[1], "connections")) connections();
     else descriptors();
