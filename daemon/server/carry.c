@@ -95,6 +95,10 @@ static uint32_t connect_clients(struct node *node) {
     for (struct client *c = node->clients; c; c = c->next) node->by_conn[c->conn] = NULL;
     for (struct client *c = node->clients; c; c = c->next) {
         if (!c->conn) continue;
+        if (c->told) { /* the ring that ended has events left for it */
+            c->old_conn = c->conn;
+            node->lagging++;
+        }
         uint32_t status = cpgring_connect(&node->ring, c->pid, c->uid, c->gid, &c->conn);
         if (status != CPGRING_OK) return status;
         node->by_conn[c->conn] = c;

@@ -180,7 +180,7 @@ static bool turn(void) {
     struct ring *ring = loop.ring;
     for (unsigned k = 0; k < ring->count; k++) hear(&ring->nodes[k]);
     bool more = gate_pump(&ring->gate, VISITS);
-    for (unsigned k = 0; k < ring->count; k++) node_tell(&ring->nodes[k], false);
+    for (unsigned k = 0; k < ring->count; k++) node_tell(&ring->nodes[k]);
     for (unsigned k = 0; k < ring->count; k++) more = tend_all(&ring->nodes[k]) || more;
     return more;
 }

@@ -30,10 +30,11 @@ void node_close(struct node *node) {
     while (node->clients) client_free(node->clients);
     if (node->by_conn) node_forget(node);
     cpgring_close(&node->ring);
+    cpgring_close(&node->old);
     for (unsigned k = 1; k <= CPGRING_MOST_NODES; k++) free(node->seats[k]);
     free(node->by_conn);
     free(node->told);
-    *node = (struct node){.ring = CPGRING_INIT};
+    *node = (struct node){.ring = CPGRING_INIT, .old = CPGRING_INIT};
 }
 
 struct client *client_new(struct node *node, uint32_t pid, uint32_t uid, uint32_t gid) {
@@ -74,6 +75,7 @@ void client_free(struct client *c) {
             log_line(LOG_ERROR, "node %u: no memory for the end of process %u", node->setup.node, c->pid);
         node->by_conn[c->conn] = NULL;
     }
+    if (c->old_conn) node->lagging--;
     client_rest(c);
     leave_told(c);
     if (!c->greeted) user_ungreeted_drop(c);

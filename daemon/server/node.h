@@ -54,7 +54,8 @@ struct client {
     struct node *node;
     struct user *user;
     uint32_t pid, uid, gid;
-    uint16_t conn; /* 0: it did not greet yet */
+    uint16_t conn;     /* 0: it did not greet yet */
+    uint16_t old_conn; /* its connection in the ring before, where that has events left for it; else 0 */
     uint16_t asked, asked_tag; /* the call, other than a send, whose verdict is owed: 0 none; nothing is heard until then */
     uint64_t owed_sends;       /* sends before it whose verdicts are owed */
     struct name joining, group; /* as the client says them, not as the node has them */
@@ -81,6 +82,8 @@ struct table { /* a group whose rules were changed */
 
 struct node {
     cpgring ring;
+    cpgring old;      /* the ring before, until it is closed */
+    unsigned lagging; /* clients for which it has events left */
     cpgring_setup setup;
     uint16_t own; /* the daemon's own connection */
     struct client *clients;
@@ -137,13 +140,17 @@ uint8_t *tell(struct client *c, uint16_t kind, uint16_t tag, size_t len);
 void answer(struct client *c, uint16_t ask, uint16_t tag, uint32_t status);
 void tell_denied(struct client *c, uint32_t status, uint32_t verdict, uint32_t rule);
 uint32_t status_of_refusal(uint32_t refusal);
-/* Takes what the node has to tell its clients, as far as there is room; in `all` without regard to room. */
-void node_tell(struct node *node, bool all);
-/* Takes what the node tells of a new ring's joins and rules, and drops it. */
+/* Takes what the node has to tell its clients, as far as there is room. */
+void node_tell(struct node *node);
+/* Takes what the ring before still has for its clients, without regard to room. */
+void node_tell_old(struct node *node);
+/* A new ring was made ready: what it tells of that is taken and dropped. */
 void node_tell_nothing(struct node *node);
 
 /* ---- seats.c: who is a member of what ---- */
 
+/* The client was told something, of about so many bytes. */
+void note_told(struct node *node, struct client *c, uint64_t cost);
 /* A place was delivered: keeps the seats, and notes whom it told something. */
 void node_delivered(struct node *node, uint32_t place, const cpgring_record *record);
 struct process_group *group_find(const struct node *node, const struct name *name);

@@ -1,6 +1,6 @@
 /* A ring of nodes and the next one; see ring.h.
- * An end goes so: no ask is heard any more; what waits is delivered and told; the next ring is opened, the clients are
- * connected, members join in the order in which they stand, rules are inserted; nothing of that is told. */
+ * An end goes so: no ask is heard any more; what waits is delivered; the next ring is opened and has what carry.c brings;
+ * nothing of that is told. The ring before stays until its last events were taken, and is closed beside the work. */
 #include "ring.h"
 #include "audit.h"
 #include "carry.h"
@@ -60,12 +60,12 @@ bool ring_is_due(const struct ring *ring) {
 
 static uint32_t open_next(struct ring *ring, const struct carried *carried) {
     cpgring_fault fault;
-    while (ring_close_old(ring)) {}
+    ring->delivered_before += ring->nodes[0].delivered;
     for (unsigned k = 0; k < ring->count; k++) {
-        ring->delivered_before += k == 0 ? ring->nodes[k].delivered : 0;
-        ring->old[ring->count_old++] = ring->nodes[k].ring;
-        ring->nodes[k].ring = (cpgring)CPGRING_INIT;
-        node_forget(&ring->nodes[k]);
+        struct node *node = &ring->nodes[k];
+        node->old = node->ring;
+        node->ring = (cpgring)CPGRING_INIT;
+        node_forget(node);
     }
     ring->number++;
     gate_forget(&ring->gate);
@@ -91,7 +91,11 @@ static uint32_t open_next_quietly(struct ring *ring, const struct carried *carri
 static bool renew(struct ring *ring) {
     struct carried carried = {0};
     uint64_t began = now_us();
-    for (unsigned k = 0; k < ring->count; k++) node_tell(&ring->nodes[k], true);
+    for (unsigned k = 0; k < ring->count; k++) {
+        node_tell_old(&ring->nodes[k]); /* of two rings before, where somebody is so far behind */
+        cpgring_close(&ring->nodes[k].old);
+        node_tell(&ring->nodes[k]);
+    }
     control_ring_ends(ring);
     audit_ring_ends(ring);
     uint32_t status = carry_out(ring, &carried) ? open_next_quietly(ring, &carried) : CPGRING_MEMORY;
@@ -130,14 +134,17 @@ bool ring_step(struct ring *ring) {
     return true;
 }
 
+static bool can_close_old(const struct node *node) { return node->old.live && node->lagging == 0; }
+
 bool ring_close_old(struct ring *ring) {
-    if (ring->count_old == 0) return false;
-    cpgring_close(&ring->old[--ring->count_old]);
-    return ring->count_old > 0;
+    unsigned k = 0, more = 0;
+    while (k < ring->count && !can_close_old(&ring->nodes[k])) k++;
+    if (k < ring->count) cpgring_close(&ring->nodes[k].old);
+    for (; k < ring->count; k++) more += can_close_old(&ring->nodes[k]);
+    return more > 0;
 }
 
 void ring_close(struct ring *ring) {
-    while (ring_close_old(ring)) {}
     for (unsigned k = 0; k < ring->count; k++) node_close(&ring->nodes[k]);
     gate_forget(&ring->gate);
 }

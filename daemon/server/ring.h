@@ -6,8 +6,6 @@
 #include "gate.h"
 #include "options.h"
 
-enum { MOST_OLD = CPGRING_MOST_NODES };
-
 struct ring {
     struct node nodes[CPGRING_MOST_NODES];
     unsigned count;
@@ -19,8 +17,6 @@ struct ring {
     uint32_t carried; /* places that the members and rules of the last ring took */
     bool ending;      /* no asks are heard, until all that waits is delivered */
     bool end_wanted;  /* by an operator */
-    cpgring old[MOST_OLD]; /* nodes of rings that ended, still to be closed */
-    unsigned count_old;
     uint64_t renewals, worst_pause, all_pauses; /* in microseconds */
     uint64_t delivered_before;                  /* places of rings that ended */
     uint64_t ending_since;
@@ -32,7 +28,7 @@ uint32_t ring_open(struct ring *ring, const struct options *options, cpgring_fau
 bool ring_is_due(const struct ring *ring);
 /* Goes on with what a ring's end needs. false: the next ring could not be made. */
 bool ring_step(struct ring *ring);
-/* Closes a node of a ring that ended. Whether there are more. */
+/* Closes a node of the ring before, where one has no events left for anybody. Whether there are more of them. */
 bool ring_close_old(struct ring *ring);
 void ring_close(struct ring *ring);
 /* Places that this ring has left before it ends. */

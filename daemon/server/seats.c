@@ -75,7 +75,7 @@ static void table_note(struct node *node, const struct name *name) {
 
 /* ---- who is told ---- */
 
-static void note_told(struct node *node, struct client *c, uint64_t cost) {
+void note_told(struct node *node, struct client *c, uint64_t cost) {
     c->untaken += cost;
     if (c->told) return;
     if (node->count_told == node->room_told) {
@@ -133,8 +133,6 @@ void node_forget(struct node *node) {
         free(t);
     }
     node->tables = NULL;
-    for (unsigned k = 0; k < node->count_told; k++) node->told[k]->told = false;
-    node->count_told = 0;
     node->delivered = 0;
     node->delivered_bytes = 0;
     node->connected = 0;

@@ -83,14 +83,14 @@ static void tell_verdict(struct client *c, const cpgring_event *event) {
     answer(c, asked, c->asked_tag, status);
 }
 
-static void tell_message(struct client *c, const cpgring_event *event) {
+static void tell_message(struct client *c, cpgring *ring, const cpgring_event *event) {
     struct tell_message told = {event->node, event->pid, (uint32_t)event->message_len, c->group.len};
     size_t at_name = sizeof told + fill8(told.message_len);
     uint8_t *out = tell(c, TELL_MESSAGE, 0, at_name + told.name_len);
     if (!out) return;
     memcpy(out, &told, sizeof told);
     memset(out + sizeof told + told.message_len, 0, fill8(told.message_len) - told.message_len);
-    if (told.message_len) cpgring_message(&c->node->ring, out + sizeof told, told.message_len);
+    if (told.message_len) cpgring_message(ring, out + sizeof told, told.message_len);
     memcpy(out + at_name, c->group.at, told.name_len);
     c->told_messages++;
 }
@@ -101,8 +101,7 @@ static uint8_t *put_process(uint8_t *at, const cpgring_process *p) {
     return at + sizeof told;
 }
 
-static void tell_change(struct client *c, const cpgring_event *event) {
-    cpgring *ring = &c->node->ring;
+static void tell_change(struct client *c, cpgring *ring, const cpgring_event *event) {
     struct tell_change told = {c->group.len, (uint32_t)event->members, (uint32_t)event->left, (uint32_t)event->joined};
     size_t processes = event->members + event->left + event->joined;
     uint8_t *out = tell(c, TELL_CHANGE, 0, sizeof told + processes * sizeof(struct told_process) + told.name_len);
@@ -116,47 +115,67 @@ static void tell_change(struct client *c, const cpgring_event *event) {
     memcpy(out, c->group.at, told.name_len);
 }
 
-/* false: there may be more, for which there is no room now. */
-static bool take_events(struct client *c, bool all) {
+/* Takes the next event of that connection of that ring. A status of cpgring.h. */
+static uint32_t take_one(struct client *c, cpgring *ring, uint16_t conn) {
     cpgring_event event;
+    size_t before = bytes_held(&c->out);
+    uint32_t status = cpgring_take(ring, conn, &event);
+    if (status != CPGRING_OK) return status;
+    if (event.kind == CPGRING_VERDICT) tell_verdict(c, &event);
+    else if (event.kind == CPGRING_MESSAGE) tell_message(c, ring, &event);
+    else if (event.kind == CPGRING_CHANGE) tell_change(c, ring, &event);
+    size_t taken = bytes_held(&c->out) - before;
+    c->untaken -= taken < c->untaken ? taken : c->untaken;
+    return CPGRING_OK;
+}
+
+/* Takes events, of the ring before first. false: there may be more, for which there is no room now. */
+static bool take_events(struct client *c) {
+    struct node *node = c->node;
     while (c->end == END_NOT) {
-        if (!all && bytes_held(&c->out) > limits.room) return false;
-        size_t before = bytes_held(&c->out);
-        uint32_t status = cpgring_take(&c->node->ring, c->conn, &event);
-        if (status == CPGRING_NONE) {
+        if (bytes_held(&c->out) > limits.room) return false;
+        uint32_t status = c->old_conn ? take_one(c, &node->old, c->old_conn) : take_one(c, &node->ring, c->conn);
+        if (status == CPGRING_OK) continue;
+        if (status != CPGRING_NONE) client_end(c, END_NO_MEMORY);
+        if (status != CPGRING_NONE || !c->old_conn) {
             c->untaken = 0;
             return true;
         }
-        if (status != CPGRING_OK) {
-            client_end(c, END_NO_MEMORY);
-            return true;
-        }
-        if (event.kind == CPGRING_VERDICT) tell_verdict(c, &event);
-        else if (event.kind == CPGRING_MESSAGE) tell_message(c, &event);
-        else if (event.kind == CPGRING_CHANGE) tell_change(c, &event);
-        size_t taken = bytes_held(&c->out) - before;
-        c->untaken -= taken < c->untaken ? taken : c->untaken;
+        c->old_conn = 0;
+        node->lagging--;
     }
     return true;
 }
 
-void node_tell(struct node *node, bool all) {
+void node_tell(struct node *node) {
     unsigned kept = 0;
     for (unsigned k = 0; k < node->count_told; k++) {
         struct client *c = node->told[k];
-        if (take_events(c, all)) c->told = false;
+        if (take_events(c)) c->told = false;
         else node->told[kept++] = c;
         client_account(c);
     }
     node->count_told = kept;
 }
 
+void node_tell_old(struct node *node) {
+    for (struct client *c = node->clients; c && node->lagging > 0; c = c->next) {
+        if (!c->old_conn) continue;
+        while (c->end == END_NOT && take_one(c, &node->old, c->old_conn) == CPGRING_OK) {}
+        c->old_conn = 0;
+        node->lagging--;
+        client_account(c);
+    }
+}
+
 void node_tell_nothing(struct node *node) {
     cpgring_event event;
     for (struct client *c = node->clients; c; c = c->next) {
         while (c->conn && cpgring_take(&node->ring, c->conn, &event) == CPGRING_OK) {}
-        c->untaken = 0;
         c->told = false;
     }
     node->count_told = 0;
+    for (struct client *c = node->clients; c; c = c->next)
+        if (c->old_conn) note_told(node, c, 0);
+        else c->untaken = 0;
 }

@@ -65,7 +65,7 @@ static void turn(void) {
             client_hear(c, 50);
         }
     gate_pump(&ring.gate, 50);
-    for (unsigned k = 0; k < ring.count; k++) node_tell(&ring.nodes[k], false);
+    for (unsigned k = 0; k < ring.count; k++) node_tell(&ring.nodes[k]);
     for (unsigned k = 0; k < 2; k++) read_honest(k);
     for (unsigned k = 0; k < HOSTILE; k++) {
         if (!hostile[k]) continue;
