@@ -105,7 +105,8 @@ PUBLIC cs_error_t cpg_iteration_initialize(cpg_handle_t handle, cpg_iteration_ty
     cs_error_t result = CS_ERR_INVALID_PARAM;
     if (!it) result = CS_ERR_NO_MEMORY;
     else if (type == CPG_ITERATION_ONE_GROUP && group && group->length <= CPG_MAX_NAME_LENGTH) result = one_group(i, it, group);
-    else if ((type == CPG_ITERATION_NAME_ONLY || type == CPG_ITERATION_ALL) && !group) result = all_groups(i, it, type == CPG_ITERATION_ALL);
+    else if ((type == CPG_ITERATION_NAME_ONLY || type == CPG_ITERATION_ALL) && !group)
+        result = all_groups(i, it, type == CPG_ITERATION_ALL);
     if (result == CS_OK) result = enter(it, iteration);
     if (result != CS_OK) iteration_free(it);
     instance_put(i);

@@ -218,8 +218,11 @@ int main(int count, char **words) {
     if (count < 1) usage();
     deadline = now_ms() + wait;
     connect_to(path);
-    if ((status = ask(ASK_HELLO, &version, sizeof version)) == CS_OK)
-        status = !strcmp(words[0], "insert") ? insert(count, words) : !strcmp(words[0], "remove") ? remove_rule(count, words) : plain(count, words);
+    if ((status = ask(ASK_HELLO, &version, sizeof version)) == CS_OK) {
+        if (!strcmp(words[0], "insert")) status = insert(count, words);
+        else if (!strcmp(words[0], "remove")) status = remove_rule(count, words);
+        else status = plain(count, words);
+    }
     if (fflush(stdout) != 0) fail("standard output", strerror(errno));
     if (status != CS_OK) fprintf(stderr, "cpgringctl: %u: %s\n", status, status_text(status));
     return status != CS_OK;

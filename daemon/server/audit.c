@@ -64,8 +64,8 @@ bool audit_line(struct node *node, uint32_t place, struct bytes *to) {
     cpgring_record r;
     char *begin = (char *)bytes_room(to, MOST_LINE), *at = begin;
     if (!begin || cpgring_audit(&node->ring, place, &r) != CPGRING_OK) return false;
-    at += sprintf(at, "{\"kind\":\"record\",\"ring\":%u,\"place\":%u,\"node\":%u,\"connection\":%u,\"pid\":%u,\"uid\":%u,\"gid\":%u,\"call\":\"%s\"",
-                  node->setup.ring, place, r.node, r.conn, r.pid, r.uid, r.gid, r.call < 7 ? calls[r.call] : "?");
+    at += sprintf(at, "{\"kind\":\"record\",\"ring\":%u,\"place\":%u,\"node\":%u,\"connection\":%u", node->setup.ring, place, r.node, r.conn);
+    at += sprintf(at, ",\"pid\":%u,\"uid\":%u,\"gid\":%u,\"call\":\"%s\"", r.pid, r.uid, r.gid, r.call < 7 ? calls[r.call] : "?");
     if (r.call == 3 && (r.message_len == 0 || cpgring_audit_message(&node->ring, place, message, sizeof message) == CPGRING_OK))
         at = put_message(at, message, r.message_len);
     at = put_verdict(at, &r);

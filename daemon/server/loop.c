@@ -90,7 +90,8 @@ static void begin_stop(const char *why) {
 static void take_signals(void) {
     struct signalfd_siginfo info;
     while (read(loop.signals, &info, sizeof info) == (ssize_t)sizeof info)
-        if (info.ssi_signo == SIGHUP) log_line(LOG_WARNING, "SIGHUP is refused: the conf is fixed while the daemon runs; stop it and start it anew");
+        if (info.ssi_signo == SIGHUP)
+            log_line(LOG_WARNING, "SIGHUP is refused: the conf is fixed while the daemon runs; stop it and start it anew");
         else begin_stop(info.ssi_signo == SIGTERM ? "SIGTERM" : "SIGINT");
 }
 

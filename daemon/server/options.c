@@ -25,10 +25,10 @@ struct option {
 static struct options chosen;
 
 static const struct option table[] = {
-    {'c', "conf", "FILE", TEXT, &chosen.conf, 0, 0, "who is let in: its uidgid sections, and uidgid.d beside it [/etc/corosync/corosync.conf]"},
+    {'c', "conf", "FILE", TEXT, &chosen.conf, 0, 0, "who is let in: its uidgid sections, and those of uidgid.d [/etc/corosync/corosync.conf]"},
     {'s', "socket", "PATH", TEXT, &chosen.socket, 0, 0, "node 1's socket; node K's is PATH.K [$XDG_RUNTIME_DIR or /run, cpgringd.sock]"},
     {'n', "nodes", "N", U32, &chosen.nodes, 1, CPGRING_MOST_NODES, "nodes of the ring [1]"},
-    {'f', "foreground", NULL, FLAG, &chosen.foreground, 0, 0, "stay in the foreground; else go on in the background once the sockets are there"},
+    {'f', "foreground", NULL, FLAG, &chosen.foreground, 0, 0, "stay in the foreground; else go on in the background once all is ready"},
     {0, "mode", "OCTAL", OCTAL, &chosen.mode, 0, 0777, "mode of the sockets [666]"},
     {0, "owner", "USER[:GROUP]", OWNER, NULL, 0, 0, "owner of the sockets"},
     {0, "log", "LEVEL", LEVEL, NULL, 0, 0, "error, warning, notice, info or debug [notice]"},

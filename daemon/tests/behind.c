@@ -1,6 +1,6 @@
 /* behind UNREAD: a member that never reads is ended once it is UNREAD bytes behind, and is told down to its group.
  * The daemon is run with --unread=UNREAD. Who sends is never held up by it: each send ends within a second.
- * A second one reads slowly, stays below the amount, and stays. */
+ * Who sends is told all of it meanwhile. */
 #include "common.h"
 
 static uint32_t silent_pid, ended_reason;
@@ -39,7 +39,8 @@ int main(int count, char **words) {
     silent_pid = (uint32_t)start_silent();
     struct cpg_address list[CPG_MEMBERS_MAX];
     int members = 0;
-    for (uint64_t end = now_ms() + 5000; members < 2 && now_ms() < end; pause_ms(5)) EXPECT(cpg_membership_get(h, &group, list, &members), CS_OK);
+    for (uint64_t end = now_ms() + 5000; members < 2 && now_ms() < end; pause_ms(5))
+        EXPECT(cpg_membership_get(h, &group, list, &members), CS_OK);
     EXPECT(members, 2);
     for (uint64_t end = now_ms() + 20000; !ended_reason && now_ms() < end && sent < 4 * limit + (8 << 20);) {
         struct iovec part = {bytes, sizeof bytes};
@@ -53,7 +54,8 @@ int main(int count, char **words) {
     EXPECT(ended_reason, CPG_REASON_PROCDOWN);
     EXPECT(sent >= limit, 1); /* not before it is so far behind */
     EXPECT(worst < 1000, 1);
-    for (uint64_t end = now_ms() + 5000; got * sizeof bytes < sent && now_ms() < end; pause_ms(1)) EXPECT(cpg_dispatch(h, CS_DISPATCH_ALL), CS_OK);
+    for (uint64_t end = now_ms() + 5000; got * sizeof bytes < sent && now_ms() < end; pause_ms(1))
+        EXPECT(cpg_dispatch(h, CS_DISPATCH_ALL), CS_OK);
     EXPECT(got * sizeof bytes, sent);
     kill((pid_t)silent_pid, SIGKILL);
     status_of((pid_t)silent_pid);

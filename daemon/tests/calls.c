@@ -81,26 +81,30 @@ static cs_error_t send_surely(cpg_handle_t h, const void *bytes, size_t len) {
 
 /* ---- a handle from its beginning to its end ---- */
 
-static void plain_calls(void) {
-    struct cpg_name group = name_of("calls"), other = name_of("other");
-    struct cpg_address list[CPG_MEMBERS_MAX];
+static void looks(cpg_handle_t h) {
     cpg_flow_control_state_t flow = CPG_FLOW_CONTROL_ENABLED;
     void *context = NULL;
     unsigned node = 0;
     uint32_t most = 0;
-    int count = -1;
-    cpg_handle_t h = open_one();
     EXPECT(cpg_context_get(h, &context), CS_OK);
     EXPECT(context == &seen, 1);
-    EXPECT(cpg_context_set(h, &count), CS_OK);
+    EXPECT(cpg_context_set(h, &node), CS_OK);
     EXPECT(cpg_context_get(h, &context), CS_OK);
-    EXPECT(context == &count, 1);
+    EXPECT(context == &node, 1);
     EXPECT(cpg_local_get(h, &node), CS_OK);
     EXPECT(node, 1);
     EXPECT(cpg_max_atomic_msgsize_get(h, &most), CS_OK);
     EXPECT(most, 8192);
     EXPECT(cpg_flow_control_state_get(h, &flow), CS_OK);
     EXPECT(flow, CPG_FLOW_CONTROL_DISABLED);
+}
+
+static void plain_calls(void) {
+    struct cpg_name group = name_of("calls"), other = name_of("other");
+    struct cpg_address list[CPG_MEMBERS_MAX];
+    int count = -1;
+    cpg_handle_t h = open_one();
+    looks(h);
     EXPECT(send_bytes(h, "x", 1), CS_ERR_NOT_EXIST);
     EXPECT(cpg_leave(h, &group), CS_ERR_NOT_EXIST);
     EXPECT(cpg_dispatch(h, CS_DISPATCH_ONE_NONBLOCKING), CS_ERR_TRY_AGAIN);

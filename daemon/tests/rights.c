@@ -58,7 +58,8 @@ static bool is_listed(cpg_handle_t h, const char *text) {
     struct cpg_name name = name_of(text);
     bool found = false;
     EXPECT(cpg_iteration_initialize(h, CPG_ITERATION_NAME_ONLY, NULL, &it), CS_OK);
-    while (cpg_iteration_next(it, &at) == CS_OK) found = found || (at.group.length == name.length && !memcmp(at.group.value, name.value, name.length));
+    while (cpg_iteration_next(it, &at) == CS_OK)
+        if (at.group.length == name.length && !memcmp(at.group.value, name.value, name.length)) found = true;
     EXPECT(cpg_iteration_finalize(it), CS_OK);
     return found;
 }
