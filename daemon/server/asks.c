@@ -17,7 +17,7 @@ size_t ask_at(const struct client *c, struct head *head) {
 
 bool client_hearable(const struct client *c) {
     struct head head;
-    return c->end == END_NOT && !c->node->closed_for_calls && c->asked == 0 && c->audit_tag == 0 && !c->blocked &&
+    return c->end == END_NOT && c->asked == 0 && c->audit_tag == 0 && !c->blocked &&
            (c->hung || bytes_held(&c->out) <= limits.room) && ask_at(c, &head) != 0;
 }
 
@@ -148,7 +148,7 @@ static uint32_t call_remove(struct client *c, const uint8_t *body, uint32_t len)
 static bool hear_call(struct client *c, const struct head *head, const uint8_t *body) {
     uint32_t status;
     unsigned *waiting = &c->user->waiting[c->node->setup.node - 1];
-    if (*waiting >= limits.user_calls) {
+    if (c->node->closed_for_calls || *waiting >= limits.user_calls) {
         c->blocked = true;
         return false;
     }

@@ -150,17 +150,18 @@ static bool has_work(const struct client *c) {
 
 /* Writes what a client is told. Whether it has work at once; one that needs nothing more is no longer active. */
 static bool tend(struct client *c, bool queue_full) {
-    if (!queue_full && c->user->waiting[c->node->setup.node - 1] < limits.user_calls) c->blocked = false;
+    const struct node *node = c->node;
+    if (!queue_full && !node->closed_for_calls && c->user->waiting[node->setup.node - 1] < limits.user_calls) c->blocked = false;
     if (c->audit_tag && c->end == END_NOT) control_go_on(c);
     if (c->hung) bytes_drop(&c->out, bytes_held(&c->out));
     else if (!c->full && bytes_held(&c->out) > 0) c->full = !client_write(c);
     client_account(c);
     if (c->hung && ask_at(c, &(struct head){0}) == 0) client_end(c, END_CLOSED);
+    watch_client(c);
     if (c->end != END_NOT) {
         drop(c);
         return false;
     }
-    watch_client(c);
     bool work = has_work(c);
     if (!work && !c->blocked) client_rest(c);
     return work;
@@ -177,12 +178,20 @@ static bool tend_all(struct node *node) {
     return more;
 }
 
+/* Whether a client that was looked at already was ended since, for what another one made of their user's limits. */
+static bool has_ended(const struct node *node) {
+    for (const struct client *c = node->first_active; c; c = c->next_active)
+        if (c->end != END_NOT) return true;
+    return false;
+}
+
 static bool turn(void) {
     struct ring *ring = loop.ring;
     for (unsigned k = 0; k < ring->count; k++) hear(&ring->nodes[k]);
     bool more = gate_pump(&ring->gate, VISITS);
     for (unsigned k = 0; k < ring->count; k++) node_tell(&ring->nodes[k]);
     for (unsigned k = 0; k < ring->count; k++) more = tend_all(&ring->nodes[k]) || more;
+    for (unsigned k = 0; k < ring->count && !more; k++) more = has_ended(&ring->nodes[k]);
     return more;
 }
 

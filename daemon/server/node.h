@@ -65,7 +65,7 @@ struct client {
     uint64_t told_messages, heard_asks;
     struct bytes in, out;
     enum end end;
-    bool greeted, active, told, blocked; /* blocked: the node's queue was full, or its user's share of it */
+    bool greeted, active, told, blocked; /* blocked: a call found the queue full, or closed */
     bool hung, full;                     /* hung: the other end is closed; full: the socket takes no more now */
     uint32_t audit_next, audit_last;     /* places that an audit still has to tell: next to last */
     uint16_t audit_tag;
@@ -98,7 +98,7 @@ struct node {
     struct client *first_active, *last_active;
     uint32_t delivered;
     uint64_t delivered_bytes; /* of messages, in this ring */
-    bool closed_for_calls;    /* no asks are heard: the ring ends */
+    bool closed_for_calls;    /* no calls are heard, other asks are: the ring ends */
 };
 
 extern struct limits limits;

@@ -1,5 +1,5 @@
 /* A ring of nodes and the next one; see ring.h.
- * An end goes so: no ask is heard any more; what waits is delivered; the next ring is opened and has what carry.c brings;
+ * An end goes so: no call is heard any more; what waits is delivered; the next ring is opened and has what carry.c brings;
  * nothing of that is told. The ring before stays until its last events were taken, and is closed beside the work. */
 #include "ring.h"
 #include "audit.h"
@@ -32,7 +32,7 @@ static uint32_t open_nodes(struct ring *ring, cpgring_fault *fault) {
 uint32_t ring_open(struct ring *ring, const struct options *options, cpgring_fault *fault) {
     ring->options = options;
     ring->count = options->nodes;
-    ring->number = ring->first_number = options->ring;
+    ring->number = options->ring;
     gate_open(&ring->gate, ring->nodes, ring->count, options->seed);
     ring->gate.lose = options->lose;
     ring->gate.repeat = options->repeat;
@@ -41,16 +41,15 @@ uint32_t ring_open(struct ring *ring, const struct options *options, cpgring_fau
     return open_nodes(ring, fault);
 }
 
-static uint64_t bytes_delivered(const struct ring *ring) { return ring->nodes[0].delivered_bytes; }
-
 uint32_t ring_places_left(const struct ring *ring) {
-    uint32_t used = ring->nodes[0].delivered - (ring->carried < ring->nodes[0].delivered ? ring->carried : ring->nodes[0].delivered);
+    uint32_t delivered = ring->nodes[0].delivered, used = delivered > ring->carried ? delivered - ring->carried : 0;
     return used < ring->options->places ? ring->options->places - used : 0;
 }
 
 bool ring_is_due(const struct ring *ring) {
-    if (ring->end_wanted || ring_places_left(ring) == 0 || bytes_delivered(ring) >= ring->options->ring_bytes) return true;
-    if (name_count() >= MOST_LONG_BEFORE_END && ring->nodes[0].delivered > ring->carried) return true;
+    const struct node *first = &ring->nodes[0];
+    if (ring->end_wanted || ring_places_left(ring) == 0 || first->delivered_bytes >= ring->options->ring_bytes) return true;
+    if (name_count() >= MOST_LONG_BEFORE_END && first->delivered > ring->carried) return true;
     for (unsigned k = 0; k < ring->count; k++)
         if (ring->nodes[k].connected >= MOST_CONNECTED) return true;
     return false;
@@ -119,7 +118,6 @@ bool ring_step(struct ring *ring) {
     if (!ring->ending) {
         if (!ring_is_due(ring)) return true;
         ring->ending = true;
-        ring->ending_since = now_us();
         for (unsigned k = 0; k < ring->count; k++) ring->nodes[k].closed_for_calls = true;
     }
     for (unsigned k = 0; k < ring->count; k++)

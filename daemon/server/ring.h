@@ -13,13 +13,12 @@ struct ring {
     const struct options *options;
     const char *conf, *names; /* kept for the rings to come */
     size_t conf_len, names_len;
-    uint32_t number, first_number;
+    uint32_t number;
     uint32_t carried; /* places that the members and rules of the last ring took */
-    bool ending;      /* no asks are heard, until all that waits is delivered */
+    bool ending;      /* no calls are heard, until all that waits is delivered */
     bool end_wanted;  /* by an operator */
     uint64_t renewals, worst_pause, all_pauses; /* in microseconds */
     uint64_t delivered_before;                  /* places of rings that ended */
-    uint64_t ending_since;
 };
 
 /* Opens the first ring. A status of cpgring.h; `fault` says where a text is at fault. */

@@ -3,7 +3,7 @@
  * up to the last message of the last member. COMERS processes come, speak, go and are killed meanwhile. */
 #include "common.h"
 
-enum { MOST = 64, BURST = 20, MOST_SIZE = 1 << 20, QUIET_MS = 20000 };
+enum { MOST = 64, BURST = 20, MOST_SIZE = 1 << 20, QUIET_MS = 60000 };
 
 struct result {
     uint64_t sum, told, changes;

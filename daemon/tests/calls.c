@@ -58,7 +58,7 @@ static cpg_handle_t open_one(void) {
 static void dispatch_until(cpg_handle_t h, unsigned messages, unsigned changes) {
     int fd = -1;
     EXPECT(cpg_fd_get(h, &fd), CS_OK);
-    for (uint64_t end = now_ms() + 20000; (seen.messages < messages || seen.changes < changes) && now_ms() < end;) {
+    for (uint64_t end = now_ms() + 60000; (seen.messages < messages || seen.changes < changes) && now_ms() < end;) {
         struct pollfd p = {fd, POLLIN, 0};
         poll(&p, 1, 1000);
         EXPECT(cpg_dispatch(h, CS_DISPATCH_ALL), CS_OK);
@@ -74,7 +74,7 @@ static cs_error_t send_bytes(cpg_handle_t h, const void *bytes, size_t len) {
 
 static cs_error_t send_surely(cpg_handle_t h, const void *bytes, size_t len) {
     cs_error_t status;
-    for (uint64_t end = now_ms() + 20000; (status = send_bytes(h, bytes, len)) == CS_ERR_TRY_AGAIN && now_ms() < end;)
+    for (uint64_t end = now_ms() + 60000; (status = send_bytes(h, bytes, len)) == CS_ERR_TRY_AGAIN && now_ms() < end;)
         EXPECT(cpg_dispatch(h, CS_DISPATCH_ALL), CS_OK);
     return status;
 }

@@ -48,7 +48,7 @@ static void be_hostile(unsigned number) {
     if (greets) EXPECT(raw_greet(fd), CS_OK);
     size_t len = put_bytes(bytes, way);
     if (send(fd, bytes, len, MSG_NOSIGNAL) < 0) EXPECT(errno == EPIPE || errno == ECONNRESET, 1);
-    if (way == 1 || way == 3) EXPECT(raw_is_ended(fd, 10000), 1);
+    if (way == 1 || way == 3) EXPECT(raw_is_ended(fd, 60000), 1);
     if (number % 3 == 0) shutdown(fd, SHUT_WR);
     close(fd);
 }

@@ -3,7 +3,7 @@
  * All wait for each other, so that all are joined at one time. */
 #include "common.h"
 
-enum { MOST_HANDLES = 512, LIMIT_MS = 60000 };
+enum { MOST_HANDLES = 512, LIMIT_MS = 180000 };
 
 static unsigned handles, processes;
 static cpg_handle_t of[MOST_HANDLES];

@@ -82,7 +82,7 @@ static void listed_user(void) {
     EXPECT(cpg_join(h, &mute), CS_OK);
     EXPECT(send_one(h), CS_OK); /* it has no answer */
     cs_error_t status = CS_OK;
-    for (uint64_t end = now_ms() + 5000; status == CS_OK && now_ms() < end; pause_ms(5)) {
+    for (uint64_t end = now_ms() + 30000; status == CS_OK && now_ms() < end; pause_ms(5)) {
         EXPECT(cpg_dispatch(h, CS_DISPATCH_ALL), CS_OK);
         status = send_one(h);
     }
