@@ -15,10 +15,18 @@ size_t ask_at(const struct client *c, struct head *head) {
     return held < sizeof *head + head->len ? 0 : sizeof *head + head->len;
 }
 
+/* Whether an earlier connection of the process is about to end: that comes before its next join. */
+static bool is_ending(const struct client *c) {
+    const struct client *it = c->node->hung > 0 ? c->node->clients : NULL;
+    while (it && !(it->hung && it->pid == c->pid && it != c)) it = it->next;
+    return it != NULL;
+}
+
 bool client_hearable(const struct client *c) {
     struct head head;
     return c->end == END_NOT && c->asked == 0 && c->audit_tag == 0 && !c->blocked &&
-           (c->hung || bytes_held(&c->out) <= limits.room) && ask_at(c, &head) != 0;
+           (c->hung || bytes_held(&c->out) <= limits.room) && ask_at(c, &head) != 0 &&
+           (head.kind != ASK_JOIN || !is_ending(c));
 }
 
 /* ---- asks that are answered at once ---- */

@@ -136,9 +136,13 @@ static void hear(struct node *node) {
 }
 
 static void drop(struct client *c) {
+    struct node *node = c->node;
+    uint32_t pid = c->pid;
     client_write(c);
     close(c->fd);
     client_free(c);
+    for (struct client *it = node->clients; it; it = it->next)
+        if (it->pid == pid) client_activate(it); /* its join may have waited for this */
     if (loop.paused_until) loop.paused_until = 1;
 }
 
@@ -160,7 +164,7 @@ static bool tend(struct client *c, bool queue_full) {
     watch_client(c);
     if (c->end != END_NOT) {
         drop(c);
-        return false;
+        return true; /* who waited for that is looked at anew */
     }
     bool work = has_work(c);
     if (!work && !c->blocked) client_rest(c);

@@ -76,6 +76,7 @@ void client_free(struct client *c) {
         node->by_conn[c->conn] = NULL;
     }
     if (c->old_conn) node->lagging--;
+    if (c->hung) node->hung--;
     client_rest(c);
     leave_told(c);
     if (!c->greeted) user_ungreeted_drop(c);
@@ -110,6 +111,11 @@ void client_end(struct client *c, enum end end) {
     client_activate(c);
     enum level level = end == END_CLOSED ? LOG_DEBUG : end == END_BEHIND || end == END_NO_MEMORY ? LOG_NOTICE : LOG_INFO;
     log_line(level, "node %u: process %u of user %u %s: its connection ends", c->node->setup.node, c->pid, c->uid, end_text(end));
+}
+
+void client_hang(struct client *c) {
+    if (!c->hung) c->node->hung++;
+    c->hung = true;
 }
 
 void client_activate(struct client *c) {

@@ -87,6 +87,7 @@ struct node {
     cpgring_setup setup;
     uint16_t own; /* the daemon's own connection */
     struct client *clients;
+    unsigned hung;             /* clients whose other end is closed */
     unsigned count, connected; /* connected: connections that this ring gave out */
     struct client **by_conn;   /* MOST_CONNECTIONS */
     struct seat **seats[CPGRING_MOST_NODES + 1]; /* MOST_CONNECTIONS each */
@@ -118,6 +119,8 @@ struct client *client_new(struct node *node, uint32_t pid, uint32_t uid, uint32_
 void client_free(struct client *c);
 /* Marks a client that is to go; the first reason counts. */
 void client_end(struct client *c, enum end end);
+/* The other end is closed: what it left is heard, and then it ends. */
+void client_hang(struct client *c);
 void client_activate(struct client *c);
 void client_rest(struct client *c);
 /* Counts what it has not read against its user, and ends it where that is too much. */

@@ -182,7 +182,7 @@ static bool read_once(struct client *c, size_t most) {
     }
     ssize_t got = recv(c->fd, at, most, MSG_DONTWAIT);
     if (got > 0) c->in.end += (size_t)got;
-    else if (got == 0 || (errno != EAGAIN && errno != EINTR)) c->hung = true;
+    else if (got == 0 || (errno != EAGAIN && errno != EINTR)) client_hang(c);
     client_activate(c);
     return got > 0;
 }
@@ -194,7 +194,7 @@ void client_read(struct client *c) {
 
 void client_read_out(struct client *c) {
     while (c->end == END_NOT && !c->hung && bytes_held(&c->in) < MOST_LEFT && read_once(c, MOST_IN)) {}
-    c->hung = true;
+    client_hang(c);
     client_activate(c);
 }
 
