@@ -17,8 +17,8 @@ size_t ask_at(const struct client *c, struct head *head) {
 
 /* Whether an earlier connection of the process is about to end: that comes before its next join. */
 static bool is_ending(const struct client *c) {
-    const struct client *it = c->node->hung > 0 ? c->node->clients : NULL;
-    while (it && !(it->hung && it->pid == c->pid && it != c)) it = it->next;
+    const struct client *it = c->node->hung > 0 ? c->next : NULL; /* the later ones stand first */
+    while (it && !(it->hung && it->pid == c->pid)) it = it->next;
     return it != NULL;
 }
 
