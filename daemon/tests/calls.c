@@ -3,6 +3,7 @@
  * A socket of no daemon is CS_ERR_LIBRARY, and nothing waits for ever. */
 #include "common.h"
 #include <pthread.h>
+#include <stdatomic.h>
 
 static struct {
     unsigned messages, changes, totems, members;
@@ -261,12 +262,14 @@ static void callbacks(void) {
 enum { SENDERS = 3, EACH = 3000, ASKS = 500 };
 static cpg_handle_t shared;
 static unsigned got_of[SENDERS], wrong;
+static atomic_uint got_all;
 
 static void deliver_shared(cpg_handle_t h, const struct cpg_name *g, uint32_t node, uint32_t pid, void *message, size_t len) {
     uint32_t word[2] = {0, 0};
     (void)h, (void)g, (void)node, (void)pid;
     memcpy(word, message, len < sizeof word ? len : sizeof word);
     if (word[0] >= SENDERS || word[1] != got_of[word[0]]++) wrong++; /* each sender's in its order */
+    got_all++;
 }
 
 static void *send_many(void *which) {
@@ -316,7 +319,7 @@ static void threads(void) {
     pthread_join(asker, &failed);
     EXPECT(failed == NULL, 1);
     EXPECT(cpg_leave(shared, &group), CS_OK); /* its answer stands behind all messages */
-    pause_ms(300);
+    for (uint64_t end = now_ms() + 60000; got_all < SENDERS * EACH && now_ms() < end;) pause_ms(10);
     EXPECT(cpg_finalize(shared), CS_OK);
     pthread_join(dispatcher, &failed);
     EXPECT(failed == NULL, 1);
