@@ -41,11 +41,12 @@ static bool add_members(struct iteration *it, const struct cpg_name *name, const
 
 static cs_error_t one_group(struct instance *i, struct iteration *it, const struct cpg_name *group) {
     uint8_t *answer = NULL;
-    uint32_t len = 0, words[2];
+    uint32_t len = 0, words[2] = {0, 0};
     cs_error_t result = stream_ask(i, ASK_MEMBERS, group->value, group->length, &answer, &len);
+    if (result == CS_OK && len < sizeof words) result = CS_ERR_LIBRARY;
     if (result == CS_OK) {
         memcpy(words, answer, sizeof words);
-        bool whole = len >= sizeof words && words[1] <= (len - sizeof words) / sizeof(struct listed);
+        bool whole = words[1] <= (len - sizeof words) / sizeof(struct listed);
         result = !whole ? CS_ERR_LIBRARY : add_members(it, group, answer + sizeof words, words[1]) ? CS_OK : CS_ERR_NO_MEMORY;
     }
     free(answer);
