@@ -108,6 +108,8 @@ const char *end_text(enum end end) {
 void client_end(struct client *c, enum end end) {
     if (c->end != END_NOT) return;
     c->end = end;
+    c->user->unread -= c->counted; /* what it did not read goes with it, and is nobody's fault from here on */
+    c->counted = 0;
     client_activate(c);
     enum level level = end == END_CLOSED ? LOG_DEBUG : end == END_BEHIND || end == END_NO_MEMORY ? LOG_NOTICE : LOG_INFO;
     log_line(level, "node %u: process %u of user %u %s: its connection ends", c->node->setup.node, c->pid, c->uid, end_text(end));
@@ -137,10 +139,10 @@ void client_rest(struct client *c) {
 }
 
 void client_account(struct client *c) {
+    if (c->end != END_NOT) return;
     uint64_t unread = c->untaken + bytes_held(&c->out);
     c->user->unread = c->user->unread - c->counted + unread;
     c->counted = unread;
-    if (c->end != END_NOT) return;
     if (unread > limits.unread) client_end(c, END_BEHIND);
     else if (c->user->unread > limits.user_unread) user_end_worst(c->user, c);
 }

@@ -1,5 +1,5 @@
 /* fuzz_play FOLDER: plays each file of a corpus, and then hundreds of inputs that a fixed seed makes of asks.
- * It is what the gate runs in place of a fuzzer; a fault ends it by abort, and the sanitizers watch. */
+ * It is what daemon/check runs in place of a fuzzer; a fault ends it by abort, and the sanitizers watch. */
 #include "../protocol.h"
 #include "../server/log.h"
 #include <dirent.h>
