@@ -180,19 +180,21 @@ impl<B: BoardName> Crew<B> {
 
     /// `hear NODE FRAME`, or `hear NODE last`: the last frame of those sent.
     fn hear_said(&mut self, alloc: Global, row: &Row<'_>) -> Result<Reply, Refusal> {
-        let (node, text) = self.node_of(row)?;
+        let node = self.node_of(row)?;
+        let (_, text) = first(row.rest)?;
+        let last = self.sent.len();
         let count = if is_word(text, "last") {
-            self.hear_sent(alloc, node, self.sent.len())?
+            self.hear_sent(alloc, node, last)?
         } else {
             self.hear_spelled(alloc, node, text)?
         };
         Ok(Reply::Sent(count))
     }
 
-    /// The node that the command names, and what follows.
-    fn node_of<'r>(&self, row: &Row<'r>) -> Result<(NodeId, &'r [u8]), Refusal> {
-        let (node, text) = first(row.rest)?;
-        Ok((node_of(self.nodes, node)?, text))
+    /// The node that the command names first.
+    fn node_of(&self, row: &Row<'_>) -> Result<NodeId, Refusal> {
+        let (node, _) = first(row.rest)?;
+        node_of(self.nodes, node)
     }
 
     /// Delivers the next place, again after Memory.
@@ -222,21 +224,22 @@ impl<B: BoardName> Crew<B> {
 
     /// `turn NODE`: the node hears the last frame of those sent, and delivers what it can.
     fn turn(&mut self, alloc: Global, line: &mut Vec<u8>, row: &Row<'_>) -> Result<(), Refusal> {
-        let (node, _) = self.node_of(row)?;
-        let count = self.hear_sent(alloc, node, self.sent.len())?;
+        let node = self.node_of(row)?;
+        let last = self.sent.len();
+        let count = self.hear_sent(alloc, node, last)?;
         put_number_line(line, "sent", count as u64)?;
-        let last = self.deliver_all(node, row.tries)?;
-        put_reply(line, Reply::Delivered(last))
+        let place = self.deliver_all(node, row.tries)?;
+        put_reply(line, Reply::Delivered(place))
     }
 
     fn commit(&mut self, row: &Row<'_>) -> Result<Reply, Refusal> {
-        let (node, _) = self.node_of(row)?;
+        let node = self.node_of(row)?;
         let place = server_of(&mut self.servers, node)?.commit()?;
         Ok(Reply::Delivered(place))
     }
 
     fn halt(&mut self, line: &mut Vec<u8>, row: &Row<'_>) -> Result<(), Refusal> {
-        let (node, _) = self.node_of(row)?;
+        let node = self.node_of(row)?;
         server_of(&mut self.servers, node)?.halt()?;
         put(line, "halted\n")
     }
@@ -276,7 +279,8 @@ impl<B: BoardName> Crew<B> {
 
     /// The commands that look at a server.
     fn look(&mut self, line: &mut Vec<u8>, row: &Row<'_>) -> Result<(), Refusal> {
-        let (node, rest) = self.node_of(row)?;
+        let node = self.node_of(row)?;
+        let (_, rest) = first(row.rest)?;
         let server = server_of(&mut self.servers, node)?;
         if row.is("audit") {
             return put_audits(line, server.audit());

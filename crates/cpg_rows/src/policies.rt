@@ -6,7 +6,7 @@ use crate::states::{put_audits, put_last, put_policy, put_processes};
 use crate::tables::{put_copied_rules, put_rules_of};
 use crate::words::{
     NO_COMMAND, asker, conn_id, entry, first, index, is_word, number, one, put_number_line,
-    put_whether, two,
+    put_whether, three, two,
 };
 use cpg_cred::{By, Refusal, Refused};
 use cpg_entry::{Entry, Name, Packet, SharedEntry};
@@ -135,8 +135,10 @@ fn put_next(line: &mut Vec<u8>, policy: &Policy, text: &[u8]) -> Result<(), Refu
 
 /// `members NODE UID GID GROUP`.
 fn put_listed(line: &mut Vec<u8>, policy: &Policy, text: &[u8]) -> Result<(), Refusal> {
-    let (asker, group) = asker(text)?;
-    let list = policy.members(one(group)?, asker)?;
+    let (at, rest) = first(text)?;
+    let (uid, rest) = first(rest)?;
+    let (gid, group) = two(rest)?;
+    let list = policy.members(group, asker(at, uid, gid)?)?;
     let put = put_members_line(line, list.as_slice());
     drop(list);
     put
@@ -144,8 +146,8 @@ fn put_listed(line: &mut Vec<u8>, policy: &Policy, text: &[u8]) -> Result<(), Re
 
 /// `groups NODE UID GID`.
 fn put_groups(line: &mut Vec<u8>, policy: &Policy, text: &[u8]) -> Result<(), Refusal> {
-    let (asker, _) = asker(text)?;
-    let names = policy.groups(asker)?;
+    let (at, uid, gid) = three(text)?;
+    let names = policy.groups(asker(at, uid, gid)?)?;
     let put = put_groups_line(line, names.as_slice());
     drop(names);
     put

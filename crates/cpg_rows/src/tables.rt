@@ -2,7 +2,7 @@
 
 use crate::player::{Plays, Row};
 use crate::words::{
-    NO_COMMAND, asker, first, index, number, one, put_number_line, put_whether, right, rule,
+    NO_COMMAND, asker, first, index, number, one, put_number_line, put_whether, right, rule, three,
 };
 use cpg_cred::Refusal;
 use cpg_print::{put_rule, put_verdict};
@@ -89,8 +89,8 @@ impl Rules {
     /// `decide RIGHT NODE UID GID`.
     fn decide(&self, line: &mut Vec<u8>, text: &[u8]) -> Result<(), Refusal> {
         let (what, rest) = first(text)?;
-        let (asker, _) = asker(rest)?;
-        let verdict = match self.table.decide(right(what)?, asker) {
+        let (at, uid, gid) = three(rest)?;
+        let verdict = match self.table.decide(right(what)?, asker(at, uid, gid)?) {
             Decision::Allowed(by) => Verdict::Allowed(by),
             Decision::Denied(by) => Verdict::Denied(Reason::of(by)),
         };

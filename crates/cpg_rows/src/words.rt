@@ -80,16 +80,12 @@ pub fn conn_id(word: &[u8]) -> Result<ConnId, Refusal> {
     })
 }
 
-/// `NODE UID GID`, and what follows it.
-pub fn asker(text: &[u8]) -> Result<(Asker, &[u8]), Refusal> {
-    let (at, rest) = first(text)?;
-    let (uid, rest) = first(rest)?;
-    let (gid, rest) = take_word(rest).ok_or(NO_COMMAND)?;
-    let asker = Asker {
+/// Who asks, of `NODE UID GID`.
+pub fn asker(at: &[u8], uid: &[u8], gid: &[u8]) -> Result<Asker, Refusal> {
+    Ok(Asker {
         node: node(at)?,
         cred: cred(uid, gid)?,
-    };
-    Ok((asker, rest))
+    })
 }
 
 pub fn cred(uid: &[u8], gid: &[u8]) -> Result<Cred, Refusal> {

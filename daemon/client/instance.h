@@ -1,0 +1,117 @@
+/* A handle's state, and the parts of libcpg: handles.c, stream.c, dispatch.c, pieces.c, calls.c and iterations.c.
+ * A handle is one Unix socket. Asks go out as they are made; answers and events come in one stream, so that an answer
+ * stands among the events where the node gave it. A call that waits for its answer keeps the events before it. */
+#ifndef CPGRING_INSTANCE_H
+#define CPGRING_INSTANCE_H
+#include "../protocol.h"
+#include <corosync/cpg.h>
+#include <pthread.h>
+#include <stdatomic.h>
+#include <stdbool.h>
+
+#define PUBLIC __attribute__((visibility("default")))
+
+enum {
+    READ_AT_ONCE = 256 << 10,
+    MOST_MESSAGE = 16 << 20,
+    MOST_PARTS = 1024,     /* of a message, as the program gives it */
+    MOST_KEPT = 256 << 20, /* bytes of events that wait for a dispatch: with more, nothing is sent until there is one */
+    WAIT_MS = 30000        /* the most that a call waits for its answer; CPGRING_WAIT has another number */
+};
+
+struct buffer {
+    uint8_t *at;
+    size_t begin, end, room;
+};
+
+/* Pieces of one sender's message that came so far. */
+struct partial {
+    struct partial *next;
+    uint32_t node, pid, whole, have;
+    uint8_t *data;
+    size_t room;
+};
+
+struct pinned { /* a buffer that a callback further out still looks at */
+    struct pinned *next;
+    uint8_t *at;
+};
+
+struct instance {
+    unsigned uses;      /* under the table's lock */
+    cpg_handle_t handle;
+    atomic_bool closed; /* finalized */
+    atomic_bool broken; /* the daemon is gone, or what it says is nonsense */
+    atomic_bool joined;
+    atomic_int denied;  /* a status that the next send tells: an earlier one was denied; CS_OK: none */
+    atomic_int flow;
+    int fd, poll_fd, ready, noted;
+    unsigned wait_ms;
+    bool like_corosync;
+    struct hello hello;
+    cpg_model_v1_data_t model;
+    _Atomic(void *) context;
+
+    pthread_mutex_t sync; /* one call that waits for an answer at a time */
+    uint16_t tag;         /* of its ask */
+
+    pthread_mutex_t out; /* the socket's writing end */
+    struct buffer rest;  /* what the socket did not take of an ask that it had begun to take */
+    atomic_bool rest_left; /* some of it is left */
+
+    pthread_mutex_t in; /* the socket's reading end */
+    struct buffer read; /* whole frames up to `parsed`, then what is left */
+    size_t parsed;
+    bool ready_set;
+    uint16_t wanted; /* the tag of the answer that is waited for; 0: none */
+    uint8_t *answer;
+    uint32_t answer_len;
+
+    pthread_mutex_t dispatch; /* one dispatch at a time; recursive, for calls of callbacks */
+    unsigned depth;
+    struct buffer now; /* whole frames that are being dispatched */
+    atomic_bool now_left; /* some of them are left */
+    struct pinned *pinned;
+    struct partial *partials;
+    bool first_change;
+};
+
+/* ---- handles.c ---- */
+
+/* The instance of a handle, which is used until it is put back. NULL: no such handle. */
+struct instance *instance_get(cpg_handle_t handle);
+void instance_put(struct instance *i);
+/* A free slot of a table of pointers, and the number that goes with it. */
+enum { MOST_HANDLES = 4096 };
+extern pthread_mutex_t table_lock;
+
+/* ---- stream.c ---- */
+
+uint64_t clock_ms(void);
+/* Room for so many bytes behind the end. NULL: no memory. */
+uint8_t *buffer_room(struct buffer *b, size_t more);
+/* Reads what is there, once. The lock `in` is held. Whether there was anything. */
+bool stream_fetch(struct instance *i);
+/* Has the descriptor for poll say whether events wait that no read of the socket would bring. The lock `in` is held. */
+void stream_mark(struct instance *i);
+/* Sends what was left of an ask that was begun. The lock `out` is held. false: the socket is full. */
+bool stream_flush(struct instance *i);
+bool stream_flush_any(struct instance *i);
+/* Sends the parts as they are; `waits`: for as long as that takes, within the limit; else CS_ERR_TRY_AGAIN where the socket
+ * takes nothing now. The lock `out` is held. */
+cs_error_t stream_send(struct instance *i, struct iovec *parts, unsigned count, bool waits);
+/* Asks and waits for the answer, which the caller frees: its length is told where it is wanted. */
+cs_error_t stream_ask(struct instance *i, uint16_t kind, const void *body, uint32_t len, uint8_t **answer, uint32_t *answer_len);
+
+/* ---- pieces.c ---- */
+
+/* The message of a frame, or of the pieces that it ends, is handed to the callback. Whether one was called. */
+bool pieces_deliver(struct instance *i, const struct cpg_name *name, const struct tell_message *told, uint8_t *data);
+void pieces_drop(struct instance *i, uint32_t node, uint32_t pid);
+void pieces_free(struct instance *i);
+cs_error_t pieces_send(struct instance *i, const struct iovec *parts, unsigned count, size_t len);
+
+/* ---- dispatch.c ---- */
+
+void dispatch_free(struct instance *i);
+#endif

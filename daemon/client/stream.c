@@ -1,0 +1,249 @@
+/* The stream of a handle: asks on their way out, answers and events on their way in.
+ * Whichever thread reads takes what is there for all: an answer is kept for who waits for it, events for a dispatch.
+ * Every wait has a limit, and ends where the daemon is gone. */
+#include "instance.h"
+#include <errno.h>
+#include <poll.h>
+#include <stdlib.h>
+#include <string.h>
+#include <sys/eventfd.h>
+#include <sys/socket.h>
+#include <time.h>
+
+enum { STEP_MS = 100, TRY_NS = 200000 };
+
+uint64_t clock_ms(void) {
+    struct timespec t;
+    clock_gettime(CLOCK_MONOTONIC, &t);
+    return (uint64_t)t.tv_sec * 1000 + (uint64_t)t.tv_nsec / 1000000;
+}
+
+uint8_t *buffer_room(struct buffer *b, size_t more) {
+    if (b->at && b->room - b->end >= more) return b->at + b->end;
+    size_t room = b->room ? b->room : READ_AT_ONCE + 65536;
+    while (room - b->end < more) {
+        if (room > SIZE_MAX / 2) return NULL;
+        room *= 2;
+    }
+    uint8_t *at = realloc(b->at, room);
+    if (!at) return NULL;
+    b->at = at;
+    b->room = room;
+    return b->at + b->end;
+}
+
+/* ---- reading ---- */
+
+static void take_answer(struct instance *i, const struct head *head, const uint8_t *body) {
+    if (head->tag != i->wanted || i->wanted == 0) return; /* of a call that waits no more */
+    i->answer = malloc(head->len + 1);
+    if (!i->answer) {
+        i->broken = true;
+        return;
+    }
+    memcpy(i->answer, body, head->len);
+    i->answer_len = head->len;
+    i->wanted = 0;
+    eventfd_write(i->noted, 1);
+}
+
+/* Takes answers out, as far as frames are whole. The lock `in` is held. */
+static void parse(struct instance *i) {
+    struct head head;
+    while (i->read.end - i->parsed >= sizeof head) {
+        memcpy(&head, i->read.at + i->parsed, sizeof head);
+        if (head.len > MOST_TELL) {
+            i->broken = true;
+            return;
+        }
+        if (i->read.end - i->parsed < sizeof head + head.len) return;
+        const uint8_t *body = i->read.at + i->parsed + sizeof head;
+        if (head.kind & ANSWER) {
+            take_answer(i, &head, body);
+            head.kind = TELL_SKIP;
+            memcpy(i->read.at + i->parsed, &head, sizeof head);
+        } else if (head.kind == TELL_DENIED && head.len >= sizeof(struct tell_denied)) {
+            struct tell_denied denied;
+            memcpy(&denied, body, sizeof denied);
+            i->denied = (int)denied.status;
+        }
+        i->parsed += sizeof head + head.len;
+    }
+}
+
+bool stream_fetch(struct instance *i) {
+    if (i->broken) return false;
+    if (i->read.begin == i->read.end) i->read.begin = i->read.end = i->parsed = 0;
+    uint8_t *at = buffer_room(&i->read, READ_AT_ONCE);
+    if (!at) {
+        i->broken = true;
+        return false;
+    }
+    ssize_t got = recv(i->fd, at, READ_AT_ONCE, MSG_DONTWAIT);
+    if (got > 0) {
+        i->read.end += (size_t)got;
+        parse(i);
+        return true;
+    }
+    if (got == 0 || (errno != EAGAIN && errno != EINTR)) {
+        i->broken = true;
+        eventfd_write(i->noted, 1);
+    }
+    return false;
+}
+
+void stream_mark(struct instance *i) {
+    bool wants = i->now_left || i->read.begin < i->parsed;
+    eventfd_t value;
+    if (wants == i->ready_set) return;
+    if (wants) eventfd_write(i->ready, 1);
+    else eventfd_read(i->ready, &value);
+    i->ready_set = wants;
+}
+
+/* Takes what there is out of the socket, since the daemon hears no more of who does not read, and many a program tries again
+ * and again without a dispatch. */
+static void drain(struct instance *i) {
+    pthread_mutex_lock(&i->in);
+    if (i->read.end - i->read.begin < MOST_KEPT) stream_fetch(i);
+    stream_mark(i);
+    pthread_mutex_unlock(&i->in);
+}
+
+/* ---- writing ---- */
+
+bool stream_flush(struct instance *i) {
+    while (i->rest.begin < i->rest.end && !i->broken) {
+        ssize_t put = send(i->fd, i->rest.at + i->rest.begin, i->rest.end - i->rest.begin, MSG_NOSIGNAL | MSG_DONTWAIT);
+        if (put < 0 && errno == EINTR) continue;
+        if (put < 0) {
+            if (errno != EAGAIN) i->broken = true;
+            return false;
+        }
+        i->rest.begin += (size_t)put;
+    }
+    if (i->broken) return false;
+    i->rest.begin = i->rest.end = 0;
+    i->rest_left = false;
+    return true;
+}
+
+bool stream_flush_any(struct instance *i) {
+    pthread_mutex_lock(&i->out);
+    bool all = stream_flush(i);
+    pthread_mutex_unlock(&i->out);
+    return all;
+}
+
+/* Keeps what the socket did not take, to be sent before anything else. */
+static void keep_rest(struct instance *i, const struct iovec *parts, unsigned count, size_t taken) {
+    for (unsigned k = 0; k < count; k++) {
+        size_t step = taken < parts[k].iov_len ? taken : parts[k].iov_len, left = parts[k].iov_len - step;
+        taken -= step;
+        if (left == 0) continue;
+        uint8_t *at = buffer_room(&i->rest, left);
+        if (!at) {
+            i->broken = true;
+            return;
+        }
+        memcpy(at, (const uint8_t *)parts[k].iov_base + step, left);
+        i->rest.end += left;
+        i->rest_left = true;
+    }
+}
+
+/* Waits until the socket may take more. The lock `out` is held. */
+static void wait_to_send(struct instance *i, bool waits) {
+    struct pollfd p = {i->fd, POLLOUT | POLLIN, 0};
+    struct timespec bound = {0, waits ? STEP_MS * 1000000L : TRY_NS};
+    if (ppoll(&p, 1, &bound, NULL) > 0 && p.revents & (POLLIN | POLLHUP | POLLERR)) drain(i);
+}
+
+cs_error_t stream_send(struct instance *i, struct iovec *parts, unsigned count, bool waits) {
+    struct msghdr message = {.msg_iov = parts, .msg_iovlen = count};
+    uint64_t end = waits ? clock_ms() + i->wait_ms : 0;
+    for (;;) {
+        ssize_t put = -1;
+        bool again = true;
+        if (stream_flush(i)) {
+            put = sendmsg(i->fd, &message, MSG_NOSIGNAL | MSG_DONTWAIT);
+            again = put >= 0 || errno == EAGAIN || errno == EINTR;
+        }
+        if (put >= 0) {
+            keep_rest(i, parts, count, (size_t)put);
+            i->flow = CPG_FLOW_CONTROL_DISABLED;
+            return CS_OK;
+        }
+        if (!again) i->broken = true;
+        if (i->broken) return CS_ERR_LIBRARY;
+        wait_to_send(i, waits);
+        if (waits && clock_ms() < end) continue;
+        i->flow = CPG_FLOW_CONTROL_ENABLED;
+        return CS_ERR_TRY_AGAIN;
+    }
+}
+
+/* ---- asking ---- */
+
+static void wait_for_answer(struct instance *i, uint64_t end) {
+    short events = stream_flush_any(i) ? POLLIN : POLLIN | POLLOUT;
+    struct pollfd p[2] = {{i->fd, events, 0}, {i->noted, POLLIN, 0}};
+    uint64_t now = clock_ms();
+    eventfd_t value;
+    poll(p, 2, end > now ? (int)(end - now) : 0);
+    if (p[1].revents) eventfd_read(i->noted, &value);
+}
+
+/* Waits for the answer that is wanted. The lock `sync` is held. */
+static cs_error_t await(struct instance *i, uint64_t end) {
+    for (;;) {
+        pthread_mutex_lock(&i->in);
+        while (i->wanted != 0 && i->read.end - i->read.begin < 2 * (size_t)MOST_KEPT && stream_fetch(i)) {}
+        bool there = i->wanted == 0, late = clock_ms() >= end, full = i->read.end - i->read.begin >= 2 * (size_t)MOST_KEPT;
+        if (!there && (late || full || i->broken)) i->wanted = 0;
+        stream_mark(i);
+        pthread_mutex_unlock(&i->in);
+        if (there) return CS_OK;
+        if (i->broken) return CS_ERR_LIBRARY;
+        if (full) return CS_ERR_NO_MEMORY; /* so many events wait for a dispatch */
+        if (late) return CS_ERR_TIMEOUT;
+        wait_for_answer(i, end);
+    }
+}
+
+static cs_error_t send_ask(struct instance *i, uint16_t kind, const void *body, uint32_t len) {
+    struct head head = {len, kind, 0};
+    if (++i->tag == 0) i->tag = 1;
+    head.tag = i->tag;
+    pthread_mutex_lock(&i->in);
+    i->wanted = i->tag;
+    pthread_mutex_unlock(&i->in);
+    struct iovec parts[2] = {{&head, sizeof head}, {(void *)(uintptr_t)body, len}};
+    pthread_mutex_lock(&i->out);
+    cs_error_t result = stream_send(i, parts, 2, true);
+    pthread_mutex_unlock(&i->out);
+    return result;
+}
+
+cs_error_t stream_ask(struct instance *i, uint16_t kind, const void *body, uint32_t len, uint8_t **answer, uint32_t *answer_len) {
+    uint32_t status = CS_ERR_LIBRARY;
+    uint8_t *got = NULL;
+    pthread_mutex_lock(&i->sync);
+    uint64_t end = clock_ms() + i->wait_ms;
+    cs_error_t result = send_ask(i, kind, body, len);
+    if (result == CS_OK) result = await(i, end);
+    pthread_mutex_lock(&i->in);
+    uint32_t got_len = i->answer_len;
+    got = i->answer;
+    i->answer = NULL;
+    i->wanted = 0;
+    pthread_mutex_unlock(&i->in);
+    pthread_mutex_unlock(&i->sync);
+    if (result == CS_OK && got && got_len >= sizeof status) memcpy(&status, got, sizeof status);
+    if (result == CS_OK) result = (cs_error_t)status;
+    if (answer) {
+        *answer = got;
+        *answer_len = got ? got_len : 0;
+    } else free(got);
+    return result;
+}
