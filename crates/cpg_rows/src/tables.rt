@@ -82,8 +82,22 @@ impl Rules {
     ) -> Result<(), Refusal> {
         let (at, rest) = first(text)?;
         let (id, rest) = first(rest)?;
-        self.insert(index(at)?, number(id)?, rule(alloc, rest)?)?;
+        let (at, id) = (index(at)?, number(id)?);
+        self.insert_read(at, id, rule(alloc, rest))?;
         put(line, "inserted\n")
+    }
+
+    /// Inserts the rule that was read, if one was.
+    fn insert_read(
+        &mut self,
+        at: usize,
+        id: u32,
+        read: Result<Rule, Refusal>,
+    ) -> Result<(), Refusal> {
+        match read {
+            Ok(rule) => self.insert(at, id, rule),
+            Err(refusal) => Err(refusal),
+        }
     }
 
     /// `decide RIGHT NODE UID GID`.
