@@ -1,20 +1,13 @@
-//! Tests of what comes in: frames by their bytes, and with bytes that are changed or lost, conf texts that are cut
-//! short, and streams that fail, come in pieces or take pieces, for whole texts and for each kind of script. Nothing
-//! here is used by the other crates.
+//! Tests of streams that fail, come in pieces or take pieces, for whole texts and for each kind of script. Nothing here is
+//! used by the other crates.
 #![tactic(auto)]
 
-#[cfg(test)]
-mod conf;
-#[cfg(test)]
-mod frames;
 #[cfg(test)]
 mod kinds;
 #[cfg(test)]
 mod scripts;
 #[cfg(test)]
 mod sessions;
-#[cfg(test)]
-mod spellings;
 #[cfg(test)]
 mod streams;
 #[cfg(test)]
