@@ -11,7 +11,6 @@ mod completions;
 mod filtering;
 mod help;
 mod loading;
-mod options;
 mod questions;
 mod sources;
 mod tracing;
@@ -23,7 +22,7 @@ use asking::{
 };
 use clap::error::ErrorKind;
 use clap::{ArgMatches, Error};
-use commands::build_command;
+use commands::{SHELL, build_command};
 use completions::completion_of;
 use cpg_cred::Cred;
 use cpg_program::{
@@ -31,7 +30,6 @@ use cpg_program::{
     perform_with_hint, write_text,
 };
 use loading::{Loaded, NotLoaded, wrong_ask};
-use options::SHELL;
 use sources::{Source, greet, greet_shell, open_file, tell_unread};
 use std::alloc::{AllocError, Global};
 use std::io::{BufWriter, IsTerminal, Read, Write};
