@@ -361,6 +361,17 @@ static void listings(void) {
     TEXT(name, record.group_len, "db");
     IS(cpgring_audit_message(&ring[1], 3, name, sizeof name), CPGRING_NONE);
     IS(cpgring_audit(&ring[1], 0, &record), CPGRING_NONE);
+
+    IS(cpgring_notified(&ring[1], 3, 0, &process), CPGRING_OK);
+    IS(process.node, 2);
+    IS(process.conn, 1);
+    IS(process.pid, 50);
+    IS(process.cause, 0);
+    IS(cpgring_notified(&ring[1], 3, 1, &process), CPGRING_OK);
+    IS(process.node, 1);
+    IS(process.pid, 40);
+    IS(cpgring_notified(&ring[1], 3, 2, &process), CPGRING_NONE);
+    IS(cpgring_notified(&ring[1], 0, 0, &process), CPGRING_NONE);
     end(2);
 }
 
@@ -368,6 +379,7 @@ static void listings(void) {
 static void rules(void) {
     uint8_t message[CPGRING_MOST_MESSAGE + 1] = {0};
     cpgring_rule rule = {0, CPGRING_DENY, CPGRING_RIGHT_SEND, true, false, true, 7, 0, 1};
+    cpgring_process process;
     cpgring_record record;
     cpgring_event event;
     begin(1, 100);
@@ -394,6 +406,9 @@ static void rules(void) {
     is_verdict(1, seven, 3, CPGRING_BY_RULE, CPGRING_ON_RULE, 2);
     IS(cpgring_message(&ring[1], message, sizeof message), CPGRING_NONE);
     IS(cpgring_group(&ring[1], message, sizeof message), CPGRING_NONE);
+    IS(cpgring_notified(&ring[1], 3, 0, &process), CPGRING_OK);
+    IS(process.conn, seven);
+    IS(cpgring_notified(&ring[1], 3, 1, &process), CPGRING_NONE);
     IS(cpgring_audit(&ring[1], 5, &record), CPGRING_OK);
     IS(record.call, 3);
     IS(cpgring_audit_message(&ring[1], 5, message, record.message_len), CPGRING_OK);

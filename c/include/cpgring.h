@@ -273,6 +273,11 @@ uint32_t cpgring_table(cpgring *handle, const uint8_t *group, size_t group_len, 
 /* Tells the record of a place, from 1, that was delivered. CPGRING_NONE for any other. */
 uint32_t cpgring_audit(cpgring *handle, uint32_t place, cpgring_record *record);
 
+/* Tells one of those, at any node, to whom a place that was delivered tells something, by an index from 0: first who made
+ * its entry, and then, where that was allowed, the members of its group after it, among whom the maker may be once more.
+ * Each takes the same time. CPGRING_NONE past the last, and for any other place. */
+uint32_t cpgring_notified(cpgring *handle, uint32_t place, size_t index, cpgring_process *process);
+
 /* Hands over the group's name, and the message, of a record. CPGRING_NONE where it has none, CPGRING_SPACE. */
 uint32_t cpgring_audit_group(cpgring *handle, uint32_t place, uint8_t *group, size_t capacity);
 uint32_t cpgring_audit_message(cpgring *handle, uint32_t place, uint8_t *message, size_t capacity);

@@ -8,7 +8,7 @@ ghost use Rattle.cpg_ring.specs.States.{safe_mark};
 ghost use Rattle.cpg_node.specs.Nodes.{records_of, open_client};
 ghost use Rattle.cpg_embed.specs.Events.{IsProcess};
 ghost use Rattle.cpg_embed.specs.Listings.{IsListed, AreNamed, IsNamed, IsReached, IsRuleLine, process_at, name_at};
-ghost use Rattle.cpg_embed.specs.Records.{IsAudited, group_at, message_at};
+ghost use Rattle.cpg_embed.specs.Records.{IsAudited, group_at, message_at, notified_at};
 ghost use Rattle.cpg_embed.specs.Statuses.{AreHanded};
 ghost use Rattle.cpg_embed.specs.declared.statuses.TheConstants.{OK as DONE};
 ghost use Rattle.cpg_c.specs.Handles.{AtHandle, SeenAt};
@@ -124,6 +124,25 @@ pub extern "C" fn cpgring_audit(
         return CLOSED;
     };
     let status = boxed.audit(place, audited);
+    *handle = Handle::of(boxed);
+    status
+}
+
+/// Tells one of those to whom a place that was delivered tells something, by an index from 0.
+#[unsafe(no_mangle)]
+pub extern "C" fn cpgring_notified(
+    alloc: Global,
+    handle: &mut Handle,
+    place: u32,
+    index: usize,
+    process: &mut Process,
+) -> u32
+    ensures { SeenAt handle.old.slot.held result handle.new.slot.held (λ e. IsProcess (notified_at (record_at (records_of e.node) place) index) result process.new) }
+{
+    let Some(boxed) = handle.take(alloc) else {
+        return CLOSED;
+    };
+    let status = boxed.notified(place, index, process);
     *handle = Handle::of(boxed);
     status
 }

@@ -61,11 +61,16 @@ abbrev pub IsFaultOf : {A : Type 0} → ℕ → Result A Refusal → ℕ → Fau
 IsFaultOf text (Err why) status fault = (status ≡ number why) × (fault ≡ fault_in text why)
 IsFaultOf text (Ok read) status fault = (status ≡ number refusal.Memory) × (fault ≡ fault_in text refusal.Memory)
 
+-- What is told of texts that have no fault: with an endpoint nothing, and else nothing, or that memory was refused for the conf text.
+abbrev pub TellsNoFault : Result EndpointValue ℕ → Fault → Type 0
+TellsNoFault (Ok e) fault = fault ≡ no_fault
+TellsNoFault (Err status) fault = (fault ≡ no_fault) ⊎ (fault ≡ fault_in 2 refusal.Memory)
+
 -- An endpoint that lets in what a conf text lists, or the text's fault.
 abbrev pub IsListOpened : Setup → Result Listed Refusal → Result EndpointValue ℕ → Fault → Type 0
 IsListOpened setup (Err why) answer fault = (answer ≡ Err (number why)) × (fault ≡ fault_in 2 why)
 IsListOpened setup (Ok more) answer fault =
-    IsOpened setup (with_listed nothing more) answer × ((fault ≡ no_fault) ⊎ (fault ≡ fault_in 2 refusal.Memory))
+    IsOpened setup (with_listed nothing more) answer × TellsNoFault answer fault
 
 -- The same with the names text before it.
 abbrev pub IsConfOpened : Setup → Result Known Refusal → List ℕ → Result EndpointValue ℕ → Fault → Type 0

@@ -1,10 +1,14 @@
 -- Records, in numbers.
-use Rattle.std.specs.Prelude.{◌≡◌, ℕ, List, length, Option, Some, None}
+use Rattle.std.specs.Prelude.{◌≡◌, ℕ, suc, List, [], ◌∷◌, length, map, Option, Some, None, if◌then◌else◌}
+use Rattle.std.specs.List.{slice_get}
 use Rattle.cpg_entry.specs.declared.calls.Op.{Op}
 use Rattle.cpg_entry.specs.declared.calls.Op.TheVariants.{Act, Gone}
 use Rattle.cpg_entry.specs.declared.calls.Call.TheVariants.{Join, Leave, Send, Insert, Remove}
 use Rattle.cpg_record.specs.declared.records.Record.{Record}
+use Rattle.cpg_record.specs.Membership.{is_allowed}
+use Rattle.cpg_embed.specs.Processes.{process_of}
 use Rattle.cpg_embed.specs.Telling.{verdict_number, basis_number, rule_number}
+use Rattle.cpg_embed.specs.declared.processes.Process.{Process}
 use Rattle.cpg_embed.specs.declared.records.Audited.{Audited}
 use Rattle.cpg_embed.specs.declared.statuses.TheConstants.{OK, NONE}
 
@@ -59,3 +63,17 @@ message_at (Some past) = sent_in past.entry.op
 abbrev pub IsAudited : Option Record → ℕ → Audited → Type 0
 IsAudited None status audited = status ≡ NONE
 IsAudited (Some past) status audited = (status ≡ OK) × (audited ≡ audited_of past)
+
+-- who made a record's entry
+abbrev pub maker_of : Record → Process
+maker_of past = record { node = past.entry.node; conn = past.entry.conn; pid = past.entry.pid; cause = 0 }
+
+-- whom the place of a record tells something: who made its entry, and, where that is allowed, the members of its group after it, among whom the
+-- maker may be once more
+abbrev pub notified_by : Record → List Process
+notified_by past = maker_of past ∷ (if is_allowed past.verdict then map process_of past.members else [])
+
+-- one of them, if the record is there
+abbrev pub notified_at : Option Record → ℕ → Option Process
+notified_at None index = None
+notified_at (Some past) index = slice_get (notified_by past) index

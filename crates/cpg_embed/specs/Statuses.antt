@@ -1,5 +1,5 @@
 -- The numbers that calls answer, and bytes that are handed over.
-use Rattle.std.specs.Prelude.{◌≡◌, ℕ, List, length, take, nat_le, Option, Some, None, ◌⊎◌, Bool, true, false}
+use Rattle.std.specs.Prelude.{◌≡◌, ℕ, List, ◌++◌, length, drop, nat_le, Option, Some, None, ◌⊎◌, Bool, true, false}
 use Rattle.cpg_cred.specs.declared.refusals.Refusal.{Refusal}
 use Rattle.cpg_cred.specs.declared.refusals.Refusal.TheVariants as refusal
 use Rattle.cpg_embed.specs.declared.statuses.TheConstants.{OK, SPACE, NONE}
@@ -49,10 +49,10 @@ abbrev pub IfElse : Bool → Type 0 → Type 0 → Type 0
 IfElse true yes_so not_so = yes_so
 IfElse false yes_so not_so = not_so
 
--- Bytes are handed over where they fit: they stand at the buffer's front. Else the buffer stays as it was.
+-- Bytes are handed over where they fit: they stand at the buffer's front, and what lies behind them stays. Else all of the buffer stays.
 abbrev pub IsHanded : List ℕ → List ℕ → ℕ → List ℕ → Type 0
 IsHanded bytes buffer status filled =
-    IfElse (nat_le (length bytes) (length buffer)) ((status ≡ OK) × (take (length bytes) filled ≡ bytes)) ((status ≡ SPACE) × (filled ≡ buffer))
+    IfElse (nat_le (length bytes) (length buffer)) ((status ≡ OK) × (filled ≡ bytes ++ drop (length bytes) buffer)) ((status ≡ SPACE) × (filled ≡ buffer))
 
 -- The same of bytes that may not be there.
 abbrev pub AreHanded : Option (List ℕ) → List ℕ → ℕ → List ℕ → Type 0

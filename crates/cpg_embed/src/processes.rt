@@ -4,6 +4,7 @@ ghost use Rattle.std.specs.Prelude.{◌≡◌};
 ghost use Rattle.cpg_embed.specs.Processes.{process_of, moved_of, listed_of};
 
 use cpg_cred::NodeId;
+use cpg_entry::Entry;
 use cpg_record::{Cause, Member, Move};
 
 /// A process of a group, in numbers.
@@ -28,6 +29,18 @@ impl Process {
             node: u32::from(member.node.get()),
             conn: u32::from(member.conn),
             pid: member.pid,
+            cause: 0,
+        }
+    }
+
+    /// Who made an entry.
+    pub(crate) fn of_maker(entry: &Entry) -> Process
+        ensures { result ≡ record { node = entry.now.node; conn = entry.now.conn; pid = entry.now.pid; cause = 0 } }
+    {
+        Process {
+            node: u32::from(entry.node.get()),
+            conn: u32::from(entry.conn),
+            pid: entry.pid,
             cause: 0,
         }
     }

@@ -1,17 +1,20 @@
 //! Records of what was delivered, told by their places.
 
 ghost use Rattle.std.specs.Prelude.{◌≡◌};
+ghost use Rattle.std.specs.List.{slice_get};
 ghost use Rattle.std.specs.Option.{option_copied};
 ghost use Rattle.cpg_node.specs.Nodes.{records_of};
 ghost use Rattle.cpg_record.specs.Places.{record_at};
-ghost use Rattle.cpg_embed.specs.Records.{IsAudited, audited_of, call_number, sent_in, group_at, message_at};
+ghost use Rattle.cpg_embed.specs.Events.{IsProcess};
+ghost use Rattle.cpg_embed.specs.Records.{IsAudited, audited_of, call_number, sent_in, group_at, message_at, notified_by, notified_at};
 ghost use Rattle.cpg_embed.specs.Statuses.{AreHanded};
 
 use crate::endpoints::Endpoint;
+use crate::processes::Process;
 use crate::statuses::{NONE, OK, hand};
 use crate::told::{basis_number, rule_number, verdict_number};
 use cpg_entry::{Call, Op};
-use cpg_record::Record;
+use cpg_record::{Record, Verdict};
 
 /// What a place was given to, and what it was answered, but for bytes and rules.
 #[repr(C)]
@@ -88,6 +91,20 @@ impl Audited {
     }
 }
 
+/// One of those to whom the place of a record tells something, by an index from 0: first who made its entry, and then,
+/// where that is allowed, the members of its group after it.
+fn notified(past: &Record, index: usize) -> Option<Process>
+    ensures { result ≡ slice_get (notified_by past.now) index }
+{
+    if index == 0 {
+        return Some(Process::of_maker(past.entry()));
+    }
+    match past.verdict {
+        Verdict::Allowed(_) => past.members.as_slice().get(index - 1).map(Process::of),
+        Verdict::Denied(_) => None,
+    }
+}
+
 impl Endpoint {
     /// The record of a place, from 1.
     fn record(&self, place: u32) -> Option<&Record>
@@ -132,6 +149,24 @@ impl Endpoint {
         match self.record(place) {
             Some(past) => match sent_in(&past.entry().op) {
                 Some(message) => hand(message, buffer),
+                None => NONE,
+            },
+            None => NONE,
+        }
+    }
+
+    /// Tells one of those, at any node, to whom a place that was delivered tells something, by an index from 0: first who
+    /// made its entry, and then, where that was allowed, the members of its group after it, among whom the maker may be once
+    /// more. It takes the same time for each.
+    pub fn notified(&self, place: u32, index: usize, process: &mut Process) -> u32
+        ensures { IsProcess (notified_at (record_at (records_of self.now.node) place) index) result process.new }
+    {
+        match self.record(place) {
+            Some(past) => match notified(past, index) {
+                Some(told) => {
+                    *process = told;
+                    OK
+                }
                 None => NONE,
             },
             None => NONE,

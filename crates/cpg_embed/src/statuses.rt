@@ -1,6 +1,6 @@
 //! The numbers that calls answer.
 
-ghost use Rattle.std.specs.Prelude.{◌≡◌, IsTrue, length, take, nat_le, false};
+ghost use Rattle.std.specs.Prelude.{◌≡◌, ◌++◌, IsTrue, length, drop, nat_le, false};
 ghost use Rattle.cpg_embed.specs.Statuses.{number, IsHanded};
 
 use cpg_cred::Refusal;
@@ -74,7 +74,7 @@ pub(crate) fn hand(bytes: &[u8], buffer: &mut [u8]) -> u32
 /// Copies the bytes to the buffer's front, where they fit.
 fn put(bytes: &[u8], buffer: &mut [u8]) -> bool
     ensures fits { result ≡ nat_le (length bytes.now) (length buffer.old) }
-    ensures put { IsTrue result → take (length bytes.now) buffer.new ≡ bytes.now }
+    ensures put { IsTrue result → buffer.new ≡ bytes.now ++ drop (length bytes.now) buffer.old }
     ensures same { result ≡ false → buffer.new ≡ buffer.old }
 {
     let count = bytes.len();
