@@ -7,7 +7,7 @@ ghost use Rattle.std.specs.List.{flat_map, list_all};
 ghost use Rattle.clap.specs.Words.{found_of, first_value};
 ghost use Rattle.cpgring.specs.Admitting.{asks_of, cred_named, words_asked, AreFilesGiven};
 
-use crate::commands::{ASKS, CONF, GROUP, NAMES, PASSWD};
+use crate::options::{ASKS, CONF, GROUP, NAMES, PASSWD};
 use clap::ArgMatches;
 use cpg_cred::Cred;
 use cpg_script::{cut, read_u32};

@@ -12,16 +12,17 @@ ghost use Rattle.cpgring.specs.Filtering.{is_filtered, IsBadFilter};
 ghost use Rattle.cpgring.specs.Sources.{but_input, path_of};
 ghost use Rattle.cpgring.specs.Asking.{name_of, words_found, AreSettingsGiven, IsAskedFor, IsFormGiven, IsInquiryGiven, IsMannerGiven, IsPictureGiven, IsShellGiven, IsShownGiven, IsSpokenGiven, patience_given, IsEntryAsked, words_before, IsStatusOf, IsUnused, IsUsed, SaysByKind, is_numbered};
 
-use crate::commands::{
-    ACCEPT, ALL, CONNECTION, ECHO, FILE, HOPS, JSON, NODES, NUMBERS, PLACE, PLACES, RING, TEXT,
-    VERBOSE, WAIT, WHY, build_command, command_for,
-};
+use crate::commands::{build_command, command_for};
 use crate::filtering::{filter_of, is_filtered};
+use crate::options::{
+    ACCEPT, ALL, CONNECTION, ECHO, FILE, HOPS, JSON, NODES, NUMBERS, PLACE, PLACES, RING, TEXT,
+    VERBOSE, WAIT, WHY,
+};
 use crate::questions::{read_conn, read_entry, read_question};
 use crate::sources::{Source, source_of, split_words};
 use crate::versions::write_commit;
 use clap::error::ErrorKind;
-use clap::{ArgMatches, Error};
+use clap::{ArgMatches, Command, Error};
 use cpg_cred::Refusal;
 use cpg_program::{
     Asked as Question, Form, Inquiry, Known, Manner, Noted, Patience, Picture, Piped, Run, Shown,
@@ -47,13 +48,25 @@ pub fn read_words<R: Env + Alloc<A = Global>>(rt: &R) -> Result<Vec<String>, Err
     }
 }
 
+/// The command line for these words, the first of which is the program's name.
+fn command_of<'a, S: AsStr>(alloc: Global, words: &[S]) -> Result<Command<'a>, AllocError> {
+    match words {
+        [_, first, ..] => command_for(alloc, first.as_str()),
+        _ => build_command(alloc),
+    }
+}
+
+/// What the command finds in the words.
+fn matches_of<'a, S: AsStr>(
+    mut command: Command<'a>,
+    words: &'a [S],
+) -> Result<ArgMatches<'a>, Error> {
+    command.try_get_matches_from_mut(words)
+}
+
 /// What clap found in the words. The first word is the program's name.
 pub fn match_words<'a, S: AsStr>(alloc: Global, words: &'a [S]) -> Result<ArgMatches<'a>, Error> {
-    let mut command = match words {
-        [_, first, ..] => command_for(alloc, first.as_str())?,
-        _ => build_command(alloc)?,
-    };
-    command.try_get_matches_from_mut(words)
+    matches_of(command_of(alloc, words)?, words)
 }
 
 /// What the command line asks for: a run, and where its script is read from.

@@ -7,7 +7,7 @@ ghost use Rattle.clap.specs.Words.{found_of, first_value};
 ghost use Rattle.cpg_print.specs.Entries.{conn_of_word};
 ghost use Rattle.cpgring.specs.Filtering.{bound_of, group_named, kind_named, places_given, places_named, span_of, read_given, is_filtered, IsBadFilter, IsFilterGiven};
 
-use crate::commands::{CONNECTION, GROUP, ONLY, PLACES};
+use crate::options::{CONNECTION, GROUP, ONLY, PLACES};
 use crate::questions::read_conn;
 use clap::ArgMatches;
 use cpg_entry::accepts_name;

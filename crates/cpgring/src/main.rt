@@ -11,6 +11,7 @@ mod completions;
 mod filtering;
 mod help;
 mod loading;
+mod options;
 mod questions;
 mod sources;
 mod tracing;
@@ -22,7 +23,7 @@ use asking::{
 };
 use clap::error::ErrorKind;
 use clap::{ArgMatches, Error};
-use commands::{SHELL, build_command};
+use commands::build_command;
 use completions::completion_of;
 use cpg_cred::Cred;
 use cpg_program::{
@@ -30,6 +31,7 @@ use cpg_program::{
     perform_with_hint, write_text,
 };
 use loading::{Loaded, NotLoaded, wrong_ask};
+use options::SHELL;
 use sources::{Source, greet, greet_shell, open_file, tell_unread};
 use std::alloc::{AllocError, Global};
 use std::io::{BufWriter, IsTerminal, Read, Write};

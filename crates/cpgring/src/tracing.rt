@@ -2,7 +2,7 @@
 //!
 //! What is written is proved of `cpg_program`. That it is written into these files, and when, is tested.
 
-use crate::commands::TRACE;
+use crate::options::TRACE;
 use crate::sources::{Unread, tell_unread, why_unread};
 use clap::ArgMatches;
 use cpg_cred::Refusal;
