@@ -55,13 +55,13 @@ static cpg_handle_t open_one(void) {
     return h;
 }
 
-/* Dispatches until so many messages and changes were told, or some time has gone by. */
+/* Dispatches until so many messages and changes were told, as the descriptor for poll says that there is something to do. */
 static void dispatch_until(cpg_handle_t h, unsigned messages, unsigned changes) {
     int fd = -1;
     EXPECT(cpg_fd_get(h, &fd), CS_OK);
     for (uint64_t end = now_ms() + 60000; (seen.messages < messages || seen.changes < changes) && now_ms() < end;) {
         struct pollfd p = {fd, POLLIN, 0};
-        poll(&p, 1, 1000);
+        EXPECT(poll(&p, 1, 30000), 1);
         EXPECT(cpg_dispatch(h, CS_DISPATCH_ALL), CS_OK);
     }
     EXPECT(seen.messages, messages);
