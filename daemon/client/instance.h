@@ -63,7 +63,7 @@ struct instance {
     struct buffer read; /* whole frames up to `parsed`, then what is left */
     size_t parsed;
     bool ready_set;
-    bool drained; /* the last read took all that there was */
+    bool drained; /* the last read took all that there was, as it seems */
     uint16_t wanted; /* the tag of the answer that is waited for; 0: none */
     uint8_t *answer;
     uint32_t answer_len;

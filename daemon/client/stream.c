@@ -11,7 +11,7 @@
 #include <sys/socket.h>
 #include <time.h>
 
-enum { STEP_MS = 100, TRY_NS = 200000 };
+enum { STEP_MS = 100, TRY_NS = 200000, MORE_BEHIND = 16 << 10 /* bytes of a read behind which there is likely more */ };
 
 uint64_t clock_ms(void) {
     struct timespec t;
@@ -81,7 +81,7 @@ bool stream_fetch(struct instance *i) {
         return false;
     }
     ssize_t got = recv(i->fd, at, READ_AT_ONCE, MSG_DONTWAIT);
-    i->drained = got < READ_AT_ONCE;
+    i->drained = got < MORE_BEHIND;
     if (got > 0) {
         i->read.end += (size_t)got;
         parse(i);
