@@ -327,6 +327,33 @@ static void threads(void) {
     EXPECT(wrong, 0);
 }
 
+static void *dispatch_one(void *nothing) {
+    (void)nothing;
+    return (void *)(uintptr_t)(cpg_dispatch(shared, CS_DISPATCH_ONE) != CS_OK);
+}
+
+/* What a call of another thread reads wakes the dispatch that waits for it: a hundred in some milliseconds each. */
+static void wakes(void) {
+    cpg_callbacks_t calls = {deliver_shared, NULL};
+    struct cpg_name group = name_of("wakes");
+    struct cpg_address list[CPG_MEMBERS_MAX];
+    uint64_t began = now_ms();
+    EXPECT(cpg_initialize(&shared, &calls), CS_OK);
+    EXPECT(cpg_join(shared, &group), CS_OK);
+    for (unsigned k = 0; k < 100; k++) {
+        pthread_t dispatcher;
+        void *failed;
+        int count = 0;
+        pthread_create(&dispatcher, NULL, dispatch_one, NULL);
+        EXPECT(send_bytes(shared, "wake", 4), CS_OK);
+        for (int ask = 0; ask < 3; ask++) EXPECT(cpg_membership_get(shared, &group, list, &count), CS_OK);
+        pthread_join(dispatcher, &failed);
+        EXPECT(failed == NULL, 1);
+    }
+    EXPECT(now_ms() - began < 20000, 1);
+    EXPECT(cpg_finalize(shared), CS_OK);
+}
+
 /* ---- no daemon, and one that says nothing ---- */
 
 static void no_daemon(void) {
@@ -364,6 +391,7 @@ int main(void) {
     names();
     callbacks();
     threads();
+    wakes();
     no_daemon();
     return finish("calls");
 }
