@@ -159,9 +159,16 @@ static void keep_rest(struct instance *i, const struct iovec *parts, unsigned co
     set_rest_left(i, true);
 }
 
+static bool has_room(struct instance *i) {
+    pthread_mutex_lock(&i->in);
+    bool room = i->read.end - i->read.begin < MOST_KEPT;
+    pthread_mutex_unlock(&i->in);
+    return room;
+}
+
 /* Waits until the socket may take more. The lock `out` is held. */
 static void wait_to_send(struct instance *i, bool waits) {
-    struct pollfd p = {i->fd, POLLOUT | POLLIN, 0};
+    struct pollfd p = {i->fd, POLLOUT | (has_room(i) ? POLLIN : 0), 0};
     struct timespec bound = {0, waits ? STEP_MS * 1000000L : TRY_NS};
     if (ppoll(&p, 1, &bound, NULL) > 0 && p.revents & (POLLIN | POLLHUP | POLLERR)) drain(i);
 }
