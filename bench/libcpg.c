@@ -1,6 +1,7 @@
 /* Messages of one closed process group: how many are ordered in a second, and how long one takes to come back to its sender.
  * It is compiled against libcpg's header and runs over either daemon.
- * Usage: libcpg SIZE WINDOW SENDERS LISTENERS SECONDS   prints the rate, and the 50th and 99th of 100 times, in microseconds */
+ * Usage: libcpg SIZE WINDOW SENDERS LISTENERS SECONDS [PID]   prints the rate, the 50th and 99th of 100 times, in microseconds,
+ * and the microseconds of a processor that all its processes and that of PID, the daemon's, took for a message */
 #include <corosync/cpg.h>
 #include <poll.h>
 #include <stdatomic.h>
@@ -9,6 +10,7 @@
 #include <stdlib.h>
 #include <string.h>
 #include <sys/mman.h>
+#include <sys/resource.h>
 #include <sys/wait.h>
 #include <time.h>
 #include <unistd.h>
@@ -17,7 +19,7 @@ enum { MOST_SENDERS = 32, BUCKETS = 200000, MOST_SIZE = 1 << 20, LIMIT_S = 30 };
 
 static struct shared { /* times in microseconds, up to BUCKETS, of all senders */
     atomic_uint ready, failed;
-    atomic_ulong delivered[MOST_SENDERS], own[MOST_SENDERS], counts[BUCKETS];
+    atomic_ulong delivered[MOST_SENDERS], all[MOST_SENDERS], counts[BUCKETS];
 } *shared;
 
 struct front {
@@ -39,6 +41,7 @@ static void deliver(cpg_handle_t h, const struct cpg_name *g, uint32_t node, uin
     (void)h, (void)g, (void)node, (void)pid;
     if (len >= sizeof front) memcpy(&front, message, sizeof front);
     if (counting && number < MOST_SENDERS) shared->delivered[number]++;
+    if (number < MOST_SENDERS) shared->all[number]++;
     if (front.sender != number) return;
     outstanding--;
     uint64_t took = (now_ns() - front.sent) / 1000;
@@ -81,7 +84,7 @@ static void be_member(size_t size, unsigned window, unsigned all, bool sends, do
         counting = since >= warm;
         bool full = false;
         while (sends && begin && outstanding < window && !full) full = !send_one(h, bytes, size);
-        poll(&p, 1, full ? 0 : 10);
+        poll(&p, 1, full ? 1 : 10);
         if (cpg_dispatch(h, CS_DISPATCH_ALL) != CS_OK) {
             shared->failed++;
             return;
@@ -104,11 +107,28 @@ static unsigned percentile(double share) {
     return BUCKETS;
 }
 
+/* Microseconds of a processor that a process took, in hundredths of a second; 0 where there is none. */
+static double process_us(const char *pid) {
+    char path[64];
+    unsigned long user = 0, system = 0;
+    snprintf(path, sizeof path, "/proc/%s/stat", pid);
+    FILE *from = fopen(path, "r");
+    if (from && fscanf(from, "%*d (%*[^)]) %*c %*d %*d %*d %*d %*d %*u %*u %*u %*u %*u %lu %lu", &user, &system) != 2) user = system = 0;
+    if (from) fclose(from);
+    return (double)(user + system) * 1e6 / (double)sysconf(_SC_CLK_TCK);
+}
+
+static double children_us(void) {
+    struct rusage used;
+    getrusage(RUSAGE_CHILDREN, &used);
+    return (double)(used.ru_utime.tv_sec + used.ru_stime.tv_sec) * 1e6 + (double)(used.ru_utime.tv_usec + used.ru_stime.tv_usec);
+}
+
 int main(int count, char **words) {
-    if (count != 6) return 2;
+    if (count != 6 && count != 7) return 2;
     size_t size = (size_t)atol(words[1]);
     unsigned window = (unsigned)atoi(words[2]), senders = (unsigned)atoi(words[3]), listeners = (unsigned)atoi(words[4]);
-    double seconds = atof(words[5]);
+    double seconds = atof(words[5]), daemon = count == 7 ? process_us(words[6]) : 0;
     if (size < sizeof(struct front) || size > MOST_SIZE || senders < 1 || senders > MOST_SENDERS) return 2;
     shared = mmap(NULL, sizeof *shared, PROT_READ | PROT_WRITE, MAP_SHARED | MAP_ANONYMOUS, -1, 0);
     if (shared == MAP_FAILED) return 1;
@@ -118,8 +138,11 @@ int main(int count, char **words) {
             _exit(0);
         }
     while (wait(NULL) > 0) {}
-    unsigned long most = 0;
+    double used = children_us() + (count == 7 ? process_us(words[6]) - daemon : 0);
+    unsigned long most = 0, all = 1;
     for (unsigned k = 0; k < senders; k++) most = shared->delivered[k] > most ? shared->delivered[k] : most;
-    printf("%.0f %u %u%s\n", (double)most / seconds, percentile(0.5), percentile(0.99), shared->failed ? " failed" : "");
+    for (unsigned k = 0; k < senders; k++) all = shared->all[k] > all ? shared->all[k] : all;
+    printf("%.0f %u %u %.1f%s\n", (double)most / seconds, percentile(0.5), percentile(0.99), used / (double)all,
+           shared->failed ? " failed" : "");
     return shared->failed > 0;
 }

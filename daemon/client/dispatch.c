@@ -36,6 +36,10 @@ static bool swap(struct instance *i) {
     struct buffer whole = i->read, other = i->now;
     size_t left = whole.end - i->parsed;
     if (i->depth > 1 && other.at && !pin(i, &other)) return false;
+    if (other.room > KEPT_ROOM) {
+        free(other.at);
+        other = (struct buffer){0};
+    }
     other.begin = other.end = 0;
     uint8_t *at = buffer_room(&other, left > READ_AT_ONCE ? left : READ_AT_ONCE);
     if (!at) {
@@ -56,10 +60,9 @@ static bool swap(struct instance *i) {
 static bool refill(struct instance *i) {
     if (i->now.begin < i->now.end) return true;
     pthread_mutex_lock(&i->in);
-    if (i->read.begin == i->parsed) stream_fetch(i);
+    if (i->read.begin == i->parsed && !i->drained) stream_fetch(i);
     bool there = i->read.begin < i->parsed && swap(i);
     i->now_left = there;
-    stream_mark(i);
     pthread_mutex_unlock(&i->in);
     return there;
 }
@@ -133,8 +136,18 @@ static bool dispatch_one(struct instance *i) {
 
 /* ---- the call ---- */
 
+/* Has the next refill read the socket; a dispatch that found it empty does not ask again by itself. */
+static void look_again(struct instance *i) {
+    pthread_mutex_lock(&i->in);
+    i->drained = false;
+    stream_mark(i);
+    pthread_mutex_unlock(&i->in);
+}
+
+/* What another thread reads of the socket is told by the descriptor, too. */
 static void wait_for_events(struct instance *i) {
-    struct pollfd p = {i->fd, POLLIN, 0};
+    struct pollfd p = {i->poll_fd, POLLIN, 0};
+    look_again(i);
     poll(&p, 1, STEP_MS);
     if (i->rest_left) stream_flush_any(i);
 }
@@ -164,9 +177,7 @@ PUBLIC cs_error_t cpg_dispatch(cpg_handle_t handle, cs_dispatch_flags_t flags) {
     i->depth++;
     cs_error_t result = dispatch_all(i, one, blocks, &called);
     if (--i->depth == 0) unpin(i);
-    pthread_mutex_lock(&i->in);
-    stream_mark(i);
-    pthread_mutex_unlock(&i->in);
+    look_again(i);
     pthread_mutex_unlock(&i->dispatch);
     if (flags == CS_DISPATCH_ONE_NONBLOCKING && !called && result == CS_OK) result = CS_ERR_TRY_AGAIN;
     instance_put(i);

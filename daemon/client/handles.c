@@ -11,6 +11,7 @@
 #include <sys/eventfd.h>
 #include <sys/socket.h>
 #include <sys/un.h>
+#include <time.h>
 #include <unistd.h>
 
 pthread_mutex_t table_lock = PTHREAD_MUTEX_INITIALIZER;
@@ -107,6 +108,8 @@ static cs_error_t greet(struct instance *i) {
     cs_error_t status = open_descriptors(i);
     if (status != CS_OK) return status;
     if (!find_socket(&at)) return CS_ERR_LIBRARY;
+    struct timeval bound = {(time_t)(i->wait_ms / 1000), (suseconds_t)(i->wait_ms % 1000) * 1000};
+    setsockopt(i->fd, SOL_SOCKET, SO_SNDTIMEO, &bound, sizeof bound); /* of connect alone: all else does not wait */
     if (connect(i->fd, (struct sockaddr *)&at, sizeof at) != 0) {
         if (errno == EACCES || errno == EPERM) return CS_ERR_ACCESS;
         return errno == EAGAIN ? CS_ERR_TRY_AGAIN : CS_ERR_LIBRARY;
@@ -172,13 +175,15 @@ PUBLIC cs_error_t cpg_initialize(cpg_handle_t *handle, cpg_callbacks_t *callback
 
 /* What was begun is sent whole, within a time. */
 static void finish_rest(struct instance *i) {
-    uint64_t end = clock_ms() + FLUSH_MS;
-    pthread_mutex_lock(&i->out);
-    while (!stream_flush(i) && !i->broken && clock_ms() < end) {
+    for (uint64_t end = clock_ms() + FLUSH_MS; i->rest_left && !i->broken && clock_ms() < end;) {
         struct pollfd p = {i->fd, POLLOUT, 0};
-        poll(&p, 1, FLUSH_MS / 10);
+        struct timespec step = {0, 1000000};
+        bool mine = pthread_mutex_trylock(&i->out) == 0; /* else another thread sends, and may wait for long */
+        if (mine) stream_flush(i);
+        if (mine) pthread_mutex_unlock(&i->out);
+        if (mine && i->rest_left) poll(&p, 1, FLUSH_MS / 10);
+        if (!mine) nanosleep(&step, NULL);
     }
-    pthread_mutex_unlock(&i->out);
 }
 
 PUBLIC cs_error_t cpg_finalize(cpg_handle_t handle) {

@@ -13,6 +13,7 @@
 
 enum {
     READ_AT_ONCE = 256 << 10,
+    KEPT_ROOM = 4 << 20, /* a buffer with more room is given back once it was dispatched */
     MOST_MESSAGE = 16 << 20,
     MOST_PARTS = 1024,     /* of a message, as the program gives it */
     MOST_KEPT = 256 << 20, /* bytes of events that wait for a dispatch: with more, nothing is sent until there is one */
@@ -29,7 +30,6 @@ struct partial {
     struct partial *next;
     uint32_t node, pid, whole, have;
     uint8_t *data;
-    size_t room;
 };
 
 struct pinned { /* a buffer that a callback further out still looks at */
@@ -63,6 +63,7 @@ struct instance {
     struct buffer read; /* whole frames up to `parsed`, then what is left */
     size_t parsed;
     bool ready_set;
+    bool drained; /* the last read took all that there was, as it seems */
     uint16_t wanted; /* the tag of the answer that is waited for; 0: none */
     uint8_t *answer;
     uint32_t answer_len;
@@ -73,6 +74,7 @@ struct instance {
     atomic_bool now_left; /* some of them are left */
     struct pinned *pinned;
     struct partial *partials;
+    struct cpg_name partials_of; /* the group that they are of */
     bool first_change;
 };
 
@@ -97,9 +99,11 @@ void stream_mark(struct instance *i);
 /* Sends what was left of an ask that was begun. The lock `out` is held. false: the socket is full. */
 bool stream_flush(struct instance *i);
 bool stream_flush_any(struct instance *i);
-/* Sends the parts as they are; `waits`: for as long as that takes, within the limit; else CS_ERR_TRY_AGAIN where the socket
- * takes nothing now. The lock `out` is held. */
-cs_error_t stream_send(struct instance *i, struct iovec *parts, unsigned count, bool waits);
+/* Sends the parts as they are. The lock `out` is held.
+ * SEND_NOW: CS_ERR_TRY_AGAIN where the socket takes nothing now; what it does not take of what it began to take is kept.
+ * SEND_BEGUN: the same, but then it waits until all is taken. SEND_SURELY: it waits. All waits are within the limit. */
+enum way { SEND_NOW, SEND_BEGUN, SEND_SURELY };
+cs_error_t stream_send(struct instance *i, struct iovec *parts, unsigned count, enum way way);
 /* Asks and waits for the answer, which the caller frees: its length is told where it is wanted. */
 cs_error_t stream_ask(struct instance *i, uint16_t kind, const void *body, uint32_t len, uint8_t **answer, uint32_t *answer_len);
 

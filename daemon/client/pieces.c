@@ -47,17 +47,9 @@ static struct partial *begin(struct instance *i, const struct tell_message *told
     return p;
 }
 
-/* Memory is taken as pieces come, not as the first one promises. */
+/* Of memory for the whole only what pieces came for is touched, whatever the first one promises. */
 static bool append(struct partial *p, const uint8_t *data, uint32_t len) {
-    if (p->have + len > p->room) {
-        size_t room = p->room ? 2 * p->room : 4 * MOST_PAYLOAD;
-        if (room > p->whole) room = p->whole;
-        if (room < p->have + len) room = p->have + len;
-        uint8_t *at = realloc(p->data, room);
-        if (!at) return false;
-        p->data = at;
-        p->room = room;
-    }
+    if (!p->data && !(p->data = malloc(p->whole))) return false;
     memcpy(p->data + p->have, data, len);
     p->have += len;
     return true;
@@ -75,6 +67,10 @@ static bool deliver_piece(struct instance *i, const struct cpg_name *name, const
     memcpy(&piece, data, sizeof piece);
     data += sizeof piece;
     if (piece.whole > MOST_MESSAGE || piece.at > piece.whole || len > piece.whole - piece.at) return false;
+    if (name->length != i->partials_of.length || memcmp(name->value, i->partials_of.value, name->length)) {
+        pieces_free(i); /* of a group that this process has left */
+        i->partials_of = *name;
+    }
     if (piece.at == 0 && len == piece.whole) {
         pieces_drop(i, told->node, told->pid);
         return call_deliver(i, name, told, data, len);
@@ -126,7 +122,7 @@ struct front { /* what stands before a piece's bytes on the wire */
 };
 
 /* Sends up to AT_ONCE pieces from `at` in one write. */
-static cs_error_t send_some(struct instance *i, struct source *from, size_t *at, size_t len, bool waits) {
+static cs_error_t send_some(struct instance *i, struct source *from, size_t *at, size_t len) {
     struct front fronts[AT_ONCE];
     enum { PARTS = 1000 };
     struct iovec parts[PARTS];
@@ -150,7 +146,7 @@ static cs_error_t send_some(struct instance *i, struct source *from, size_t *at,
         next += step;
     } while (next < len && pieces < AT_ONCE && used + 2 < PARTS);
     if (pieces == 0) return CS_ERR_INVALID_PARAM;
-    cs_error_t result = stream_send(i, parts, used, waits);
+    cs_error_t result = stream_send(i, parts, used, *at > 0 ? SEND_SURELY : next < len ? SEND_BEGUN : SEND_NOW);
     if (result != CS_OK) return result;
     *from = source;
     *at = next;
@@ -162,7 +158,7 @@ static cs_error_t send_pieces(struct instance *i, const struct iovec *parts, siz
     struct source from = {parts, 0};
     size_t at = 0;
     cs_error_t result;
-    do result = send_some(i, &from, &at, len, at > 0);
+    do result = send_some(i, &from, &at, len);
     while (result == CS_OK && at < len);
     if (at > 0 && result != CS_OK) i->broken = true; /* half a message was sent: the handle is of no more use */
     return at > 0 && result != CS_OK ? CS_ERR_LIBRARY : result;
@@ -186,7 +182,7 @@ cs_error_t pieces_send(struct instance *i, const struct iovec *parts, unsigned c
     all[0] = (struct iovec){&head, sizeof head};
     if (whole && count > 0) memcpy(all + 1, parts, count * sizeof *parts);
     pthread_mutex_lock(&i->out);
-    result = whole ? stream_send(i, all, 1 + count, false) : send_pieces(i, parts, len);
+    result = whole ? stream_send(i, all, 1 + count, SEND_NOW) : send_pieces(i, parts, len);
     pthread_mutex_unlock(&i->out);
     return result;
 }

@@ -6,11 +6,12 @@
 #include <poll.h>
 #include <stdlib.h>
 #include <string.h>
+#include <sys/epoll.h>
 #include <sys/eventfd.h>
 #include <sys/socket.h>
 #include <time.h>
 
-enum { STEP_MS = 100, TRY_NS = 200000 };
+enum { STEP_MS = 100, TRY_NS = 200000, MORE_BEHIND = 16 << 10 /* bytes of a read behind which there is likely more */ };
 
 uint64_t clock_ms(void) {
     struct timespec t;
@@ -80,6 +81,7 @@ bool stream_fetch(struct instance *i) {
         return false;
     }
     ssize_t got = recv(i->fd, at, READ_AT_ONCE, MSG_DONTWAIT);
+    i->drained = got < MORE_BEHIND;
     if (got > 0) {
         i->read.end += (size_t)got;
         parse(i);
@@ -112,6 +114,14 @@ static void drain(struct instance *i) {
 
 /* ---- writing ---- */
 
+/* While something is left to be sent, the descriptor for poll says when the socket takes more: a dispatch then sends it. */
+static void set_rest_left(struct instance *i, bool left) {
+    struct epoll_event e = {.events = left ? EPOLLIN | EPOLLOUT : EPOLLIN};
+    if (i->rest_left == left) return;
+    i->rest_left = left;
+    epoll_ctl(i->poll_fd, EPOLL_CTL_MOD, i->fd, &e);
+}
+
 bool stream_flush(struct instance *i) {
     while (i->rest.begin < i->rest.end && !i->broken) {
         ssize_t put = send(i->fd, i->rest.at + i->rest.begin, i->rest.end - i->rest.begin, MSG_NOSIGNAL | MSG_DONTWAIT);
@@ -124,7 +134,7 @@ bool stream_flush(struct instance *i) {
     }
     if (i->broken) return false;
     i->rest.begin = i->rest.end = 0;
-    i->rest_left = false;
+    set_rest_left(i, false);
     return true;
 }
 
@@ -136,48 +146,70 @@ bool stream_flush_any(struct instance *i) {
 }
 
 /* Keeps what the socket did not take, to be sent before anything else. */
-static void keep_rest(struct instance *i, const struct iovec *parts, unsigned count, size_t taken) {
+static void keep_rest(struct instance *i, const struct iovec *parts, unsigned count) {
     for (unsigned k = 0; k < count; k++) {
-        size_t step = taken < parts[k].iov_len ? taken : parts[k].iov_len, left = parts[k].iov_len - step;
-        taken -= step;
-        if (left == 0) continue;
-        uint8_t *at = buffer_room(&i->rest, left);
+        uint8_t *at = buffer_room(&i->rest, parts[k].iov_len);
         if (!at) {
             i->broken = true;
             return;
         }
-        memcpy(at, (const uint8_t *)parts[k].iov_base + step, left);
-        i->rest.end += left;
-        i->rest_left = true;
+        if (parts[k].iov_len) memcpy(at, parts[k].iov_base, parts[k].iov_len);
+        i->rest.end += parts[k].iov_len;
     }
+    set_rest_left(i, true);
+}
+
+static bool has_room(struct instance *i) {
+    pthread_mutex_lock(&i->in);
+    bool room = i->read.end - i->read.begin < MOST_KEPT;
+    pthread_mutex_unlock(&i->in);
+    return room;
 }
 
 /* Waits until the socket may take more. The lock `out` is held. */
 static void wait_to_send(struct instance *i, bool waits) {
-    struct pollfd p = {i->fd, POLLOUT | POLLIN, 0};
+    struct pollfd p = {i->fd, POLLOUT | (has_room(i) ? POLLIN : 0), 0};
     struct timespec bound = {0, waits ? STEP_MS * 1000000L : TRY_NS};
     if (ppoll(&p, 1, &bound, NULL) > 0 && p.revents & (POLLIN | POLLHUP | POLLERR)) drain(i);
 }
 
-cs_error_t stream_send(struct instance *i, struct iovec *parts, unsigned count, bool waits) {
-    struct msghdr message = {.msg_iov = parts, .msg_iovlen = count};
-    uint64_t end = waits ? clock_ms() + i->wait_ms : 0;
+/* Takes sent bytes off the front of the parts. How many parts are left, from `*parts` on. */
+static unsigned advance(struct iovec **parts, unsigned count, size_t sent) {
+    while (count > 0 && sent >= (*parts)->iov_len) {
+        sent -= (*parts)->iov_len;
+        ++*parts;
+        count--;
+    }
+    if (count > 0) **parts = (struct iovec){(uint8_t *)(*parts)->iov_base + sent, (*parts)->iov_len - sent};
+    return count;
+}
+
+/* One write. Whether the socket took some of it. */
+static bool write_some(struct instance *i, struct iovec **parts, unsigned *count) {
+    struct msghdr message = {.msg_iov = *parts, .msg_iovlen = *count};
+    ssize_t put;
+    while ((put = sendmsg(i->fd, &message, MSG_NOSIGNAL | MSG_DONTWAIT)) < 0 && errno == EINTR) {}
+    if (put < 0 && errno != EAGAIN) i->broken = true;
+    if (put > 0) *count = advance(parts, *count, (size_t)put);
+    return put > 0;
+}
+
+cs_error_t stream_send(struct instance *i, struct iovec *parts, unsigned count, enum way way) {
+    uint64_t end = 0;
+    bool begun = false, waits = way == SEND_SURELY;
     for (;;) {
-        ssize_t put = -1;
-        bool again = true;
-        if (stream_flush(i)) {
-            put = sendmsg(i->fd, &message, MSG_NOSIGNAL | MSG_DONTWAIT);
-            again = put >= 0 || errno == EAGAIN || errno == EINTR;
-        }
-        if (put >= 0) {
-            keep_rest(i, parts, count, (size_t)put);
-            i->flow = CPG_FLOW_CONTROL_DISABLED;
-            return CS_OK;
-        }
-        if (!again) i->broken = true;
+        if (stream_flush(i) && write_some(i, &parts, &count)) begun = true;
         if (i->broken) return CS_ERR_LIBRARY;
+        if (way == SEND_BEGUN && begun) waits = true;
+        if (waits && end == 0) end = clock_ms() + i->wait_ms;
+        bool late = !waits || clock_ms() >= end;
+        if (count > 0 && begun && late) keep_rest(i, parts, count);
+        if (count == 0 || (begun && late)) {
+            i->flow = CPG_FLOW_CONTROL_DISABLED;
+            return i->broken ? CS_ERR_LIBRARY : CS_OK;
+        }
         wait_to_send(i, waits);
-        if (waits && clock_ms() < end) continue;
+        if (waits && !late) continue;
         i->flow = CPG_FLOW_CONTROL_ENABLED;
         return CS_ERR_TRY_AGAIN;
     }
@@ -220,7 +252,7 @@ static cs_error_t send_ask(struct instance *i, uint16_t kind, const void *body, 
     pthread_mutex_unlock(&i->in);
     struct iovec parts[2] = {{&head, sizeof head}, {(void *)(uintptr_t)body, len}};
     pthread_mutex_lock(&i->out);
-    cs_error_t result = stream_send(i, parts, 2, true);
+    cs_error_t result = stream_send(i, parts, 2, SEND_SURELY);
     pthread_mutex_unlock(&i->out);
     return result;
 }

@@ -57,7 +57,7 @@ static uint64_t now_ms(void) {
 
 /* ---- the socket ---- */
 
-static void connect_to(const char *path) {
+static void connect_to(const char *path, unsigned wait_ms) {
     struct sockaddr_un at = {.sun_family = AF_UNIX};
     const char *folder = getenv("XDG_RUNTIME_DIR");
     if (!path) path = getenv("CPGRING_SOCKET");
@@ -66,7 +66,9 @@ static void connect_to(const char *path) {
         int len = folder && *folder ? snprintf(at.sun_path, sizeof at.sun_path, "%s/cpgringd.sock", folder) : 0;
         if (len <= 0 || access(at.sun_path, F_OK) != 0) snprintf(at.sun_path, sizeof at.sun_path, "/run/cpgringd.sock");
     }
+    struct timeval bound = {(time_t)(wait_ms / 1000), 0};
     fd = socket(AF_UNIX, SOCK_STREAM | SOCK_CLOEXEC, 0);
+    if (fd >= 0) setsockopt(fd, SOL_SOCKET, SO_SNDTIMEO, &bound, sizeof bound);
     if (fd < 0 || connect(fd, (struct sockaddr *)&at, sizeof at) != 0) fail(at.sun_path, strerror(errno));
 }
 
@@ -173,21 +175,17 @@ static uint32_t remove_rule(int count, char **words) {
     return ask(ASK_REMOVE, body, (uint32_t)sizeof id + name_of(words[1], body + sizeof id));
 }
 
-/* A command that is its own words; a group's name goes as its bytes. */
+/* A command that is its own words; in a group's name %XX goes as it is typed. */
 static uint32_t plain(int count, char **words) {
-    char line[MOST_LINE];
-    bool named = !strcmp(words[0], "members") || !strcmp(words[0], "rules");
-    size_t len = (size_t)snprintf(line, sizeof line, "%s", words[0]);
-    if (named && count != 2) usage();
-    for (int k = 1; k < count && len < sizeof line; k++) {
-        uint8_t name[MOST_NAME];
-        int size = named ? (int)name_of(words[k], name) : (int)strlen(words[k]);
-        if (len + 1 + (size_t)size >= sizeof line) fail(words[k], "too long");
-        line[len++] = ' ';
-        memcpy(line + len, named ? (char *)name : words[k], (size_t)size);
-        len += (size_t)size;
+    char line[MOST_LINE] = "";
+    size_t len = 0;
+    if ((!strcmp(words[0], "members") || !strcmp(words[0], "rules")) && count != 2) usage();
+    for (int k = 0; k < count; k++) {
+        int put = snprintf(line + len, sizeof line - len, "%s%s", k ? " " : "", words[k]);
+        if (put < 0 || (size_t)put >= sizeof line - len) fail(words[k], "too long");
+        len += (size_t)put;
     }
-    return len < sizeof line ? ask(ASK_CONTROL, line, (uint32_t)len) : CS_ERR_INVALID_PARAM;
+    return ask(ASK_CONTROL, line, (uint32_t)len);
 }
 
 static const char *status_text(uint32_t status) {
@@ -211,13 +209,13 @@ int main(int count, char **words) {
     int option;
     while ((option = getopt(count, words, "+s:w:h")) != -1) switch (option) {
         case 's': path = optarg; break;
-        case 'w': wait = number_of(optarg) % 86400 * 1000; break;
+        case 'w': wait = (number_of(optarg) - 1) % 86400 * 1000 + 1000; break; /* a second to a day */
         default: usage();
         }
     count -= optind, words += optind;
     if (count < 1) usage();
     deadline = now_ms() + wait;
-    connect_to(path);
+    connect_to(path, wait);
     if ((status = ask(ASK_HELLO, &version, sizeof version)) == CS_OK) {
         if (!strcmp(words[0], "insert")) status = insert(count, words);
         else if (!strcmp(words[0], "remove")) status = remove_rule(count, words);

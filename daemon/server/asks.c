@@ -24,8 +24,8 @@ static bool is_ending(const struct client *c) {
 
 bool client_hearable(const struct client *c) {
     struct head head;
-    return c->end == END_NOT && c->asked == 0 && c->audit_tag == 0 && !c->blocked &&
-           (c->hung || bytes_held(&c->out) <= limits.room) && ask_at(c, &head) != 0 &&
+    return c->end == END_NOT && c->asked == 0 && !c->auditing && !c->blocked &&
+           (c->hung || out_held(&c->out) <= limits.room) && ask_at(c, &head) != 0 &&
            (head.kind != ASK_JOIN || !is_ending(c));
 }
 
@@ -185,7 +185,7 @@ static bool hear_call(struct client *c, const struct head *head, const uint8_t *
     return true;
 }
 
-/* false: the ask stays, since the node's queue is full. */
+/* false: the ask stays, since the node's queue is full, or others are to be heard before so long a listing. */
 static bool hear_one(struct client *c, const struct head *head, const uint8_t *body) {
     if (!c->greeted) {
         if (head->kind == ASK_HELLO) hear_hello(c, head, body);
@@ -199,7 +199,11 @@ static bool hear_one(struct client *c, const struct head *head, const uint8_t *b
     case ASK_INSERT:
     case ASK_REMOVE: return hear_call(c, head, body);
     case ASK_MEMBERS: hear_members(c, head, body); return true;
-    case ASK_GROUPS: hear_groups(c, head, body); return true;
+    case ASK_GROUPS:
+        if (c->node->listings == 0) return false;
+        c->node->listings--;
+        hear_groups(c, head, body);
+        return true;
     case ASK_CONTROL: control_hear(c, head, body); return true;
     default: client_end(c, END_BROKEN); return true;
     }

@@ -52,6 +52,25 @@ static void put_name(struct bytes *to, const struct name *code) {
     }
 }
 
+static int hex_value(char c) {
+    if (c >= '0' && c <= '9') return c - '0';
+    if (c >= 'a' && c <= 'f') return c - 'a' + 10;
+    return c >= 'A' && c <= 'F' ? c - 'A' + 10 : -1;
+}
+
+/* The node's name for one as put_name puts it. A status of the interface. */
+static uint32_t read_name(const char *word, struct name *code) {
+    uint8_t plain[MOST_NAME];
+    size_t len = 0;
+    for (const char *at = strcmp(word, "%") ? word : ""; *at; at++) {
+        if (len == sizeof plain) return CS_ERR_NAME_TOO_LONG;
+        bool coded = at[0] == '%' && hex_value(at[1]) >= 0 && hex_value(at[2]) >= 0;
+        plain[len++] = coded ? (uint8_t)(hex_value(at[1]) << 4 | hex_value(at[2])) : (uint8_t)*at;
+        if (coded) at += 2;
+    }
+    return name_code(plain, len, NAME_LOOK, code) ? CS_OK : CS_ERR_NOT_EXIST;
+}
+
 static void tell_text(struct client *c, struct bytes *text) {
     while (bytes_held(text) > 0) {
         uint32_t len = bytes_held(text) < TEXT_PART ? (uint32_t)bytes_held(text) : TEXT_PART;
@@ -100,8 +119,9 @@ static uint32_t show_groups(struct client *c, const char *rest, struct bytes *to
 
 static uint32_t show_members(struct client *c, const char *rest, struct bytes *to) {
     struct name code;
+    uint32_t status = read_name(rest, &code);
     (void)c;
-    if (!name_code((const uint8_t *)rest, strlen(rest), NAME_LOOK, &code)) return CS_ERR_NOT_EXIST;
+    if (status != CS_OK) return status;
     const struct process_group *g = group_find(&ring->nodes[0], &code);
     for (const struct seat *seat = g ? g->first : NULL; seat; seat = seat->next)
         put(to, "member node %u pid %u uid %u gid %u since %u\n", seat->node, seat->pid, seat->uid, seat->gid, seat->place);
@@ -112,8 +132,9 @@ static uint32_t show_rules(struct client *c, const char *rest, struct bytes *to)
     static const char *const effects[] = {"?", "allow", "deny"}, *const rights[] = {"?", "join", "send", "list", "edit"};
     struct name code;
     cpgring_rule rule;
+    uint32_t status = read_name(rest, &code);
     (void)c;
-    if (!name_code((const uint8_t *)rest, strlen(rest), NAME_LOOK, &code)) return CS_ERR_NOT_EXIST;
+    if (status != CS_OK) return status;
     for (size_t k = 0; cpgring_table(&ring->nodes[0].ring, code.at, code.len, k, &rule) == CPGRING_OK; k++) {
         put(to, "rule %zu ring %u id %u %s %s", k, ring->number, rule.id, rule.effect < 3 ? effects[rule.effect] : "?",
             rule.right < 5 ? rights[rule.right] : "?");
@@ -235,6 +256,7 @@ static uint32_t do_audit(struct client *c, const char *rest, struct bytes *to) {
     else if (sscanf(rest, "%9u-%9u%n", &first, &last, &used) != 2 && sscanf(rest, "%9u%n", &first, &used) == 1) last = first;
     if (used == 0 || rest[used] || first < 1) return CS_ERR_INVALID_PARAM;
     if (last > ring->nodes[0].delivered) return CS_ERR_NOT_EXIST;
+    c->auditing = true;
     c->audit_next = first;
     c->audit_last = last;
     return CS_OK;
@@ -243,7 +265,7 @@ static uint32_t do_audit(struct client *c, const char *rest, struct bytes *to) {
 void control_go_on(struct client *c) {
     struct bytes text = {0};
     uint32_t status = CS_OK;
-    while (c->audit_next <= c->audit_last && status == CS_OK && bytes_held(&c->out) <= limits.room) {
+    while (c->audit_next <= c->audit_last && status == CS_OK && out_held(&c->out) <= limits.room) {
         if (!audit_line(&ring->nodes[0], c->audit_next++, &text)) status = CS_ERR_NO_MEMORY;
         if (bytes_held(&text) >= TEXT_PART || c->audit_next > c->audit_last) tell_text(c, &text);
     }
@@ -251,16 +273,15 @@ void control_go_on(struct client *c) {
     bytes_free(&text);
     if (c->audit_next <= c->audit_last && status == CS_OK) return;
     answer(c, ASK_CONTROL, c->audit_tag, status);
-    c->audit_tag = 0;
-    c->audit_next = c->audit_last = 0;
+    c->auditing = false;
 }
 
 void control_ring_ends(struct ring *the_ring) {
     for (unsigned k = 0; k < the_ring->count; k++)
         for (struct client *c = the_ring->nodes[k].clients; c; c = c->next) {
-            if (c->audit_tag == 0) continue;
+            if (!c->auditing) continue;
             answer(c, ASK_CONTROL, c->audit_tag, CS_ERR_INTERRUPT);
-            c->audit_tag = 0;
+            c->auditing = false;
         }
 }
 
@@ -303,7 +324,7 @@ void control_hear(struct client *c, const struct head *head, const uint8_t *body
     }
     tell_text(c, &text);
     bytes_free(&text);
-    c->audit_tag = c->audit_last ? head->tag : 0;
-    if (c->audit_tag) control_go_on(c);
+    c->audit_tag = head->tag;
+    if (c->auditing) control_go_on(c);
     else answer(c, ASK_CONTROL, head->tag, status);
 }

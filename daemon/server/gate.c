@@ -128,7 +128,7 @@ static void visit(struct gate *gate) {
     if (gate->token_len == 0) {
         uint32_t status = cpgring_timer(&gate->nodes[gate->token_from].ring);
         note_fault(gate, status);
-        if (status == CPGRING_OK) send_on(gate, gate->token_from);
+        if (status == CPGRING_OK || status == CPGRING_BUSY) send_on(gate, gate->token_from); /* busy: frames wait, for want of memory */
         return;
     }
     unsigned to = gate->token_to;

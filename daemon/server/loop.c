@@ -123,6 +123,7 @@ static void hear(struct node *node) {
     unsigned active = 0;
     for (struct client *c = node->first_active; c; c = c->next_active) active++;
     if (active == 0) return;
+    node->listings = MOST_LISTINGS;
     unsigned each = MOST_WAITING / active > 0 ? MOST_WAITING / active : 1;
     struct client *c = node->first_active;
     for (unsigned k = 0; k < active && c; k++) {
@@ -148,17 +149,17 @@ static void drop(struct client *c) {
 
 /* Whether there is something to do for a client at once: an ask to be heard, events to be taken, an audit to be told. */
 static bool has_work(const struct client *c) {
-    bool has_room = bytes_held(&c->out) <= limits.room;
-    return client_hearable(c) || (c->told && has_room) || (c->audit_tag && has_room);
+    bool has_room = out_held(&c->out) <= limits.room;
+    return client_hearable(c) || (c->told && has_room) || (c->auditing && has_room);
 }
 
 /* Writes what a client is told. Whether it has work at once; one that needs nothing more is no longer active. */
 static bool tend(struct client *c, bool queue_full) {
     const struct node *node = c->node;
     if (!queue_full && !node->closed_for_calls && c->user->waiting[node->setup.node - 1] < limits.user_calls) c->blocked = false;
-    if (c->audit_tag && c->end == END_NOT) control_go_on(c);
-    if (c->hung) bytes_drop(&c->out, bytes_held(&c->out));
-    else if (!c->full && bytes_held(&c->out) > 0) c->full = !client_write(c);
+    if (c->auditing && c->end == END_NOT) control_go_on(c);
+    if (c->hung) out_drop(&c->out, out_held(&c->out));
+    else if (!c->full && out_held(&c->out) > 0) c->full = !client_write(c);
     client_account(c);
     if (c->hung && ask_at(c, &(struct head){0}) == 0) client_end(c, END_CLOSED);
     watch_client(c);
@@ -167,7 +168,10 @@ static bool tend(struct client *c, bool queue_full) {
         return true; /* who waited for that is looked at anew */
     }
     bool work = has_work(c);
-    if (!work && !c->blocked) client_rest(c);
+    if (!work && !c->blocked) {
+        bytes_shrink(&c->in, client_kept(c));
+        client_rest(c);
+    }
     return work;
 }
 
@@ -229,7 +233,7 @@ static int rest(void) {
 static bool all_written(void) {
     for (unsigned k = 0; k < loop.ring->count; k++)
         for (const struct client *c = loop.ring->nodes[k].clients; c; c = c->next)
-            if (bytes_held(&c->out) > 0 || c->untaken > 0) return false;
+            if (out_held(&c->out) > 0 || c->untaken > 0) return false;
     return true;
 }
 

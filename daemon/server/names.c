@@ -1,20 +1,23 @@
 /* Names of groups; see names.h.
  * All nodes of a ring are in this process, so one table of long names serves them all.
- * The table is bounded, and swept where a ring ends. */
+ * A name's number is its own until it is swept, where a ring ends; in one ring a number never changes its name. */
 #include "names.h"
 #include <stdio.h>
 #include <stdlib.h>
 #include <string.h>
 
 struct long_name {
+    struct long_name *next; /* of its bucket */
     struct name plain;
-    unsigned number;
+    unsigned number; /* its place in `long_names` */
     bool marked;
 };
 
+enum { LONG_BUCKETS = 4096 };
+
 static const char LONG[] = "!long-";
-static struct long_name *long_names[MOST_LONG_NAMES];
-static unsigned count_long, last_number;
+static struct long_name *long_names[MOST_LONG_NAMES], *long_buckets[LONG_BUCKETS];
+static unsigned count_long, next_number; /* no name has a number from `next_number` on */
 
 bool name_same(const struct name *a, const struct name *b) { return a->len == b->len && !memcmp(a->at, b->at, a->len); }
 
@@ -28,38 +31,46 @@ unsigned name_count(void) { return count_long; }
 
 /* ---- long names ---- */
 
+static struct long_name **bucket_of(const struct name *plain) { return &long_buckets[name_hash(plain) % LONG_BUCKETS]; }
+
 static struct long_name *find_plain(const struct name *plain) {
-    for (unsigned k = 0; k < count_long; k++)
-        if (name_same(&long_names[k]->plain, plain)) return long_names[k];
-    return NULL;
+    struct long_name *it = *bucket_of(plain);
+    while (it && !name_same(&it->plain, plain)) it = it->next;
+    return it;
 }
 
 static struct long_name *find_code(const struct name *code) {
-    char text[MOST_NAME + 1];
+    char text[MOST_NAME + 1], *end;
     size_t head = sizeof LONG - 1;
     if (code->len <= head || memcmp(code->at, LONG, head)) return NULL;
     memcpy(text, code->at + head, code->len - head);
     text[code->len - head] = 0;
-    unsigned number = (unsigned)strtoul(text, NULL, 10);
-    for (unsigned k = 0; k < count_long; k++)
-        if (long_names[k]->number == number) return long_names[k];
-    return NULL;
+    unsigned long number = strtoul(text, &end, 10);
+    return *end || number >= MOST_LONG_NAMES ? NULL : long_names[number];
+}
+
+static struct long_name *add_long(const struct name *plain) {
+    while (next_number < MOST_LONG_NAMES && long_names[next_number]) next_number++;
+    struct long_name *it = next_number < MOST_LONG_NAMES ? malloc(sizeof *it) : NULL;
+    if (!it) return NULL;
+    struct long_name **bucket = bucket_of(plain);
+    *it = (struct long_name){*bucket, *plain, next_number, true};
+    *bucket = long_names[next_number] = it;
+    count_long++;
+    return it;
 }
 
 static bool code_long(const struct name *plain, enum name_use use, struct name *code) {
     struct long_name *it = find_plain(plain);
-    if (!it && (use == NAME_LOOK || count_long == MOST_LONG_NAMES)) return false;
-    if (!it) {
-        if (!(it = malloc(sizeof *it))) return false;
-        *it = (struct long_name){*plain, ++last_number, true};
-        long_names[count_long++] = it;
-    }
+    if (!it && use == NAME_KEEP) it = add_long(plain);
+    if (!it) return false;
     code->len = (uint32_t)snprintf((char *)code->at, sizeof code->at, "%s%u", LONG, it->number);
     return true;
 }
 
 void names_unmark(void) {
-    for (unsigned k = 0; k < count_long; k++) long_names[k]->marked = false;
+    for (unsigned k = 0; k < MOST_LONG_NAMES; k++)
+        if (long_names[k]) long_names[k]->marked = false;
 }
 
 void names_mark(const struct name *code) {
@@ -67,12 +78,19 @@ void names_mark(const struct name *code) {
     if (it) it->marked = true;
 }
 
+static void forget(struct long_name *it) {
+    struct long_name **at = bucket_of(&it->plain);
+    while (*at != it) at = &(*at)->next;
+    *at = it->next;
+    long_names[it->number] = NULL;
+    free(it);
+    count_long--;
+}
+
 void names_sweep(void) {
-    unsigned kept = 0;
-    for (unsigned k = 0; k < count_long; k++)
-        if (long_names[k]->marked) long_names[kept++] = long_names[k];
-        else free(long_names[k]);
-    count_long = kept;
+    for (unsigned k = 0; k < MOST_LONG_NAMES; k++)
+        if (long_names[k] && !long_names[k]->marked) forget(long_names[k]);
+    next_number = 0;
 }
 
 /* ---- names as codes ---- */

@@ -1,13 +1,14 @@
 /* Names of groups: any 0 to 128 bytes for clients, 1 to 128 bytes from 0x21 to 0x7E for a node.
  * What the node takes stands for itself; other bytes, '%' and a first '!' become %XX; the empty name becomes "%".
- * A name whose code is longer than 128 bytes is kept in a table, and the node has its number: "!long-7". */
+ * A name whose code is longer than 128 bytes is kept in a table, and the node has its place there: "!long-7". */
 #ifndef CPGRINGD_NAMES_H
 #define CPGRINGD_NAMES_H
 #include "../protocol.h"
 #include <stdbool.h>
 #include <stddef.h>
 
-enum { MOST_LONG_NAMES = 4096 };
+/* More than connections and groups with rules use; a ring ends before its names fill the table (ring.c). */
+enum { MOST_LONG_NAMES = 65536 };
 
 struct name {
     uint32_t len;

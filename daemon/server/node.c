@@ -87,7 +87,7 @@ void client_free(struct client *c) {
     if (c->next) c->next->previous = c->previous;
     node->count--;
     bytes_free(&c->in);
-    bytes_free(&c->out);
+    out_free(&c->out);
     free(c);
 }
 
@@ -140,9 +140,15 @@ void client_rest(struct client *c) {
 
 void client_account(struct client *c) {
     if (c->end != END_NOT) return;
-    uint64_t unread = c->untaken + bytes_held(&c->out);
+    uint64_t unread = c->untaken + out_held(&c->out);
     c->user->unread = c->user->unread - c->counted + unread;
     c->counted = unread;
     if (unread > limits.unread) client_end(c, END_BEHIND);
     else if (c->user->unread > limits.user_unread) user_end_worst(c->user, c);
+}
+
+size_t client_kept(const struct client *c) {
+    enum { OF_A_USER = 64 << 20, LEAST = 16 << 10, MOST = 4 << 20 };
+    size_t share = OF_A_USER / (c->user->connections + 1);
+    return share < LEAST ? LEAST : share < MOST ? share : MOST;
 }

@@ -5,11 +5,18 @@
 #define CPGRINGD_NODE_H
 #include "bytes.h"
 #include "names.h"
+#include "out.h"
 #include <cpgring.h>
 #include <stdbool.h>
 #include <stddef.h>
 
-enum { MOST_WAITING = 256, MOST_CONNECTIONS = 65536, BUCKETS = 1024 };
+enum {
+    MOST_WAITING = 256,
+    MOST_CONNECTIONS = 65536,
+    BUCKETS = 1024,
+    MOST_LISTINGS = 8, /* listings of all groups that a node hears in a turn of the loop */
+    RECENT = 256       /* messages that are shared by those whom they are told in one turn */
+};
 
 /* What is limited, as the options say. */
 struct limits {
@@ -63,11 +70,13 @@ struct client {
     uint64_t untaken; /* bytes of what the node told it and it did not take */
     uint64_t counted; /* of its unread bytes, what its user was charged with */
     uint64_t told_messages, heard_asks;
-    struct bytes in, out;
+    struct bytes in;
+    struct out out;
     enum end end;
     bool greeted, active, told, blocked; /* blocked: a call found the queue full, or closed */
     bool hung, full;                     /* hung: the other end is closed; full: the socket takes no more now */
-    uint32_t audit_next, audit_last;     /* places that an audit still has to tell: next to last */
+    bool auditing;                       /* it is told an audit, and nothing is heard meanwhile: places audit_next to audit_last */
+    uint32_t audit_next, audit_last;
     uint16_t audit_tag;
     uint64_t came;                       /* when, in milliseconds */
     struct client *next_ungreeted, *previous_ungreeted;
@@ -96,6 +105,12 @@ struct node {
     struct table *tables;
     struct client **told; /* clients that a place told something, each once */
     unsigned count_told, room_told;
+    struct recent {
+        uint32_t place;
+        struct shared *bytes;
+    } recent[RECENT];
+    unsigned count_recent;
+    unsigned listings; /* of all groups, which may still be heard in this turn */
     struct client *first_active, *last_active;
     uint32_t delivered;
     uint64_t delivered_bytes; /* of messages, in this ring */
@@ -125,6 +140,8 @@ void client_activate(struct client *c);
 void client_rest(struct client *c);
 /* Counts what it has not read against its user, and ends it where that is too much. */
 void client_account(struct client *c);
+/* Bytes that a client's buffers keep while they are empty: less where its user has many connections. */
+size_t client_kept(const struct client *c);
 const char *end_text(enum end end);
 
 /* ---- asks.c: what clients ask ---- */

@@ -11,7 +11,7 @@
 #include <string.h>
 #include <time.h>
 
-enum { MOST_LONG_BEFORE_END = MOST_LONG_NAMES * 3 / 4, MOST_CONNECTED = 60000 };
+enum { NEW_LONG_NAMES = MOST_LONG_NAMES / 4, MOST_CONNECTED = 60000 };
 
 uint64_t now_us(void) {
     struct timespec t;
@@ -49,7 +49,7 @@ uint32_t ring_places_left(const struct ring *ring) {
 bool ring_is_due(const struct ring *ring) {
     const struct node *first = &ring->nodes[0];
     if (ring->end_wanted || ring_places_left(ring) == 0 || first->delivered_bytes >= ring->options->ring_bytes) return true;
-    if (name_count() >= MOST_LONG_BEFORE_END && first->delivered > ring->carried) return true;
+    if (name_count() >= ring->carried_names + NEW_LONG_NAMES) return true; /* most of them may be nobody's any more */
     for (unsigned k = 0; k < ring->count; k++)
         if (ring->nodes[k].connected >= MOST_CONNECTED) return true;
     return false;
@@ -105,6 +105,7 @@ static bool renew(struct ring *ring) {
     }
     for (unsigned k = 0; k < ring->count; k++) node_tell_nothing(&ring->nodes[k]);
     ring->carried = ring->nodes[0].delivered;
+    ring->carried_names = name_count();
     audit_ring_begins(ring);
     uint64_t took = now_us() - began;
     ring->renewals++;

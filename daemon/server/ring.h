@@ -15,6 +15,7 @@ struct ring {
     size_t conf_len, names_len;
     uint32_t number;
     uint32_t carried; /* places that the members and rules of the last ring took */
+    unsigned carried_names; /* long names that they have */
     bool ending;      /* no calls are heard, until all that waits is delivered */
     bool end_wanted;  /* by an operator */
     uint64_t renewals, worst_pause, all_pauses; /* in microseconds */
@@ -23,7 +24,7 @@ struct ring {
 
 /* Opens the first ring. A status of cpgring.h; `fault` says where a text is at fault. */
 uint32_t ring_open(struct ring *ring, const struct options *options, cpgring_fault *fault);
-/* Whether the ring should end: so many entries, bytes, connections or long names. */
+/* Whether the ring should end: so many entries, bytes, connections or new long names. */
 bool ring_is_due(const struct ring *ring);
 /* Goes on with what a ring's end needs. false: the next ring could not be made. */
 bool ring_step(struct ring *ring);

@@ -15,7 +15,7 @@
 #include <sys/un.h>
 #include <unistd.h>
 
-enum { BACKLOG = 4096, KEPT_ROOM = 4 << 20, MOST_LEFT = 8 << 20 };
+enum { BACKLOG = 4096, MOST_LEFT = 8 << 20, PIECES = 128 /* of memory, in one write */ };
 
 /* ---- the lock ---- */
 
@@ -198,17 +198,26 @@ void client_read_out(struct client *c) {
     client_activate(c);
 }
 
+static size_t length_of(const struct iovec *pieces, size_t count) {
+    size_t len = 0;
+    for (size_t k = 0; k < count; k++) len += pieces[k].iov_len;
+    return len;
+}
+
 bool client_write(struct client *c) {
-    while (bytes_held(&c->out) > 0) {
-        ssize_t put = send(c->fd, c->out.at + c->out.begin, bytes_held(&c->out), MSG_NOSIGNAL | MSG_DONTWAIT);
+    while (out_held(&c->out) > 0) {
+        struct iovec pieces[PIECES];
+        struct msghdr message = {.msg_iov = pieces, .msg_iovlen = out_front(&c->out, pieces, PIECES)};
+        ssize_t put = sendmsg(c->fd, &message, MSG_NOSIGNAL | MSG_DONTWAIT);
         if (put < 0 && errno == EINTR) continue;
         if (put < 0 && errno == EAGAIN) return false;
         if (put < 0) {
             client_end(c, END_CLOSED);
             return true;
         }
-        bytes_drop(&c->out, (size_t)put);
+        out_drop(&c->out, (size_t)put);
+        if ((size_t)put < length_of(pieces, message.msg_iovlen)) return false;
     }
-    bytes_shrink(&c->out, KEPT_ROOM);
+    out_shrink(&c->out, client_kept(c));
     return true;
 }

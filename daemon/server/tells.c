@@ -1,21 +1,22 @@
 /* What clients are told: events and answers become frames, in the order in which the node gave them.
- * A message goes from the node into the client's buffer by one copy.
+ * A message goes from the node into the client's buffer by one copy; a long one is copied once for all whom it is told.
  * A client with much unread is told nothing more until it reads: its events stay in the node, which keeps them anyway. */
 #include "node.h"
 #include <corosync/cpg.h>
 #include <string.h>
 
+enum { SHARED_FROM = 1024 }; /* bytes of a message from which it is shared, and not copied for each whom it is told */
+
 uint8_t *tell(struct client *c, uint16_t kind, uint16_t tag, size_t len) {
     size_t filled = (len + 7) & ~(size_t)7;
-    uint8_t *at = bytes_room(&c->out, sizeof(struct head) + filled);
+    uint8_t *at = out_add(&c->out, sizeof(struct head) + filled);
     if (!at) {
         client_end(c, END_NO_MEMORY);
         return NULL;
     }
     struct head head = {(uint32_t)filled, kind, tag};
+    memset(at + filled, 0, 8); /* what fills it up is in the last 8 bytes */
     memcpy(at, &head, sizeof head);
-    memset(at + sizeof head + len, 0, filled - len);
-    c->out.end += sizeof head + filled;
     client_activate(c);
     return at + sizeof head;
 }
@@ -83,16 +84,63 @@ static void tell_verdict(struct client *c, const cpgring_event *event) {
     answer(c, asked, c->asked_tag, status);
 }
 
+/* Copies the message of the last event, filled up to a multiple of 8. */
+static void copy_message(cpgring *ring, uint8_t *to, uint32_t len) {
+    if (len == 0) return;
+    memset(to + fill8(len) - 8, 0, 8);
+    cpgring_message(ring, to, len);
+}
+
+/* The message of the last event, in memory that all have whom it is told in this turn. NULL: it is short, or none is to share
+ * it, or there is no memory. */
+static struct shared *shared_message(struct client *c, const cpgring_event *event) {
+    struct node *node = c->node;
+    const struct seat *seat = c->old_conn ? NULL : node->seats[node->setup.node][c->conn];
+    struct recent *recent = &node->recent[event->place % RECENT];
+    if (event->message_len < SHARED_FROM || !seat || seat->group->count == 1) return NULL;
+    if (recent->bytes && recent->place == event->place) return recent->bytes;
+    struct shared *bytes = shared_new(fill8((uint32_t)event->message_len));
+    if (!bytes) return NULL;
+    copy_message(&node->ring, bytes->at, (uint32_t)event->message_len);
+    if (recent->bytes) shared_put(recent->bytes);
+    else node->count_recent++;
+    *recent = (struct recent){event->place, bytes};
+    return bytes;
+}
+
+/* The same frame as tell would make; what a client at its end has of one does not matter. */
+static void tell_shared(struct client *c, const struct tell_message *told, struct shared *bytes) {
+    uint32_t name_len = fill8(told->name_len);
+    struct head head = {(uint32_t)sizeof *told + bytes->len + name_len, TELL_MESSAGE, 0};
+    uint8_t *front = out_add(&c->out, sizeof head + sizeof *told);
+    if (front) {
+        memcpy(front, &head, sizeof head);
+        memcpy(front + sizeof head, told, sizeof *told);
+    }
+    uint8_t *name = front && out_share(&c->out, bytes) ? out_add(&c->out, name_len) : NULL;
+    if (!name) {
+        client_end(c, END_NO_MEMORY);
+        return;
+    }
+    if (name_len) memset(name + name_len - 8, 0, 8);
+    memcpy(name, c->group.at, told->name_len);
+    client_activate(c);
+}
+
 static void tell_message(struct client *c, cpgring *ring, const cpgring_event *event) {
     struct tell_message told = {event->node, event->pid, (uint32_t)event->message_len, c->group.len};
+    struct shared *bytes = shared_message(c, event);
+    c->told_messages++;
+    if (bytes) {
+        tell_shared(c, &told, bytes);
+        return;
+    }
     size_t at_name = sizeof told + fill8(told.message_len);
     uint8_t *out = tell(c, TELL_MESSAGE, 0, at_name + told.name_len);
     if (!out) return;
     memcpy(out, &told, sizeof told);
-    memset(out + sizeof told + told.message_len, 0, fill8(told.message_len) - told.message_len);
-    if (told.message_len) cpgring_message(ring, out + sizeof told, told.message_len);
+    copy_message(ring, out + sizeof told, told.message_len);
     memcpy(out + at_name, c->group.at, told.name_len);
-    c->told_messages++;
 }
 
 static uint8_t *put_process(uint8_t *at, const cpgring_process *p) {
@@ -118,13 +166,13 @@ static void tell_change(struct client *c, cpgring *ring, const cpgring_event *ev
 /* Takes the next event of that connection of that ring. A status of cpgring.h. */
 static uint32_t take_one(struct client *c, cpgring *ring, uint16_t conn) {
     cpgring_event event;
-    size_t before = bytes_held(&c->out);
+    size_t before = out_held(&c->out);
     uint32_t status = cpgring_take(ring, conn, &event);
     if (status != CPGRING_OK) return status;
     if (event.kind == CPGRING_VERDICT) tell_verdict(c, &event);
     else if (event.kind == CPGRING_MESSAGE) tell_message(c, ring, &event);
     else if (event.kind == CPGRING_CHANGE) tell_change(c, ring, &event);
-    size_t taken = bytes_held(&c->out) - before;
+    size_t taken = out_held(&c->out) - before;
     c->untaken -= taken < c->untaken ? taken : c->untaken;
     return CPGRING_OK;
 }
@@ -133,7 +181,7 @@ static uint32_t take_one(struct client *c, cpgring *ring, uint16_t conn) {
 static bool take_events(struct client *c) {
     struct node *node = c->node;
     while (c->end == END_NOT) {
-        if (bytes_held(&c->out) > limits.room) return false;
+        if (out_held(&c->out) > limits.room) return false;
         uint32_t status = c->old_conn ? take_one(c, &node->old, c->old_conn) : take_one(c, &node->ring, c->conn);
         if (status == CPGRING_OK) continue;
         if (status != CPGRING_NONE) client_end(c, END_NO_MEMORY);
@@ -147,6 +195,15 @@ static bool take_events(struct client *c) {
     return true;
 }
 
+static void forget_recent(struct node *node) {
+    for (unsigned k = 0; k < RECENT && node->count_recent > 0; k++) {
+        if (!node->recent[k].bytes) continue;
+        shared_put(node->recent[k].bytes);
+        node->recent[k].bytes = NULL;
+        node->count_recent--;
+    }
+}
+
 void node_tell(struct node *node) {
     unsigned kept = 0;
     for (unsigned k = 0; k < node->count_told; k++) {
@@ -156,6 +213,7 @@ void node_tell(struct node *node) {
         client_account(c);
     }
     node->count_told = kept;
+    forget_recent(node);
 }
 
 void node_tell_old(struct node *node) {

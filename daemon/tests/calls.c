@@ -55,13 +55,13 @@ static cpg_handle_t open_one(void) {
     return h;
 }
 
-/* Dispatches until so many messages and changes were told, or some time has gone by. */
+/* Dispatches until so many messages and changes were told, as the descriptor for poll says that there is something to do. */
 static void dispatch_until(cpg_handle_t h, unsigned messages, unsigned changes) {
     int fd = -1;
     EXPECT(cpg_fd_get(h, &fd), CS_OK);
     for (uint64_t end = now_ms() + 60000; (seen.messages < messages || seen.changes < changes) && now_ms() < end;) {
         struct pollfd p = {fd, POLLIN, 0};
-        poll(&p, 1, 1000);
+        EXPECT(poll(&p, 1, 30000), 1);
         EXPECT(cpg_dispatch(h, CS_DISPATCH_ALL), CS_OK);
     }
     EXPECT(seen.messages, messages);
@@ -327,6 +327,33 @@ static void threads(void) {
     EXPECT(wrong, 0);
 }
 
+static void *dispatch_one(void *nothing) {
+    (void)nothing;
+    return (void *)(uintptr_t)(cpg_dispatch(shared, CS_DISPATCH_ONE) != CS_OK);
+}
+
+/* What a call of another thread reads wakes the dispatch that waits for it: a hundred in some milliseconds each. */
+static void wakes(void) {
+    cpg_callbacks_t calls = {deliver_shared, NULL};
+    struct cpg_name group = name_of("wakes");
+    struct cpg_address list[CPG_MEMBERS_MAX];
+    uint64_t began = now_ms();
+    EXPECT(cpg_initialize(&shared, &calls), CS_OK);
+    EXPECT(cpg_join(shared, &group), CS_OK);
+    for (unsigned k = 0; k < 100; k++) {
+        pthread_t dispatcher;
+        void *failed;
+        int count = 0;
+        pthread_create(&dispatcher, NULL, dispatch_one, NULL);
+        EXPECT(send_bytes(shared, "wake", 4), CS_OK);
+        for (int ask = 0; ask < 3; ask++) EXPECT(cpg_membership_get(shared, &group, list, &count), CS_OK);
+        pthread_join(dispatcher, &failed);
+        EXPECT(failed == NULL, 1);
+    }
+    EXPECT(now_ms() - began < 20000, 1);
+    EXPECT(cpg_finalize(shared), CS_OK);
+}
+
 /* ---- no daemon, and one that says nothing ---- */
 
 static void no_daemon(void) {
@@ -364,6 +391,7 @@ int main(void) {
     names();
     callbacks();
     threads();
+    wakes();
     no_daemon();
     return finish("calls");
 }

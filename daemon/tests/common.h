@@ -92,7 +92,7 @@ static inline uint32_t raw_ask(int fd, uint16_t kind, const void *body, uint32_t
     uint8_t out[sizeof head + 256], in[4096];
     uint32_t status = 0;
     memcpy(out, &head, sizeof head);
-    memcpy(out + sizeof head, body, len);
+    if (len) memcpy(out + sizeof head, body, len);
     if (send(fd, out, sizeof head + len, MSG_NOSIGNAL) < 0) return 0;
     do {
         if (recv(fd, &head, sizeof head, MSG_WAITALL) != (ssize_t)sizeof head || head.len > sizeof in) return 0;

@@ -33,44 +33,56 @@ static void put(struct client *c, uint16_t kind, const void *body, uint32_t len)
     client_activate(c);
 }
 
+/* The next bytes that a client is told, which may be in several pieces of memory. */
+static void read_front(struct client *c, void *to, size_t len) {
+    struct iovec piece;
+    for (size_t have = 0; have < len;) {
+        need(out_front(&c->out, &piece, 1) == 1, "a frame that is not whole");
+        size_t step = piece.iov_len < len - have ? piece.iov_len : len - have;
+        if (step) memcpy((uint8_t *)to + have, piece.iov_base, step);
+        out_drop(&c->out, step);
+        have += step;
+    }
+}
+
 /* Messages of the honest members come once each, each one's in their order, and all in one order at both. */
 static void read_honest(unsigned k) {
-    struct bytes *out = &honest[k]->out;
-    while (bytes_held(out) > 0) {
+    static uint8_t body[1 << 20];
+    while (out_held(&honest[k]->out) > 0) {
         struct head head;
-        memcpy(&head, out->at + out->begin, sizeof head);
-        const uint8_t *body = out->at + out->begin + sizeof head;
-        need(bytes_held(out) >= sizeof head + head.len, "a frame that is not whole");
-        if (head.kind == TELL_MESSAGE) {
-            struct tell_message told;
-            uint32_t number;
-            memcpy(&told, body, sizeof told);
-            memcpy(&number, body + sizeof told, sizeof number);
-            if (told.message_len < 4) number = told.message_len;
-            if (told.pid < 10) {
-                need(told.message_len == 4 && number == next_of[k][told.pid - 1], "a message that is lost or out of order");
-                next_of[k][told.pid - 1] += 2;
-                seen[k]++;
-            }
-            order[k] = order[k] * 31 + told.pid * 7 + number;
+        read_front(honest[k], &head, sizeof head);
+        need(head.len <= sizeof body && head.len % 8 == 0, "a frame's length");
+        read_front(honest[k], body, head.len);
+        if (head.kind != TELL_MESSAGE) continue;
+        struct tell_message told;
+        uint32_t number;
+        memcpy(&told, body, sizeof told);
+        memcpy(&number, body + sizeof told, sizeof number);
+        if (told.message_len < 4) number = told.message_len;
+        if (told.pid < 10) {
+            need(told.message_len == 4 && number == next_of[k][told.pid - 1], "a message that is lost or out of order");
+            next_of[k][told.pid - 1] += 2;
+            seen[k]++;
         }
-        bytes_drop(out, sizeof head + head.len);
+        order[k] = order[k] * 31 + told.pid * 7 + number;
     }
 }
 
 static void turn(void) {
-    for (unsigned k = 0; k < ring.count; k++)
+    for (unsigned k = 0; k < ring.count; k++) {
+        ring.nodes[k].listings = MOST_LISTINGS;
         for (struct client *c = ring.nodes[k].clients; c; c = c->next) {
             c->blocked = false;
             client_hear(c, 50);
         }
+    }
     gate_pump(&ring.gate, 50);
     for (unsigned k = 0; k < ring.count; k++) node_tell(&ring.nodes[k]);
     for (unsigned k = 0; k < 2; k++) read_honest(k);
     for (unsigned k = 0; k < HOSTILE; k++) {
         if (!hostile[k]) continue;
-        if (hostile[k]->audit_tag) control_go_on(hostile[k]);
-        bytes_drop(&hostile[k]->out, bytes_held(&hostile[k]->out));
+        if (hostile[k]->auditing) control_go_on(hostile[k]);
+        out_drop(&hostile[k]->out, out_held(&hostile[k]->out));
         client_account(hostile[k]);
         if (hostile[k]->end == END_NOT) continue;
         client_free(hostile[k]);

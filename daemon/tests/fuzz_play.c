@@ -1,4 +1,4 @@
-/* fuzz_play FOLDER: plays each file of a corpus, and then hundreds of inputs that a fixed seed makes of asks.
+/* fuzz_play FOLDER: plays each file of a corpus, and then thousands of inputs that a fixed seed makes of asks.
  * It is what daemon/check runs in place of a fuzzer; a fault ends it by abort, and the sanitizers watch. */
 #include "../protocol.h"
 #include "../server/log.h"
@@ -7,7 +7,7 @@
 #include <stdlib.h>
 #include <string.h>
 
-enum { INPUTS = 600, MOST_INPUT = 16384 };
+enum { INPUTS = 5000, MOST_INPUT = 16384 };
 
 int LLVMFuzzerTestOneInput(const uint8_t *data, size_t size);
 

@@ -2,6 +2,7 @@
  *     ungreeted    --ungreeted=4 --greet-seconds=5: the oldest of five silent ones is ended at once, the others in time
  *     connections  --user-connections=5: the sixth is turned away, and let in once one is gone
  *     calls CTL    --user-calls=10: while a node is held, ten calls of a user are heard and no more; CTL is cpgringctl
+ *     names CTL    --places=100000: 17,000 long names of no group fill no table, and end one ring; CTL is cpgringctl
  *     descriptors  under `ulimit -n` of some 30: who comes is turned away or waits, and is let in once there is room */
 #include "common.h"
 
@@ -107,10 +108,46 @@ static void calls(const char *ctl) {
     close(fd);
 }
 
+/* A number of the daemon's status: that behind the word, of the line that begins with another one. */
+static unsigned status_number(const char *ctl, const char *line_word, const char *word) {
+    char line[400];
+    unsigned number = UINT32_MAX;
+    snprintf(line, sizeof line, "%s status", ctl);
+    FILE *from = popen(line, "r");
+    while (from && fgets(line, sizeof line, from)) {
+        const char *at = strstr(line, word);
+        if (!strncmp(line, line_word, strlen(line_word)) && at) number = (unsigned)strtoul(at + strlen(word), NULL, 10);
+    }
+    if (from) pclose(from);
+    return number;
+}
+
+/* Each name takes part in a call that is refused: no rule has that id. */
+static void names(const char *ctl) {
+    struct {
+        uint32_t id;
+        uint8_t name[MOST_NAME];
+    } ask;
+    enum { NAMES = 17000 };
+    int fd = raw_dial();
+    EXPECT(raw_greet(fd), CS_OK);
+    memset(&ask, 0xFF, sizeof ask);
+    for (uint32_t k = 0; k < NAMES; k++) {
+        memcpy(ask.name, &k, sizeof k);
+        EXPECT(raw_ask(fd, ASK_REMOVE, &ask, sizeof ask), CS_ERR_NOT_EXIST);
+    }
+    EXPECT(status_number(ctl, "clients", "long_names ") < NAMES, 1);
+    EXPECT(status_number(ctl, "renewals", "renewals "), 1);
+    EXPECT(raw_ask(fd, ASK_JOIN, ask.name, sizeof ask.name), CS_OK);
+    close(fd);
+}
+
 int main(int count, char **words) {
     if (count < 2) return 2;
-    if (!strcmp(words[1], "calls") && count == 3) {
-        calls(words[2]);
+    if (count == 3) {
+        if (!strcmp(words[1], "calls")) calls(words[2]);
+        else if (!strcmp(words[1], "names")) names(words[2]);
+        else return 2;
         return finish("limits");
     }
     if (!strcmp(words[1], "ungreeted")) ungreeted();
