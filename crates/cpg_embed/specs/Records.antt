@@ -1,5 +1,5 @@
 -- Records, in numbers.
-use Rattle.std.specs.Prelude.{◌≡◌, ℕ, suc, List, [], ◌∷◌, length, map, Option, Some, None, if◌then◌else◌}
+use Rattle.std.specs.Prelude.{◌≡◌, ℕ, ◌==◌, ◌-◌, List, length, Option, Some, None, option_map, if◌then◌else◌}
 use Rattle.std.specs.List.{slice_get}
 use Rattle.cpg_entry.specs.declared.calls.Op.{Op}
 use Rattle.cpg_entry.specs.declared.calls.Op.TheVariants.{Act, Gone}
@@ -68,12 +68,12 @@ IsAudited (Some past) status audited = (status ≡ OK) × (audited ≡ audited_o
 abbrev pub maker_of : Record → Process
 maker_of past = record { node = past.entry.node; conn = past.entry.conn; pid = past.entry.pid; cause = 0 }
 
--- whom the place of a record tells something: who made its entry, and, where that is allowed, the members of its group after it, among whom the
--- maker may be once more
-abbrev pub notified_by : Record → List Process
-notified_by past = maker_of past ∷ (if is_allowed past.verdict then map process_of past.members else [])
+-- one of the members after a record that is allowed
+abbrev pub hearer_at : Record → ℕ → Option Process
+hearer_at past index = if is_allowed past.verdict then option_map process_of (slice_get past.members index) else None
 
--- one of them, if the record is there
+-- One of those whom the place of a record tells something, if the record is there: first who made its entry, and then, where that is allowed, the
+-- members of its group after it, among whom the maker may be once more.
 abbrev pub notified_at : Option Record → ℕ → Option Process
 notified_at None index = None
-notified_at (Some past) index = slice_get (notified_by past) index
+notified_at (Some past) index = if index == 0 then Some (maker_of past) else hearer_at past (index - 1)

@@ -1,12 +1,11 @@
 //! Records of what was delivered, told by their places.
 
 ghost use Rattle.std.specs.Prelude.{◌≡◌};
-ghost use Rattle.std.specs.List.{slice_get};
 ghost use Rattle.std.specs.Option.{option_copied};
 ghost use Rattle.cpg_node.specs.Nodes.{records_of};
 ghost use Rattle.cpg_record.specs.Places.{record_at};
 ghost use Rattle.cpg_embed.specs.Events.{IsProcess};
-ghost use Rattle.cpg_embed.specs.Records.{IsAudited, audited_of, call_number, sent_in, group_at, message_at, notified_by, notified_at};
+ghost use Rattle.cpg_embed.specs.Records.{IsAudited, audited_of, call_number, sent_in, group_at, message_at, hearer_at, notified_at};
 ghost use Rattle.cpg_embed.specs.Statuses.{AreHanded};
 
 use crate::endpoints::Endpoint;
@@ -91,16 +90,15 @@ impl Audited {
     }
 }
 
-/// One of those to whom the place of a record tells something, by an index from 0: first who made its entry, and then,
-/// where that is allowed, the members of its group after it.
-fn notified(past: &Record, index: usize) -> Option<Process>
-    ensures { result ≡ slice_get (notified_by past.now) index }
+/// One of the members after the record, by its index from 0, where the record is allowed.
+fn hearer(past: &Record, index: usize) -> Option<Process>
+    ensures { result ≡ hearer_at past.now index }
 {
-    if index == 0 {
-        return Some(Process::of_maker(past.entry()));
-    }
     match past.verdict {
-        Verdict::Allowed(_) => past.members.as_slice().get(index - 1).map(Process::of),
+        Verdict::Allowed(_) => match past.members.as_slice().get(index) {
+            Some(member) => Some(Process::of(member)),
+            None => None,
+        },
         Verdict::Denied(_) => None,
     }
 }
@@ -161,14 +159,16 @@ impl Endpoint {
     pub fn notified(&self, place: u32, index: usize, process: &mut Process) -> u32
         ensures { IsProcess (notified_at (record_at (records_of self.now.node) place) index) result process.new }
     {
-        match self.record(place) {
-            Some(past) => match notified(past, index) {
-                Some(told) => {
-                    *process = told;
-                    OK
-                }
-                None => NONE,
-            },
+        let told = match self.record(place) {
+            Some(past) if index == 0 => Some(Process::of_maker(past.entry())),
+            Some(past) => hearer(past, index - 1),
+            None => None,
+        };
+        match told {
+            Some(found) => {
+                *process = found;
+                OK
+            }
             None => NONE,
         }
     }
