@@ -59,6 +59,8 @@ static void begin(unsigned nodes, unsigned places) {
         IS(cpgring_open(&ring[k], &setup, users, 2, groups, 0), CPGRING_OK);
     }
     IS(cpgring_timer(&ring[nodes]), CPGRING_OK);
+    IS(cpgring_next(&ring[nodes], frames[1], 24, &lengths[1], &routes[1]), CPGRING_SPACE);
+    IS(lengths[1], 25);
     IS(collect(nodes), 1);
     IS(routes[1], CPGRING_TO_NEXT);
     IS(lengths[1], 25);

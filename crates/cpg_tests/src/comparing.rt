@@ -8,7 +8,7 @@
 //! other than 0 edit tables: each of these is counted, and has to come up more than 200 times.
 
 use crate::drawing::{conn_by, drawn};
-use crate::entering::{Change, are_equal, changed_at, enter, events_at};
+use crate::entering::{are_equal, emptied_at, enter, events_at};
 use crate::plain::{decide, entry_group, group_in, is_over, member_at, rules_of, verdict_on};
 use crate::plain_events::{acts_in, are_told, hears, is_news_of, is_own};
 use cpg_entry::{Asker, By, Call, Entry, Name, NodeId, Op, Refusal};
@@ -203,7 +203,7 @@ fn turns_agree(alloc: Global, policy: &mut Policy, seed: u32) -> bool {
 
 /// Whether the records, with no members in one of them, are verified just where that changed nothing.
 fn verifies_just_the_same(alloc: Global, records: &[Record], index: usize) -> bool {
-    match changed_at(alloc, records, index, &Change::NoMembers) {
+    match emptied_at(alloc, records, index) {
         Ok(changed) => {
             verify(alloc, changed.as_slice()) == Ok(are_equal(changed.as_slice(), records))
         }

@@ -1,10 +1,9 @@
 //! Entries of every op, drawn by the numbers of a small generator.
 
-use crate::entering::{Source, entry};
+use crate::entering::{Ask, Source, entry, node};
 use cpg_entry::{Entry, NodeId, Refusal};
 use cpg_group::ConnId;
 use cpg_rules::{Effect, Right, Rule, Who};
-use cpg_short::{Ask, node};
 use std::alloc::Global;
 
 /// The number of that turn of the seed: MurmurHash3's last steps over the two.
@@ -69,12 +68,12 @@ fn rule_by(number: u32) -> Rule {
 
 /// What is asked at the turn, with one of two groups: of twelve, four joins, three messages, two inserts at
 /// one of the indices 0 to 2, a leave, a removal of one of the ids so far, and an end.
-fn ask_by(turn: u32, number: u32) -> Ask<'static> {
+fn ask_by(turn: u32, number: u32) -> Ask {
     let group = if number % 2 == 0 { "db" } else { "app" };
     let rest = number / 24;
     match number / 2 % 12 {
         0..=3 => Ask::Join(group),
-        4..=6 => Ask::Send("hi"),
+        4..=6 => Ask::Send,
         7 | 8 => Ask::Insert(group, (rest % 3) as u8, rule_by(rest / 3)),
         9 => Ask::Leave,
         10 => Ask::Remove(group, rest % (turn % 90 + 1)),

@@ -1,9 +1,46 @@
 //! Calls in short words, and their way into a policy.
 
-use cpg_entry::{Cred, Entry, NodeId, Op, Refusal};
+use cpg_entry::{Call, Cred, Entry, Message, Name, NodeId, Op, Refusal};
 use cpg_group::{ConnId, Events, MOST_PLACES, Members, Policy, Record, Records, Verdict};
-use cpg_short::{Ask, node, op};
+use cpg_rules::Rule;
 use std::alloc::Global;
+
+/// What a connection asks, with the group's name as text.
+#[derive(Clone, Copy)]
+pub enum Ask {
+    Join(&'static str),
+    Leave,
+    /// To send `hi`.
+    Send,
+    /// To put the rule into the group's table at that index.
+    Insert(&'static str, u8, Rule),
+    /// To take the rule of that id out of the group's table.
+    Remove(&'static str, u32),
+    /// Nothing more: the connection has ended.
+    Gone,
+}
+
+/// The name of those characters.
+fn name(alloc: Global, text: &str) -> Result<Name, Refusal> {
+    Name::from_slice(alloc, text.as_bytes())
+}
+
+/// The op that asks it.
+fn op(alloc: Global, ask: &Ask) -> Result<Op, Refusal> {
+    Ok(Op::Act(match ask {
+        Ask::Join(group) => Call::Join(name(alloc, group)?),
+        Ask::Leave => Call::Leave,
+        Ask::Send => Call::Send(Message::from_slice(alloc, b"hi")?),
+        Ask::Insert(group, index, rule) => Call::Insert(name(alloc, group)?, *index, *rule),
+        Ask::Remove(group, id) => Call::Remove(name(alloc, group)?, *id),
+        Ask::Gone => return Ok(Op::Gone),
+    }))
+}
+
+/// The node of that number; `Range` where there is none.
+pub fn node(number: u8) -> Result<NodeId, Refusal> {
+    NodeId::new(number).ok_or(Refusal::Range)
+}
 
 /// A connection with its process and credentials.
 #[derive(Clone, Copy)]
@@ -15,24 +52,16 @@ pub struct Source {
     pub gid: u32,
 }
 
-/// The entry of a connection of that node that asks it.
-fn entry_of(node: NodeId, from: &Source, op: Op) -> Entry {
-    Entry {
-        node,
-        conn: from.conn,
-        pid: from.pid,
-        cred: Cred {
-            uid: from.uid,
-            gid: from.gid,
-        },
-        op,
-    }
-}
-
 /// The entry of a connection that asks it.
 pub fn entry(alloc: Global, from: &Source, ask: &Ask) -> Result<Entry, Refusal> {
-    let node = node(from.node)?;
-    Ok(entry_of(node, from, op(alloc, ask)?))
+    let (uid, gid) = (from.uid, from.gid);
+    Ok(Entry {
+        node: node(from.node)?,
+        conn: from.conn,
+        pid: from.pid,
+        cred: Cred { uid, gid },
+        op: op(alloc, ask)?,
+    })
 }
 
 /// Judges the entry and puts it last; a policy that is full refuses it.
@@ -48,66 +77,22 @@ pub fn enter(policy: &mut Policy, entry: &Entry) -> Result<Verdict, Refusal> {
     }
 }
 
-/// What is changed in a record.
-#[derive(Clone, Copy)]
-pub enum Change {
-    Verdict(Verdict),
-    NoMembers,
-}
-
-/// Makes the change.
-fn make(alloc: Global, past: &mut Record, change: &Change) {
-    match change {
-        Change::Verdict(verdict) => past.verdict = *verdict,
-        Change::NoMembers => past.members = Members::new(alloc),
-    }
-}
-
-/// A copy of the record with that change.
-fn changed(alloc: Global, past: &Record, change: &Change) -> Result<Record, Refusal> {
+/// A copy of the record, which has no members if it is the one.
+fn emptied_if(alloc: Global, past: &Record, is_one: bool) -> Result<Record, Refusal> {
     let mut copy = past.copy(alloc)?;
-    make(alloc, &mut copy, change);
+    if is_one {
+        copy.members = Members::new(alloc);
+    }
     Ok(copy)
 }
 
-/// A copy of the record, changed if it is the one.
-fn changed_if(
-    alloc: Global,
-    past: &Record,
-    is_one: bool,
-    change: &Change,
-) -> Result<Record, Refusal> {
-    if is_one {
-        changed(alloc, past, change)
-    } else {
-        past.copy(alloc)
-    }
-}
-
-/// Puts copies of the records behind those that are there, the one at the index with that change.
-fn push_changed(
-    alloc: Global,
-    copies: &mut Records,
-    records: &[Record],
-    index: usize,
-    change: &Change,
-) -> Result<(), Refusal> {
+/// Copies of the records, of which the one at the index has no members.
+pub fn emptied_at(alloc: Global, records: &[Record], index: usize) -> Result<Records, Refusal> {
+    let mut copies = Records::new(alloc);
     for past in records {
         let is_one = copies.len() == index;
-        copies.push(changed_if(alloc, past, is_one, change)?)?;
+        copies.push(emptied_if(alloc, past, is_one)?)?;
     }
-    Ok(())
-}
-
-/// Copies of the records, the one at the index with that change.
-pub fn changed_at(
-    alloc: Global,
-    records: &[Record],
-    index: usize,
-    change: &Change,
-) -> Result<Records, Refusal> {
-    let mut copies = Records::new(alloc);
-    push_changed(alloc, &mut copies, records, index, change)?;
     Ok(copies)
 }
 

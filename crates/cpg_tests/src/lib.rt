@@ -1,5 +1,6 @@
-//! Tests that cross crates: plain programs of the definitions beside the policy's calls that are proved of them, over drawn
-//! entries, and the printed forms of refusals. Nothing here is used by the other crates.
+//! Tests that need no threads: plain programs of the definitions beside the policy's calls that are proved of them, over
+//! drawn entries; what ledgers share; texts over streams that come in pieces and fail; and the printed forms of refusals and
+//! faults. Nothing here is used by the other crates.
 #![tactic(auto)]
 
 #[cfg(test)]
@@ -11,11 +12,17 @@ mod entered;
 #[cfg(test)]
 mod entering;
 #[cfg(test)]
+mod ledgers;
+#[cfg(test)]
 mod plain;
 #[cfg(test)]
 mod plain_events;
 #[cfg(test)]
 mod printing;
+#[cfg(test)]
+mod streams;
+#[cfg(test)]
+mod texts;
 
 /// The crate has tests alone; a library has to have an item.
 pub const TESTS_ALONE: bool = true;

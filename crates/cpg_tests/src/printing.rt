@@ -1,6 +1,7 @@
-//! The printed forms of refusals, which no clause says.
+//! The printed forms of refusals and faults, which no clause says.
 
 use cpg_cred::{By, Refusal};
+use cpg_script::Fault;
 use std::alloc::Global;
 use std::test::Fail;
 
@@ -20,5 +21,17 @@ fn refusals_are_printed_with_number_and_name(rt: HostRuntime) -> Result<(), Fail
     for (refusal, text) in rows {
         assert!(rt; prints(rt.alloc(), refusal, text)?);
     }
+    Ok(())
+}
+
+#[test]
+fn faults_are_shown(rt: HostRuntime) -> Result<(), Fail> {
+    let whole = Fault::from(Refusal::BadCommand(2));
+    let of_part = Fault {
+        part: Some(2),
+        refusal: Refusal::BadValue(2),
+    };
+    let shown = format!(in rt.alloc(); "{whole}, {of_part}")?;
+    assert!(rt; shown.as_str() == "41 BadCommand 2, part 2: 35 BadValue 2");
     Ok(())
 }

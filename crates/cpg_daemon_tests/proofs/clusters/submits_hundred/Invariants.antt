@@ -1,5 +1,0 @@
-use Rattle.std.proofs.Common.{◌≡◌}
-use Rattle.cpg_daemon_tests.proofs.clusters.submits_hundred.Given as goal
-
-abbrev pub invariant-loop : goal.invariant-loop
-invariant-loop g l = l.session.who.id.node ≡ l.fn.session.who.id.node

@@ -1,5 +1,0 @@
-use Rattle.std.proofs.Common.{◌≡◌}
-use Rattle.cpg_daemon_tests.proofs.sharing.next_told.Given as goal
-
-abbrev pub invariant-loop-asked : goal.invariant-loop-asked
-invariant-loop-asked g l = l.session.who.id.node ≡ l.fn.session.who.id.node

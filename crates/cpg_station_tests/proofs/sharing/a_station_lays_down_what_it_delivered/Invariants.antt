@@ -1,4 +1,0 @@
-use Rattle.cpg_station_tests.proofs.sharing.a_station_lays_down_what_it_delivered.Given as goal
-
-abbrev pub ghosts-lays_down : goal.ghosts-lays_down
-ghosts-lays_down g a = record { cells = a.board.now }

@@ -1,0 +1,318 @@
+//! What the tests of clusters share: a cluster for each, sessions, their calls, and what they are told in short.
+
+ghost use Rattle.std.specs.Prelude.{◌≡◌, ◌≤◌, IsTrue};
+ghost use Rattle.cpg_history.specs.Histories.{first_world};
+
+use cpg_board::Board;
+use cpg_cred::{AcceptList, By, Cred, NodeId, Refusal};
+use cpg_daemon::{Beginning, Cluster, Ends, Gate, HistoryName, Opened, Running, Session};
+use cpg_entry::{Call, Message, Name};
+use cpg_node::Settings;
+use cpg_record::{Event, Verdict};
+use std::alloc::Global;
+use std::collections::VecDeque;
+use std::marker::Brand;
+use std::sync::Wait;
+use std::thread::{self, Threads};
+use std::time::{Clock, Duration};
+
+/// How often a call that may come too early is made at most: for over half a minute, so that a test fails where nothing
+/// comes, and not where the machine is busy.
+pub const MOST_ASKS: u32 = 40_000;
+
+/// After how many of these a thread sleeps for a millisecond behind each, where it only yielded before.
+const YIELDED_ASKS: u32 = 10_000;
+
+/// The verdict on what no rule and no membership bars.
+pub const ALLOWED: Verdict = Verdict::Allowed(By::Default);
+
+/// What a test does over a cluster, and what it wants of what is left.
+pub trait Play<G> {
+    /// Whether all goes as it should over the running nodes.
+    fn goes<B: HistoryName, R: Wait + Clock>(
+        &self,
+        rt: &R,
+        alloc: Global,
+        running: &Running<B, G>,
+    ) -> bool;
+
+    /// Whether the cluster, once it is stopped, leaves what it should.
+    fn leaves<B: HistoryName, R: Wait>(&self, rt: &R, ends: Ends<B>) -> bool;
+}
+
+/// Settings of ring 1 with so many nodes.
+pub fn settings_of(nodes: u8) -> Settings {
+    Settings {
+        ring: 1,
+        nodes,
+        places: 4_096,
+        hops: 1 << 62,
+    }
+}
+
+/// A history that begins with those settings, and lets in users 0 and 7.
+pub fn opened_of(alloc: Global, settings: Settings) -> Result<Opened, Refusal> {
+    let mut list = AcceptList::new(alloc);
+    list.add_uid(7)?;
+    Ok(Opened::new(alloc, Beginning { settings, list })?)
+}
+
+/// The test over a new cluster with that history, which is stopped.
+fn played_on<B, G, P, R>(
+    rt: R,
+    alloc: Global,
+    board: Board,
+    opened: Opened,
+    gate: G,
+    play: &P,
+) -> Result<bool, Refusal>
+where
+    B: HistoryName + Send + Sync + 'static,
+    G: Gate + Send + Sync + Drop + 'static,
+    P: Play<G>,
+    R: Threads + Wait + Clock + Copy + Send + 'static,
+    requires board { board ≡ B.cells }
+    requires history { (opened.table ≡ B.table) × (first_world opened.start ≡ B.start) }
+{
+    let cluster = Cluster::<B, G>::start(rt, alloc, board, opened, gate)?;
+    let gone = play.goes(&rt, alloc, &cluster);
+    let left = play.leaves(&rt, cluster.stop(&rt));
+    Ok(gone && left)
+}
+
+/// Whether the test goes so over a new cluster of those settings, on a board of so many places.
+pub fn plays<G, P, R>(
+    rt: R,
+    alloc: Global,
+    places: u32,
+    settings: Settings,
+    gate: G,
+    play: &P,
+) -> Result<bool, Refusal>
+where
+    G: Gate + Send + Sync + Drop + 'static,
+    P: Play<G>,
+    R: Threads + Wait + Clock + Copy + Send + 'static,
+{
+    let board = Board::new(alloc, places)?;
+    let opened = opened_of(alloc, settings)?;
+    played_on::<Brand, G, P, R>(rt, alloc, board, opened, gate, play)
+}
+
+/// A session of the process and the user at the node of that number. Range: there is no such node.
+pub fn connect<B: HistoryName, G, R: Wait>(
+    rt: &R,
+    running: &Running<B, G>,
+    number: u8,
+    pid: u32,
+    uid: u32,
+) -> Result<Session<B>, Refusal> {
+    match NodeId::new(number) {
+        Some(node) if number <= running.nodes() => {
+            running.connect(rt, node, pid, Cred { uid, gid: 100 })
+        }
+        _ => Err(Refusal::Range),
+    }
+}
+
+/// Whether the session is at one of the nodes, as each is.
+pub fn is_here<B: HistoryName, G>(running: &Running<B, G>, session: &Session<B>) -> bool
+    ensures { IsTrue result → session.now.who.id.node ≤ running.now.nodes }
+{
+    session.connection().id.node.get() <= running.nodes()
+}
+
+/// The safe mark of the node of that number. Range: there is no such node.
+pub fn safe_at<B: HistoryName, G, R: Wait>(
+    rt: &R,
+    running: &Running<B, G>,
+    number: u8,
+) -> Result<u32, Refusal> {
+    match NodeId::new(number) {
+        Some(node) if number <= running.nodes() => Ok(running.safe(rt, node)),
+        _ => Err(Refusal::Range),
+    }
+}
+
+/// Whether the safe mark of the node of that number gets to that place.
+pub fn gets_safe<B: HistoryName, G, R: Wait + Clock>(
+    rt: &R,
+    running: &Running<B, G>,
+    number: u8,
+    place: u32,
+) -> bool {
+    for asked in 0..MOST_ASKS {
+        if safe_at(rt, running, number) == Ok(place) {
+            return true;
+        }
+        pause(rt, asked);
+    }
+    false
+}
+
+/// What refuses the call of the session, if anything does.
+pub fn submit<B: HistoryName, G, R: Wait>(
+    rt: &R,
+    running: &Running<B, G>,
+    session: &mut Session<B>,
+    call: Result<Call, Refusal>,
+) -> Option<Refusal> {
+    match call {
+        Err(refusal) => Some(refusal),
+        Ok(_) if !is_here(running, session) => Some(Refusal::Range),
+        Ok(call) => match running.submit(rt, session, call) {
+            Ok(()) => None,
+            Err(refused) => Some(refused.refusal),
+        },
+    }
+}
+
+/// A call to join the group of that name.
+pub fn join(alloc: Global, name: &[u8]) -> Result<Call, Refusal> {
+    Ok(Call::Join(Name::from_slice(alloc, name)?))
+}
+
+/// A message of those bytes.
+pub fn say(alloc: Global, text: &[u8]) -> Result<Call, Refusal> {
+    Ok(Call::Send(Message::from_slice(alloc, text)?))
+}
+
+/// What one ask for the next event gives: of an event its place, and of a change how many members, leavers and joiners it
+/// tells.
+#[derive(Debug, Clone, Copy, PartialEq, Eq)]
+pub enum Told {
+    Verdict(u32, Verdict),
+    Message(u32, NodeId, u32),
+    Change(u32, usize, usize, usize),
+    Rules(u32),
+    /// None yet.
+    Nothing,
+    Refused(Refusal),
+}
+
+/// The event in short.
+pub fn in_short(event: &Event) -> Told {
+    match event {
+        Event::Verdict { place, verdict } => Told::Verdict(*place, *verdict),
+        Event::Message {
+            place,
+            node,
+            pid,
+            ..
+        } => Told::Message(*place, *node, *pid),
+        Event::Change {
+            place,
+            members,
+            left,
+            joined,
+            ..
+        } => Told::Change(
+            *place,
+            members.as_slice().len(),
+            left.as_slice().len(),
+            joined.as_slice().len(),
+        ),
+        Event::RulesChanged { place, .. } => Told::Rules(*place),
+    }
+}
+
+/// What refuses the first of the calls that are submitted in one go, if any does, and how many are left.
+pub fn submit_many<B: HistoryName, G, R: Wait>(
+    rt: &R,
+    running: &Running<B, G>,
+    session: &mut Session<B>,
+    calls: &mut VecDeque<Call>,
+) -> (Option<Refusal>, usize) {
+    if !is_here(running, session) {
+        return (Some(Refusal::Range), calls.len());
+    }
+    let refusal = running.submit_many(rt, session, calls).err();
+    (refusal, calls.len())
+}
+
+/// How many events the session takes in one go, at most so many, behind those of the list.
+pub fn take_many<B: HistoryName, G, R: Wait>(
+    rt: &R,
+    running: &Running<B, G>,
+    session: &mut Session<B>,
+    events: &mut Vec<Event>,
+    most: usize,
+) -> Result<usize, Refusal> {
+    if !is_here(running, session) {
+        return Err(Refusal::Range);
+    }
+    running.take_many(rt, session, events, most)
+}
+
+/// The session asks for its next event once.
+pub fn ask<B: HistoryName, G, R: Wait>(
+    rt: &R,
+    running: &Running<B, G>,
+    session: &mut Session<B>,
+) -> Told {
+    if !is_here(running, session) {
+        return Told::Refused(Refusal::Range);
+    }
+    match running.take(rt, session) {
+        Ok(None) => Told::Nothing,
+        Ok(Some(event)) => in_short(&event),
+        Err(refusal) => Told::Refused(refusal),
+    }
+}
+
+/// The pause behind an ask in vain, by how many there were before.
+pub fn pause<R: Clock>(rt: &R, asked: u32) {
+    if asked < YIELDED_ASKS {
+        thread::yield_now();
+    } else {
+        thread::sleep(rt, Duration::from_millis(1));
+    }
+}
+
+/// What the session is told next, which asks again after None or Behind.
+pub fn next_told<B: HistoryName, G, R: Wait + Clock>(
+    rt: &R,
+    running: &Running<B, G>,
+    session: &mut Session<B>,
+) -> Told {
+    for asked in 0..MOST_ASKS {
+        match ask(rt, running, session) {
+            Told::Nothing | Told::Refused(Refusal::Behind(_)) => pause(rt, asked),
+            told => return told,
+        }
+    }
+    Told::Nothing
+}
+
+/// Whether the session is told a verdict next.
+pub fn is_answered<B: HistoryName, G, R: Wait + Clock>(
+    rt: &R,
+    running: &Running<B, G>,
+    session: &mut Session<B>,
+) -> bool {
+    matches!(next_told(rt, running, session), Told::Verdict(_, _))
+}
+
+/// How many members of `db` the session is shown.
+pub fn list_db<B: HistoryName, G, R: Wait>(
+    rt: &R,
+    running: &Running<B, G>,
+    session: &mut Session<B>,
+) -> Result<usize, Refusal> {
+    if !is_here(running, session) {
+        return Err(Refusal::Range);
+    }
+    Ok(running.list(rt, session, b"db")?.as_slice().len())
+}
+
+/// How many groups the session is shown.
+pub fn list_groups<B: HistoryName, G, R: Wait>(
+    rt: &R,
+    running: &Running<B, G>,
+    session: &mut Session<B>,
+) -> Result<usize, Refusal> {
+    if !is_here(running, session) {
+        return Err(Refusal::Range);
+    }
+    Ok(running.groups(rt, session)?.as_slice().len())
+}

@@ -1,0 +1,164 @@
+//! What a station that delivered lays down on its board's shelf.
+
+ghost use Rattle.std.specs.Prelude.{◌≡◌, ◌≤◌, IfOk};
+ghost use Rattle.cpg_entry.specs.Ranges.{IsEntry};
+
+use bytes::Bytes;
+use cpg_board::Board;
+use cpg_cred::{AcceptList, Cred, NodeId, Refusal};
+use cpg_entry::{Call, Entry, Op, Packet};
+use cpg_ledger::{Ledger, NoKeeper, Shelf};
+use cpg_node::{Node, Settings};
+use cpg_station::{BoardName, Station};
+use cpg_wire::encode_data;
+use std::alloc::Global;
+use std::marker::Brand;
+use std::test::Fail;
+
+/// How many places are delivered: a ledger with so many entries of its own looks at the shelf.
+const COUNT: u32 = 512;
+
+/// A leave by connection 1 of node 1, of that process.
+fn leave(pid: u32) -> Result<Entry, Refusal>
+    ensures { IfOk result IsEntry }
+{
+    Ok(Entry {
+        node: NodeId::new(1).ok_or(Refusal::Range)?,
+        conn: 1,
+        pid,
+        cred: Cred { uid: 7, gid: 100 },
+        op: Op::Act(Call::Leave),
+    })
+}
+
+/// The station of that node of two, with a new seat of the board.
+fn new_station<B: BoardName>(
+    alloc: Global,
+    board: &Board,
+    number: u8,
+) -> Result<Station<B>, Refusal> {
+    let settings = Settings {
+        ring: 1,
+        nodes: 2,
+        places: 1000,
+        hops: 100,
+    };
+    let id = NodeId::new(number).ok_or(Refusal::Range)?;
+    let list = AcceptList::new(alloc);
+    match Node::new(alloc, settings, id, list) {
+        Ok(node) => Ok(Station::new(node, board.seat())),
+        Err(refused) => Err(refused.into_refusal()),
+    }
+}
+
+/// The spelling of a packet that brings such a leave, by process 40, at that place.
+fn spelled(alloc: Global, place: u32) -> Result<Bytes, Refusal>
+    requires from { 1 ≤ place }
+    requires up_to { place ≤ COUNT }
+{
+    let entry = leave(40)?;
+    let packet = Packet {
+        ring: 1,
+        place,
+        entry,
+    };
+    encode_data(alloc, &packet)
+}
+
+/// The station hears the packet of that place, and delivers it.
+fn deliver_next<B: BoardName>(
+    alloc: Global,
+    board: &Board,
+    station: &mut Station<B>,
+    place: u32,
+) -> Result<(), Refusal>
+    requires board { board.now ≡ B.cells }
+    requires from { 1 ≤ place }
+    requires up_to { place ≤ COUNT }
+{
+    let bytes = spelled(alloc, place)?;
+    station.frame(bytes.as_slice())?;
+    station.deliver(board)?;
+    Ok(())
+}
+
+/// Whether the station delivers all places.
+fn delivers_all<B: BoardName>(
+    alloc: Global,
+    board: &Board,
+    station: &mut Station<B>,
+) -> Result<bool, Refusal>
+    requires { board.now ≡ B.cells }
+{
+    for before in 0..COUNT {
+        deliver_next(alloc, board, station, before + 1)?;
+    }
+    Ok(station.delivered() == COUNT)
+}
+
+/// Whether other entries lie on the shelf than those of a new ledger, which takes none of them then, and else lays its
+/// own down.
+fn holds_others(alloc: Global, shelf: &Shelf) -> Result<bool, Refusal> {
+    let mut ledger = Ledger::new(alloc);
+    for _ in 0..COUNT {
+        ledger.reserve(1)?;
+        let entry = leave(41)?;
+        if ledger.len() < COUNT as usize {
+            ledger.push_reserved(entry);
+            ledger.share(shelf, &NoKeeper);
+        }
+    }
+    Ok(ledger.in_blocks() == 0)
+}
+
+/// Whether a station that delivered all places laid them down.
+fn lays_down<B: BoardName>(alloc: Global, board: &Board) -> Result<bool, Refusal>
+    requires { board.now ≡ B.cells }
+{
+    let mut station = new_station::<B>(alloc, board, 1)?;
+    let all = delivers_all(alloc, board, &mut station);
+    drop(station);
+    Ok(all? && holds_others(alloc, board.shelf())?)
+}
+
+#[test]
+fn a_station_lays_down_what_it_delivered(rt: HostRuntime) -> Result<(), Fail> {
+    let board = Board::new(rt.alloc(), COUNT)?;
+    assert!(rt; lays_down::<Brand>(rt.alloc(), &board) == Ok(true));
+    Ok(())
+}
+
+/// On an empty shelf a ledger lays its own down: so what is found above is the station's.
+#[test]
+fn an_empty_shelf_holds_no_others(rt: HostRuntime) -> Result<(), Fail> {
+    let board = Board::new(rt.alloc(), COUNT)?;
+    assert!(rt; holds_others(rt.alloc(), board.shelf()) == Ok(false));
+    Ok(())
+}
+
+/// How many have the entry of the station's record of that index in common; 0 where there is no such record.
+fn owners_at<B: BoardName>(station: &Station<B>, index: usize) -> usize {
+    match station.audit().get(index) {
+        Some(record) => record.entry.owners(),
+        None => 0,
+    }
+}
+
+/// Whether two stations of the board deliver all places and keep each entry once then: the board and the records of both have
+/// the last one in common, and the shelf the first one, too.
+fn keep_once<B: BoardName>(alloc: Global, board: &Board) -> Result<bool, Refusal>
+    requires { board.now ≡ B.cells }
+{
+    let mut one = new_station::<B>(alloc, board, 1)?;
+    let mut other = new_station::<B>(alloc, board, 2)?;
+    let all = delivers_all(alloc, board, &mut one)? && delivers_all(alloc, board, &mut other)?;
+    let last = COUNT as usize - 1;
+    Ok(all && owners_at(&one, 0) == 4 && owners_at(&other, last) == 3)
+}
+
+#[test]
+fn stations_keep_each_entry_once(rt: HostRuntime) -> Result<(), Fail> {
+    let board = Board::new(rt.alloc(), COUNT)?;
+    assert!(rt; keep_once::<Brand>(rt.alloc(), &board) == Ok(true));
+    Ok(())
+}
