@@ -142,7 +142,7 @@ int main(int count, char **words) {
     unsigned long most = 0, all = 1;
     for (unsigned k = 0; k < senders; k++) most = shared->delivered[k] > most ? shared->delivered[k] : most;
     for (unsigned k = 0; k < senders; k++) all = shared->all[k] > all ? shared->all[k] : all;
-    printf("%.0f %u %u %.1f%s\n", (double)most / seconds, percentile(0.5), percentile(0.99), used / (double)all,
-           shared->failed ? " failed" : "");
+    if (shared->failed) printf("0 - - -\n"); /* a call failed */
+    else printf("%.0f %u %u %.1f\n", (double)most / seconds, percentile(0.5), percentile(0.99), used / (double)all);
     return shared->failed > 0;
 }

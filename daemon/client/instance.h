@@ -13,7 +13,7 @@
 
 enum {
     READ_AT_ONCE = 256 << 10,
-    KEPT_ROOM = 4 << 20, /* a buffer with more room is given back once it was dispatched */
+    KEPT_ROOM = 16 << 20, /* a buffer with more room is given back once it was dispatched */
     MOST_MESSAGE = 16 << 20,
     MOST_PARTS = 1024,     /* of a message, as the program gives it */
     MOST_KEPT = 256 << 20, /* bytes of events that wait for a dispatch: with more, nothing is sent until there is one */
@@ -28,8 +28,15 @@ struct buffer {
 /* Pieces of one sender's message that came so far. */
 struct partial {
     struct partial *next;
-    uint32_t node, pid, whole, have;
+    uint32_t node, pid, whole, have, room;
     uint8_t *data;
+};
+
+/* Memory of messages that were joined, for those to come: fresh memory costs more than its copy. */
+enum { SPARES = 8, MOST_SPARE = MOST_MESSAGE / SPARES };
+struct spare {
+    uint8_t *data;
+    uint32_t room;
 };
 
 struct pinned { /* a buffer that a callback further out still looks at */
@@ -75,6 +82,7 @@ struct instance {
     struct pinned *pinned;
     struct partial *partials;
     struct cpg_name partials_of; /* the group that they are of */
+    struct spare spares[SPARES];
     bool first_change;
 };
 

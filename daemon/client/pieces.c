@@ -16,8 +16,26 @@ enum { MOST_PIECE = MOST_PAYLOAD - (int)sizeof(struct piece), AT_ONCE = 32 /* pi
 
 /* ---- joining ---- */
 
-static void partial_free(struct partial *p) {
-    free(p->data);
+/* Memory for the whole: of a spare one that is not much larger, or fresh. */
+static bool partial_room(struct instance *i, struct partial *p) {
+    for (unsigned k = 0; k < SPARES; k++) {
+        struct spare *spare = &i->spares[k];
+        if (spare->room < p->whole || spare->room / 4 > p->whole) continue;
+        p->data = spare->data;
+        p->room = spare->room;
+        *spare = (struct spare){0};
+        return true;
+    }
+    p->room = p->whole;
+    p->data = malloc(p->whole);
+    return p->data != NULL;
+}
+
+static void partial_free(struct instance *i, struct partial *p) {
+    unsigned k = 0;
+    while (k < SPARES && i->spares[k].data) k++;
+    if (k < SPARES && p->data && p->room <= MOST_SPARE) i->spares[k] = (struct spare){p->data, p->room};
+    else free(p->data);
     free(p);
 }
 
@@ -31,11 +49,15 @@ void pieces_drop(struct instance *i, uint32_t node, uint32_t pid) {
     struct partial **at = find(i, node, pid), *p = *at;
     if (!p) return;
     *at = p->next;
-    partial_free(p);
+    partial_free(i, p);
 }
 
 void pieces_free(struct instance *i) {
     while (i->partials) pieces_drop(i, i->partials->node, i->partials->pid);
+    for (unsigned k = 0; k < SPARES; k++) {
+        free(i->spares[k].data);
+        i->spares[k] = (struct spare){0};
+    }
 }
 
 static struct partial *begin(struct instance *i, const struct tell_message *told, uint32_t whole) {
@@ -48,8 +70,8 @@ static struct partial *begin(struct instance *i, const struct tell_message *told
 }
 
 /* Of memory for the whole only what pieces came for is touched, whatever the first one promises. */
-static bool append(struct partial *p, const uint8_t *data, uint32_t len) {
-    if (!p->data && !(p->data = malloc(p->whole))) return false;
+static bool append(struct instance *i, struct partial *p, const uint8_t *data, uint32_t len) {
+    if (!p->data && !partial_room(i, p)) return false;
     memcpy(p->data + p->have, data, len);
     p->have += len;
     return true;
@@ -77,14 +99,14 @@ static bool deliver_piece(struct instance *i, const struct cpg_name *name, const
     }
     struct partial *p = piece.at == 0 ? begin(i, told, piece.whole) : *find(i, told->node, told->pid);
     if (!p) return false; /* begun before this process came */
-    if (p->whole != piece.whole || p->have != piece.at || !append(p, data, len)) {
+    if (p->whole != piece.whole || p->have != piece.at || !append(i, p, data, len)) {
         pieces_drop(i, told->node, told->pid);
         return false;
     }
     if (p->have < p->whole) return false;
     *find(i, told->node, told->pid) = p->next;
     bool called = call_deliver(i, name, told, p->data, p->whole);
-    partial_free(p);
+    partial_free(i, p);
     return called;
 }
 

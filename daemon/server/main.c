@@ -7,6 +7,7 @@
 #include "loop.h"
 #include "notify.h"
 #include <errno.h>
+#include <malloc.h>
 #include <string.h>
 #include <sys/resource.h>
 #include <unistd.h>
@@ -20,6 +21,15 @@ static void raise_descriptors(void) {
     if (getrlimit(RLIMIT_NOFILE, &files) != 0) return;
     files.rlim_cur = files.rlim_max;
     if (setrlimit(RLIMIT_NOFILE, &files) != 0) log_line(LOG_WARNING, "more file descriptors: %s", strerror(errno));
+}
+
+/* A ring's memory is kept for the next one: memory that goes back to the system and comes again costs more than a message's
+ * copy. */
+static void keep_memory(void) {
+    enum { KEPT = 128 << 20, STEP = 1 << 20, APART = 16 << 20 };
+    mallopt(M_TRIM_THRESHOLD, KEPT);
+    mallopt(M_TOP_PAD, STEP);
+    mallopt(M_MMAP_THRESHOLD, APART);
 }
 
 static bool open_ring(const struct options *options) {
@@ -54,6 +64,7 @@ int main(int count, char **words) {
         log_line(LOG_ERROR, "fork: %s", strerror(errno));
         return 1;
     }
+    keep_memory();
     raise_descriptors();
     if (!loop_block_signals()) return 1;
     int status = serve(&options, parent);

@@ -17,7 +17,7 @@ enum { LONG_BUCKETS = 4096 };
 
 static const char LONG[] = "!long-";
 static struct long_name *long_names[MOST_LONG_NAMES], *long_buckets[LONG_BUCKETS];
-static unsigned count_long, next_number; /* no name has a number from `next_number` on */
+static unsigned count_long, next_number, past; /* a number from `next_number` on may be free; from `past` on none is used */
 
 bool name_same(const struct name *a, const struct name *b) { return a->len == b->len && !memcmp(a->at, b->at, a->len); }
 
@@ -56,6 +56,7 @@ static struct long_name *add_long(const struct name *plain) {
     struct long_name **bucket = bucket_of(plain);
     *it = (struct long_name){*bucket, *plain, next_number, true};
     *bucket = long_names[next_number] = it;
+    if (next_number >= past) past = next_number + 1;
     count_long++;
     return it;
 }
@@ -69,7 +70,7 @@ static bool code_long(const struct name *plain, enum name_use use, struct name *
 }
 
 void names_unmark(void) {
-    for (unsigned k = 0; k < MOST_LONG_NAMES; k++)
+    for (unsigned k = 0; k < past; k++)
         if (long_names[k]) long_names[k]->marked = false;
 }
 
@@ -88,8 +89,9 @@ static void forget(struct long_name *it) {
 }
 
 void names_sweep(void) {
-    for (unsigned k = 0; k < MOST_LONG_NAMES; k++)
+    for (unsigned k = 0; k < past; k++)
         if (long_names[k] && !long_names[k]->marked) forget(long_names[k]);
+    while (past > 0 && !long_names[past - 1]) past--;
     next_number = 0;
 }
 

@@ -29,6 +29,8 @@ uint32_t node_open(struct node *node, const cpgring_setup *setup, const char *co
 void node_close(struct node *node) {
     while (node->clients) client_free(node->clients);
     if (node->by_conn) node_forget(node);
+    recent_forget(&node->recent);
+    recent_forget(&node->old_recent);
     cpgring_close(&node->ring);
     cpgring_close(&node->old);
     for (unsigned k = 1; k <= CPGRING_MOST_NODES; k++) free(node->seats[k]);

@@ -15,7 +15,7 @@ enum {
     MOST_CONNECTIONS = 65536,
     BUCKETS = 1024,
     MOST_LISTINGS = 8, /* listings of all groups that a node hears in a turn of the loop */
-    RECENT = 256       /* messages that are shared by those whom they are told in one turn */
+    RECENT = 2048      /* places whose messages are kept to be shared, while some members were not told them yet */
 };
 
 /* What is limited, as the options say. */
@@ -89,6 +89,14 @@ struct table { /* a group whose rules were changed */
     struct name name;
 };
 
+struct recent { /* messages that were copied out of a ring, by their places */
+    struct {
+        uint32_t place;
+        struct shared *bytes;
+    } of[RECENT];
+    unsigned count;
+};
+
 struct node {
     cpgring ring;
     cpgring old;      /* the ring before, until it is closed */
@@ -105,11 +113,7 @@ struct node {
     struct table *tables;
     struct client **told; /* clients that a place told something, each once */
     unsigned count_told, room_told;
-    struct recent {
-        uint32_t place;
-        struct shared *bytes;
-    } recent[RECENT];
-    unsigned count_recent;
+    struct recent recent, old_recent; /* of this ring, and of the one before */
     unsigned listings; /* of all groups, which may still be heard in this turn */
     struct client *first_active, *last_active;
     uint32_t delivered;
@@ -162,6 +166,10 @@ void tell_denied(struct client *c, uint32_t status, uint32_t verdict, uint32_t r
 uint32_t status_of_refusal(uint32_t refusal);
 /* Takes what the node has to tell its clients, as far as there is room. */
 void node_tell(struct node *node);
+/* Gives back what is kept of a ring's messages. */
+void recent_forget(struct recent *recent);
+/* The ring becomes the one before: what is kept of its messages goes with it. */
+void node_tell_later(struct node *node);
 /* Takes what the ring before still has for its clients, without regard to room. */
 void node_tell_old(struct node *node);
 /* A new ring was made ready: what it tells of that is taken and dropped. */

@@ -63,6 +63,7 @@ static uint32_t open_next(struct ring *ring, const struct carried *carried) {
     for (unsigned k = 0; k < ring->count; k++) {
         struct node *node = &ring->nodes[k];
         node->old = node->ring;
+        node_tell_later(node);
         node->ring = (cpgring)CPGRING_INIT;
         node_forget(node);
     }

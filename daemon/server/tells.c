@@ -91,20 +91,22 @@ static void copy_message(cpgring *ring, uint8_t *to, uint32_t len) {
     cpgring_message(ring, to, len);
 }
 
-/* The message of the last event, in memory that all have whom it is told in this turn. NULL: it is short, or none is to share
- * it, or there is no memory. */
-static struct shared *shared_message(struct client *c, const cpgring_event *event) {
+/* The message of the last event, in memory that all have whom it is told. NULL: it is short, or none is to share it, or there
+ * is no memory. */
+static struct shared *shared_message(struct client *c, cpgring *ring, const cpgring_event *event) {
     struct node *node = c->node;
-    const struct seat *seat = c->old_conn ? NULL : node->seats[node->setup.node][c->conn];
-    struct recent *recent = &node->recent[event->place % RECENT];
+    const struct seat *seat = node->seats[node->setup.node][c->conn];
+    struct recent *recent = c->old_conn ? &node->old_recent : &node->recent;
+    unsigned k = event->place % RECENT;
     if (event->message_len < SHARED_FROM || !seat || seat->group->count == 1) return NULL;
-    if (recent->bytes && recent->place == event->place) return recent->bytes;
+    if (recent->of[k].bytes && recent->of[k].place == event->place) return recent->of[k].bytes;
     struct shared *bytes = shared_new(fill8((uint32_t)event->message_len));
     if (!bytes) return NULL;
-    copy_message(&node->ring, bytes->at, (uint32_t)event->message_len);
-    if (recent->bytes) shared_put(recent->bytes);
-    else node->count_recent++;
-    *recent = (struct recent){event->place, bytes};
+    copy_message(ring, bytes->at, (uint32_t)event->message_len);
+    if (recent->of[k].bytes) shared_put(recent->of[k].bytes);
+    else recent->count++;
+    recent->of[k].place = event->place;
+    recent->of[k].bytes = bytes;
     return bytes;
 }
 
@@ -129,7 +131,7 @@ static void tell_shared(struct client *c, const struct tell_message *told, struc
 
 static void tell_message(struct client *c, cpgring *ring, const cpgring_event *event) {
     struct tell_message told = {event->node, event->pid, (uint32_t)event->message_len, c->group.len};
-    struct shared *bytes = shared_message(c, event);
+    struct shared *bytes = shared_message(c, ring, event);
     c->told_messages++;
     if (bytes) {
         tell_shared(c, &told, bytes);
@@ -195,13 +197,19 @@ static bool take_events(struct client *c) {
     return true;
 }
 
-static void forget_recent(struct node *node) {
-    for (unsigned k = 0; k < RECENT && node->count_recent > 0; k++) {
-        if (!node->recent[k].bytes) continue;
-        shared_put(node->recent[k].bytes);
-        node->recent[k].bytes = NULL;
-        node->count_recent--;
+void recent_forget(struct recent *recent) {
+    for (unsigned k = 0; k < RECENT && recent->count > 0; k++) {
+        if (!recent->of[k].bytes) continue;
+        shared_put(recent->of[k].bytes);
+        recent->of[k].bytes = NULL;
+        recent->count--;
     }
+}
+
+void node_tell_later(struct node *node) {
+    recent_forget(&node->old_recent);
+    node->old_recent = node->recent;
+    memset(&node->recent, 0, sizeof node->recent);
 }
 
 void node_tell(struct node *node) {
@@ -213,7 +221,8 @@ void node_tell(struct node *node) {
         client_account(c);
     }
     node->count_told = kept;
-    forget_recent(node);
+    if (kept == 0) recent_forget(&node->recent);
+    if (node->lagging == 0) recent_forget(&node->old_recent);
 }
 
 void node_tell_old(struct node *node) {

@@ -99,18 +99,19 @@ static int be_member(size_t size, int ready, int out) {
     return cpg_finalize(h) == CS_OK ? 0 : 5;
 }
 
-/* Comes, speaks and goes, or waits to be killed. */
+/* Comes, speaks and goes, or is killed, in the middle of a message of pieces, say. */
 static int be_comer(unsigned number) {
     cpg_callbacks_t callbacks = {NULL, NULL};
     struct cpg_name group = name_of("agreement");
-    uint8_t bytes[100];
+    static uint8_t bytes[30000];
+    size_t len = number % 2 ? sizeof bytes : 100;
     for (unsigned k = 0; k < 4; k++) {
         cpg_handle_t h;
         uint32_t word = 1000000 + number;
         if (cpg_initialize(&h, &callbacks) != CS_OK || cpg_join(h, &group) != CS_OK) return 1;
-        for (size_t at = 4; at < sizeof bytes; at++) bytes[at] = byte_at(word, at);
+        for (size_t at = 4; at < len; at++) bytes[at] = byte_at(word, at);
         memcpy(bytes, &word, 4);
-        struct iovec part = {bytes, sizeof bytes};
+        struct iovec part = {bytes, len};
         for (int sent = 0; sent < 5; sent++) cpg_mcast_joined(h, CPG_TYPE_AGREED, &part, 1);
         cpg_dispatch(h, CS_DISPATCH_ALL);
         if (k % 2 == 0) cpg_leave(h, &group);
