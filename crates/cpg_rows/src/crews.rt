@@ -9,9 +9,11 @@ use crate::nodes::{Server, Shared};
 use crate::player::{Plays, Row};
 use crate::printing;
 use crate::spelling::put_spelled;
-use crate::states::put_audits;
+use crate::states::put_audits_of;
 use crate::tables::put_rules_of;
-use crate::words::{NO_COMMAND, first, index, is_word, node_of, one, put_number_line, settings};
+use crate::words::{
+    NO_COMMAND, first, index, is_word, node_of, one, put_hex, put_number_line, settings,
+};
 use bytes::Bytes;
 use cpg_cred::{NodeId, Refusal, Refused, is_memory};
 use cpg_entry::Call;
@@ -271,9 +273,12 @@ impl<B: BoardName> Crew<B> {
         self.shared.ask(server, event)
     }
 
-    /// `show K`: the frame of that number.
+    /// `show K`: the frame of that number; `bytes K`: its bytes.
     fn show(&self, alloc: Global, line: &mut Vec<u8>, row: &Row<'_>) -> Result<(), Refusal> {
         let bytes = sent_at(self.sent.as_slice(), index(one(row.rest)?)?)?;
+        if row.is("bytes") {
+            return put_hex(line, bytes);
+        }
         put_decoded(alloc, line, bytes)
     }
 
@@ -283,7 +288,10 @@ impl<B: BoardName> Crew<B> {
         let (_, rest) = first(row.rest)?;
         let server = server_of(&mut self.servers, node)?;
         if row.is("audit") {
-            return put_audits(line, server.audit());
+            return put_audits_of(line, server.audit(), rest);
+        }
+        if row.is("waiting") {
+            return put_number_line(line, "waiting", server.waiting()? as u64);
         }
         if row.is("rules") {
             return put_rules_of(line, server.table(one(rest)?));
@@ -314,10 +322,10 @@ impl<B: BoardName> Plays for Crew<B> {
         if row.is("halt") {
             return self.halt(line, row);
         }
-        if row.is("show") {
+        if row.is("show") || row.is("bytes") {
             return self.show(alloc, line, row);
         }
-        if row.is("audit") || row.is("rules") || row.is("safe") {
+        if row.is("audit") || row.is("rules") || row.is("safe") || row.is("waiting") {
             return self.look(line, row);
         }
         self.obey(alloc, line, row.text)

@@ -204,6 +204,14 @@ impl<B: BoardName> Server<B> {
         }
     }
 
+    /// How many entries wait, which a node alone tells.
+    pub fn waiting(&self) -> Result<usize, Refusal> {
+        match self {
+            Server::Alone(node) => Ok(node.waiting()),
+            Server::Sharing(_) => Err(NO_COMMAND),
+        }
+    }
+
     pub fn safe(&self) -> u32 {
         match self {
             Server::Alone(node) => node.safe(),

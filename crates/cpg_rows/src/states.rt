@@ -1,13 +1,14 @@
 //! All that can be seen of a policy and of records.
 
 use crate::tables::put_rules_of;
+use crate::words::{NO_COMMAND, number};
 use cpg_cred::Refusal;
 use cpg_entry::{Call, Entry, Name, Op};
 use cpg_group::{MOST_PLACES, Policy, Trail};
 use cpg_print::{put_audit, put_conn, put_members, put_verdict};
 use cpg_record::{ConnId, Member, Record};
 use cpg_script::{put, put_bytes};
-use cpg_text::push_number;
+use cpg_text::{push_number, take_word};
 use std::alloc::Global;
 
 /// Puts the audit lines of the records, and their count.
@@ -20,6 +21,18 @@ pub fn put_audits(line: &mut Vec<u8>, records: &[Record]) -> Result<(), Refusal>
     put(line, "records ")?;
     push_number(line, u64::from(place))?;
     put(line, "\n")
+}
+
+/// Puts the audit line of the place that the words say; without words, those of all records with their count.
+pub fn put_audits_of(line: &mut Vec<u8>, records: &[Record], words: &[u8]) -> Result<(), Refusal> {
+    let Some((word, _)) = take_word(words) else {
+        return put_audits(line, records);
+    };
+    let place = number(word)?;
+    match records.get((place as usize).wrapping_sub(1)) {
+        Some(record) => put_audit(line, place, record),
+        None => Err(NO_COMMAND),
+    }
 }
 
 /// Puts the audit line of the last record.

@@ -3,9 +3,11 @@
 use crate::events::event_of;
 use crate::player::{Plays, Row};
 use crate::printing::{put_frame, put_reply};
-use crate::states::put_audits;
+use crate::states::put_audits_of;
 use crate::tables::put_rules_of;
-use crate::words::{NO_COMMAND, accept_list, first, index, node, one, put_number_line, settings};
+use crate::words::{
+    NO_COMMAND, accept_list, first, index, node, one, put_hex, put_number_line, settings,
+};
 use cpg_cred::Refusal;
 use cpg_node::Node;
 use cpg_print::put_refused_line;
@@ -23,7 +25,7 @@ pub struct Worldly {
 /// Puts what a command sees of the node.
 fn put_look(line: &mut Vec<u8>, node: &Node, row: &Row<'_>, rest: &[u8]) -> Result<(), Refusal> {
     if row.is("audit") {
-        return put_audits(line, node.audit());
+        return put_audits_of(line, node.audit(), rest);
     }
     if row.is("rules") {
         return put_rules_of(line, node.table(one(rest)?));
@@ -85,9 +87,10 @@ impl Worldly {
         put_look(line, self.world.node(id), row, rest)
     }
 
-    /// `show K`.
-    fn show(&self, alloc: Global, line: &mut Vec<u8>, text: &[u8]) -> Result<(), Refusal> {
-        match self.world.sent_frame(index(one(text)?)?) {
+    /// `show K` and `bytes K`.
+    fn show(&self, alloc: Global, line: &mut Vec<u8>, row: &Row<'_>) -> Result<(), Refusal> {
+        match self.world.sent_frame(index(one(row.rest)?)?) {
+            Some(bytes) if row.is("bytes") => put_hex(line, bytes.as_slice()),
             Some(bytes) => put_spelled(alloc, line, bytes.as_slice()),
             None => Err(Refusal::NoFrame),
         }
@@ -154,8 +157,8 @@ impl Plays for Worldly {
         if row.is("run") {
             return self.run(alloc, line, row);
         }
-        if row.is("show") {
-            return self.show(alloc, line, row.rest);
+        if row.is("show") || row.is("bytes") {
+            return self.show(alloc, line, row);
         }
         if row.is("audit") || row.is("rules") || row.is("safe") {
             return self.look(line, row);
