@@ -1,7 +1,8 @@
 //! Tests of what threads do: bells; boards under two threads; what stations lay down on a board's shelf; and clusters. Of these:
 //! what sessions are told, one by one and in goes, what a stopped cluster answers, that two nodes run at once, how a session
 //! goes on where memory is refused, what ends an answer that took no lock, settings out of their ranges; what each turn sends
-//! in rings of 1 to 8 nodes, how the gate is obeyed, and what a stopped cluster leaves. Nothing here is used by the other
+//! in rings of 1 to 8 nodes, how the gate is obeyed, what a stopped cluster leaves, and a script of sessions over links that lose
+//! and repeat. Nothing here is used by the other
 //! crates.
 #![tactic(auto)]
 
@@ -19,6 +20,8 @@ mod gated;
 mod going_on;
 #[cfg(test)]
 mod left;
+#[cfg(test)]
+mod lossy;
 #[cfg(test)]
 mod playing;
 #[cfg(test)]

@@ -50,10 +50,11 @@ pub fn settings_of(nodes: u8) -> Settings {
     }
 }
 
-/// A history that begins with those settings, and lets in users 0 and 7.
+/// A history that begins with those settings, and lets in users 0, 7 and 8.
 pub fn opened_of(alloc: Global, settings: Settings) -> Result<Opened, Refusal> {
     let mut list = AcceptList::new(alloc);
     list.add_uid(7)?;
+    list.add_uid(8)?;
     Ok(Opened::new(alloc, Beginning { settings, list })?)
 }
 
