@@ -21,8 +21,9 @@ fn new_node(alloc: Global) -> Result<Node, Refusal> {
         places: PLACES,
         hops: 1000,
     };
-    Node::new(alloc, settings, NodeId::default(), AcceptList::new(alloc))
-        .map_err(|refused| refused.into_refusal())
+    Node::new(alloc, settings, NodeId::default(), AcceptList::new(alloc)).map_err(
+        |refused| refused.into_refusal(),
+    )
 }
 
 /// Has a call of the connection wait at the node.
@@ -62,7 +63,11 @@ fn told(alloc: Global) -> Result<Vec<u8>, Refusal> {
     let mut node = new_node(alloc)?;
     let conn = node.connect(40, Cred { uid: 0, gid: 0 })?;
     submit(&mut node, conn, Call::Join(Name::from_slice(alloc, b"db")?))?;
-    submit(&mut node, conn, Call::Send(Message::from_slice(alloc, b"hi")?))?;
+    submit(
+        &mut node,
+        conn,
+        Call::Send(Message::from_slice(alloc, b"hi")?),
+    )?;
     turn(&mut node)?;
     events_of(alloc, &mut node, conn)
 }

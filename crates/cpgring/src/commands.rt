@@ -69,8 +69,9 @@ impl Subcommand {
             Subcommand::Draw => named(alloc, "draw", DRAW_ABOUT, DRAW_HELP, DRAW_MORE),
             Subcommand::Run => named(alloc, "run", RUN_ABOUT, RUN_HELP, RUN_MORE),
             Subcommand::Shell => named(alloc, "shell", SHELL_ABOUT, SHELL_HELP, SHELL_MORE),
-            Subcommand::Completions => Command::new(alloc, "completions")
-                .about("Prints what a shell needs to complete command lines"),
+            Subcommand::Completions => Command::new(alloc, "completions").about(
+                "Prints what a shell needs to complete command lines",
+            ),
         }
     }
 
