@@ -58,18 +58,27 @@ fn events_of(alloc: Global, node: &mut Node, conn: u16) -> Result<Vec<u8>, Refus
     Ok(text)
 }
 
-/// What process 40 of user 0 is told that joins the group `db` and sends `hi` to it.
+/// A process of user 0 joins the group `db` and sends `hi` to it. Its connection is told.
+fn ask(alloc: Global, node: &mut Node) -> Result<u16, Refusal> {
+    let conn = node.connect(40, Cred { uid: 0, gid: 0 })?;
+    submit(node, conn, Call::Join(Name::from_slice(alloc, b"db")?))?;
+    submit(node, conn, Call::Send(Message::from_slice(alloc, b"hi")?))?;
+    Ok(conn)
+}
+
+/// What that process is told.
+fn talk(alloc: Global, node: &mut Node) -> Result<Vec<u8>, Refusal> {
+    let conn = ask(alloc, node)?;
+    turn(node)?;
+    events_of(alloc, node, conn)
+}
+
+/// The same over a new node.
 fn told(alloc: Global) -> Result<Vec<u8>, Refusal> {
     let mut node = new_node(alloc)?;
-    let conn = node.connect(40, Cred { uid: 0, gid: 0 })?;
-    submit(&mut node, conn, Call::Join(Name::from_slice(alloc, b"db")?))?;
-    submit(
-        &mut node,
-        conn,
-        Call::Send(Message::from_slice(alloc, b"hi")?),
-    )?;
-    turn(&mut node)?;
-    events_of(alloc, &mut node, conn)
+    let lines = talk(alloc, &mut node);
+    drop(node);
+    lines
 }
 
 fn main(rt: HostRuntime) -> ExitCode {
