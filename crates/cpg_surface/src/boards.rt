@@ -1,6 +1,6 @@
 //! `cpg_board`: records that all threads share, and seats that know some of them.
 
-ghost use Rattle.std.specs.Prelude.{◌≤◌, ◌×◌, length};
+ghost use Rattle.std.specs.Prelude.{◌≤◌, length};
 ghost use Rattle.cpg_board.specs.Seats.{IsSeatOf};
 
 use cpg_board::{Board, Seat, Settled};

@@ -1,6 +1,6 @@
 //! `cpg_daemon`: a cluster of running nodes, and the gates that hold them back.
 
-ghost use Rattle.std.specs.Prelude.{◌≡◌, ◌≤◌, ◌×◌};
+ghost use Rattle.std.specs.Prelude.{◌≡◌, ◌≤◌};
 ghost use Rattle.cpg_history.specs.Histories.{first_world};
 
 use cpg_board::{Board, Seat};

@@ -1,6 +1,6 @@
 //! `cpg_group`: entries judged in order, what connections are told, and who is listed.
 
-ghost use Rattle.std.specs.Prelude.{◌≤◌, ◌<◌, ◌×◌, length};
+ghost use Rattle.std.specs.Prelude.{◌≤◌, ◌<◌, length};
 ghost use Rattle.cpg_record.specs.Judging.{most_places, IsNext};
 
 use cpg_cred::{By, NodeId, Refusal, Refused};

@@ -1,6 +1,6 @@
 //! `cpg_daemon`: a node with its seat, as it lies under a lock.
 
-ghost use Rattle.std.specs.Prelude.{◌≡◌, ◌×◌, []};
+ghost use Rattle.std.specs.Prelude.{◌≡◌, []};
 ghost use Rattle.cpg_station.specs.Stations.{audit_of};
 
 use bytes::Bytes;
