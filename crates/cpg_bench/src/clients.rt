@@ -213,6 +213,28 @@ impl Client {
     }
 }
 
+/// Whether the event tells of a group with so many members.
+fn tells_of(event: &Event, count: usize) -> bool {
+    match event {
+        Event::Change { members, .. } => members.as_slice().len() == count,
+        _ => false,
+    }
+}
+
+/// Takes an event, if there is one, and says whether it tells of a group with so many members.
+fn take_change<B: HistoryName, R: Wait>(
+    rt: &R,
+    running: &Running<B, Fates>,
+    session: &mut Session<B>,
+    count: usize,
+) -> Result<Option<bool>, Refusal> {
+    match take(rt, running, session) {
+        Ok(Some(event)) => Ok(Some(tells_of(&event, count))),
+        Ok(None) => Ok(None),
+        Err(refusal) => Err(refusal),
+    }
+}
+
 /// Takes events until a change tells of as many members as there are nodes.
 fn take_joins<B: HistoryName, R: Wait>(
     rt: &R,
@@ -222,9 +244,9 @@ fn take_joins<B: HistoryName, R: Wait>(
 ) -> Result<(), Refusal> {
     let all = usize::from(running.nodes());
     for _ in rt.forever() {
-        match take(rt, running, session)? {
-            Some(Event::Change { members, .. }) if members.as_slice().len() == all => break,
-            Some(_) => {}
+        match take_change(rt, running, session, all)? {
+            Some(true) => break,
+            Some(false) => {}
             None if signals.has_failed() => return Err(Refusal::Stopped),
             None => thread::yield_now(),
         }
