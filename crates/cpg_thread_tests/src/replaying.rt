@@ -77,6 +77,14 @@ fn is_judged(world: &World, number: u8, delivered: usize, records: &[Record]) ->
     }
 }
 
+/// The same of all three nodes of a world.
+fn are_judged(world: World, delivered: [usize; 3], records: &[Record]) -> bool {
+    let [one, two, three] = delivered;
+    is_judged(&world, 1, one, records)
+        && is_judged(&world, 2, two, records)
+        && is_judged(&world, 3, three, records)
+}
+
 /// How many places each of three stations has delivered; none where there are others.
 fn delivered_in<B: HistoryName>(ends: &Ends<B>) -> Option<[usize; 3]> {
     match ends.stations.as_slice() {
@@ -112,13 +120,11 @@ fn replayed<B: HistoryName>(alloc: Global, ends: Ends<B>) -> Result<World, Refus
 pub fn plays_again<B: HistoryName>(alloc: Global, ends: Ends<B>, records: &[Record]) -> bool
     requires { HaveSeen ends.stations.items ends.front.seen }
 {
-    let delivered = delivered_in(&ends);
-    match (delivered, replayed(alloc, ends)) {
-        (Some([one, two, three]), Ok(world)) => {
-            is_judged(&world, 1, one, records)
-                && is_judged(&world, 2, two, records)
-                && is_judged(&world, 3, three, records)
-        }
-        _ => false,
+    match delivered_in(&ends) {
+        Some(delivered) => match replayed(alloc, ends) {
+            Ok(world) => are_judged(world, delivered, records),
+            Err(_) => false,
+        },
+        None => false,
     }
 }
