@@ -1,4 +1,9 @@
 pub mod Accepting
+pub mod Accounts
+pub mod AdmitSteps
+pub mod Admitting
 pub mod Asks
+pub mod Forms
 pub mod Parts
 pub mod Steps
+pub mod Telling

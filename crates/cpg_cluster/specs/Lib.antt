@@ -4,4 +4,7 @@ pub mod Lines
 pub mod Notes
 pub mod Running
 pub mod Scripts
+pub mod ShellSteps
+pub mod Shelled
 pub mod Steps
+pub mod Typed

@@ -1,4 +1,5 @@
-//! `cpgring run`: a script of sessions over the running nodes of a cluster.
+//! `cpgring run`: a script of sessions over the running nodes of a cluster; and `cpgring shell`, its commands line by line
+//! as they are typed (`shell`).
 //!
 //! The forms are this project's own. Proved: the whole script is read and checked before it begins, sessions are
 //! numbered by accepted connections, each is answered what `cpg_daemon` promises of it, and what is printed of the
@@ -17,6 +18,7 @@ mod reading;
 mod replies;
 mod running;
 mod scripts;
+pub mod shell;
 
 pub use acting::do_command;
 pub use asking::{MOST_POLLS, limits};

@@ -1,13 +1,46 @@
-//! The scripts of `cpgring`, offered in one place: each has a crate of its own, with its definitions and its proof.
+//! The program, from the streams that it is given to its exit status; and the four scripts as calls: entries that are
+//! judged (`judge_script`), conf texts that are asked who is let in (`accept_script`), all nodes event by event
+//! (`run_script`), and sessions on a running cluster (`cluster_script`).
 //!
-//! The forms are this project's own: entries that are judged (`judge_script`), conf texts that are asked who is
-//! let in (`accept_script`), all nodes event by event (`run_script`), and sessions on a running cluster
-//! (`cluster_script`).
+//! The forms are this project's own. Proved, where the streams tell their bytes: what is written to standard
+//! output and to standard error, and the status (`specs/Runs.antt`).
 #![tactic(auto)]
 
+mod admitting;
+mod auditing;
+mod clustering;
+mod drawing;
+mod failures;
+mod founding;
+mod hinting;
+mod judging;
+mod pipes;
+mod progress;
+mod runs;
+mod shelling;
+mod speaking;
+mod stepping;
+mod telling;
+mod tracing;
+mod words;
+
+pub use admitting::{Admission, NamedText, perform_admit, write_text};
+pub use auditing::Inquiry;
 pub use cpg_accept::accept_script;
-pub use cpg_cluster::{Manner, PLAIN, Patience, Shown, cluster_script};
+pub use cpg_cluster::{Known, Manner, Noted, PLAIN, Patience, Shown, cluster_script};
+pub use cpg_judge::filter::{Filter, Only};
 pub use cpg_judge::judge_script;
 pub use cpg_print::{entries_read_back, rules_read_back, whos_read_back};
 pub use cpg_script::{Fault, put_fault};
 pub use cpg_step::run_script;
+pub use cpg_why::Asked;
+pub use failures::Failure;
+pub use hinting::perform_with_hint;
+pub use pipes::Piped;
+pub use progress::Counted;
+pub use runs::{Ended, Form, Picture, Run, perform};
+pub use shelling::perform_shell;
+pub use speaking::Spoken;
+pub use telling::{tell_failure, tell_fault};
+pub use tracing::{KeepsEnds, Tracer, Untraced, trace_heading, trace_words};
+pub use words::read_list;

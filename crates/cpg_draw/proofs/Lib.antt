@@ -1,3 +1,5 @@
 pub mod Drawn
 pub mod Joined
+pub mod Marks
+pub mod PictureDrawn
 pub mod Sent

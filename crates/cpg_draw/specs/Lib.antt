@@ -1,7 +1,14 @@
 pub mod Arrows
 pub mod Columns
 pub mod Drawing
+pub mod Layout
+pub mod PictureArrows
+pub mod PictureDrawing
+pub mod PictureRows
+pub mod PictureSteps
+pub mod Pictures
 pub mod Rows
+pub mod Shapes
 pub mod Steps
 pub mod Telling
 pub mod Words

@@ -1,4 +1,4 @@
-//! A script of `step` as a picture, with nodes as columns and time downwards.
+//! A script of `step` as a picture, with nodes as columns and time downwards: in letters, or as one SVG (`svg`).
 //!
 //! Each command is a row. An arrow goes from the row that sent a frame to the row that brings it, and a frame
 //! that no command brings is lost. Proved: what is written is that picture of the world's run.
@@ -9,6 +9,7 @@ mod columns;
 mod drawing;
 mod frames;
 mod rows;
+pub mod svg;
 mod words;
 
 pub use arrows::{Arrow, Kind, find_arrow};

@@ -1,11 +1,12 @@
-//! What the program prints, as one object of JSON a line.
+//! What the program prints, as one object of JSON a line: of scripts, conf files, sessions (`sessions`) and reasons (`why`).
 //!
-//! The forms are this project's own; docs/JSON.md has them. Proved: what is written are the definitions in
+//! The forms are this project's own; docs/CLI.md has them. Proved: what is written are the definitions in
 //! `specs/`, byte for byte, where the reader and the writer tell their bytes.
 #![tactic(auto)]
 
 mod accepting;
 mod acting;
+mod admitting;
 mod answers;
 mod calls;
 mod events;
@@ -17,11 +18,14 @@ mod looking;
 mod objects;
 mod records;
 mod running;
+pub mod sessions;
 mod stretches;
 mod strings;
 mod tails;
+pub mod why;
 
 pub use accepting::accept_json;
+pub use admitting::print_json;
 pub use answers::{put_accept, put_groups, put_process_list, put_refusal, put_safe};
 pub use calls::{put_group, put_rule, put_verdict, right_name};
 pub use cpg_script::Fault;

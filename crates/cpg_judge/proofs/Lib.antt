@@ -1,5 +1,6 @@
 pub mod Audits
 pub mod Behind
+pub mod Between
 pub mod Ends
 pub mod Gathered
 pub mod Heard

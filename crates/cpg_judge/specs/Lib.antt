@@ -1,3 +1,6 @@
+pub mod FilterSteps
+pub mod Filtering
+pub mod Filters
 pub mod Gathering
 pub mod Inboxes
 pub mod Judging

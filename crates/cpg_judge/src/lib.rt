@@ -1,9 +1,11 @@
-//! `cpgring judge`: entries that a script lists are judged one after the other.
+//! `cpgring judge`: entries that a script lists are judged one after the other, and all that is printed of them, or what
+//! a filter keeps (`filter`).
 //!
 //! The forms are this project's own. Proved: what is read and what is written are the definitions in
 //! `specs/`, byte for byte, where the reader and the writer tell their bytes.
 #![tactic(auto)]
 
+pub mod filter;
 mod gathering;
 mod inboxes;
 mod judging;

@@ -1,5 +1,8 @@
 pub mod Commands
 pub mod Lines
+pub mod NumberedLines
+pub mod NumberedSteps
+pub mod Numbers
 pub mod Plain
 pub mod Running
 pub mod Scripts

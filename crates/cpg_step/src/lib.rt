@@ -2,13 +2,15 @@
 //!
 //! The forms are this project's own. Proved: the whole script is read and checked before it begins, each
 //! command meets the world that those before it left, and what is printed of it is the definition in
-//! `specs/`, byte for byte, where the reader and the writer tell their bytes.
+//! `specs/`, byte for byte, where the reader and the writer tell their bytes. `numbers` prints it with the numbers of the
+//! frames that were sent.
 #![tactic(auto)]
 
 mod acting;
 mod commands;
 mod looking;
 mod numbered;
+pub mod numbers;
 mod plain;
 mod printing;
 mod reading;

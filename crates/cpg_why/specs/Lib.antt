@@ -1,7 +1,9 @@
+pub mod Explaining
+pub mod Forms
 pub mod Laws
 pub mod Moves
 pub mod Scripts
+pub mod Sessions
 pub mod Texts
 pub mod Unmet
 pub mod Without
-pub mod Forms

@@ -1,5 +1,6 @@
 //! Why a verdict is what it is: the entries of a script are judged, and an answer is explained by the rule or the
-//! state that decided it.
+//! state that decided it. So are answers of the entries that stand on a running cluster's board (`sessions`), and of those
+//! in a world that commands made (`steps`).
 //!
 //! The form is this project's own. Proved: what is written is the definition in `specs/`, byte for byte, where the
 //! reader and the writer tell their bytes; and that what is named is what decided.
@@ -14,6 +15,8 @@ mod moves;
 mod numbers;
 mod reasons;
 mod scripts;
+pub mod sessions;
+pub mod steps;
 mod tables;
 mod telling;
 mod unmet;

@@ -10,9 +10,9 @@ use Rattle.cpg_why.specs.declared.asking.Asked.{Asked as Question}
 use Rattle.cpg_why.specs.declared.asking.Asked.TheVariants.{Place, Told}
 use Rattle.clap.specs.declared.parser.matches.Found.{Found}
 use Rattle.clap.specs.Words.{first_value}
-use Rattle.cpg_program.specs.declared.runs.Form.{Form}
-use Rattle.cpg_program.specs.declared.runs.Run.{Run}
-use Rattle.cpg_program.specs.declared.runs.Run.TheVariants.{Why}
+use Rattle.cpg_console.specs.declared.runs.Form.{Form}
+use Rattle.cpg_console.specs.declared.runs.Run.{Run}
+use Rattle.cpg_console.specs.declared.runs.Run.TheVariants.{Why}
 use Rattle.cpgring.specs.declared.asking.Asked.{Asked}
 use Rattle.cpgring.specs.declared.sources.Source.{Source}
 use Rattle.cpgring.specs.Asking.{why_words, words_before, IsAskedFor, IsEntryAsked, IsFormGiven, IsGivenBy, IsUsed, IsWhyAsked}

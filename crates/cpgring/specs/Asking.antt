@@ -8,26 +8,26 @@ use Rattle.clap.specs.Words.{first_value, matched_of, one_text, raw_values}
 use Rattle.clap.specs.declared.error.kind.ErrorKind.{ErrorKind}
 use Rattle.clap.specs.declared.error.kind.ErrorKind.TheVariants.{DisplayHelp, DisplayVersion, OutOfMemory}
 use Rattle.cpg_ring.specs.declared.settings.Settings.{Settings}
-use Rattle.cpg_program.specs.declared.auditing.Inquiry.{Inquiry}
-use Rattle.cpg_program.specs.declared.runs.Run.{Run}
+use Rattle.cpg_console.specs.declared.auditing.Inquiry.{Inquiry}
+use Rattle.cpg_console.specs.declared.runs.Run.{Run}
 use Rattle.cpg_cluster.specs.declared.forms.Manner.{Manner}
 use Rattle.cpg_cluster.specs.declared.forms.Patience.{Patience}
 use Rattle.cpg_cluster.specs.declared.forms.Patience.TheVariants.{Looks, Millis}
 use Rattle.cpg_cluster.specs.declared.forms.Shown.{Shown}
 use Rattle.cpg_cluster.specs.declared.forms.Shown.TheVariants.{Plain, Echoed}
 use Rattle.cpg_cluster.specs.declared.noting.Known.{Known}
-use Rattle.cpg_program.specs.declared.speaking.Spoken.{Spoken}
-use Rattle.cpg_program.specs.declared.speaking.Spoken.TheVariants as spoken
+use Rattle.cpg_console.specs.declared.speaking.Spoken.{Spoken}
+use Rattle.cpg_console.specs.declared.speaking.Spoken.TheVariants as spoken
 use Rattle.cpgring.specs.declared.asking.Asked.{Asked}
 use Rattle.cpgring.specs.declared.asking.AskedShell.{AskedShell}
 use Rattle.cpgring.specs.Filtering.{is_filtered, IsFilterGiven}
 use Rattle.cpgring.specs.Questions.{entry_named, question_named, words_for}
 use Rattle.cpgring.specs.Sources.{but_input, first_file, path_of, words_after}
-use Rattle.cpg_program.specs.declared.runs.Run.TheVariants.{Judge, JudgeOnly, Accept, Why, Step, StepWhy, Draw, Number, Cluster, ClusterWhy}
-use Rattle.cpg_program.specs.declared.runs.Form.{Form}
-use Rattle.cpg_program.specs.declared.runs.Form.TheVariants.{Text, Json}
-use Rattle.cpg_program.specs.declared.runs.Picture.{Picture}
-use Rattle.cpg_program.specs.declared.runs.Picture.TheVariants.{Svg, Lines}
+use Rattle.cpg_console.specs.declared.runs.Run.TheVariants.{Judge, JudgeOnly, Accept, Why, Step, StepWhy, Draw, Number, Cluster, ClusterWhy}
+use Rattle.cpg_console.specs.declared.runs.Form.{Form}
+use Rattle.cpg_console.specs.declared.runs.Form.TheVariants.{Text, Json}
+use Rattle.cpg_console.specs.declared.runs.Picture.{Picture}
+use Rattle.cpg_console.specs.declared.runs.Picture.TheVariants.{Svg, Lines}
 use Rattle.cpg_why.specs.declared.asking.Asked.{Asked as Question}
 use Rattle.cpg_why.specs.declared.asking.Asked.TheVariants.{Denials, Connection}
 use Rattle.cpg_print.specs.Entries.{conn_of_word}

@@ -7,9 +7,9 @@ use Rattle.cpg_text.specs.Numbers.{number_in}
 use Rattle.cpg_script.specs.Words.{◌>>=◌, after_name, cut_at}
 use Rattle.cpg_entry.specs.Names.{is_name}
 use Rattle.cpg_print.specs.Entries.{conn_of_word}
-use Rattle.cpg_filter.specs.declared.filters.Filter.{Filter}
-use Rattle.cpg_filter.specs.declared.filters.Only.{Only}
-use Rattle.cpg_filter.specs.declared.filters.Only.TheVariants.{Denied, Verdicts, Messages, Changes, Rules}
+use Rattle.cpg_judge.specs.declared.filter.filters.Filter.{Filter}
+use Rattle.cpg_judge.specs.declared.filter.filters.Only.{Only}
+use Rattle.cpg_judge.specs.declared.filter.filters.Only.TheVariants.{Denied, Verdicts, Messages, Changes, Rules}
 
 -- the kind of that name
 abbrev pub kind_named : List ℕ → Option Only

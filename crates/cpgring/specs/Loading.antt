@@ -1,7 +1,7 @@
 -- the files of `cpgring admit`, with their paths
 use Rattle.std.specs.Prelude.{◌≡◌, ℕ, List, Option, option_map}
-use Rattle.cpg_program.specs.declared.admitting.Admission.{Admission}
-use Rattle.cpg_program.specs.declared.admitting.NamedText.{NamedText}
+use Rattle.cpg_console.specs.declared.admitting.Admission.{Admission}
+use Rattle.cpg_console.specs.declared.admitting.NamedText.{NamedText}
 use Rattle.cpgring.specs.declared.admitting.Files.{Files}
 use Rattle.cpgring.specs.declared.loading.Loaded.{Loaded}
 use Rattle.cpgring.specs.declared.loading.LoadedText.{LoadedText}

@@ -6,8 +6,8 @@ ghost use Rattle.std.specs.Prelude.{◌≡◌, ◌<◌, ◌↔◌, ◌⊎◌, tr
 ghost use Rattle.std.specs.Io.KnownBytes.{Keeps};
 ghost use Rattle.clap.specs.Words.{found_of, first_value, subcommand_name_of};
 ghost use Rattle.clap.specs.Values.{kind_of};
-ghost use Rattle.cpg_program.specs.Pipes.{stream_of};
-ghost use Rattle.cpg_program.specs.declared.runs.Run.TheVariants.{Why};
+ghost use Rattle.cpg_console.specs.Pipes.{stream_of};
+ghost use Rattle.cpg_console.specs.declared.runs.Run.TheVariants.{Why};
 ghost use Rattle.cpgring.specs.Filtering.{is_filtered, IsBadFilter};
 ghost use Rattle.cpgring.specs.Sources.{but_input, path_of};
 ghost use Rattle.cpgring.specs.Asking.{name_of, words_found, AreSettingsGiven, IsAskedFor, IsFormGiven, IsInquiryGiven, IsMannerGiven, IsPictureGiven, IsShellGiven, IsShownGiven, IsSpokenGiven, patience_given, IsEntryAsked, words_before, IsStatusOf, IsUnused, IsUsed, SaysByKind, is_numbered};
@@ -23,11 +23,11 @@ use crate::sources::{Source, source_of, split_words};
 use crate::versions::write_commit;
 use clap::error::ErrorKind;
 use clap::{ArgMatches, Command, Error};
-use cpg_cred::Refusal;
-use cpg_program::{
+use cpg_console::{
     Asked as Question, Form, Inquiry, Known, Manner, Noted, Patience, Picture, Piped, Run, Shown,
     Spoken, tell_fault,
 };
+use cpg_cred::Refusal;
 use cpg_ring::Settings;
 use cpg_script::{Fault, read_u32};
 use cpg_text::write_whole;

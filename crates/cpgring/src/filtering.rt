@@ -10,8 +10,8 @@ ghost use Rattle.cpgring.specs.Filtering.{bound_of, group_named, kind_named, pla
 use crate::options::{CONNECTION, GROUP, ONLY, PLACES};
 use crate::questions::read_conn;
 use clap::ArgMatches;
+use cpg_console::{Filter, Only};
 use cpg_entry::accepts_name;
-use cpg_program::{Filter, Only};
 use cpg_record::ConnId;
 use cpg_script::{cut, is, read_u32, strip_name};
 

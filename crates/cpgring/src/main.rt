@@ -1,6 +1,6 @@
 //! The program `cpgring`: its command line, and its streams and exit status round `perform`.
 //!
-//! Nothing is decided here: what a run writes, and its status, is proved of `cpg_program`. Exit status: 0
+//! Nothing is decided here: what a run writes, and its status, is proved of `cpg_console`. Exit status: 0
 //! done, 1 a fault (told on standard error), 2 a fault of the command line.
 #![tactic(auto)]
 
@@ -25,11 +25,11 @@ use clap::error::ErrorKind;
 use clap::{ArgMatches, Error};
 use commands::build_command;
 use completions::completion_of;
-use cpg_cred::Cred;
-use cpg_program::{
+use cpg_console::{
     Counted, Ended, KeepsEnds, Piped, Run, Tracer, Untraced, perform, perform_admit, perform_shell,
     perform_with_hint, write_text,
 };
+use cpg_cred::Cred;
 use loading::{Loaded, NotLoaded, wrong_ask};
 use options::SHELL;
 use sources::{Source, greet, greet_shell, open_file, tell_unread};

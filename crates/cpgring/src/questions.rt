@@ -6,9 +6,9 @@ ghost use Rattle.std.specs.Prelude.{◌≡◌};
 ghost use Rattle.cpg_print.specs.Entries.{conn_of_word};
 ghost use Rattle.cpgring.specs.Questions.{entry_named, event_named, question_named};
 
+use cpg_console::Asked;
 use cpg_cred::{MOST_NODES, NodeId};
 use cpg_entry::MOST_CONNECTIONS;
-use cpg_program::Asked;
 use cpg_record::ConnId;
 use cpg_script::{cut, is, read_u32};
 

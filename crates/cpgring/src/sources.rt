@@ -7,8 +7,8 @@ ghost use Rattle.std.specs.List.{list_any};
 ghost use Rattle.cpg_text.specs.Streams.{AppendsFront};
 ghost use Rattle.cpgring.specs.Sources.{GreetsAt, but_input, cause_text, first_file, greeting, is_of_path, shell_greeting, lets_nobody_in, names_file, path_of, unread_line, words_after};
 
+use cpg_console::tell_fault;
 use cpg_cred::Refusal;
-use cpg_program::tell_fault;
 use cpg_script::{Fault, put, strip_name};
 use cpg_text::write_whole;
 use std::alloc::Global;

@@ -1,12 +1,12 @@
 //! `--trace`: the two files that a trace is written to.
 //!
-//! What is written is proved of `cpg_program`. That it is written into these files, and when, is tested.
+//! What is written is proved of `cpg_console`. That it is written into these files, and when, is tested.
 
 use crate::options::TRACE;
 use crate::sources::{Unread, tell_unread, why_unread};
 use clap::ArgMatches;
+use cpg_console::{Run, Tracer, trace_heading, trace_words};
 use cpg_cred::Refusal;
-use cpg_program::{Run, Tracer, trace_heading, trace_words};
 use cpg_ring::Settings;
 use cpg_text::write_whole;
 use std::alloc::{AllocError, Global};

@@ -1,0 +1,48 @@
+-- forms in which it is told whom the files let in, and what they tell
+use Rattle.std.specs.Prelude.{ℕ, List, [], ◌++◌, codes, decimal, Option}
+use Rattle.std.specs.List.{flat_map}
+use Rattle.cpg_cred.specs.Listed.{Listed}
+use Rattle.cpg_cred.specs.declared.admission.Via.{Via}
+use Rattle.cpg_cred.specs.declared.credentials.Cred.{Cred}
+use Rattle.cpg_accept.specs.Asks.{answer_line}
+use Rattle.cpg_accept.specs.Admitting.{answers_of}
+
+-- A form: the line of what lets credentials in, or of their refusal; that of a listed user; and that of a listed group.
+pub record Form : Type 0 where
+  pub answer : Option Via → List ℕ
+  pub user : ℕ → List ℕ
+  pub group : ℕ → List ℕ
+
+-- a listed user, and a listed group, as the word that lets them in
+abbrev pub user_line : ℕ → List ℕ
+user_line uid = codes "uid:" ++ decimal uid ++ codes "\n"
+
+abbrev pub group_line : ℕ → List ℕ
+group_line gid = codes "gid:" ++ decimal gid ++ codes "\n"
+
+-- lines of text
+abbrev pub as_text : Form
+as_text = record { answer = answer_line; user = user_line; group = group_line }
+
+-- what a form has of an answer, of a user and of a group
+abbrev pub answer_by : Form → Option Via → List ℕ
+answer_by form answer = form.answer answer
+
+abbrev pub user_by : Form → ℕ → List ℕ
+user_by form uid = form.user uid
+
+abbrev pub group_by : Form → ℕ → List ℕ
+group_by form gid = form.group gid
+
+-- the listed users, and then the listed groups
+abbrev pub list_told : Form → Listed → List ℕ
+list_told form list = flat_map (user_by form) list.users ++ flat_map (group_by form) list.groups
+
+-- what is told: for each of the credentials whether they are let in; where none are asked for, the list
+abbrev pub admitted_told : Form → Listed → List Cred → List ℕ
+admitted_told form list [] = list_told form list
+admitted_told form list asks = flat_map (answer_by form) (answers_of list asks)
+
+-- what is printed as text
+abbrev pub admitted_text : Listed → List Cred → List ℕ
+admitted_text list asks = admitted_told as_text list asks

@@ -1,0 +1,18 @@
+//! `cpgring admit`: whom a conf file lets in, as the file stands on a machine.
+//!
+//! The shape of the conf file is that of Corosync's; accounts are read from texts of passwd(5) and group(5) form, or
+//! from a names text. Proved: what is answered and told are the definitions in `specs/`, byte for byte.
+
+mod accounts;
+mod admitting;
+mod forms;
+mod printing;
+mod telling;
+mod texts;
+
+pub use accounts::{Book, add_accounts};
+pub use admitting::{answer, read_list};
+pub use forms::{AsText, TellsAdmitted};
+pub use printing::{print, print_in_form};
+pub use telling::fault_line;
+pub use texts::{AdmitFault, File, NamesFrom};

@@ -1,0 +1,92 @@
+-- what is told of the entries on a new cluster's board, and of one that is not there
+use Rattle.std.proofs.Common.{◌≡◌, ◌≤◌, ℕ, List, [], length, Option, Some, None, Result, Ok, Err, inl, refl, sym, ap, ◌∙◌, subst}
+use Rattle.std.proofs.lemmas.Bool.{false≢true}
+use Rattle.std.specs.Prelude.{IfSome, IsSome}
+use Rattle.std.proofs.KnownBytes.{Keeps-refl}
+use Rattle.cpg_cred.specs.Listed.{Listed}
+use Rattle.cpg_cred.specs.declared.refusals.Refusal.{Refusal}
+use Rattle.cpg_cred.specs.declared.refusals.Refusal.TheVariants as refusal
+use Rattle.cpg_text.specs.declared.streams.TheConstants.{MOST_BYTES}
+use Rattle.cpg_accept.specs.Accepting.{whole_fault}
+use Rattle.cpg_script.specs.declared.faults.Fault as script
+use Rattle.cpg_ring.specs.States.{IsSettings}
+use Rattle.cpg_ring.specs.declared.settings.Settings.{Settings}
+use Rattle.cpg_why.specs.declared.asking.Asked.{Asked}
+use Rattle.cpg_why.specs.declared.asking.WhyFault.{WhyFault}
+use Rattle.cpg_why.specs.declared.asking.WhyFault.TheVariants as why
+use Rattle.cpg_why.specs.Forms as told
+use Rattle.cpg_why.specs.Scripts.{EndsBy, EndsWhy}
+use Rattle.cpg_daemon.specs.Clusters.{ClusterValue}
+use Rattle.cpg_cluster.specs.declared.commands.Numbered.{Numbered}
+use Rattle.cpg_cluster.specs.Scripts.{commands_of_script}
+use Rattle.cpg_why.specs.Sessions.{AreRun, AreStopped, IsTold, Leaves}
+use Rattle.cpg_console.specs.declared.failures.Failure.{Failure}
+use Rattle.cpg_console.specs.declared.failures.Failure.TheVariants.{BadWord, Fault}
+use Rattle.cpg_console.specs.declared.runs.Form.{Form}
+use Rattle.cpg_console.specs.Runs.{failure_of_why, why_as, AuditedUpTo, TellsSessions}
+
+-- nothing is written after a wrong word
+pub none_of_words : (known : Option (List ℕ)) (form : Form) (asked : Asked) (s : Settings) (list : Option Listed) (a : Option (List ℕ)) → list ≡ None
+    → IfSome known (λ lines. TellsSessions form asked s list lines (Some BadWord) a a)
+none_of_words None form asked s list a is = tt
+none_of_words (Some lines) form asked s list a is = subst (λ (l : Option Listed). TellsSessions form asked s l lines (Some BadWord) a a) (sym is) (refl, Keeps-refl a)
+
+none_stopped : (list : Listed) (commands : Result (List Numbered) ℕ) → AreStopped list commands refusal.Memory
+none_stopped list (Ok lines) = (Some [], inl (Keeps-refl (Some [])))
+none_stopped list (Err bad) = (Some [], Keeps-refl (Some []))
+
+no_memory : (form : told.Form) (list : Listed) (commands : Result (List Numbered) ℕ) (asked : Asked) (a : Option (List ℕ)) → Leaves form [] list commands asked (why.Script (whole_fault refusal.Memory)) a a
+no_memory form list commands asked a = inl (refl, none_stopped list commands, Keeps-refl a)
+
+untold : (known : Option (List ℕ)) (form : Form) (asked : Asked) (s : Settings) (list : Listed) (a : Option (List ℕ))
+    → IfSome known (λ lines. TellsSessions form asked s (Some list) lines (Some (Fault (whole_fault refusal.Memory))) a a)
+untold None form asked s list a = tt
+untold (Some lines) form asked s list a = (refl, ([], no_memory (why_as form) list (commands_of_script s.nodes lines) asked a))
+
+-- where memory was refused before there was a cluster
+pub none_of_memory : (known : Option (List ℕ)) (form : Form) (asked : Asked) (s : Settings) (list : Listed) (refused : Refusal) (failure : Failure) (a : Option (List ℕ))
+    → failure ≡ Fault (record { part = None; refusal = refused }) → refused ≡ refusal.Memory
+    → IfSome known (λ lines. TellsSessions form asked s (Some list) lines (Some failure) a a)
+none_of_memory known form asked s list refused failure a is e =
+    subst (λ (f : Failure). IfSome known (λ lines. TellsSessions form asked s (Some list) lines (Some f) a a)) (sym (is ∙ ap (λ (r : Refusal). Fault (whole_fault r)) e))
+    (untold known form asked s list a)
+
+-- the same of a list that words give
+pub none_of_words_memory : (known : Option (List ℕ)) (form : Form) (asked : Asked) (s : Settings) (words : Option Listed) (refused : Refusal) (failure : Failure) (a : Option (List ℕ))
+    → IsSome words → failure ≡ Fault (record { part = None; refusal = refused }) → refused ≡ refusal.Memory
+    → IfSome known (λ lines. TellsSessions form asked s words lines (Some failure) a a)
+none_of_words_memory known form asked s None refused failure a some is e = absurd (false≢true some)
+none_of_words_memory known form asked s (Some list) refused failure a some is e = none_of_memory known form asked s list refused failure a is e
+
+-- and after settings out of their ranges
+pub none_of_settings : (known : Option (List ℕ)) (form : Form) (asked : Asked) (s : Settings) (list : Listed) (a : Option (List ℕ)) → ¬ IsSettings s
+    → IfSome known (λ lines. TellsSessions form asked s (Some list) lines (Some (Fault (whole_fault refusal.Range))) a a)
+none_of_settings None form asked s list a out = tt
+none_of_settings (Some lines) form asked s list a out = (refl, (out, Keeps-refl a))
+
+-- the whole script was run over the new cluster, and what is asked is told of its board
+pub all_told : (known : Option (List ℕ)) (form : Form) (asked : Asked) (s : Settings) (list : Listed) (board : List ℕ) (a b : Option (List ℕ)) → length board ≡ s.places
+    → IfSome known (λ lines. (length lines ≤ MOST_BYTES) × AreRun list (commands_of_script s.nodes lines)) → IsTold (why_as form) board asked a b
+    → IfSome known (λ lines. TellsSessions form asked s (Some list) lines None a b)
+all_told None form asked s list board a b places ran is = tt
+all_told (Some lines) form asked s list board a b places ran is = (ran.0, ran.1, (board, places, is))
+
+up_to : (refused : Refusal) (form : Form) (asked : Asked) (s : Settings) (list : Listed) (lines : List ℕ) (fault : script.Fault) (board : List ℕ) (a b : Option (List ℕ))
+    → EndsBy refused a b → Leaves (why_as form) board list (commands_of_script s.nodes lines) asked (why.Script fault) a b → AuditedUpTo refused form asked s list lines fault a b
+up_to refusal.Range form asked s list lines fault board a b ends h = absurd ends
+up_to _ form asked s list lines fault board a b ends h = (board, h)
+
+part : (form : Form) (asked : Asked) (s : Settings) (list : Listed) (lines : List ℕ) (fault : WhyFault) (board : List ℕ) (a b : Option (List ℕ)) → EndsWhy asked fault a b
+    → Leaves (why_as form) board list (commands_of_script s.nodes lines) asked fault a b → TellsSessions form asked s (Some list) lines (Some (failure_of_why fault)) a b
+part form asked s list lines (why.Script fault) board a b ends h = (ends.0, up_to fault.refusal form asked s list lines fault board a b ends.1 h)
+part form asked s list lines (why.Missing what) board a b ends h = (board, h)
+
+-- a fault ended it
+pub part_told : (known : Option (List ℕ)) (form : Form) (asked : Asked) (s : Settings) (list : Listed) (cluster : ClusterValue) (board : List ℕ) (fault : WhyFault) (failure : Failure) (a b : Option (List ℕ))
+    → cluster ≡ record { nodes = s.nodes; list = list } → failure ≡ failure_of_why fault → EndsWhy asked fault a b
+    → IfSome known (λ lines. Leaves (why_as form) board cluster.list (commands_of_script cluster.nodes lines) asked fault a b)
+    → IfSome known (λ lines. TellsSessions form asked s (Some list) lines (Some failure) a b)
+part_told None form asked s list cluster board fault failure a b started is ends h = tt
+part_told (Some lines) form asked s list cluster board fault failure a b started is ends h =
+    subst (λ (f : Failure). TellsSessions form asked s (Some list) lines (Some f) a b) (sym is)
+    (part form asked s list lines fault board a b ends (subst (λ (c : ClusterValue). Leaves (why_as form) board c.list (commands_of_script c.nodes lines) asked fault a b) started h))

@@ -1,0 +1,69 @@
+-- what is written of a script that is run over a new cluster, and of one that finds none
+use Rattle.std.proofs.Common.{◌≡◌, ℕ, List, Option, Some, None, Result, Ok, Err, inl, refl, sym, subst}
+use Rattle.std.specs.Prelude.{IfSome}
+use Rattle.std.proofs.KnownBytes.{Keeps-refl}
+use Rattle.cpg_cred.specs.Listed.{Listed}
+use Rattle.cpg_cred.specs.declared.refusals.Refusal.{Refusal}
+use Rattle.cpg_cred.specs.declared.refusals.Refusal.TheVariants as refusal
+use Rattle.cpg_accept.specs.Accepting.{whole_fault}
+use Rattle.cpg_script.specs.declared.faults.Fault as script
+use Rattle.cpg_script.specs.Written.{WritesLate}
+use Rattle.cpg_ring.specs.States.{IsSettings}
+use Rattle.cpg_ring.specs.declared.settings.Settings.{Settings}
+use Rattle.cpg_cluster.specs.declared.commands.Numbered.{Numbered}
+use Rattle.cpg_cluster.specs.Lines.{Printed}
+use Rattle.cpg_cluster.specs.Running as cluster
+use Rattle.cpg_cluster.specs.Scripts.{commands_of_script}
+use Rattle.cpg_console.specs.declared.failures.Failure.{Failure}
+use Rattle.cpg_console.specs.declared.failures.Failure.TheVariants.{BadWord, Fault, Missing}
+use Rattle.cpg_console.specs.Runs.{Clusters, ClustersUpTo, FailsLate}
+use Rattle.cpg_console.specs.Starting.{ClusterLeaves}
+
+-- nothing is written after a wrong word
+pub none_of_words : (known : Option (List ℕ)) (printed : Printed) (s : Settings) (list : Option Listed) (a : Option (List ℕ)) → list ≡ None → IfSome known (λ lines. Clusters printed s list lines (Some BadWord) a a)
+none_of_words None printed s list a is = tt
+none_of_words (Some lines) printed s list a is = subst (λ (l : Option Listed). Clusters printed s l lines (Some BadWord) a a) (sym is) (refl, Keeps-refl a)
+
+no_memory : (printed : Printed) (list : Listed) (commands : Result (List Numbered) ℕ) (a : Option (List ℕ)) → cluster.Leaves printed list commands refusal.Memory a a
+no_memory printed list (Ok commands) a = inl (Keeps-refl a)
+no_memory printed list (Err bad) a = Keeps-refl a
+
+-- where memory was refused
+pub none_of_memory : (known : Option (List ℕ)) (printed : Printed) (s : Settings) (list : Listed) (a : Option (List ℕ)) → IfSome known (λ lines. Clusters printed s (Some list) lines (Some (Fault (whole_fault refusal.Memory))) a a)
+none_of_memory None printed s list a = tt
+none_of_memory (Some lines) printed s list a = (refl, no_memory printed list (commands_of_script s.nodes lines) a)
+
+-- and after settings out of their ranges
+pub none_of_settings : (known : Option (List ℕ)) (printed : Printed) (s : Settings) (list : Listed) (a : Option (List ℕ)) → ¬ IsSettings s → IfSome known (λ lines. Clusters printed s (Some list) lines (Some (Fault (whole_fault refusal.Range))) a a)
+none_of_settings None printed s list a out = tt
+none_of_settings (Some lines) printed s list a out = (refl, (out, Keeps-refl a))
+
+no_range : (printed : Printed) (list : Listed) (commands : Result (List Numbered) ℕ) (a b : Option (List ℕ)) → cluster.Leaves printed list commands refusal.Range a b → ⊥
+no_range printed list (Ok commands) a b h = h
+no_range printed list (Err bad) a b h = h
+
+up_to : (printed : Printed) (s : Settings) (list : Listed) (lines : List ℕ) (refused : Refusal) (a b : Option (List ℕ))
+    → cluster.Leaves printed list (commands_of_script s.nodes lines) refused a b → ClustersUpTo printed s list lines refused a b
+up_to printed s list lines refusal.Range a b h = absurd (no_range printed list (commands_of_script s.nodes lines) a b h)
+up_to printed s list lines refused a b h = h
+
+left : (printed : Printed) (s : Settings) (list : Listed) (lines : List ℕ) (failure : Failure) (a b : Option (List ℕ)) → ClusterLeaves printed s.nodes list lines failure a b → Clusters printed s (Some list) lines (Some failure) a b
+left printed s list lines BadWord a b h = h
+left printed s list lines (Missing what) a b h = h
+left printed s list lines (Fault fault) a b h = (h.0, up_to printed s list lines fault.refusal a b h.1)
+
+-- a fault of the script ended it
+pub left_clustered : (known : Option (List ℕ)) (printed : Printed) (s : Settings) (list : Listed) (failure : Failure) (a b : Option (List ℕ))
+    → IfSome known (λ lines. ClusterLeaves printed s.nodes list lines failure a b) → IfSome known (λ lines. Clusters printed s (Some list) lines (Some failure) a b)
+left_clustered None printed s list failure a b h = tt
+left_clustered (Some lines) printed s list failure a b h = left printed s list lines failure a b h
+
+late_of : (refused : Refusal) (a b : Option (List ℕ)) → cluster.EndsRunning refused a b → WritesLate refused a b
+late_of refusal.Read a b h = h
+late_of (refusal.BadCommand line) a b h = h
+late_of refusal.Write a b h = tt
+late_of refusal.Memory a b h = tt
+late_of _ a b h = absurd h
+
+pub part_late : (fault : script.Fault) (a b : Option (List ℕ)) → cluster.EndsRunning fault.refusal a b → FailsLate (Fault fault) a b
+part_late fault a b h = late_of fault.refusal a b h

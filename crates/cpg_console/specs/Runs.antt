@@ -1,0 +1,256 @@
+-- what a run of the program prints of a script, and how it ends
+use Rattle.std.specs.Prelude.{ℕ, ◌≡◌, ◌≤◌, Bool, true, false, List, length, map, Option, Some, None, Result, Ok, Err}
+use Rattle.std.specs.Io.KnownBytes.{Keeps}
+use Rattle.cpg_cred.specs.Listed.{Listed}
+use Rattle.cpg_cred.specs.declared.refusals.Refusal.{Refusal}
+use Rattle.cpg_cred.specs.declared.refusals.Refusal.TheVariants.{Range, Write}
+use Rattle.cpg_text.specs.declared.streams.TheConstants.{MOST_BYTES}
+use Rattle.cpg_script.specs.declared.faults.Fault as script_faults
+use Rattle.cpg_script.specs.Written.{WritesLate}
+use Rattle.cpg_ring.specs.States.{IsSettings}
+use Rattle.cpg_ring.specs.declared.settings.Settings.{Settings}
+use Rattle.cpg_world_laws.specs.Worlds.{WorldValue, new_world}
+use Rattle.cpg_accept.specs.Accepting as accept
+use Rattle.cpg_judge.specs.Judging as judge
+use Rattle.cpg_judge.specs.Scripts.{entries_of_script}
+use Rattle.cpg_judge.specs.Filtering as filtered
+use Rattle.cpg_step.specs.Running as step
+use Rattle.cpg_step.specs.Scripts.{commands_of_script}
+use Rattle.cpg_step.specs.declared.commands.Command.{Command}
+use Rattle.cpg_draw.specs.Drawing as draw
+use Rattle.cpg_draw.specs.PictureDrawing as svg
+use Rattle.cpg_step.specs.NumberedSteps as numbers
+use Rattle.cpg_json.specs.Judging as json
+use Rattle.cpg_json.specs.Accepting as json_accept
+use Rattle.cpg_json.specs.Stepping as json_step
+use Rattle.cpg_why.specs.Forms as told
+use Rattle.cpg_why.specs.Scripts as why
+use Rattle.cpg_json.specs.Whys.{as_json}
+use Rattle.cpg_why.specs.Explaining as told_steps
+use Rattle.cpg_why.specs.Sessions as audit
+use Rattle.cpg_why.specs.declared.asking.Asked.{Asked}
+use Rattle.cpg_why.specs.declared.asking.WhyFault as why_faults
+use Rattle.cpg_why.specs.declared.asking.WhyFault.TheVariants as why_fault
+use Rattle.cpg_cluster.specs.Lines.{Printed}
+use Rattle.cpg_cluster.specs.Running as cluster
+use Rattle.cpg_cluster.specs.Scripts as clustered
+use Rattle.cpg_console.specs.Speaking.{spoken_as}
+use Rattle.cpg_console.specs.Words.{list_of_words}
+use Rattle.cpg_console.specs.declared.failures.Failure.{Failure}
+use Rattle.cpg_console.specs.declared.failures.Failure.TheVariants.{BadWord, Fault, Missing}
+use Rattle.cpg_console.specs.declared.runs.Form.{Form}
+use Rattle.cpg_console.specs.declared.runs.Form.TheVariants.{Text, Json}
+use Rattle.cpg_console.specs.declared.runs.Picture.{Picture}
+use Rattle.cpg_console.specs.declared.runs.Picture.TheVariants as picture
+use Rattle.cpg_console.specs.declared.runs.Run.{Run}
+use Rattle.cpg_console.specs.declared.runs.Run.TheVariants.{Judge, JudgeOnly, Why, Accept, Step, StepWhy, Draw, Number, Cluster, ClusterWhy}
+
+-- the exit status: 0, after a fault 1, after a fault of the command line 2: a wrong word, or a question of what is not there
+abbrev pub status_after : Option Failure → ℕ
+status_after None = 0
+status_after (Some (Fault fault)) = 1
+status_after (Some BadWord) = 2
+status_after (Some (Missing what)) = 2
+
+-- how `why` tells what it tells
+abbrev pub why_as : Form → told.Form
+why_as Text = told.as_text
+why_as Json = as_json
+
+-- a script was run over a world, and all its lines are written
+abbrev pub IsRun : Form → Result (List Command) ℕ → WorldValue → Option (List ℕ) → Option (List ℕ) → WorldValue → Type 0
+IsRun Text commands w old new world = step.IsRun commands w old new world
+IsRun Json commands w old new world = json_step.IsRun commands w old new world
+
+-- what a refusal leaves of it
+abbrev pub LeavesRun : Form → Result (List Command) ℕ → Refusal → WorldValue → Option (List ℕ) → Option (List ℕ) → WorldValue → Type 0
+LeavesRun Text commands refused w old new world = step.Leaves commands refused w old new world
+LeavesRun Json commands refused w old new world = json_step.Leaves commands refused w old new world
+
+-- The script was run over a new world, and all its lines are written.
+abbrev pub StepsAll : Form → Settings → Listed → List ℕ → Option (List ℕ) → Option (List ℕ) → Type 0
+StepsAll form s list script old new = (length script ≤ MOST_BYTES) × (world : WorldValue) × IsRun form (commands_of_script s.nodes script) (new_world s list) old new world
+
+-- What a refusal leaves written of a script that is run over a new world; Range tells that there is none of those settings.
+abbrev pub StepsUpTo : Form → Settings → Listed → List ℕ → Refusal → Option (List ℕ) → Option (List ℕ) → Type 0
+StepsUpTo form s list script Range old new = (¬ IsSettings s) × Keeps old new
+StepsUpTo form s list script refused old new = (world : WorldValue) × LeavesRun form (commands_of_script s.nodes script) refused (new_world s list) old new world
+
+-- what `step` writes of a script, by the list that its words give
+abbrev pub Steps : Form → Settings → Option Listed → List ℕ → Option Failure → Option (List ℕ) → Option (List ℕ) → Type 0
+Steps form s None script failure old new = (failure ≡ Some BadWord) × Keeps old new
+Steps form s (Some list) script None old new = StepsAll form s list script old new
+Steps form s (Some list) script (Some (Fault fault)) old new = (fault.part ≡ None) × StepsUpTo form s list script fault.refusal old new
+Steps form s (Some list) script _ old new = ⊥
+
+-- what a refusal leaves of what is told of what a world delivered; Range tells that there is no world of those settings
+abbrev pub ToldUpTo : Form → Asked → Settings → Listed → List ℕ → Refusal → Option (List ℕ) → Option (List ℕ) → Type 0
+ToldUpTo form asked s list script Range old new = (¬ IsSettings s) × Keeps old new
+ToldUpTo form asked s list script refused old new =
+    (world : WorldValue) × told_steps.LeavesBy (why_as form) (commands_of_script s.nodes script) asked refused (new_world s list) old new world
+
+-- what `step --why` writes of a script, by the list that its words give: what is told of what a new world delivered by its commands
+abbrev pub TellsSteps : Form → Asked → Settings → Option Listed → List ℕ → Option Failure → Option (List ℕ) → Option (List ℕ) → Type 0
+TellsSteps form asked s None script failure old new = (failure ≡ Some BadWord) × Keeps old new
+TellsSteps form asked s (Some list) script None old new =
+    (length script ≤ MOST_BYTES) × ((world : WorldValue) × told_steps.IsExplained (why_as form) (commands_of_script s.nodes script) asked (new_world s list) old new world)
+TellsSteps form asked s (Some list) script (Some (Fault fault)) old new = (fault.part ≡ None) × ToldUpTo form asked s list script fault.refusal old new
+TellsSteps form asked s (Some list) script (Some (Missing what)) old new =
+    (world : WorldValue) × told_steps.Leaves (why_as form) (commands_of_script s.nodes script) asked (why_fault.Missing what) (new_world s list) old new world
+TellsSteps form asked s (Some list) script (Some BadWord) old new = ⊥
+
+-- the picture of a script's run, as one SVG or as lines for a terminal, is written, or its lines with the numbers of frames
+abbrev pub IsDrawn : Picture → Result (List Command) ℕ → WorldValue → Option (List ℕ) → Option (List ℕ) → Type 0
+IsDrawn picture.Svg commands w old new = svg.IsDrawn commands w old new
+IsDrawn picture.Lines commands w old new = draw.IsDrawn commands w old new
+IsDrawn picture.Numbered commands w old new = numbers.IsStepped commands w old new
+
+-- what a refusal leaves of it
+abbrev pub LeavesDrawn : Picture → Result (List Command) ℕ → Refusal → WorldValue → Option (List ℕ) → Option (List ℕ) → Type 0
+LeavesDrawn picture.Svg commands refused w old new = svg.Leaves commands refused w old new
+LeavesDrawn picture.Lines commands refused w old new = draw.Leaves commands refused w old new
+LeavesDrawn picture.Numbered commands refused w old new = numbers.Leaves commands refused w old new
+
+-- What a refusal leaves written of the picture of a script's run; Range tells that there is no world of those settings.
+abbrev pub DrawsUpTo : Picture → Settings → Listed → List ℕ → Refusal → Option (List ℕ) → Option (List ℕ) → Type 0
+DrawsUpTo kind s list script Range old new = (¬ IsSettings s) × Keeps old new
+DrawsUpTo kind s list script refused old new = LeavesDrawn kind (commands_of_script s.nodes script) refused (new_world s list) old new
+
+-- what `draw` writes of a script, by the list that its words give: the picture of its run over a new world
+abbrev pub Draws : Picture → Settings → Option Listed → List ℕ → Option Failure → Option (List ℕ) → Option (List ℕ) → Type 0
+Draws kind s None script failure old new = (failure ≡ Some BadWord) × Keeps old new
+Draws kind s (Some list) script None old new = (length script ≤ MOST_BYTES) × IsDrawn kind (commands_of_script s.nodes script) (new_world s list) old new
+Draws kind s (Some list) script (Some (Fault fault)) old new = (fault.part ≡ None) × DrawsUpTo kind s list script fault.refusal old new
+Draws kind s (Some list) script _ old new = ⊥
+
+-- the judgement of a script, as text or as JSON, is written
+abbrev pub IsJudged : Form → List ℕ → Option (List ℕ) → Option (List ℕ) → Type 0
+IsJudged Text script old new = judge.IsWritten (entries_of_script script) old new
+IsJudged Json script old new = json.IsWritten (entries_of_script script) old new
+
+-- what a refusal leaves of it
+abbrev pub LeavesJudged : Form → List ℕ → Refusal → Option (List ℕ) → Option (List ℕ) → Type 0
+LeavesJudged Text script refused old new = judge.Leaves (entries_of_script script) refused old new
+LeavesJudged Json script refused old new = json.Leaves (entries_of_script script) refused old new
+
+-- the answers to a script's asks, as text or as JSON, are written
+abbrev pub AreAnswered : Form → List ℕ → Option (List ℕ) → Option (List ℕ) → Type 0
+AreAnswered Text script old new = accept.IsWritten (accept.admitted_by script) old new
+AreAnswered Json script old new = json_accept.AreWritten (accept.admitted_by script) old new
+
+-- what a fault leaves of them
+abbrev pub LeavesAnswered : Form → List ℕ → script_faults.Fault → Option (List ℕ) → Option (List ℕ) → Type 0
+LeavesAnswered Text script fault old new = accept.Ends script fault old new
+LeavesAnswered Json script fault old new = json_accept.Ends script fault old new
+
+-- why nothing is explained, as a failure
+abbrev pub failure_of_why : why_faults.WhyFault → Failure
+failure_of_why (why_fault.Script fault) = Fault fault
+failure_of_why (why_fault.Missing what) = Missing what
+
+-- what `why` writes of a script: what it tells of what is asked, or after a fault what that fault leaves
+abbrev pub Explains : Form → Asked → List ℕ → Option Failure → Option (List ℕ) → Option (List ℕ) → Type 0
+Explains form asked script None old new = (length script ≤ MOST_BYTES) × why.IsWritten (why_as form) (entries_of_script script) (why.numbers_of script) asked old new
+Explains form asked script (Some (Fault fault)) old new = why.Leaves (why_as form) (entries_of_script script) (why.numbers_of script) asked (why_fault.Script fault) old new
+Explains form asked script (Some (Missing what)) old new = why.Leaves (why_as form) (entries_of_script script) (why.numbers_of script) asked (why_fault.Missing what) old new
+Explains form asked script (Some BadWord) old new = ⊥
+
+-- The script was run over a cluster of so many nodes that accept by that list, and all its text is written.
+abbrev pub ClustersAll : Printed → ℕ → Listed → List ℕ → Option (List ℕ) → Option (List ℕ) → Type 0
+ClustersAll printed nodes list script old new = (length script ≤ MOST_BYTES) × cluster.IsRun printed list (clustered.commands_of_script nodes script) old new
+
+-- What a refusal leaves written of it; Range tells that there is no cluster of those settings.
+abbrev pub ClustersUpTo : Printed → Settings → Listed → List ℕ → Refusal → Option (List ℕ) → Option (List ℕ) → Type 0
+ClustersUpTo printed s list script Range old new = (¬ IsSettings s) × Keeps old new
+ClustersUpTo printed s list script refused old new = cluster.Leaves printed list (clustered.commands_of_script s.nodes script) refused old new
+
+-- what `run` writes of a script in that form, by the list that its words give
+abbrev pub Clusters : Printed → Settings → Option Listed → List ℕ → Option Failure → Option (List ℕ) → Option (List ℕ) → Type 0
+Clusters printed s None script failure old new = (failure ≡ Some BadWord) × Keeps old new
+Clusters printed s (Some list) script None old new = ClustersAll printed s.nodes list script old new
+Clusters printed s (Some list) script (Some (Fault fault)) old new = (fault.part ≡ None) × ClustersUpTo printed s list script fault.refusal old new
+Clusters printed s (Some list) script _ old new = ⊥
+
+-- what is asked is told of the entries that stand on a board of so many places
+abbrev pub IsAudited : Form → Asked → ℕ → Option (List ℕ) → Option (List ℕ) → Type 0
+IsAudited form asked places old new = (board : List ℕ) × (length board ≡ places) × audit.IsTold (why_as form) board asked old new
+
+-- what a fault leaves of that, by its refusal; Range tells that there is no cluster of those settings
+abbrev pub AuditedUpTo : Refusal → Form → Asked → Settings → Listed → List ℕ → script_faults.Fault → Option (List ℕ) → Option (List ℕ) → Type 0
+AuditedUpTo Range form asked s list script fault old new = (¬ IsSettings s) × Keeps old new
+AuditedUpTo refused form asked s list script fault old new =
+    (board : List ℕ) × audit.Leaves (why_as form) board list (clustered.commands_of_script s.nodes script) asked (why_fault.Script fault) old new
+
+-- what `run --why` writes of a script, by the list that its words give: what is told of what stands on a new cluster's board after its commands
+abbrev pub TellsSessions : Form → Asked → Settings → Option Listed → List ℕ → Option Failure → Option (List ℕ) → Option (List ℕ) → Type 0
+TellsSessions form asked s None script failure old new = (failure ≡ Some BadWord) × Keeps old new
+TellsSessions form asked s (Some list) script None old new =
+    (length script ≤ MOST_BYTES) × audit.AreRun list (clustered.commands_of_script s.nodes script) × IsAudited form asked s.places old new
+TellsSessions form asked s (Some list) script (Some (Fault fault)) old new =
+    (fault.part ≡ None) × AuditedUpTo fault.refusal form asked s list script fault old new
+TellsSessions form asked s (Some list) script (Some (Missing what)) old new =
+    (board : List ℕ) × audit.Leaves (why_as form) board list (clustered.commands_of_script s.nodes script) asked (why_fault.Missing what) old new
+TellsSessions form asked s (Some list) script (Some BadWord) old new = ⊥
+
+-- a word of the run's command line lets nobody in
+abbrev pub HasWrongWord : Run → Type 0
+HasWrongWord (Judge form) = ⊥
+HasWrongWord (JudgeOnly filter) = ⊥
+HasWrongWord (Why form asked) = ⊥
+HasWrongWord (Accept form) = ⊥
+HasWrongWord (Step form settings words) = list_of_words (map (λ word. word.now) words.now) ≡ None
+HasWrongWord (StepWhy form asked settings words) = list_of_words (map (λ word. word.now) words.now) ≡ None
+HasWrongWord (Draw picture settings words) = list_of_words (map (λ word. word.now) words.now) ≡ None
+HasWrongWord (Number settings words) = list_of_words (map (λ word. word.now) words.now) ≡ None
+HasWrongWord (Cluster manner settings words) = list_of_words (map (λ word. word.now) words.now) ≡ None
+HasWrongWord (ClusterWhy inquiry settings words) = list_of_words (map (λ word. word.now) words.now) ≡ None
+
+-- what a run writes of a script to standard output: all of its text, or after a fault what that fault leaves
+abbrev pub Prints : Run → List ℕ → Option Failure → Option (List ℕ) → Option (List ℕ) → Type 0
+Prints (Judge form) script None old new = (length script ≤ MOST_BYTES) × IsJudged form script old new
+Prints (Judge form) script (Some (Fault fault)) old new = (fault.part ≡ None) × LeavesJudged form script fault.refusal old new
+Prints (JudgeOnly filter) script None old new = (length script ≤ MOST_BYTES) × filtered.IsWritten filter (entries_of_script script) old new
+Prints (JudgeOnly filter) script (Some (Fault fault)) old new = (fault.part ≡ None) × filtered.Leaves filter (entries_of_script script) fault.refusal old new
+Prints (Why form asked) script failure old new = Explains form asked script failure old new
+Prints (Accept form) script None old new = (length script ≤ MOST_BYTES) × AreAnswered form script old new
+Prints (Accept form) script (Some (Fault fault)) old new = LeavesAnswered form script fault old new
+Prints (Step form settings words) script failure old new = Steps form settings (list_of_words (map (λ word. word.now) words.now)) script failure old new
+Prints (StepWhy form asked settings words) script failure old new = TellsSteps form asked settings (list_of_words (map (λ word. word.now) words.now)) script failure old new
+Prints (Draw kind settings words) script failure old new = Draws kind settings (list_of_words (map (λ word. word.now) words.now)) script failure old new
+Prints (Number settings words) script failure old new = Draws picture.Numbered settings (list_of_words (map (λ word. word.now) words.now)) script failure old new
+Prints (Cluster manner settings words) script failure old new = Clusters (spoken_as manner.form) settings (list_of_words (map (λ word. word.now) words.now)) script failure old new
+Prints (ClusterWhy inquiry settings words) script failure old new =
+    TellsSessions inquiry.form inquiry.asked settings (list_of_words (map (λ word. word.now) words.now)) script failure old new
+Prints _ script _ old new = ⊥
+
+-- nothing is written before the words were found right, and the script read and checked
+abbrev pub FailsLate : Failure → Option (List ℕ) → Option (List ℕ) → Type 0
+FailsLate BadWord old new = Keeps old new
+FailsLate (Missing what) old new = Keeps old new
+FailsLate (Fault fault) old new = WritesLate fault.refusal old new
+
+-- the failure is a fault of the command line
+abbrev pub IsOfWords : Failure → Type 0
+IsOfWords (Fault fault) = ⊥
+IsOfWords _ = Unit {0}
+
+-- why a script was not run to its end, where it was not
+abbrev pub failure_of : Result (Unit {0}) Failure → Option Failure
+failure_of (Err failure) = Some failure
+failure_of (Ok done) = None
+
+-- the failure of a run: its script's, but one of writing where the flush after it failed; a fault of the command line, after which nothing is
+-- written, stays
+abbrev pub failure_told : Bool → Option Failure → Option Failure
+failure_told flushed (Some BadWord) = Some BadWord
+failure_told flushed (Some (Missing what)) = Some (Missing what)
+failure_told true first = first
+failure_told false first = Some (Fault (accept.whole_fault Write))
+
+-- A run prints what its script's own end leaves, and the flush after it changes nothing of that; it tells that end, or the flush that failed.
+pub record Runs (run : Run) (script : List ℕ) (flushed : Bool) (failure : Option Failure) (old new : Option (List ℕ)) : Type 0 where
+  pub first : Option Failure
+  pub gathered : Option (List ℕ)
+  pub prints : Prints run script first old gathered
+  pub kept : Keeps gathered new
+  pub tells : failure ≡ failure_told flushed first

@@ -1,0 +1,28 @@
+-- how a world or a cluster starts, or does not: steps of the functions that no contract of a public function cites
+use Rattle.std.specs.Prelude.{ℕ, ◌≡◌, ◌⊎◌, List, Option, Some, None}
+use Rattle.cpg_cred.specs.Listed.{Listed}
+use Rattle.cpg_cred.specs.declared.refusals.Refusal.TheVariants.{Range, Memory}
+use Rattle.cpg_ring.specs.States.{IsSettings}
+use Rattle.cpg_ring.specs.declared.settings.Settings.{Settings}
+use Rattle.cpg_world_laws.specs.Worlds.{WorldValue, new_world}
+use Rattle.cpg_accept.specs.Accepting.{whole_fault}
+use Rattle.cpg_cluster.specs.Lines.{Printed}
+use Rattle.cpg_cluster.specs.Running as cluster
+use Rattle.cpg_cluster.specs.Scripts.{commands_of_script}
+use Rattle.cpg_console.specs.declared.failures.Failure.{Failure}
+use Rattle.cpg_console.specs.declared.failures.Failure.TheVariants.{BadWord, Fault}
+
+-- the world is a new one of the list, which is there
+abbrev pub IsStarted : Settings → Option Listed → WorldValue → Type 0
+IsStarted s None w = ⊥
+IsStarted s (Some list) w = w ≡ new_world s list
+
+-- why there is none: a wrong word, or want of memory, or settings out of their ranges
+abbrev pub IsNotStarted : Settings → Option Listed → Failure → Type 0
+IsNotStarted s None failure = failure ≡ BadWord
+IsNotStarted s (Some list) failure = (failure ≡ Fault (whole_fault Memory)) ⊎ ((failure ≡ Fault (whole_fault Range)) × (¬ IsSettings s))
+
+-- what a failure leaves of a script over a cluster of so many nodes that accept by that list
+abbrev pub ClusterLeaves : Printed → ℕ → Listed → List ℕ → Failure → Option (List ℕ) → Option (List ℕ) → Type 0
+ClusterLeaves printed nodes list script (Fault fault) old new = (fault.part ≡ None) × cluster.Leaves printed list (commands_of_script nodes script) fault.refusal old new
+ClusterLeaves printed nodes list script _ old new = ⊥

@@ -1,0 +1,65 @@
+-- The picture of a run as one SVG: rows, and then the marks of the frames that were lost.
+use Rattle.std.specs.Prelude.{ℕ, zero, suc, ◌≡◌, ◌+◌, List, [], ◌∷◌, ◌++◌, codes, decimal, length}
+use Rattle.cpg_world_laws.specs.Worlds.{WorldValue}
+use Rattle.cpg_world_laws.specs.Replies.{Answer, AreReplies}
+use Rattle.cpg_step.specs.declared.commands.Command.{Command}
+use Rattle.cpg_step.specs.Running.{events_in, after}
+use Rattle.cpg_draw.specs.declared.arrows.Arrow.{Arrow}
+use Rattle.cpg_draw.specs.Rows.{first_arrows}
+use Rattle.cpg_draw.specs.declared.svg.layout.TheConstants.{LEAST_LETTERS}
+use Rattle.cpg_draw.specs.declared.svg.style.TheConstants.{STYLE}
+use Rattle.cpg_draw.specs.Layout.{x_of, y_of, width_of, number_x, number_y}
+use Rattle.cpg_draw.specs.Shapes.{point, text_at}
+use Rattle.cpg_draw.specs.PictureArrows.{lost_in, lost_shapes}
+use Rattle.cpg_draw.specs.PictureRows.{Row, start_row, rows_of, arrows_past, most_letters, shapes_of}
+
+-- the number of a node over its column, and the column down to a row
+unfoldable pub column_of : ℕ → ℕ → List ℕ
+column_of last node =
+    text_at (number_x node) number_y (decimal node)
+    ++ codes "<path d='M" ++ point (x_of node) (y_of 0) ++ codes "V" ++ decimal (y_of last) ++ codes "'/>\n"
+
+-- the columns of so many nodes
+abbrev pub columns_of : ℕ → ℕ → List ℕ
+columns_of last zero = []
+columns_of last (suc before) = columns_of last before ++ column_of last (suc before)
+
+-- an SVG begins
+unfoldable pub namespace : List ℕ
+namespace = codes "<svg xmlns='http://www.w3.org/2000/svg' viewBox='0 0 "
+
+-- the style sheet, the head of arrows, the paper and the key, as they stand in the constant
+unfoldable pub style : List ℕ
+style = STYLE.now
+
+-- the beginning of an SVG of that size
+unfoldable pub opening : ℕ → ℕ → List ℕ
+opening width height =
+    namespace ++ point width height
+    ++ codes "' width='" ++ decimal width ++ codes "' height='" ++ decimal height ++ codes "'>\n"
+
+-- what stands before the rows: there are so many, and so many frames were lost
+unfoldable pub head_of : ℕ → ℕ → ℕ → ℕ → List ℕ
+head_of nodes rows lost letters = opening (width_of nodes letters) (y_of (rows + lost + 1)) ++ style ++ columns_of rows nodes
+
+-- the picture of so many rows after the first, which are drawn like this and say so many letters at most, of the world at their end
+-- and of the frames that were lost
+abbrev pub picture_of : ℕ → ℕ → List ℕ → WorldValue → List Arrow → List ℕ
+picture_of count letters shapes w lost =
+    head_of (length w.nodes) count (length lost) letters ++ shapes ++ lost_shapes w (length w.nodes) (count + 1) 0 0 lost ++ codes "</svg>\n"
+
+-- the same of rows
+abbrev pub picture_with : ℕ → List Row → WorldValue → List Arrow → List ℕ
+picture_with count rows w lost = picture_of count (most_letters LEAST_LETTERS rows) (shapes_of rows) w lost
+
+-- the picture of commands, where that is what their events are answered
+abbrev pub picture : WorldValue → List Command → List Answer → List ℕ
+picture w commands answers =
+    picture_with (length commands) (start_row w ∷ rows_of 1 (first_arrows w) w commands answers) (after w commands)
+    (lost_in (arrows_past 1 (first_arrows w) w commands))
+
+-- The text is the picture of the commands, as the world answers their events.
+pub record IsPicture (w : WorldValue) (commands : List Command) (text : List ℕ) : Type 0 where
+  pub answers : List Answer
+  pub replies : AreReplies w (events_in commands) answers
+  pub drawn : text ≡ picture w commands answers

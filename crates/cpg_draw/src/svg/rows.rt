@@ -1,0 +1,190 @@
+//! The rows of a picture, one for each command.
+//!
+//! Proved: what is put on the sheet is the definition of `specs/PictureRows.antt`.
+
+ghost use Rattle.std.specs.Prelude.{◌≡◌, ◌≤◌, ◌++◌, [], codes, length, max, OnOk, IsOkUnless};
+ghost use Rattle.std.specs.List.{flat_map};
+ghost use Rattle.cpg_world_laws.specs.Worlds.{node_in};
+ghost use Rattle.cpg_step.specs.Commands.{IsWithin, LooksWithin};
+ghost use Rattle.cpg_draw.specs.Words.{sent_text};
+ghost use Rattle.cpg_draw.specs.PictureArrows.{arrow_shape};
+ghost use Rattle.cpg_draw.specs.PictureRows.{line_of, middle_of, circle_of, dot_of, words_of, row_with, look_row};
+ghost use Rattle.cpg_draw.specs.PictureSteps.{IsPut, IsActed, StandsBefore};
+
+use crate::arrows::{Arrow, find_arrow};
+use crate::rows::{brought_by, looked_at, tell_event, tell_look};
+use crate::svg::arrows::put_arrow_to;
+use crate::svg::layout::{column_at, row_at, words_across, words_down};
+use crate::svg::shapes::{put_point, put_words};
+use crate::svg::sheets::Sheet;
+use crate::words::put_sent;
+use cpg_cred::Refusal;
+use cpg_script::put;
+use cpg_step::{Command, Look};
+use cpg_text::push_number;
+use cpg_world::{World, WorldEvent};
+use std::alloc::Global;
+
+/// Puts the line of a row across the columns of so many nodes.
+#[tactic(auto, unfolding(crate::specs::Rows::line_of))]
+fn put_line(text: &mut Vec<u8>, nodes: u8, row: u64) -> Result<(), Refusal>
+    ensures ok { OnOk result (text.new.items ≡ text.old.items ++ line_of nodes row) }
+    ensures memory { IsOkUnless result Refusal.Memory }
+{
+    put(text, "<path d='M")?;
+    put_point(text, column_at(0), row_at(row))?;
+    put(text, "H")?;
+    push_number(text, column_at(u16::from(nodes) + 1))?;
+    put(text, "'/>")
+}
+
+/// Puts the middle of a dot in a row and a column.
+#[tactic(auto, unfolding(crate::specs::Rows::middle_of))]
+fn put_middle(text: &mut Vec<u8>, row: u64, node: u8) -> Result<(), Refusal>
+    ensures ok { OnOk result (text.new.items ≡ text.old.items ++ middle_of row node) }
+    ensures memory { IsOkUnless result Refusal.Memory }
+{
+    put(text, "cx='")?;
+    push_number(text, column_at(u16::from(node)))?;
+    put(text, "' cy='")?;
+    push_number(text, row_at(row))?;
+    put(text, "'")
+}
+
+/// Puts a dot of that size in a row and a column.
+#[tactic(auto, unfolding(crate::specs::Rows::circle_of))]
+fn put_circle(text: &mut Vec<u8>, radius: u64, row: u64, node: u8) -> Result<(), Refusal>
+    ensures ok { OnOk result (text.new.items ≡ text.old.items ++ circle_of radius row node) }
+    ensures memory { IsOkUnless result Refusal.Memory }
+{
+    put(text, "<circle ")?;
+    put_middle(text, row, node)?;
+    put(text, " r='")?;
+    push_number(text, radius)?;
+    put(text, "'/>")
+}
+
+/// Puts the dot of a row at its node, from 1; 0 for none.
+fn put_dot(text: &mut Vec<u8>, radius: u64, row: u64, node: u8) -> Result<(), Refusal>
+    ensures ok { OnOk result (text.new.items ≡ text.old.items ++ dot_of radius row node) }
+    ensures memory { IsOkUnless result Refusal.Memory }
+{
+    if node == 0 {
+        return Ok(());
+    }
+    put_circle(text, radius, row, node)
+}
+
+/// Puts what a row says, and counts its letters.
+#[tactic(auto, unfolding(crate::specs::Rows::words_of))]
+fn put_said(sheet: &mut Sheet, nodes: u8, row: u64, words: &[u8]) -> Result<(), Refusal>
+    ensures ok { OnOk result (sheet.new.text.items ≡ sheet.old.text.items ++ (words_of nodes row words.now ++ codes "</g>\n")) }
+    ensures letters { sheet.new.letters ≡ max sheet.old.letters (length words.now) }
+    ensures memory { IsOkUnless result Refusal.Memory }
+{
+    sheet.letters = sheet.letters.max(words.len() as u64);
+    put_words(&mut sheet.text, words_across(nodes), words_down(row), words)?;
+    put(&mut sheet.text, "</g>\n")
+}
+
+/// Puts the row before all commands.
+pub(crate) fn draw_start(
+    alloc: Global,
+    sheet: &mut Sheet,
+    nodes: u8,
+    arrows: &[Arrow],
+) -> Result<(), Refusal>
+    ensures ok { OnOk result (IsPut (row_with nodes 0 [] [] (codes "0 start" ++ flat_map sent_text arrows.now)) sheet.old sheet.new) }
+    ensures memory { IsOkUnless result Refusal.Memory }
+{
+    let mut words = Vec::new(alloc);
+    put(&mut words, "0 start")?;
+    put_sent(&mut words, arrows)?;
+    put(&mut sheet.text, "<g>")?;
+    put_line(&mut sheet.text, nodes, 0)?;
+    put_said(sheet, nodes, 0, words.as_slice())
+}
+
+/// Puts what the row of an event begins with: its line, the arrow that ends in it, and its dot.
+fn put_event_shapes(
+    alloc: Global,
+    text: &mut Vec<u8>,
+    world: &World,
+    row: u64,
+    node: u8,
+    arrow: Option<Arrow>,
+) -> Result<(), Refusal>
+    ensures ok { OnOk result (text.new.items ≡ text.old.items ++ (codes "<g>" ++ line_of (length world.now.nodes) row ++ arrow_shape world.now row node arrow ++ dot_of 5 row node)) }
+    ensures memory { IsOkUnless result Refusal.Memory }
+{
+    put(text, "<g>")?;
+    put_line(text, world.nodes(), row)?;
+    put_arrow_to(alloc, text, world, row, node, arrow)?;
+    put_dot(text, 5, row, node)
+}
+
+/// Does an event, and puts its row.
+#[tactic(auto, using(crate::proofs::PictureDrawn::row_acted))]
+fn draw_event(
+    alloc: Global,
+    sheet: &mut Sheet,
+    arrows: &mut Vec<Arrow>,
+    row: u64,
+    world: &mut World,
+    event: &WorldEvent,
+) -> Result<(), Refusal>
+    requires { node_in event.now ≤ length world.old.nodes }
+    ensures ok { OnOk result (IsActed row arrows.old.items world.old event.now sheet.old arrows.new.items world.new sheet.new) }
+    ensures memory { IsOkUnless result Refusal.Memory }
+{
+    let nodes = world.nodes();
+    let node = event.node().get();
+    let arrow = find_arrow(arrows.as_slice(), brought_by(event));
+    put_event_shapes(alloc, &mut sheet.text, world, row, node, arrow)?;
+    let mut words = Vec::new(alloc);
+    tell_event(alloc, &mut words, arrows, row, world, event)?;
+    put_said(sheet, nodes, row, words.as_slice())
+}
+
+/// Puts the row of a command that only looks.
+#[tactic(auto, using(crate::proofs::PictureDrawn::row_looked))]
+fn draw_look(
+    alloc: Global,
+    sheet: &mut Sheet,
+    arrows: &[Arrow],
+    row: u64,
+    world: &World,
+    look: &Look,
+) -> Result<(), Refusal>
+    requires { LooksWithin (length world.now.nodes) look.now }
+    ensures ok { OnOk result (IsPut (look_row row arrows.now world.now look.now) sheet.old sheet.new) }
+    ensures memory { IsOkUnless result Refusal.Memory }
+{
+    put(&mut sheet.text, "<g>")?;
+    put_line(&mut sheet.text, world.nodes(), row)?;
+    put_dot(&mut sheet.text, 3, row, looked_at(look))?;
+    let mut words = Vec::new(alloc);
+    tell_look(&mut words, arrows, row, world, look)?;
+    put_said(sheet, world.nodes(), row, words.as_slice())
+}
+
+/// Does a command, and puts its row.
+#[tactic(auto, using(crate::proofs::PictureDrawn::act_goes_on, crate::proofs::PictureDrawn::look_goes_on, crate::proofs::PictureDrawn::as_many_acted))]
+pub(crate) fn draw_command(
+    alloc: Global,
+    sheet: &mut Sheet,
+    arrows: &mut Vec<Arrow>,
+    row: u64,
+    world: &mut World,
+    command: &Command,
+) -> Result<(), Refusal>
+    requires { IsWithin (length world.old.nodes) command.now }
+    ensures ok { OnOk result (StandsBefore row arrows.old.items world.old command.now sheet.old arrows.new.items world.new sheet.new) }
+    ensures nodes { OnOk result (length world.new.nodes ≡ length world.old.nodes) }
+    ensures memory { IsOkUnless result Refusal.Memory }
+{
+    match command {
+        Command::Act(event) => draw_event(alloc, sheet, arrows, row, world, event),
+        Command::Look(look) => draw_look(alloc, sheet, arrows.as_slice(), row, world, look),
+    }
+}

@@ -1,3 +1,0 @@
-pub mod Filtering
-pub mod Filters
-pub mod Steps

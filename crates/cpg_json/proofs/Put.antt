@@ -1,0 +1,26 @@
+-- what a seat knows, put one record after the other
+use Rattle.std.proofs.Common.{◌≡◌, ℕ, ◌+◌, ◌-◌, List, ◌++◌, length, take, slice_get, Some, sym, ap, ◌∙◌, arith}
+use Rattle.std.specs.List.{concat}
+use Rattle.std.proofs.lemmas.List.{length-map}
+use Rattle.std.proofs.lemmas.Option.{slice_get_within, get_or_from_slice_get}
+use Rattle.cpg_record.specs.declared.records.Record.{Record}
+use Rattle.cpg_record.specs.Places.{record_at}
+use Rattle.cpg_record.proofs.Placing.{record_at-index}
+use Rattle.cpg_board.specs.Seats.{SeatValue, records_of}
+use Rattle.cpg_json.specs.Records.{count_json, record_json, records_json}
+use Rattle.cpg_json.proofs.Listing.{record_put, lines_and_last}
+use Rattle.cpg_json.specs.SessionAnswers.{audit_text}
+
+-- the line of the record at a place more is put
+pub known_put : (first lines new : List ℕ) (seat : SeatValue) (i : ℕ) (past : Record) → record_at (records_of seat) (i + 1) ≡ Some past
+    → lines ≡ first ++ concat (records_json (take i (records_of seat))) → new ≡ lines ++ record_json (i + 1) past → new ≡ first ++ concat (records_json (take (i + 1) (records_of seat)))
+known_put first lines new seat i past stands before put =
+    let lower : i + 1 - 1 ≡ i = omega arith in
+    let at : slice_get (records_of seat) i ≡ Some past = ap (slice_get (records_of seat)) (sym lower) ∙ (sym (record_at-index (records_of seat) (i + 1) (omega arith)) ∙ stands) in
+    record_put first lines new (records_of seat) i past (slice_get_within (records_of seat) i past at) (get_or_from_slice_get (records_of seat) i past past at) before put
+
+-- all lines are put, and the count
+pub seat_put : (first lines new : List ℕ) (seat : SeatValue) (count : ℕ) → count ≡ length seat → lines ≡ first ++ concat (records_json (records_of seat)) → new ≡ lines ++ count_json count → new ≡ first ++ audit_text (records_of seat)
+seat_put first lines new seat count counted before put =
+    let count_of : count ≡ length (records_of seat) = counted ∙ sym (length-map seat (λ (known : ℕ × Record). known.1)) in
+    lines_and_last first lines new (records_json (records_of seat)) (count_json (length (records_of seat))) before (put ∙ ap (λ n. lines ++ count_json n) count_of)

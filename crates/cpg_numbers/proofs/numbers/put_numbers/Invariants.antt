@@ -1,6 +1,0 @@
-use Rattle.std.proofs.Common.{◌≡◌, ◌-◌, ◌++◌}
-use Rattle.cpg_numbers.specs.Numbers.{numbers_after}
-use Rattle.cpg_numbers.proofs.numbers.put_numbers.Given as goal
-
-abbrev pub invariant-loop-index : goal.invariant-loop-index
-invariant-loop-index l = l.text.items ≡ l.initial.text.items ++ numbers_after l.before (l.index - l.before)

@@ -1,8 +1,0 @@
-use Rattle.cpg_program.proofs.Audited.{part_told}
-use Rattle.cpg_program.proofs.auditing.explain_on.Goals as goal
-
-pub returns-in-Err-explain_over-clause-err : goal.returns-in-Err-explain_over-clause-err
-returns-in-Err-explain_over-clause-err g c =
-    part_told (g.R.Read.remaining c.args.reader.now) c.args.inquiry.now.form c.args.inquiry.now.asked c.args.opened.start.settings c.args.opened.start.list c.in-Ok.cluster g.B.BoardName.cells c.in-Err-explain_over.fault
-    c.from-in-Err-explain_over.result (g.W.Write.contents c.args.writer.now) (g.W.Write.contents c.explain_over.new.writer)
-    c.in-Ok.ensures.ok c.from-in-Err-explain_over.ensures c.in-Err-explain_over.ensures.ends c.in-Err-explain_over.ensures.err

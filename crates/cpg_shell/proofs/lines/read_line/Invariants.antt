@@ -1,5 +1,0 @@
-use Rattle.cpg_shell.specs.Steps.{IsReading}
-use Rattle.cpg_shell.proofs.lines.read_line.Given as goal
-
-abbrev pub invariant-loop-turn : goal.invariant-loop-turn
-invariant-loop-turn g l = IsReading l.line.items (g.R.Read.remaining l.initial.reader) (g.R.Read.remaining l.reader)

@@ -1,3 +1,0 @@
-pub mod Shelled
-pub mod Steps
-pub mod Typed

@@ -1,2 +1,0 @@
-pub mod Afterwards
-pub mod Seated

@@ -1,3 +1,0 @@
-pub mod Chosen
-pub mod Done
-pub mod Left
