@@ -10,8 +10,7 @@ mod printing;
 mod telling;
 mod texts;
 
-pub use accounts::{Book, add_accounts};
-pub use admitting::{answer, read_list};
+pub use admitting::read_list;
 pub use forms::{AsText, TellsAdmitted};
 pub use printing::{print, print_in_form};
 pub use telling::fault_line;

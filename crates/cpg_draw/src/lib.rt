@@ -12,9 +12,5 @@ mod rows;
 pub mod svg;
 mod words;
 
-pub use arrows::{Arrow, Kind, find_arrow};
 pub use cpg_script::Fault;
 pub use drawing::draw_script;
-pub use frames::{frame_at, push_arrows};
-pub use rows::{brought_by, looked_at, tell_event, tell_look};
-pub use words::{put_arrow, put_kind, put_lost_one, put_sent};

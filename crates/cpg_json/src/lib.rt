@@ -26,13 +26,7 @@ pub mod why;
 
 pub use accepting::accept_json;
 pub use admitting::print_json;
-pub use answers::{put_accept, put_groups, put_process_list, put_refusal, put_safe};
-pub use calls::{put_group, put_rule, put_verdict, right_name};
 pub use cpg_script::Fault;
-pub use events::{put_event_fields, put_front};
-pub use frames::put_whole_call;
 pub use judging::judge_json;
 pub use laws::{strings_are_printable, strings_read_back};
-pub use objects::{put_end, put_kind, put_name, put_number, put_word};
-pub use records::{put_caller, put_conn, put_count, put_record};
 pub use running::step_json;

@@ -9,6 +9,4 @@ mod boards;
 mod explaining;
 mod forms;
 
-pub use boards::why_of_board;
 pub use explaining::why_of_sessions;
-pub use forms::Unprinted;

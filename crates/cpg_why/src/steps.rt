@@ -7,5 +7,4 @@ mod choosing;
 mod explaining;
 mod running;
 
-pub use choosing::find_longest;
 pub use explaining::why_of_steps;

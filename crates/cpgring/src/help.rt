@@ -68,7 +68,7 @@ connection, in the order of their first entries:
 MEMBERS are NODE/PID, in the order of their joins; MOVES are NODE/PID:CAUSE, with the cause join, leave or
 down, the end of the connection. Both are joined by commas, and - where there are none.
 
-With --json each line is an object with the same content; docs/JSON.md has its fields.
+With --json each line is an object with the same content; docs/CLI.md has its fields.
 
 --only, --group, --connection and --places print some of these lines alone; what is given of them has to hold
 of each line but that of the count, which is of all entries. KIND is denied (denied entries, and what is told
@@ -180,7 +180,7 @@ Printed for each UID:GID, the first that holds:
   accepted group                             the group is listed
   refused 2 Access                           nothing lets them in
 
-With --json each line is an object (docs/JSON.md).
+With --json each line is an object (docs/CLI.md).
 
 A fault of a file is told with the file, the line and what stands there, the names' before the conf file's:
 
@@ -233,7 +233,7 @@ Example:
   accepted user
   refused 2 Access
 
-With --json each answer is an object (docs/JSON.md).
+With --json each answer is an object (docs/CLI.md).
 
 Exit status: 0 done; 1 a fault, told on standard error; 2 a fault of the command line. A fault of a names
 or conf part is told with the part's number and the line in the part, both from 1, as in `cpgring: part 2:
@@ -282,7 +282,7 @@ it or none, members MEMBERS, groups and their names; for show a frame, as in the
 NODE.CONN PID UID GID CALL; for audit the lines of `cpgring judge` and records COUNT; for rules ID EFFECT
 RIGHT WHO of each and rules COUNT; and safe PLACE. With --numbers, frames K K ... stand behind `sent COUNT`,
 the numbers by which later commands bring them, and all is printed once the script is done; with --json each line
-is an object (docs/JSON.md). With --why=PLACE none of this is printed, but why the entry at that place was answered
+is an object (docs/CLI.md). With --why=PLACE none of this is printed, but why the entry at that place was answered
 as it was, as `cpgring why` tells it, by what the node that delivered most delivered; --why=NODE.CONN:EVENT tells it
 of the entry that told the connection that event, --why=all of each denied entry, --why=NODE.CONN the way of a
 connection. A command that is refused prints the refusal, as in `refused 10 Stale`, and the script goes on:
