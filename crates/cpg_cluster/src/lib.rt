@@ -20,10 +20,12 @@ mod running;
 mod scripts;
 pub mod shell;
 
+pub use acting::do_command;
 pub use asking::{MOST_POLLS, limits};
 pub use commands::{Ask, Command, Numbered};
 pub use cpg_script::Fault;
 pub use forms::{Manner, Noted, PLAIN, Patience, PutsAnswer, Shown};
 pub use noting::Known;
+pub use reading::command_in_line;
 pub use replies::Reply;
 pub use running::{cluster_script, hand_on};

@@ -1,5 +1,5 @@
 use Rattle.cpg_history.specs.Histories.{first_world}
-use Rattle.cpg_soak_bench.proofs.round.Given as goal
+use Rattle.cpg_bench.proofs.run_round.Given as goal
 
 abbrev pub ghosts-go-B-BoardName : goal.ghosts-go-B-BoardName
 ghosts-go-B-BoardName g a = record { cells = a.board }

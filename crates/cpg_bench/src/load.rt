@@ -1,7 +1,5 @@
 //! What the clients are to do, how far each of them is, and what they tell each other while they run.
 
-ghost use Rattle.std.specs.Prelude.{◌≤◌, ◌-◌};
-
 use cpg_cred::{NodeId, Refusal};
 use cpg_record::{Event, Verdict};
 use std::alloc::Global;
@@ -25,11 +23,27 @@ pub struct Load {
     pub window: u32,
     /// How many calls a client submits in one go at most, where its window is open; 0: it submits them one by one.
     pub many: u32,
-    /// Whether all clients stop once one of them has sent all its messages.
-    pub together: bool,
+    /// For how many milliseconds all clients send, or until one of them has sent all its messages; 0: each sends all.
+    pub sending: u64,
+    /// For how many milliseconds of that time data to the last node is lost.
+    pub lost: u64,
+    /// Whether times are printed.
+    pub timed: bool,
 }
 
 impl Load {
+    /// The run without arguments.
+    pub const SMALL: Load = Load {
+        nodes: 1,
+        messages: 10,
+        size: 16,
+        window: u32::MAX,
+        many: 0,
+        sending: 0,
+        lost: 0,
+        timed: false,
+    };
+
     /// How many messages all clients send.
     pub fn total(self) -> u32 {
         u32::from(self.nodes).saturating_mul(self.messages)
@@ -41,10 +55,7 @@ impl Load {
     }
 
     /// How many messages more a client may submit now.
-    pub fn room(self, tally: Tally) -> u32
-        ensures messages { result ≤ self.messages - tally.sent }
-        ensures window { result ≤ self.window - (tally.sent - tally.answered) }
-    {
+    pub fn room(self, tally: Tally) -> u32 {
         let in_flight = tally.sent.saturating_sub(tally.answered);
         let left = self.messages.saturating_sub(tally.sent);
         left.min(self.window.saturating_sub(in_flight))
@@ -62,7 +73,7 @@ impl Load {
 }
 
 /// How far a client is.
-#[derive(Debug, Clone, Copy, PartialEq, Eq)]
+#[derive(Debug, Clone, Copy, PartialEq, Eq, Default)]
 pub struct Tally {
     /// How many messages of its own were admitted.
     pub sent: u32,
@@ -82,14 +93,6 @@ fn mixed(order: u64, place: u32, node: NodeId, message: &[u8]) -> u64 {
 }
 
 impl Tally {
-    /// Of a client that has done nothing.
-    pub const NONE: Tally = Tally {
-        sent: 0,
-        answered: 0,
-        told: 0,
-        order: 0,
-    };
-
     /// The tally after the event; none where no such event comes under a load: a refused message, a change of
     /// members or of rules.
     pub fn after(self, event: &Event) -> Option<Tally> {
@@ -120,15 +123,13 @@ impl Tally {
 #[derive(Drop)]
 pub struct Signals {
     /// How many clients were told of the join of all.
-    entered: AtomicU32,
-    /// How many clients are done.
-    done: AtomicU32,
+    pub entered: AtomicU32,
     /// Whether nothing is sent any more.
-    over: AtomicBool,
+    pub over: AtomicBool,
     /// Whether a client was refused, so that all give up.
     failed: AtomicBool,
-    /// How many messages each client took.
-    told: Vec<AtomicU32>,
+    /// How many messages each client took, in the order of their nodes.
+    pub told: Vec<AtomicU32>,
 }
 
 impl Signals {
@@ -140,39 +141,16 @@ impl Signals {
         }
         Ok(Signals {
             entered: AtomicU32::new(0),
-            done: AtomicU32::new(0),
             over: AtomicBool::new(false),
             failed: AtomicBool::new(false),
             told,
         })
     }
 
-    /// A client has entered.
-    pub fn enter(&self) {
-        self.entered.fetch_add(1, Ordering::SeqCst);
-    }
-
-    /// A client is done.
-    pub fn leave(&self) {
-        self.done.fetch_add(1, Ordering::SeqCst);
-    }
-
-    /// Nothing is sent any more.
-    pub fn end(&self) {
-        self.over.store(true, Ordering::SeqCst);
-    }
-
     /// All give up.
     pub fn fail(&self) {
         self.failed.store(true, Ordering::SeqCst);
-        self.end();
-    }
-
-    /// The client of that index has taken so many messages.
-    pub fn tell(&self, index: usize, told: u32) {
-        if let Some(count) = self.told.get(index) {
-            count.store(told, Ordering::SeqCst);
-        }
+        self.over.store(true, Ordering::SeqCst);
     }
 
     /// Whether nothing is sent any more.
@@ -183,16 +161,6 @@ impl Signals {
     /// Whether a client was refused.
     pub fn has_failed(&self) -> bool {
         self.failed.load(Ordering::SeqCst)
-    }
-
-    /// Whether all clients are done, or give up.
-    pub fn are_done(&self, clients: u8) -> bool {
-        self.has_failed() || self.done.load(Ordering::SeqCst) >= u32::from(clients)
-    }
-
-    /// How many messages each client took, in the order of their nodes.
-    pub fn counts(&self) -> &[AtomicU32] {
-        self.told.as_slice()
     }
 
     /// Waits until so many clients have entered. Whether they have: else one was refused.

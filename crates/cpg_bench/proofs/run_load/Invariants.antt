@@ -1,5 +1,5 @@
 use Rattle.cpg_history.specs.Histories.{first_world}
-use Rattle.cpg_load_bench.proofs.main.Given as goal
+use Rattle.cpg_bench.proofs.run_load.Given as goal
 
 abbrev pub ghosts-run-B-BoardName : goal.ghosts-run-B-BoardName
 ghosts-run-B-BoardName g a = record { cells = a.board }
