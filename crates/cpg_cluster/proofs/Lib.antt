@@ -4,7 +4,7 @@ pub mod Echoed
 pub mod Lengths
 pub mod Pieces
 pub mod Put
-pub mod Reading
+pub mod ReadLines
 pub mod Scripted
 pub mod Seen
 pub mod Shelling

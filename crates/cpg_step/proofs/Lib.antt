@@ -3,4 +3,4 @@ pub mod Doing
 pub mod LastNumbers
 pub mod Lengths
 pub mod Listing
-pub mod Numbered
+pub mod NumberedRuns

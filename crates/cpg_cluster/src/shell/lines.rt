@@ -29,7 +29,7 @@ pub enum Came {
 }
 
 /// Asks for one byte once.
-#[tactic(auto, using(crate::proofs::Reading::byte_came, crate::proofs::Reading::end_came, crate::proofs::Reading::nothing_came))]
+#[tactic(auto, using(crate::proofs::ReadLines::byte_came, crate::proofs::ReadLines::end_came, crate::proofs::ReadLines::nothing_came))]
 fn read_once<R: Read>(reader: &mut R) -> Result<Came, Refusal>
     ensures came { IfOk result (λ came. HasCome came (R.remaining reader.old) (R.remaining reader.new)) }
     ensures errors { IsOkUnless result Refusal.Read }
@@ -46,7 +46,7 @@ fn read_once<R: Read>(reader: &mut R) -> Result<Came, Refusal>
 }
 
 /// Puts the byte at the line's end, where the line is not too long already.
-#[tactic(auto, using(crate::proofs::Reading::stands_longer, crate::proofs::Reading::stands_beyond))]
+#[tactic(auto, using(crate::proofs::ReadLines::stands_longer, crate::proofs::ReadLines::stands_beyond))]
 fn keep(line: &mut Vec<u8>, byte: u8) -> Result<(), Refusal>
     ensures ok { OnOk result ((full : List ℕ) → StandsFor line.old.items full → StandsFor line.new.items (full ++ byte ∷ [])) }
     ensures memory { IsOkUnless result Refusal.Memory }
@@ -58,7 +58,7 @@ fn keep(line: &mut Vec<u8>, byte: u8) -> Result<(), Refusal>
 }
 
 /// Takes in what a read came to, and says whether the line is complete, and then whether it ended in a line feed.
-#[tactic(auto, using(crate::proofs::Reading::takes_nothing, crate::proofs::Reading::takes_end, crate::proofs::Reading::takes_feed, crate::proofs::Reading::takes_byte))]
+#[tactic(auto, using(crate::proofs::ReadLines::takes_nothing, crate::proofs::ReadLines::takes_end, crate::proofs::ReadLines::takes_feed, crate::proofs::ReadLines::takes_byte))]
 fn take_in(line: &mut Vec<u8>, came: Came) -> Result<Option<bool>, Refusal>
     ensures taken { IfOk result (λ ended. TakesIn came line.old.items ended line.new.items) }
     ensures memory { IsOkUnless result Refusal.Memory }
@@ -76,7 +76,7 @@ fn take_in(line: &mut Vec<u8>, came: Came) -> Result<Option<bool>, Refusal>
 
 /// Reads the next line, up to its line feed or to the end of the input, and says whether it ended in a line feed. Of a
 /// line that is too long one byte more than `MOST_LINE` is kept.
-#[tactic(auto, using(crate::proofs::Reading::nothing_read, crate::proofs::Reading::taken_whole, crate::proofs::Reading::taken_on))]
+#[tactic(auto, using(crate::proofs::ReadLines::nothing_read, crate::proofs::ReadLines::taken_whole, crate::proofs::ReadLines::taken_on))]
 pub fn read_line<R: Read>(reader: &mut R, line: &mut Vec<u8>) -> Result<bool, Refusal>
     requires { line.old.items ≡ [] }
     ensures line { IfOk result (λ more. IsLine line.new.items more (R.remaining reader.old) (R.remaining reader.new)) }

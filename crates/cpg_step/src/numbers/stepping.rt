@@ -67,7 +67,7 @@ fn step_whole<R: Read, W: Write>(
 }
 
 /// What the commands print, run over the world.
-#[tactic(auto, using(crate::proofs::Numbered::all_put))]
+#[tactic(auto, using(crate::proofs::NumberedRuns::all_put))]
 fn lines_of(alloc: Global, mut world: World, commands: &[Command]) -> Result<Vec<u8>, Refusal>
     requires { All (λ command. IsWithin (length world.nodes) command) commands.now }
     ensures ok { IfOk result (λ text. IsNumbered world commands.now text.items) }
@@ -96,7 +96,7 @@ fn step_commands(
 }
 
 /// Does a command, and puts its lines.
-#[tactic(auto, using(crate::proofs::Numbered::act_goes_on, crate::proofs::Numbered::look_goes_on, crate::proofs::Numbered::as_many_acted))]
+#[tactic(auto, using(crate::proofs::NumberedRuns::act_goes_on, crate::proofs::NumberedRuns::look_goes_on, crate::proofs::NumberedRuns::as_many_acted))]
 fn step_command(
     alloc: Global,
     text: &mut Vec<u8>,
@@ -115,7 +115,7 @@ fn step_command(
 }
 
 /// Does an event, and puts its line.
-#[tactic(auto, using(crate::proofs::Numbered::line_put))]
+#[tactic(auto, using(crate::proofs::NumberedRuns::line_put))]
 fn step_event(
     alloc: Global,
     text: &mut Vec<u8>,

@@ -1,6 +1,6 @@
 use Rattle.std.proofs.Common.{Bool, Option, subst}
 use Rattle.cpg_cluster.specs.ShellSteps.{TakesIn}
-use Rattle.cpg_cluster.proofs.Reading.{taken_whole}
+use Rattle.cpg_cluster.proofs.ReadLines.{taken_whole}
 use Rattle.cpg_cluster.proofs.shell.lines.read_line.Goals as goal
 
 pub returns-in-Ok-Some-clause-line : goal.returns-in-Ok-Some-clause-line

@@ -1,5 +1,5 @@
 use Rattle.std.proofs.Common.{◌≡◌, ◌<◌, ◌≤◌, length, sym, ◌∙◌, arith}
-use Rattle.cpg_step.proofs.Numbered.{step_lines, last_lines}
+use Rattle.cpg_step.proofs.NumberedRuns.{step_lines, last_lines}
 use Rattle.cpg_step.proofs.numbers.stepping.step_commands.Goals as goal
 
 pub loop-command-preserved : goal.loop-command-preserved
