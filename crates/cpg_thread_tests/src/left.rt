@@ -1,16 +1,35 @@
 //! What a stopped cluster leaves: its stations in their order, and the frames in its links.
 
-use crate::courses::{Course, Row};
-use crate::gated::number_of;
 use cpg_daemon::{Ends, HistoryName, LinkRx, LinkTx, Member, Parcel};
 use std::sync::Wait;
 
+/// What is wanted of the frames in the links of a cluster that was stopped.
+#[derive(Debug, Clone, Copy, PartialEq, Eq)]
+pub enum Left {
+    /// Any.
+    Any,
+    /// So many from the last node to node 1, from node 1 to node 2 and from node 1 to each further node; between others
+    /// there are none.
+    Frames {
+        to_first: usize,
+        to_second: usize,
+        to_further: usize,
+        /// Whether one is of more than 8,192 bytes on each way with more than one.
+        long: bool,
+    },
+}
+
+/// Whether the station is that node's, by its first connection, if that is open.
+fn is_of<B: HistoryName>(member: &Member<B>, number: u8) -> bool {
+    match member.station().connection(1) {
+        Some(who) => who.id.node.get() == number,
+        None => true,
+    }
+}
+
 /// Whether it is the halted station of the node of that number.
 fn is_station<B: HistoryName>(member: &Member<B>, number: u8) -> bool {
-    number_of(member) == Some(number)
-        && member.id().get() == number
-        && member.is_halted()
-        && !member.is_spare()
+    is_of(member, number) && member.id().get() == number && member.is_halted() && !member.is_spare()
 }
 
 /// Whether these are the stations of so many nodes, in their order.
@@ -44,30 +63,37 @@ fn drain<B: HistoryName, R: Wait>(
     (count, long)
 }
 
-/// How many frames the row leaves from one node to another.
-fn wanted(row: Row, from: u8, to: u8) -> usize {
-    match (from, to) {
-        (_, 1) if from == row.nodes => row.to_first,
-        (1, 2) => row.to_second,
-        (1, _) => row.to_further,
+/// How many frames are wanted from one node to another of so many, and whether one is long.
+fn wanted(nodes: u8, left: Left, way: (u8, u8)) -> Option<(usize, bool)> {
+    let Left::Frames {
+        to_first,
+        to_second,
+        to_further,
+        long,
+    } = left
+    else {
+        return None;
+    };
+    let count = match way {
+        (from, 1) if from == nodes => to_first,
+        (1, 2) => to_second,
+        (1, _) => to_further,
         _ => 0,
-    }
+    };
+    Some((count, long && count > 1))
 }
 
-/// Whether the link leaves what the row says, the long message among it.
+/// Whether the link leaves what is wanted.
 fn is_link<B: HistoryName, R: Wait>(
     rt: &R,
-    row: Row,
-    way: (u8, u8),
+    wanted: Option<(usize, bool)>,
     receiver: &mut LinkRx<Parcel<B>>,
     last: &mut Option<Parcel<B>>,
 ) -> bool {
-    let count = wanted(row, way.0, way.1);
     let drained = drain(rt, receiver, last);
-    match row.course {
-        Course::Free | Course::Many => true,
-        Course::Turn => drained == (count, count > 1),
-        _ => drained == (count, false),
+    match wanted {
+        Some(frames) => drained == frames,
+        None => true,
     }
 }
 
@@ -81,30 +107,31 @@ fn target_after(from: u8, to: u8) -> u8 {
     }
 }
 
-/// Whether the links are those of the row, in the order of the nodes that they come from, and then of those that
+/// Whether the links are those of so many nodes, in the order of the nodes that they come from, and then of those that
 /// they go to. They are empty then, and the last frame is kept.
 fn are_links<B: HistoryName, R: Wait>(
     rt: &R,
-    row: Row,
+    nodes: u8,
+    left: Left,
     links: &mut [(LinkTx<Parcel<B>>, LinkRx<Parcel<B>>)],
     last: &mut Option<Parcel<B>>,
 ) -> bool {
-    let mut way = if row.nodes == 1 { (1, 1) } else { (1, 2) };
+    let mut way = if nodes == 1 { (1, 1) } else { (1, 2) };
     let mut count = 0u8;
     for (_, receiver) in links.iter_mut() {
-        if !is_link(rt, row, way, receiver, last) {
+        if !is_link(rt, wanted(nodes, left, way), receiver, last) {
             return false;
         }
         count = count.saturating_add(1);
         let next = target_after(way.0, way.1);
-        way = if next > row.nodes {
+        way = if next > nodes {
             let from = way.0.saturating_add(1);
             (from, target_after(from, 0))
         } else {
             (way.0, next)
         };
     }
-    u32::from(count) == u32::from(row.nodes) * u32::from(row.nodes.saturating_sub(1).max(1))
+    u32::from(count) == u32::from(nodes) * u32::from(nodes.saturating_sub(1).max(1))
 }
 
 /// The frame, which is put into the link, as it comes out at the other end.
@@ -136,14 +163,16 @@ fn are_paired<B: HistoryName, R: Wait>(
     true
 }
 
-/// Whether the links are those of the row, and where one has a frame, the pairs are of one link each.
+/// Whether the links are those of so many nodes with what is wanted, and where one has a frame, the pairs are of one link
+/// each.
 fn are_links_of<B: HistoryName, R: Wait>(
     rt: &R,
-    row: Row,
+    nodes: u8,
+    left: Left,
     links: &mut [(LinkTx<Parcel<B>>, LinkRx<Parcel<B>>)],
 ) -> bool {
     let mut last = None;
-    let are_right = are_links(rt, row, links, &mut last);
+    let are_right = are_links(rt, nodes, left, links, &mut last);
     are_right
         && match last {
             Some(frame) => are_paired(rt, links, frame),
@@ -151,10 +180,10 @@ fn are_links_of<B: HistoryName, R: Wait>(
         }
 }
 
-/// Whether that is what the row leaves, which is let go.
-pub fn are_left<B: HistoryName, R: Wait>(rt: &R, row: Row, mut ends: Ends<B>) -> bool {
-    let stations = are_stations(ends.stations.as_slice(), row.nodes);
-    let links = are_links_of(rt, row, ends.links.as_mut_slice());
+/// Whether that is what so many nodes leave, which is let go.
+pub fn are_left<B: HistoryName, R: Wait>(rt: &R, nodes: u8, left: Left, mut ends: Ends<B>) -> bool {
+    let stations = are_stations(ends.stations.as_slice(), nodes);
+    let links = are_links_of(rt, nodes, left, ends.links.as_mut_slice());
     drop(ends);
     stations && links
 }

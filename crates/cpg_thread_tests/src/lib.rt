@@ -1,21 +1,17 @@
-//! Tests of what threads do: bells; boards under two threads; what stations lay down on a board's shelf; and clusters. Of these:
-//! what sessions are told, one by one and in goes, what a stopped cluster answers, that two nodes run at once, how a session
-//! goes on where memory is refused, what ends an answer that took no lock, settings out of their ranges; what each turn sends
-//! in rings of 1 to 8 nodes, how the gate is obeyed, what a stopped cluster leaves, and a script of sessions over links that lose
-//! and repeat. Nothing here is used by the other
-//! crates.
+//! Tests of what threads do: bells; boards under two threads; what stations lay down on a board's shelf; and clusters. A test of
+//! a cluster is a list of steps (`scenes`), which `acting` and `deeds` do: what its gate is told (`stages`), what its sessions
+//! ask and are answered, and what is left. Others are a script of sessions over links that lose and repeat, and three client
+//! threads, whose cluster is played again in a world. Nothing here is used by the other crates.
 #![tactic(auto)]
 
+#[cfg(test)]
+mod acting;
 #[cfg(test)]
 mod bells;
 #[cfg(test)]
 mod boards;
 #[cfg(test)]
-mod clusters;
-#[cfg(test)]
-mod courses;
-#[cfg(test)]
-mod gated;
+mod deeds;
 #[cfg(test)]
 mod going_on;
 #[cfg(test)]
@@ -27,15 +23,11 @@ mod playing;
 #[cfg(test)]
 mod replaying;
 #[cfg(test)]
+mod scenes;
+#[cfg(test)]
 mod shelves;
 #[cfg(test)]
-mod signs;
-#[cfg(test)]
-mod stepping;
-#[cfg(test)]
-mod steps;
-#[cfg(test)]
-mod taking;
+mod stages;
 #[cfg(test)]
 mod threads;
 

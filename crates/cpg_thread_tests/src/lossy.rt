@@ -1,6 +1,6 @@
 //! A script of sessions over a cluster whose links lose and repeat frames prints what it prints over any other.
 
-use crate::playing::{Play, plays, settings_of};
+use crate::playing::{Play, Stop, holds, plays, settings_of};
 use cpg_cluster::{PLAIN, cluster_script};
 use cpg_cred::NodeId;
 use cpg_daemon::{Ends, Fate, Gate, HistoryName, Running};
@@ -57,18 +57,12 @@ impl Play<Lossy> for Sessions {
         rt: &R,
         alloc: Global,
         running: &Running<B, Lossy>,
-    ) -> bool {
+    ) -> Result<(), Stop> {
         let printed = prints(rt, alloc, running, SESSIONS, PRINTED);
         running.halt(rt);
         let asked = b"connect 1 40 7 100\nconnect 1 60 9 9\n";
-        printed
-            && prints(
-                rt,
-                alloc,
-                running,
-                asked,
-                b"refused 20 Stopped\nrefused 20 Stopped\n",
-            )
+        let answered = b"refused 20 Stopped\nrefused 20 Stopped\n";
+        holds(printed && prints(rt, alloc, running, asked, answered))
     }
 
     fn leaves<B: HistoryName, R: Wait>(&self, _rt: &R, ends: Ends<B>) -> bool {
@@ -80,6 +74,6 @@ impl Play<Lossy> for Sessions {
 /// Frames that are lost or repeated change no line, and a halted cluster lets nobody in.
 #[test]
 fn lossy_links(rt: HostRuntime) -> Result<(), Fail> {
-    assert!(rt; plays(rt, rt.alloc(), 4_096, settings_of(2), Lossy, &Sessions) == Ok(true));
+    plays(rt, rt.alloc(), 4_096, settings_of(2), Lossy, &Sessions)?;
     Ok(())
 }

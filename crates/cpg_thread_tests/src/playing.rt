@@ -4,9 +4,9 @@ ghost use Rattle.std.specs.Prelude.{◌≡◌, ◌≤◌, IsTrue};
 ghost use Rattle.cpg_history.specs.Histories.{first_world};
 
 use cpg_board::Board;
-use cpg_cred::{AcceptList, By, Cred, NodeId, Refusal};
+use cpg_cred::{AcceptList, By, Cred, NodeId, Refusal, Refused};
 use cpg_daemon::{Beginning, Cluster, Ends, Gate, HistoryName, Opened, Running, Session};
-use cpg_entry::{Call, Message, Name};
+use cpg_entry::Call;
 use cpg_node::Settings;
 use cpg_record::{Event, Verdict};
 use std::alloc::Global;
@@ -26,6 +26,26 @@ const YIELDED_ASKS: u32 = 10_000;
 /// The verdict on what no rule and no membership bars.
 pub const ALLOWED: Verdict = Verdict::Allowed(By::Default);
 
+/// Why a test stops.
+#[derive(Debug, Clone, Copy, PartialEq, Eq)]
+pub enum Stop {
+    /// What the test needs is refused so. Memory: it was refused at each try.
+    Refused(Refusal),
+    /// Something is otherwise than the test says.
+    Wrong,
+}
+
+impl From<Refusal> for Stop {
+    fn from(refusal: Refusal) -> Stop {
+        Stop::Refused(refusal)
+    }
+}
+
+/// Goes on where that holds.
+pub fn holds(as_wanted: bool) -> Result<(), Stop> {
+    if as_wanted { Ok(()) } else { Err(Stop::Wrong) }
+}
+
 /// What a test does over a cluster, and what it wants of what is left.
 pub trait Play<G> {
     /// Whether all goes as it should over the running nodes.
@@ -34,7 +54,7 @@ pub trait Play<G> {
         rt: &R,
         alloc: Global,
         running: &Running<B, G>,
-    ) -> bool;
+    ) -> Result<(), Stop>;
 
     /// Whether the cluster, once it is stopped, leaves what it should.
     fn leaves<B: HistoryName, R: Wait>(&self, rt: &R, ends: Ends<B>) -> bool;
@@ -66,7 +86,7 @@ fn played_on<B, G, P, R>(
     opened: Opened,
     gate: G,
     play: &P,
-) -> Result<bool, Refusal>
+) -> Result<(), Stop>
 where
     B: HistoryName + Send + Sync + 'static,
     G: Gate + Send + Sync + Drop + 'static,
@@ -78,7 +98,8 @@ where
     let cluster = Cluster::<B, G>::start(rt, alloc, board, opened, gate)?;
     let gone = play.goes(&rt, alloc, &cluster);
     let left = play.leaves(&rt, cluster.stop(&rt));
-    Ok(gone && left)
+    gone?;
+    holds(left)
 }
 
 /// Whether the test goes so over a new cluster of those settings, on a board of so many places.
@@ -89,7 +110,7 @@ pub fn plays<G, P, R>(
     settings: Settings,
     gate: G,
     play: &P,
-) -> Result<bool, Refusal>
+) -> Result<(), Stop>
 where
     G: Gate + Send + Sync + Drop + 'static,
     P: Play<G>,
@@ -151,39 +172,29 @@ pub fn gets_safe<B: HistoryName, G, R: Wait + Clock>(
     false
 }
 
-/// What refuses the call of the session, if anything does.
+/// Submits the call. Range: the session is at none of the nodes.
 pub fn submit<B: HistoryName, G, R: Wait>(
     rt: &R,
     running: &Running<B, G>,
     session: &mut Session<B>,
-    call: Result<Call, Refusal>,
-) -> Option<Refusal> {
-    match call {
-        Err(refusal) => Some(refusal),
-        Ok(_) if !is_here(running, session) => Some(Refusal::Range),
-        Ok(call) => match running.submit(rt, session, call) {
-            Ok(()) => None,
-            Err(refused) => Some(refused.refusal),
-        },
+    call: Call,
+) -> Result<(), Refused<Call>> {
+    if is_here(running, session) {
+        running.submit(rt, session, call)
+    } else {
+        Err(Refused {
+            refusal: Refusal::Range,
+            back: call,
+        })
     }
 }
 
-/// A call to join the group of that name.
-pub fn join(alloc: Global, name: &[u8]) -> Result<Call, Refusal> {
-    Ok(Call::Join(Name::from_slice(alloc, name)?))
-}
-
-/// A message of those bytes.
-pub fn say(alloc: Global, text: &[u8]) -> Result<Call, Refusal> {
-    Ok(Call::Send(Message::from_slice(alloc, text)?))
-}
-
 /// What one ask for the next event gives: of an event its place, and of a change how many members, leavers and joiners it
-/// tells.
+/// tells; of a message its place, the node and the process that sent it, and its first byte.
 #[derive(Debug, Clone, Copy, PartialEq, Eq)]
 pub enum Told {
     Verdict(u32, Verdict),
-    Message(u32, NodeId, u32),
+    Message(u32, u8, u32, u8),
     Change(u32, usize, usize, usize),
     Rules(u32),
     /// None yet.
@@ -199,8 +210,12 @@ pub fn in_short(event: &Event) -> Told {
             place,
             node,
             pid,
+            message,
             ..
-        } => Told::Message(*place, *node, *pid),
+        } => {
+            let first = message.as_slice().first().copied().unwrap_or(0);
+            Told::Message(*place, node.get(), *pid, first)
+        }
         Event::Change {
             place,
             members,
@@ -270,7 +285,7 @@ pub fn pause<R: Clock>(rt: &R, asked: u32) {
     }
 }
 
-/// What the session is told next, which asks again after None or Behind.
+/// What the session is told next, which asks again after None, Behind or Memory.
 pub fn next_told<B: HistoryName, G, R: Wait + Clock>(
     rt: &R,
     running: &Running<B, G>,
@@ -278,20 +293,11 @@ pub fn next_told<B: HistoryName, G, R: Wait + Clock>(
 ) -> Told {
     for asked in 0..MOST_ASKS {
         match ask(rt, running, session) {
-            Told::Nothing | Told::Refused(Refusal::Behind(_)) => pause(rt, asked),
+            Told::Nothing | Told::Refused(Refusal::Behind(_) | Refusal::Memory) => pause(rt, asked),
             told => return told,
         }
     }
     Told::Nothing
-}
-
-/// Whether the session is told a verdict next.
-pub fn is_answered<B: HistoryName, G, R: Wait + Clock>(
-    rt: &R,
-    running: &Running<B, G>,
-    session: &mut Session<B>,
-) -> bool {
-    matches!(next_told(rt, running, session), Told::Verdict(_, _))
 }
 
 /// How many members of `db` the session is shown.

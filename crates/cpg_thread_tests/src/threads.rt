@@ -36,7 +36,10 @@ fn goes_ten<B: HistoryName, R: Wait + Clock>(
 ) -> bool {
     for step in 0u8..10 {
         let id = u32::from(batch) * 10 + u32::from(step) + 1;
-        if submit(rt, running, session, remove(alloc, id)).is_some() {
+        let Ok(call) = remove(alloc, id) else {
+            return false;
+        };
+        if submit(rt, running, session, call).is_err() {
             return false;
         }
     }
