@@ -8,7 +8,16 @@ use Rattle.cpg_board.specs.Seats.{SeatValue}
 use Rattle.cpg_station.specs.Admitting.{AdmitsNot}
 use Rattle.cpg_station.specs.Serving.{GivesNot, IsListFor, IsGroupsFor}
 use Rattle.cpg_station.specs.Stations.{StationValue}
-use Rattle.cpg_daemon.specs.Sessions.{SessionValue, ConnectRefuses, AnswersNot, IsListed, AreNamed}
+use Rattle.cpg_world_laws.specs.declared.events.WorldEvent.{WorldEvent}
+use Rattle.cpg_world_laws.specs.declared.events.WorldEvent.TheVariants.{Disconnect}
+use Rattle.cpg_world_laws.specs.declared.replies.Reply.TheVariants.{Closed}
+use Rattle.cpg_world_laws.specs.Worlds.{WorldValue}
+use Rattle.cpg_history.specs.Members.{Told}
+use Rattle.cpg_daemon.specs.Sessions.{SessionValue, ConnectRefuses, AnswersNot, IsListed, AreNamed, IsClosed}
+
+-- an end that a front of the history has seen
+pub closed_at : (start : WorldValue) (session : SessionValue) (seen : List WorldEvent) → Told start session.seen (Disconnect session.who.id.node session.who.id.conn) (Ok Closed) seen → IsClosed start session
+closed_at start session seen told = (seen, told)
 
 pub connect_refuses : (list : Listed) (node pid : ℕ) (cred : Cred) (old new : StationValue) (why : Refusal) → AdmitsNot list node pid cred old why new → ConnectRefuses list cred why
 connect_refuses list node pid cred old new refusal.Stopped not = tt

@@ -3,12 +3,13 @@
 ghost use Rattle.std.specs.Prelude.{◌≡◌, ◌≤◌, []};
 ghost use Rattle.cpg_board.specs.Seats.{IsSeatOf};
 ghost use Rattle.cpg_history.specs.Members.{IsSafeAt};
+ghost use Rattle.cpg_daemon.specs.Clusters.{IsMarkIn};
 ghost use Rattle.cpg_daemon.specs.Links.{next_of};
 
 use crate::signs::Sign;
 use cpg_board::{Board, Seat};
 use cpg_cred::{AcceptList, NodeId};
-use cpg_history::{History, HistoryName, Member, Parcel};
+use cpg_history::{Front, History, HistoryName, Member, Parcel};
 use cpg_link::{Bell, News};
 use crossbeam_utils::CachePadded;
 use std::hint::spin_loop;
@@ -120,13 +121,39 @@ impl<B: HistoryName, G> Running<B, G> {
         station.lock(rt)
     }
 
-    /// The place up to which every node holds all places, as the node knows it. It is answered after the
-    /// nodes are halted, too.
+    /// The safe mark of the node's station, and a front of the history that has seen what its pen has.
+    #[tactic(auto, using(crate::proofs::Marks::unmarked))]
+    fn mark_of(&self, station: &mut Member<B>, node: NodeId) -> (u32, Front<B>)
+        ensures { IsMarkIn B.start result.1.seen node result.0 }
+    {
+        station.stands();
+        if station.is_spare() {
+            return (0, station.front(&self.history));
+        }
+        if station.id().get() != node.get() {
+            return (0, station.front(&self.history));
+        }
+        let place = station.safe_at(node);
+        (place, station.front(&self.history))
+    }
+
+    /// The place up to which every node holds all places, as the node knows it, and a front of the history after which it
+    /// is that. It is answered after the nodes are halted, too.
+    pub fn mark<R: Wait>(&self, rt: &R, node: NodeId) -> (u32, Front<B>)
+        requires { node ≤ self.now.nodes }
+        ensures { IsMarkIn B.start result.1.seen node result.0 }
+    {
+        let mut station = self.hold(rt, node);
+        self.mark_of(&mut station, node)
+    }
+
+    /// The place up to which every node holds all places, as the node knows it: what `mark` gives, without the front.
     pub fn safe<R: Wait>(&self, rt: &R, node: NodeId) -> u32
         requires { node ≤ self.now.nodes }
         ensures { IsSafeAt B.start node result }
     {
-        self.hold(rt, node).safe_at(node)
+        let (place, _front) = self.mark(rt, node);
+        place
     }
 
     /// Halts all nodes: later calls of sessions are answered with Stopped.
@@ -141,13 +168,6 @@ impl<B: HistoryName, G> Running<B, G> {
     /// Whether all nodes are halted.
     pub(crate) fn are_halted(&self) -> bool {
         self.halted.load(Ordering::SeqCst)
-    }
-
-    /// Whether the node is halted.
-    pub(crate) fn is_halted<R: Wait>(&self, rt: &R, node: NodeId) -> bool
-        requires { node ≤ self.now.nodes }
-    {
-        self.hold(rt, node).is_halted()
     }
 
     /// The bell of a node's thread.

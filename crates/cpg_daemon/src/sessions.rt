@@ -64,6 +64,20 @@ impl<B: HistoryName> Session<B> {
     {
         self.who
     }
+
+    /// Its front of the history.
+    fn into_front(self) -> Front<B>
+        ensures { result.seen ≡ self.seen }
+    {
+        let Session {
+            who: _,
+            seat,
+            front,
+            quiet: _,
+        } = self;
+        drop(seat);
+        front
+    }
 }
 
 impl<B: HistoryName, G> Running<B, G> {
@@ -239,6 +253,16 @@ impl<B: HistoryName, G> Running<B, G> {
         }
     }
 
+    /// Notes for the node's thread that its station is halted, where it answers so: a station that is not as a session knows
+    /// it halts at that.
+    fn note_halt<T>(&self, node: NodeId, answer: &Result<T, Refusal>)
+        requires { node ≤ self.now.nodes }
+    {
+        if let Err(Refusal::Stopped) = answer {
+            self.sign(node).halt();
+        }
+    }
+
     /// The next event of the session, if there is one. Refused with Stopped; with Behind where its node has
     /// delivered fewer places than the session has seen; with Memory. Where the session was told last that there is none, and
     /// its node has delivered nothing since, there still is none: that is answered without the node's lock then, and adds
@@ -270,13 +294,15 @@ impl<B: HistoryName, G> Running<B, G> {
         ensures { TakesOne B.start session.old result session.new }
     {
         session.quiet = None;
-        let taken = station.take_for(
+        let answer = station.take_for(
             &self.history,
             &mut session.front,
             &self.board,
             &mut session.who,
             &mut session.seat,
-        )?;
+        );
+        self.note_halt(session.who.id.node, &answer);
+        let taken = answer?;
         match taken {
             Some(event) => Ok(Some(event)),
             None => {
@@ -353,14 +379,16 @@ impl<B: HistoryName, G> Running<B, G> {
         ensures seat { Begins session.old.seat session.new.seat }
     {
         session.quiet = None;
-        self.hold(rt, session.who.id.node).list_for(
+        let answer = self.hold(rt, session.who.id.node).list_for(
             &self.history,
             &mut session.front,
             &self.board,
             &session.who,
             &mut session.seat,
             group,
-        )
+        );
+        self.note_halt(session.who.id.node, &answer);
+        answer
     }
 
     /// The names of the groups with members that the session may list. Refused with Stopped; Behind; Memory.
@@ -374,26 +402,32 @@ impl<B: HistoryName, G> Running<B, G> {
         ensures seat { Begins session.old.seat session.new.seat }
     {
         session.quiet = None;
-        self.hold(rt, session.who.id.node).groups_for(
+        let answer = self.hold(rt, session.who.id.node).groups_for(
             &self.history,
             &mut session.front,
             &self.board,
             &session.who,
             &mut session.seat,
-        )
+        );
+        self.note_halt(session.who.id.node, &answer);
+        answer
     }
 
-    /// Ends the session's connection: its end waits behind its calls. Refused with Stopped; with Memory. The
-    /// session comes back.
-    pub fn close<R: Wait>(&self, rt: &R, mut session: Session<B>) -> Result<(), Refused<Session<B>>>
+    /// Ends the session's connection, and gives a front of the history that has seen its end: that waits behind its calls.
+    /// Refused with Stopped; with Memory. The session comes back.
+    pub fn end<R: Wait>(
+        &self,
+        rt: &R,
+        mut session: Session<B>,
+    ) -> Result<Front<B>, Refused<Session<B>>>
         requires { session.who.id.node ≤ self.now.nodes }
-        ensures history { OnOk result (IsClosed B.start session) }
+        ensures history { IfOk result (λ front. Told B.start session.seen (events.Disconnect session.who.id.node session.who.id.conn) (Ok reply.Closed) front.seen) }
         ensures err { IfErr result (λ refused. (refused.back ≡ session) × IsEndRefusal refused.refusal) }
     {
-        match self.end(rt, &mut session) {
+        match self.end_at(rt, &mut session) {
             Ok(()) => {
                 self.tell_call();
-                Ok(())
+                Ok(session.into_front())
             }
             Err(refusal) => Err(Refused {
                 refusal,
@@ -402,8 +436,21 @@ impl<B: HistoryName, G> Running<B, G> {
         }
     }
 
+    /// Ends the session's connection: what `end` does, without the front.
+    #[tactic(auto, using(crate::proofs::Answering::closed_at))]
+    pub fn close<R: Wait>(&self, rt: &R, session: Session<B>) -> Result<(), Refused<Session<B>>>
+        requires { session.who.id.node ≤ self.now.nodes }
+        ensures history { OnOk result (IsClosed B.start session) }
+        ensures err { IfErr result (λ refused. (refused.back ≡ session) × IsEndRefusal refused.refusal) }
+    {
+        match self.end(rt, session) {
+            Ok(_front) => Ok(()),
+            Err(refused) => Err(refused),
+        }
+    }
+
     /// Ends the session's connection at its node.
-    fn end<R: Wait>(&self, rt: &R, session: &mut Session<B>) -> Result<(), Refusal>
+    fn end_at<R: Wait>(&self, rt: &R, session: &mut Session<B>) -> Result<(), Refusal>
         requires { session.old.who.id.node ≤ self.now.nodes }
         ensures history { OnOk result (Told B.start session.old.seen (events.Disconnect session.old.who.id.node session.old.who.id.conn) (Ok reply.Closed) session.new.seen) }
         ensures err { IfErr result (λ why. IsEndRefusal why × (session.new ≡ session.old)) }

@@ -20,6 +20,8 @@ pub(crate) struct Sign {
     noted: AtomicBool,
     /// Whether a call found the node's queue full since the token last came by.
     full: AtomicBool,
+    /// Whether the node's station is halted, once its thread or a session came to know of it.
+    halted: AtomicBool,
 }
 
 impl Sign {
@@ -29,6 +31,7 @@ impl Sign {
             told: AtomicU64::new(0),
             noted: AtomicBool::new(false),
             full: AtomicBool::new(false),
+            halted: AtomicBool::new(false),
         }
     }
 
@@ -68,6 +71,16 @@ impl Sign {
     /// Whether a call found the queue full since the token last came by.
     pub fn is_full(&self) -> bool {
         self.full.load(Ordering::SeqCst)
+    }
+
+    /// The station is halted.
+    pub fn halt(&self) {
+        self.halted.store(true, Ordering::SeqCst);
+    }
+
+    /// Whether the station is halted.
+    pub fn is_halted(&self) -> bool {
+        self.halted.load(Ordering::SeqCst)
     }
 }
 

@@ -417,6 +417,9 @@ impl<B: HistoryName, G: Gate> Running<B, G> {
             }
         }
         self.show(node, has_delivered, is_refused);
+        if is_refused && station.is_halted() {
+            self.sign(node).halt();
+        }
         pace.after_delivery(has_delivered, is_refused)
     }
 
@@ -545,12 +548,13 @@ impl<B: HistoryName, G: Gate> Running<B, G> {
         }
     }
 
-    /// Whether the thread is to end. A station halts by itself only where it refuses a delivery, so that no lock is taken
-    /// where none is owed.
-    fn is_over<R: Wait>(&self, rt: &R, node: NodeId, owes: bool) -> bool
+    /// Whether the thread is to end: all are halted, or its own station is. A station halts where it refuses a delivery that
+    /// differs, and where it is not as a session knows it; whoever meets that notes it in the node's signs, so that no lock is
+    /// taken here.
+    fn is_over(&self, node: NodeId) -> bool
         requires { node ≤ self.now.nodes }
     {
-        self.are_halted() || owes && self.is_halted(rt, node)
+        self.are_halted() || self.sign(node).is_halted()
     }
 
     /// One turn or several, and what the thread goes by after them. After so many idle turns the last token is sent again.
@@ -585,7 +589,7 @@ impl<B: HistoryName, G: Gate> Running<B, G> {
         for _ in rt.forever() {
             let depth = pace.lull.depth();
             self.bell(node).announce(depth);
-            if self.is_over(rt, node, pace.owes) {
+            if self.is_over(node) {
                 break;
             }
             if !self.gate.may_turn(node, pace.turn) {
