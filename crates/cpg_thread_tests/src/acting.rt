@@ -17,7 +17,7 @@ use std::time::Clock;
 const MOST_PLACES: u32 = 1_048_576;
 
 /// A step of a test. Sessions are numbered from 0, as they entered.
-#[derive(Debug, Clone, Copy)]
+#[derive(Clone, Copy)]
 pub enum Step {
     /// The gate does so.
     Gate(Cue),
@@ -66,7 +66,7 @@ fn entered<B: HistoryName, R: Wait>(
     Err(Stop::Refused(Refusal::Memory))
 }
 
-/// So many processes of root are let in at the node, and leave at once.
+/// So many processes of root are let in at the node. Nobody takes what they are told.
 fn crowds<B: HistoryName, R: Wait>(
     rt: &R,
     running: &Running<B, Stage>,

@@ -21,7 +21,7 @@ pub const TRIES: u32 = 30;
 const MANY: u32 = 300;
 
 /// A call.
-#[derive(Debug, Clone, Copy)]
+#[derive(Clone, Copy)]
 pub enum Say {
     Join(&'static [u8]),
     Text(&'static [u8]),
@@ -49,7 +49,7 @@ impl Say {
 }
 
 /// What a session does, and what comes of it.
-#[derive(Debug, Clone, Copy)]
+#[derive(Clone, Copy)]
 pub enum Deed {
     /// The call is admitted, or refused so.
     Calls(Say, Option<Refusal>),
@@ -81,6 +81,12 @@ pub enum Deed {
     Knows(usize),
 }
 
+/// Whether it is the call, which came back.
+fn is_back(alloc: Global, back: &Call, say: Say) -> Result<bool, Refusal> {
+    let handed = say.call(alloc)?;
+    Ok(back.equals(&handed))
+}
+
 /// What refuses the call, if anything does but want of memory; of that, the call comes back as it was.
 fn calls<B: HistoryName, G, R: Wait>(
     rt: &R,
@@ -95,7 +101,7 @@ fn calls<B: HistoryName, G, R: Wait>(
             Err(refused) if refused.refusal != Refusal::Memory => {
                 return Ok(Some(refused.refusal));
             }
-            Err(refused) => holds(refused.back.equals(&say.call(alloc)?))?,
+            Err(refused) => holds(is_back(alloc, &refused.back, say)?)?,
         }
     }
     Err(Stop::Refused(Refusal::Memory))

@@ -4,7 +4,7 @@ use cpg_daemon::{Ends, HistoryName, LinkRx, LinkTx, Member, Parcel};
 use std::sync::Wait;
 
 /// What is wanted of the frames in the links of a cluster that was stopped.
-#[derive(Debug, Clone, Copy, PartialEq, Eq)]
+#[derive(Clone, Copy)]
 pub enum Left {
     /// Any.
     Any,

@@ -191,7 +191,7 @@ pub fn submit<B: HistoryName, G, R: Wait>(
 
 /// What one ask for the next event gives: of an event its place, and of a change how many members, leavers and joiners it
 /// tells; of a message its place, the node and the process that sent it, and its first byte.
-#[derive(Debug, Clone, Copy, PartialEq, Eq)]
+#[derive(Clone, Copy, PartialEq, Eq)]
 pub enum Told {
     Verdict(u32, Verdict),
     Message(u32, u8, u32, u8),

@@ -43,14 +43,16 @@ fn events_of(alloc: Global, script: &[Recorded]) -> Result<Vec<WorldEvent>, Refu
     Ok(events)
 }
 
+/// Whether the world runs all events, each of a node that it has.
+fn ran_whole(world: &mut World, events: &[WorldEvent]) -> bool {
+    world.has_nodes_of(events) && world.run(events).done == events.len()
+}
+
 /// The world of three nodes after these events.
 fn world_after(alloc: Global, events: &[WorldEvent]) -> Result<World, Refusal> {
     let list = AcceptList::new(alloc);
     let mut world = World::new(alloc, settings_of(3), &list)?;
-    if !world.has_nodes_of(events) {
-        return Err(Refusal::Range);
-    }
-    if world.run(events).done == events.len() {
+    if ran_whole(&mut world, events) {
         Ok(world)
     } else {
         Err(Refusal::Memory)

@@ -114,7 +114,7 @@ pub struct Marks {
 }
 
 /// A way of frames that is noted.
-#[derive(Debug, Clone, Copy)]
+#[derive(Clone, Copy)]
 pub enum Way {
     ToTwo,
     ToThree,
@@ -122,7 +122,7 @@ pub enum Way {
 }
 
 /// What a test tells the gate, or wants of what it noted.
-#[derive(Debug, Clone, Copy)]
+#[derive(Clone, Copy)]
 pub enum Cue {
     /// The node's turns up to that one begin, and the last of them ends.
     Goes(u8, u64),
@@ -210,7 +210,7 @@ impl Marks {
 }
 
 /// What becomes of turns, and of the frames from node 1. All other frames pass.
-#[derive(Debug, Clone, Copy, PartialEq, Eq)]
+#[derive(Clone, Copy, PartialEq, Eq)]
 pub enum Plan {
     Pass,
     Drop,
