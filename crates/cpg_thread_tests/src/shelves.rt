@@ -111,14 +111,23 @@ fn holds_others(alloc: Global, shelf: &Shelf) -> Result<bool, Refusal> {
     Ok(ledger.in_blocks() == 0)
 }
 
+/// A station of that node that delivered all places.
+fn delivered<B: BoardName>(alloc: Global, board: &Board, number: u8) -> Result<Station<B>, Refusal>
+    requires { board.now ≡ B.cells }
+{
+    let mut station = new_station::<B>(alloc, board, number)?;
+    match delivers_all(alloc, board, &mut station) {
+        Ok(true) => Ok(station),
+        _ => Err(Refusal::Memory),
+    }
+}
+
 /// Whether a station that delivered all places laid them down.
 fn lays_down<B: BoardName>(alloc: Global, board: &Board) -> Result<bool, Refusal>
     requires { board.now ≡ B.cells }
 {
-    let mut station = new_station::<B>(alloc, board, 1)?;
-    let all = delivers_all(alloc, board, &mut station);
-    drop(station);
-    Ok(all? && holds_others(alloc, board.shelf())?)
+    drop(delivered::<B>(alloc, board, 1)?);
+    holds_others(alloc, board.shelf())
 }
 
 #[test]
@@ -144,16 +153,26 @@ fn owners_at<B: BoardName>(station: &Station<B>, index: usize) -> usize {
     }
 }
 
-/// Whether two stations of the board deliver all places and keep each entry once then: the board and the records of both have
-/// the last one in common, and the shelf the first one, too.
+/// Whether another station of the board delivers all places, too, and keeps each entry once then: the board and the records of
+/// both have the last one in common, and the shelf the first one, too.
+fn keeps_beside<B: BoardName>(
+    alloc: Global,
+    board: &Board,
+    station: &Station<B>,
+) -> Result<bool, Refusal>
+    requires { board.now ≡ B.cells }
+{
+    let other = delivered::<B>(alloc, board, 2)?;
+    let last = COUNT as usize - 1;
+    Ok(owners_at(station, 0) == 4 && owners_at(&other, last) == 3)
+}
+
+/// Whether two stations of the board do so.
 fn keep_once<B: BoardName>(alloc: Global, board: &Board) -> Result<bool, Refusal>
     requires { board.now ≡ B.cells }
 {
-    let mut one = new_station::<B>(alloc, board, 1)?;
-    let mut other = new_station::<B>(alloc, board, 2)?;
-    let all = delivers_all(alloc, board, &mut one)? && delivers_all(alloc, board, &mut other)?;
-    let last = COUNT as usize - 1;
-    Ok(all && owners_at(&one, 0) == 4 && owners_at(&other, last) == 3)
+    let station = delivered::<B>(alloc, board, 1)?;
+    keeps_beside(alloc, board, &station)
 }
 
 #[test]
