@@ -22,7 +22,7 @@ fn bend_between(from: u8, to: u8) -> u64
 }
 
 /// Puts the path of the arrow to a row and a node.
-#[tactic(auto, unfolding(crate::specs::Arrows::path_of))]
+#[tactic(auto, unfolding(crate::specs::PictureArrows::path_of))]
 fn put_path(text: &mut Vec<u8>, arrow: &Arrow, row: u64, node: u8) -> Result<(), Refusal>
     ensures ok { OnOk result (text.new.items ≡ text.old.items ++ path_of arrow.now row node) }
     ensures memory { IsOkUnless result Refusal.Memory }
@@ -40,7 +40,7 @@ fn put_path(text: &mut Vec<u8>, arrow: &Arrow, row: u64, node: u8) -> Result<(),
 }
 
 /// Puts what the arrow stands for, beside its end.
-#[tactic(auto, unfolding(crate::specs::Arrows::label_of))]
+#[tactic(auto, unfolding(crate::specs::PictureArrows::label_of))]
 fn put_label(text: &mut Vec<u8>, arrow: &Arrow, row: u64, node: u8) -> Result<(), Refusal>
     ensures ok { OnOk result (text.new.items ≡ text.old.items ++ label_of arrow.now row node) }
     ensures memory { IsOkUnless result Refusal.Memory }

@@ -28,7 +28,7 @@ pub(crate) fn find_lost(alloc: Global, arrows: &[Arrow]) -> Result<Vec<Arrow>, R
 }
 
 /// Puts a stub that ends in a cross.
-#[tactic(auto, unfolding(crate::specs::Arrows::cross))]
+#[tactic(auto, unfolding(crate::specs::PictureArrows::cross))]
 fn put_stub(text: &mut Vec<u8>) -> Result<(), Refusal>
     ensures ok { OnOk result (text.new.items ≡ text.old.items ++ cross) }
     ensures memory { IsOkUnless result Refusal.Memory }
@@ -37,7 +37,7 @@ fn put_stub(text: &mut Vec<u8>) -> Result<(), Refusal>
 }
 
 /// Puts the mark of a lost frame.
-#[tactic(auto, unfolding(crate::specs::Arrows::cross_of))]
+#[tactic(auto, unfolding(crate::specs::PictureArrows::cross_of))]
 fn put_cross(text: &mut Vec<u8>, arrow: &Arrow, place: u64) -> Result<(), Refusal>
     ensures ok { OnOk result (text.new.items ≡ text.old.items ++ cross_of arrow.now place) }
     ensures memory { IsOkUnless result Refusal.Memory }
@@ -50,7 +50,7 @@ fn put_cross(text: &mut Vec<u8>, arrow: &Arrow, place: u64) -> Result<(), Refusa
 }
 
 /// Puts what is said of a lost frame.
-#[tactic(auto, unfolding(crate::specs::Arrows::lost_line))]
+#[tactic(auto, unfolding(crate::specs::PictureArrows::lost_line))]
 fn put_line(
     alloc: Global,
     text: &mut Vec<u8>,
@@ -72,7 +72,7 @@ fn put_line(
 }
 
 /// Puts a lost frame: its mark, and what is said of it.
-#[tactic(auto, unfolding(crate::specs::Arrows::lost_shape))]
+#[tactic(auto, unfolding(crate::specs::PictureArrows::lost_shape))]
 fn put_lost(
     alloc: Global,
     text: &mut Vec<u8>,

@@ -26,7 +26,7 @@ use cpg_world::{World, WorldEvent};
 use std::alloc::Global;
 
 /// Puts the line of a row across the columns of so many nodes.
-#[tactic(auto, unfolding(crate::specs::Rows::line_of))]
+#[tactic(auto, unfolding(crate::specs::PictureRows::line_of))]
 fn put_line(text: &mut Vec<u8>, nodes: u8, row: u64) -> Result<(), Refusal>
     ensures ok { OnOk result (text.new.items ≡ text.old.items ++ line_of nodes row) }
     ensures memory { IsOkUnless result Refusal.Memory }
@@ -39,7 +39,7 @@ fn put_line(text: &mut Vec<u8>, nodes: u8, row: u64) -> Result<(), Refusal>
 }
 
 /// Puts the middle of a dot in a row and a column.
-#[tactic(auto, unfolding(crate::specs::Rows::middle_of))]
+#[tactic(auto, unfolding(crate::specs::PictureRows::middle_of))]
 fn put_middle(text: &mut Vec<u8>, row: u64, node: u8) -> Result<(), Refusal>
     ensures ok { OnOk result (text.new.items ≡ text.old.items ++ middle_of row node) }
     ensures memory { IsOkUnless result Refusal.Memory }
@@ -52,7 +52,7 @@ fn put_middle(text: &mut Vec<u8>, row: u64, node: u8) -> Result<(), Refusal>
 }
 
 /// Puts a dot of that size in a row and a column.
-#[tactic(auto, unfolding(crate::specs::Rows::circle_of))]
+#[tactic(auto, unfolding(crate::specs::PictureRows::circle_of))]
 fn put_circle(text: &mut Vec<u8>, radius: u64, row: u64, node: u8) -> Result<(), Refusal>
     ensures ok { OnOk result (text.new.items ≡ text.old.items ++ circle_of radius row node) }
     ensures memory { IsOkUnless result Refusal.Memory }
@@ -76,7 +76,7 @@ fn put_dot(text: &mut Vec<u8>, radius: u64, row: u64, node: u8) -> Result<(), Re
 }
 
 /// Puts what a row says, and counts its letters.
-#[tactic(auto, unfolding(crate::specs::Rows::words_of))]
+#[tactic(auto, unfolding(crate::specs::PictureRows::words_of))]
 fn put_said(sheet: &mut Sheet, nodes: u8, row: u64, words: &[u8]) -> Result<(), Refusal>
     ensures ok { OnOk result (sheet.new.text.items ≡ sheet.old.text.items ++ (words_of nodes row words.now ++ codes "</g>\n")) }
     ensures letters { sheet.new.letters ≡ max sheet.old.letters (length words.now) }

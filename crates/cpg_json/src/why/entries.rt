@@ -61,7 +61,7 @@ pub(crate) fn put_judged(
 }
 
 /// Puts an entry at its place in braces at the line's end.
-#[tactic(auto, unfolding(cpg_json::specs::Objects::field))]
+#[tactic(auto, unfolding(crate::specs::Objects::field))]
 fn put_object(line: &mut Vec<u8>, numbers: &[u32], place: u32, entry: &Entry) -> Result<(), Refusal>
     requires { 1 ≤ place }
     ensures ok { OnOk result (line.new.items ≡ line.old.items ++ object (entry_fields numbers.now place entry.now)) }
@@ -90,7 +90,7 @@ fn put_entry_at(
 }
 
 /// Puts the field of the entry that put the rule of that number in at the line's end.
-#[tactic(auto, unfolding(cpg_json::specs::Objects::after_comma, cpg_json::specs::Objects::field))]
+#[tactic(auto, unfolding(crate::specs::Objects::after_comma, crate::specs::Objects::field))]
 pub(crate) fn put_put_in(
     line: &mut Vec<u8>,
     numbers: &[u32],
@@ -120,7 +120,7 @@ fn put_since_value(
 }
 
 /// Puts the field of the entry since which a state is so at the line's end.
-#[tactic(auto, unfolding(cpg_json::specs::Objects::after_comma, cpg_json::specs::Objects::field))]
+#[tactic(auto, unfolding(crate::specs::Objects::after_comma, crate::specs::Objects::field))]
 pub(crate) fn put_since(
     line: &mut Vec<u8>,
     numbers: &[u32],

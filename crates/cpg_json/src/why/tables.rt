@@ -45,7 +45,7 @@ fn kind_name(kind: Kind) -> &'static str
 }
 
 /// Puts the front of a condition that is not met at the line's end.
-#[tactic(auto, unfolding(crate::specs::Steps::condition_front))]
+#[tactic(auto, unfolding(crate::specs::WhySteps::condition_front))]
 fn put_condition_front(line: &mut Vec<u8>, name: &str) -> Result<(), Refusal>
     ensures ok { OnOk result (line.new.items ≡ line.old.items ++ condition_front name.now) }
     ensures memory { IsOkUnless result Refusal.Memory }
@@ -84,7 +84,7 @@ fn put_unmet_value(line: &mut Vec<u8>, found: Option<Unmet>) -> Result<(), Refus
 }
 
 /// Puts the field of the first condition that the asker does not meet at the line's end.
-#[tactic(auto, unfolding(cpg_json::specs::Objects::after_comma, cpg_json::specs::Objects::field))]
+#[tactic(auto, unfolding(crate::specs::Objects::after_comma, crate::specs::Objects::field))]
 fn put_unmet(line: &mut Vec<u8>, who: &Who, asker: &Asker) -> Result<(), Refusal>
     ensures ok { OnOk result (line.new.items ≡ line.old.items ++ after_comma (field (codes "unmet") (unmet_value (unmet who.now asker.now)))) }
     ensures memory { IsOkUnless result Refusal.Memory }
@@ -94,7 +94,7 @@ fn put_unmet(line: &mut Vec<u8>, who: &Who, asker: &Asker) -> Result<(), Refusal
 }
 
 /// Puts the front of the object of a rule at an index at the line's end.
-#[tactic(auto, unfolding(cpg_json::specs::Objects::field))]
+#[tactic(auto, unfolding(crate::specs::Objects::field))]
 fn put_index(line: &mut Vec<u8>, index: usize) -> Result<(), Refusal>
     ensures ok { OnOk result (line.new.items ≡ line.old.items ++ (codes "{" ++ number (codes "index") index)) }
     ensures memory { IsOkUnless result Refusal.Memory }
@@ -123,7 +123,7 @@ fn put_passed_rule(
 }
 
 /// Puts an object behind others, or at the front.
-#[tactic(auto, unfolding(cpg_json::specs::Objects::after_comma))]
+#[tactic(auto, unfolding(crate::specs::Objects::after_comma))]
 fn put_passed_after(
     line: &mut Vec<u8>,
     begun: bool,
@@ -199,7 +199,7 @@ fn put_passed_objects(
 }
 
 /// Puts the field of the first so many rules, those that have the right, at the line's end.
-#[tactic(auto, unfolding(cpg_json::specs::Objects::after_comma, cpg_json::specs::Objects::field))]
+#[tactic(auto, unfolding(crate::specs::Objects::after_comma, crate::specs::Objects::field))]
 fn put_passed(
     line: &mut Vec<u8>,
     table: &Table,
@@ -269,7 +269,7 @@ fn put_default_decided(line: &mut Vec<u8>, group: &[u8], right: Right) -> Result
 }
 
 /// Puts the field of the verdict on the entry of a record if the table lacked the rule of that number.
-#[tactic(auto, unfolding(cpg_json::specs::Objects::after_comma, cpg_json::specs::Objects::field))]
+#[tactic(auto, unfolding(crate::specs::Objects::after_comma, crate::specs::Objects::field))]
 fn put_without(
     line: &mut Vec<u8>,
     policy: &Policy,
