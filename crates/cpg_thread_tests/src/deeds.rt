@@ -301,7 +301,9 @@ pub fn closes<B: HistoryName, G, R: Wait>(
     let before = session.connection();
     let mut open = session;
     for _ in 0..TRIES {
-        holds(is_here(running, &open))?;
+        if !is_here(running, &open) {
+            return Err(Stop::Wrong);
+        }
         match running.close(rt, open) {
             Ok(()) => return Ok(None),
             Err(refused) => {
