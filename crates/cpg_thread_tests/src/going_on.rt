@@ -51,8 +51,9 @@ fn scene(alloc: Global) -> Result<Scene, Stop> {
     })
 }
 
-/// How often the scene is played before it is taken that memory has run out.
-const TIMES: u8 = 3;
+/// How often the scene is played before it is taken that memory has run out: more often than `tools/refuse-growths` refuses
+/// requests in a row, of which each play that fails has met one.
+const TIMES: u8 = 12;
 
 #[test]
 fn a_session_goes_on(rt: HostRuntime) -> Result<(), Fail> {
