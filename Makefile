@@ -5,9 +5,10 @@
 #   make install PREFIX=/usr/local DESTDIR=      the proved program, its manual and completions, and the C library
 #   make install-daemon PREFIX=/usr/local DESTDIR=    the daemon, its control client, libcpg and what belongs to them
 #
-# What is installed is proved: `rt ci` leaves the program, and what is not proved yet is proved first, in an hour and more.
+# What is installed is proved: `rt ci` leaves the program, and what is not proved yet is proved first, in hours.
 PREFIX ?= /usr/local
 PROGRAM := crates/cpgring/out/cpgring
+SOURCES := $(wildcard crates/*/src crates/*/specs crates/*/proofs)
 SHARE = $(DESTDIR)$(PREFIX)/share
 
 all: $(PROGRAM)
@@ -17,7 +18,7 @@ quick:
 	$(MAKE) -C daemon OUT=../out/quick/daemon CPGRING_LIBRARY=$$(tools/unproved-c)
 
 $(PROGRAM): always
-	[ -x $@ ] && [ -z "$$(find crates.txt crates/*/src -newer $@ -print -quit)" ] || (cd crates/cpgring && rt run -- --version)
+	[ -x $@ ] && [ -z "$$(find crates.txt $(SOURCES) -newer $@ -print -quit)" ] || (cd crates/cpgring && rt run -- --version)
 
 install: $(PROGRAM)
 	install -d $(DESTDIR)$(PREFIX)/bin $(SHARE)/man/man1 $(SHARE)/bash-completion/completions
