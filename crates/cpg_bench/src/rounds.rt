@@ -9,7 +9,7 @@ use crate::gates::{Chance, Fates, Notes, gate_of};
 use cpg_board::Board;
 use cpg_cluster::{Manner, Numbered, Patience, Shown, command_in_line, do_command, hand_on};
 use cpg_cred::Refusal;
-use cpg_daemon::{Cluster, Ends, HistoryName, Opened, Running, Session};
+use cpg_daemon::{Cluster, Ends, Front, HistoryName, Opened, Running, Session};
 use cpg_print::{put_audit, put_count};
 use cpg_record::Record;
 use cpg_script::put;
@@ -115,21 +115,18 @@ fn put_notes(text: &mut Vec<u8>, notes: &Notes) -> Result<(), Refusal> {
 fn text_of<B: HistoryName>(
     alloc: Global,
     ends: Ends<B>,
+    front: Front<B>,
     notes: &Notes,
     plan: Plan,
 ) -> Result<Vec<u8>, Refusal>
-    requires { HaveSeen ends.stations.items ends.front.seen }
+    requires { HaveSeen ends.stations.items front.seen }
 {
     let mut text = Vec::new(alloc);
     for station in ends.stations.iter() {
         put_station(&mut text, station.station().audit())?;
     }
     put_notes(&mut text, notes)?;
-    let Ends {
-        stations,
-        front,
-        links,
-    } = ends;
+    let Ends { stations, links } = ends;
     drop(links);
     if plan.traced {
         let recording = recorded_by(alloc, stations, &front)?;
@@ -159,7 +156,8 @@ where
     let (gate, notes) = gate_of(alloc, plan.nodes, Some(Chance::of(plan.seed)))?;
     let cluster = Cluster::<B, Fates>::start(rt, alloc, board, opened, gate)?;
     let gone = answer_all(&rt, alloc, &cluster, lines, writer);
-    let text = text_of(alloc, cluster.stop(&rt), &notes, plan)?;
+    let (ends, front) = cluster.stop_traced(&rt);
+    let text = text_of(alloc, ends, front, &notes, plan)?;
     write_out(writer, text.as_slice())?;
     gone
 }

@@ -5,10 +5,10 @@ use Rattle.std.proofs.lemmas.List.{set_past}
 use Rattle.std.proofs.lemmas.Option.{slice_get_past, slice_get-get_or}
 use Rattle.cpg_cred.specs.declared.refusals.Refusal.TheVariants.{NoConnection}
 use Rattle.cpg_daemon.specs.Sessions.{SessionValue}
-use Rattle.cpg_cluster.specs.Answers.{Answer, Sessions, AtNumber}
+use Rattle.cpg_cluster.specs.Answers.{Answer, Slots, AtNumber}
 
 -- a number that was not given
-pub at_none : (Goes : Option SessionValue → Answer → Option SessionValue → Type 0) (number : ℕ) (sessions : Sessions)
+pub at_none : (Goes : Option SessionValue → Answer → Option SessionValue → Type 0) (number : ℕ) (sessions : Slots)
     → ((1 ≤ number) × (number ≤ length sessions) → false ≡ true) → Goes None (Err NoConnection) None → AtNumber Goes number sessions (Err NoConnection) sessions
 at_none Goes zero sessions beyond goes = (None, goes, refl)
 at_none Goes (suc i) sessions beyond goes =
@@ -16,7 +16,7 @@ at_none Goes (suc i) sessions beyond goes =
     (None, subst (λ o. Goes (option_flatten o) (Err NoConnection) None) (sym (slice_get_past sessions i past)) goes, sym (set_past sessions i None past))
 
 -- a number that was given
-pub at_number : (Goes : Option SessionValue → Answer → Option SessionValue → Type 0) (number : ℕ) (old : Sessions) (answer : Answer) (slot after : Option SessionValue)
+pub at_number : (Goes : Option SessionValue → Answer → Option SessionValue → Type 0) (number : ℕ) (old : Slots) (answer : Answer) (slot after : Option SessionValue)
     → 1 ≤ number → number ≤ length old → slice_index_or old (number - 1) slot ≡ slot → Goes slot answer after → AtNumber Goes number old answer (slice_set old (number - 1) after)
 at_number Goes zero old answer slot after least most at goes = absurd (omega (arith, least))
 at_number Goes (suc i) old answer slot after least most at goes =

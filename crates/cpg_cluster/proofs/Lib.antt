@@ -1,6 +1,7 @@
 pub mod AtNumbers
 pub mod Doing
 pub mod Echoed
+pub mod Fronts
 pub mod Lengths
 pub mod Pieces
 pub mod Put

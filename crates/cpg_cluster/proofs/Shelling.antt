@@ -6,12 +6,12 @@ use Rattle.std.proofs.KnownBytes.{Appends-trans, Appends-nil, Keeps-refl}
 use Rattle.std.proofs.lemmas.Bool.Decides.{nat_tests}
 use Rattle.std.proofs.lemmas.List.{length-append}
 use Rattle.std.proofs.lemmas.List.Concat.{flat_map-append}
-use Rattle.cpg_cred.specs.Listed.{Listed}
+use Rattle.cpg_world_laws.specs.Worlds.{WorldValue}
 use Rattle.cpg_cred.specs.declared.refusals.Refusal.{Refusal}
 use Rattle.cpg_cred.specs.declared.refusals.Refusal.TheVariants as refusal
 use Rattle.cpg_text.specs.Lines.{lines_of, lines_left, trimmed}
 use Rattle.cpg_text.specs.Streams.{AppendsFront}
-use Rattle.cpg_cluster.specs.Answers.{Sessions}
+use Rattle.cpg_cluster.specs.Answers.{SessionsValue, no_sessions}
 use Rattle.cpg_cluster.specs.Lines.{Printed}
 use Rattle.cpg_cluster.specs.declared.shell.lines.TheConstants.{MOST_LINE}
 use Rattle.cpg_cluster.specs.declared.shell.typed.Typed.{Typed}
@@ -34,8 +34,8 @@ typed_as nodes kept full stands =
     ]
 
 -- no line yet
-pub none_shelled : (form : Printed) (list : Listed) (nodes : ℕ) (input old errors : Option (List ℕ)) → AreShelledSo form list nodes 1 [] input input old old errors errors
-none_shelled form list nodes input old errors = record {
+pub none_shelled : (form : Printed) (start : WorldValue) (nodes : ℕ) (input old errors : Option (List ℕ)) → AreShelledSo form start nodes 1 no_sessions input input old old errors errors
+none_shelled form start nodes input old errors = record {
   before = [];
   outcomes = [];
   all = at_start input;
@@ -88,17 +88,17 @@ read_last (Some bytes) None new before full h first = absurd h
 read_last (Some bytes) (Some rest) new before full h first = sym (h ∙ ap (λ l. before ++ l) first)
 
 -- one line more came to something
-came_more : (form : Printed) (list : Listed) (nodes : ℕ) (old : Sessions) (number : ℕ) (lines : List (List ℕ)) (outcomes : List Outcome) (line : List ℕ) (outcome : Outcome)
-    → MayAllCome form list nodes old number lines outcomes → MayCome form list (sessions_after old outcomes) (number + length lines) (typed_of nodes line) outcome
-    → MayAllCome form list nodes old number (lines ++ line ∷ []) (outcomes ++ outcome ∷ [])
-came_more form list nodes old number [] [] line outcome all one = (subst (λ (n : ℕ). MayCome form list old n (typed_of nodes line) outcome) (add-zero number) one, tt)
-came_more form list nodes old number [] (o ∷ outcomes) line outcome all one = absurd all
-came_more form list nodes old number (l ∷ lines) [] line outcome all one = absurd all
-came_more form list nodes old number (l ∷ lines) (o ∷ outcomes) line outcome all one =
+came_more : (form : Printed) (start : WorldValue) (nodes : ℕ) (old : SessionsValue) (number : ℕ) (lines : List (List ℕ)) (outcomes : List Outcome) (line : List ℕ) (outcome : Outcome)
+    → MayAllCome form start nodes old number lines outcomes → MayCome form start (sessions_after old outcomes) (number + length lines) (typed_of nodes line) outcome
+    → MayAllCome form start nodes old number (lines ++ line ∷ []) (outcomes ++ outcome ∷ [])
+came_more form start nodes old number [] [] line outcome all one = (subst (λ (n : ℕ). MayCome form start old n (typed_of nodes line) outcome) (add-zero number) one, tt)
+came_more form start nodes old number [] (o ∷ outcomes) line outcome all one = absurd all
+came_more form start nodes old number (l ∷ lines) [] line outcome all one = absurd all
+came_more form start nodes old number (l ∷ lines) (o ∷ outcomes) line outcome all one =
     let next : number + suc (length lines) ≡ number + 1 + length lines = omega arith in
-    (all.0, came_more form list nodes o.left (number + 1) lines outcomes line outcome all.1 (subst (λ (n : ℕ). MayCome form list (sessions_after o.left outcomes) n (typed_of nodes line) outcome) next one))
+    (all.0, came_more form start nodes o.left (number + 1) lines outcomes line outcome all.1 (subst (λ (n : ℕ). MayCome form start (sessions_after o.left outcomes) n (typed_of nodes line) outcome) next one))
 
-after_more : (old : Sessions) (outcomes : List Outcome) (outcome : Outcome) → sessions_after old (outcomes ++ outcome ∷ []) ≡ outcome.left
+after_more : (old : SessionsValue) (outcomes : List Outcome) (outcome : Outcome) → sessions_after old (outcomes ++ outcome ∷ []) ≡ outcome.left
 after_more old [] outcome = refl
 after_more old (o ∷ outcomes) outcome = after_more o.left outcomes outcome
 
@@ -108,64 +108,64 @@ text_more of a b d outcomes outcome first second =
     subst (Appends a d) (sym (flat_map-append of outcomes (outcome ∷ []) ∙ ap (λ l. flat_map of outcomes ++ l) (append-nil (of outcome)))) (Appends-trans a b d (flat_map of outcomes) (of outcome) first second)
 
 -- The lines so far and one more were answered.
-shelled_more : (form : Printed) (list : Listed) (nodes : ℕ) (before : List (List ℕ)) (outcomes : List Outcome) (full : List ℕ) (outcome : Outcome) (a b d e f h : Option (List ℕ))
-    → AreShelled form list nodes before outcomes a b e f → MayCome form list (sessions_after [] outcomes) (length before + 1) (typed_of nodes full) outcome → Appends b d outcome.printed → Appends f h outcome.told
-    → AreShelled form list nodes (before ++ full ∷ []) (outcomes ++ outcome ∷ []) a d e h
-shelled_more form list nodes before outcomes full outcome a b d e f h so one written told =
+shelled_more : (form : Printed) (start : WorldValue) (nodes : ℕ) (before : List (List ℕ)) (outcomes : List Outcome) (full : List ℕ) (outcome : Outcome) (a b d e f h : Option (List ℕ))
+    → AreShelled form start nodes before outcomes a b e f → MayCome form start (sessions_after no_sessions outcomes) (length before + 1) (typed_of nodes full) outcome → Appends b d outcome.printed → Appends f h outcome.told
+    → AreShelled form start nodes (before ++ full ∷ []) (outcomes ++ outcome ∷ []) a d e h
+shelled_more form start nodes before outcomes full outcome a b d e f h so one written told =
     let number : length before + 1 ≡ 1 + length before = omega arith in
     record {
-      came = came_more form list nodes [] 1 before outcomes full outcome so.came (subst (λ (n : ℕ). MayCome form list (sessions_after [] outcomes) n (typed_of nodes full) outcome) number one);
+      came = came_more form start nodes no_sessions 1 before outcomes full outcome so.came (subst (λ (n : ℕ). MayCome form start (sessions_after no_sessions outcomes) n (typed_of nodes full) outcome) number one);
       written = text_more (λ (o : Outcome). o.printed) a b d outcomes outcome so.written written;
       told = text_more (λ (o : Outcome). o.told) e f h outcomes outcome so.told told;
     }
 
 -- what the answer to the line that was read is to the lines before it
-one_came : (form : Printed) (list : Listed) (nodes number : ℕ) (sessions : Sessions) (before : List (List ℕ)) (outcomes : List Outcome) (kept full : List ℕ) (outcome : Outcome)
-    → number ≡ length before + 1 → sessions ≡ sessions_after [] outcomes → StandsFor kept full → MayCome form list sessions number (typed_of nodes kept) outcome
-    → MayCome form list (sessions_after [] outcomes) (length before + 1) (typed_of nodes full) outcome
-one_came form list nodes number sessions before outcomes kept full outcome counted now stands one =
-    subst (λ (t : Typed). MayCome form list (sessions_after [] outcomes) (length before + 1) t outcome) (typed_as nodes kept full stands)
-    (subst (λ (s : Sessions). MayCome form list s (length before + 1) (typed_of nodes kept) outcome) now
-    (subst (λ (n : ℕ). MayCome form list sessions n (typed_of nodes kept) outcome) counted one))
+one_came : (form : Printed) (start : WorldValue) (nodes number : ℕ) (sessions : SessionsValue) (before : List (List ℕ)) (outcomes : List Outcome) (kept full : List ℕ) (outcome : Outcome)
+    → number ≡ length before + 1 → sessions ≡ sessions_after no_sessions outcomes → StandsFor kept full → MayCome form start sessions number (typed_of nodes kept) outcome
+    → MayCome form start (sessions_after no_sessions outcomes) (length before + 1) (typed_of nodes full) outcome
+one_came form start nodes number sessions before outcomes kept full outcome counted now stands one =
+    subst (λ (t : Typed). MayCome form start (sessions_after no_sessions outcomes) (length before + 1) t outcome) (typed_as nodes kept full stands)
+    (subst (λ (s : SessionsValue). MayCome form start s (length before + 1) (typed_of nodes kept) outcome) now
+    (subst (λ (n : ℕ). MayCome form start sessions n (typed_of nodes kept) outcome) counted one))
 
 -- the line that was read, and others follow it, was answered
-pub shelled_on : (form : Printed) (list : Listed) (nodes number : ℕ) (sessions : Sessions) (input left new a b d e f h : Option (List ℕ)) (kept : List ℕ) (outcome : Outcome)
-    → AreShelledSo form list nodes number sessions input left a b e f → IsLine kept true left new → MayCome form list sessions number (typed_of nodes kept) outcome → Appends b d outcome.printed → Appends f h outcome.told
-    → AreShelledSo form list nodes (number + 1) outcome.left input new a d e h
-shelled_on form list nodes number sessions input left new a b d e f h kept outcome so line one written told =
+pub shelled_on : (form : Printed) (start : WorldValue) (nodes number : ℕ) (sessions : SessionsValue) (input left new a b d e f h : Option (List ℕ)) (kept : List ℕ) (outcome : Outcome)
+    → AreShelledSo form start nodes number sessions input left a b e f → IsLine kept true left new → MayCome form start sessions number (typed_of nodes kept) outcome → Appends b d outcome.printed → Appends f h outcome.told
+    → AreShelledSo form start nodes (number + 1) outcome.left input new a d e h
+shelled_on form start nodes number sessions input left new a b d e f h kept outcome so line one written told =
     record {
       before = so.before ++ line.full ∷ [];
       outcomes = so.outcomes ++ outcome ∷ [];
       all = read_on input left new so.before line.full so.all line.first;
       counted = omega (arith, so.counted, length-append so.before (line.full ∷ []));
-      now = sym (after_more [] so.outcomes outcome);
-      shelled = shelled_more form list nodes so.before so.outcomes line.full outcome a b d e f h so.shelled (one_came form list nodes number sessions so.before so.outcomes kept line.full outcome so.counted so.now line.stands one) written told;
+      now = sym (after_more no_sessions so.outcomes outcome);
+      shelled = shelled_more form start nodes so.before so.outcomes line.full outcome a b d e f h so.shelled (one_came form start nodes number sessions so.before so.outcomes kept line.full outcome so.counted so.now line.stands one) written told;
     }
 
 -- the last line was answered
-pub shelled_whole : (form : Printed) (list : Listed) (nodes number : ℕ) (sessions : Sessions) (input left new a b d e f h : Option (List ℕ)) (kept : List ℕ) (outcome : Outcome)
-    → AreShelledSo form list nodes number sessions input left a b e f → IsLine kept false left new → MayCome form list sessions number (typed_of nodes kept) outcome → Appends b d outcome.printed → Appends f h outcome.told
-    → IsShelled form list nodes input a d e h
-shelled_whole form list nodes number sessions input left new a b d e f h kept outcome so line one written told = record {
+pub shelled_whole : (form : Printed) (start : WorldValue) (nodes number : ℕ) (sessions : SessionsValue) (input left new a b d e f h : Option (List ℕ)) (kept : List ℕ) (outcome : Outcome)
+    → AreShelledSo form start nodes number sessions input left a b e f → IsLine kept false left new → MayCome form start sessions number (typed_of nodes kept) outcome → Appends b d outcome.printed → Appends f h outcome.told
+    → IsShelled form start nodes input a d e h
+shelled_whole form start nodes number sessions input left new a b d e f h kept outcome so line one written told = record {
   lines = so.before ++ line.full ∷ [];
   outcomes = so.outcomes ++ outcome ∷ [];
   all = read_last input left new so.before line.full so.all line.first;
-  shelled = shelled_more form list nodes so.before so.outcomes line.full outcome a b d e f h so.shelled (one_came form list nodes number sessions so.before so.outcomes kept line.full outcome so.counted so.now line.stands one) written told;
+  shelled = shelled_more form start nodes so.before so.outcomes line.full outcome a b d e f h so.shelled (one_came form start nodes number sessions so.before so.outcomes kept line.full outcome so.counted so.now line.stands one) written told;
 }
 
 -- the refusals that leave nothing of the line that meets them
-leaves_nothing : (refused : Refusal) (form : Printed) (list : Listed) (nodes : ℕ) (sessions : Sessions) (number : ℕ) (lines : List (List ℕ)) (b f : Option (List ℕ))
-    → (refused ≡ refusal.Read) ⊎ (refused ≡ refusal.Memory) → LeavesLine refused form list nodes sessions number lines b b f f
-leaves_nothing refused form list nodes sessions number lines b f which =
+leaves_nothing : (refused : Refusal) (form : Printed) (start : WorldValue) (nodes : ℕ) (sessions : SessionsValue) (number : ℕ) (lines : List (List ℕ)) (b f : Option (List ℕ))
+    → (refused ≡ refusal.Read) ⊎ (refused ≡ refusal.Memory) → LeavesLine refused form start nodes sessions number lines b b f f
+leaves_nothing refused form start nodes sessions number lines b f which =
     elim which [
-      | inl is ↦ subst (λ (r : Refusal). LeavesLine r form list nodes sessions number lines b b f f) (sym is) (Keeps-refl b, Keeps-refl f)
-      | inr is ↦ subst (λ (r : Refusal). LeavesLine r form list nodes sessions number lines b b f f) (sym is) (Keeps-refl b, Keeps-refl f)
+      | inl is ↦ subst (λ (r : Refusal). LeavesLine r form start nodes sessions number lines b b f f) (sym is) (Keeps-refl b, Keeps-refl f)
+      | inr is ↦ subst (λ (r : Refusal). LeavesLine r form start nodes sessions number lines b b f f) (sym is) (Keeps-refl b, Keeps-refl f)
     ]
 
 -- the next line could not be read, or there was no memory for it
-pub ended_before : (refused : Refusal) (form : Printed) (list : Listed) (nodes number : ℕ) (sessions : Sessions) (input left a b e f : Option (List ℕ))
-    → AreShelledSo form list nodes number sessions input left a b e f → (refused ≡ refusal.Read) ⊎ (refused ≡ refusal.Memory) → IsEnded refused form list nodes input a b e f
-ended_before refused form list nodes number sessions input left a b e f so which = record {
+pub ended_before : (refused : Refusal) (form : Printed) (start : WorldValue) (nodes number : ℕ) (sessions : SessionsValue) (input left a b e f : Option (List ℕ))
+    → AreShelledSo form start nodes number sessions input left a b e f → (refused ≡ refusal.Read) ⊎ (refused ≡ refusal.Memory) → IsEnded refused form start nodes input a b e f
+ended_before refused form start nodes number sessions input left a b e f so which = record {
   before = so.before;
   later = lines_left left;
   outcomes = so.outcomes;
@@ -173,15 +173,15 @@ ended_before refused form list nodes number sessions input left a b e f so which
   middle = b;
   middle_errors = f;
   shelled = so.shelled;
-  left = leaves_nothing refused form list nodes (sessions_after [] so.outcomes) (length so.before + 1) (lines_left left) b f which;
+  left = leaves_nothing refused form start nodes (sessions_after no_sessions so.outcomes) (length so.before + 1) (lines_left left) b f which;
 }
 
 -- what the line that was read prints and tells could not be written whole
-pub ended_in : (refused : Refusal) (form : Printed) (list : Listed) (nodes number : ℕ) (sessions : Sessions) (input left new a b d e f h : Option (List ℕ)) (kept : List ℕ) (more : Bool) (outcome : Outcome)
-    → AreShelledSo form list nodes number sessions input left a b e f → IsLine kept more left new → MayCome form list sessions number (typed_of nodes kept) outcome → AppendsFront b d outcome.printed → AppendsFront f h outcome.told
-    → refused ≡ refusal.Write → IsEnded refused form list nodes input a d e h
-ended_in refused form list nodes number sessions input left new a b d e f h kept more outcome so line one written told is =
-    subst (λ (r : Refusal). IsEnded r form list nodes input a d e h) (sym is) record {
+pub ended_in : (refused : Refusal) (form : Printed) (start : WorldValue) (nodes number : ℕ) (sessions : SessionsValue) (input left new a b d e f h : Option (List ℕ)) (kept : List ℕ) (more : Bool) (outcome : Outcome)
+    → AreShelledSo form start nodes number sessions input left a b e f → IsLine kept more left new → MayCome form start sessions number (typed_of nodes kept) outcome → AppendsFront b d outcome.printed → AppendsFront f h outcome.told
+    → refused ≡ refusal.Write → IsEnded refused form start nodes input a d e h
+ended_in refused form start nodes number sessions input left new a b d e f h kept more outcome so line one written told is =
+    subst (λ (r : Refusal). IsEnded r form start nodes input a d e h) (sym is) record {
       before = so.before;
       later = line.full ∷ after more new;
       outcomes = so.outcomes;
@@ -194,7 +194,7 @@ ended_in refused form list nodes number sessions input left new a b d e f h kept
         later = after more new;
         first = refl;
         outcome = outcome;
-        came = one_came form list nodes number sessions so.before so.outcomes kept line.full outcome so.counted so.now line.stands one;
+        came = one_came form start nodes number sessions so.before so.outcomes kept line.full outcome so.counted so.now line.stands one;
         written = written;
         told = told;
       };

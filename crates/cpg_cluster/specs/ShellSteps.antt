@@ -1,9 +1,9 @@
 -- steps of the functions that read and answer, which no contract of a public function cites
 use Rattle.std.specs.Prelude.{ℕ, ◌≡◌, ◌+◌, ◌<◌, ◌⊎◌, Bool, true, false, List, [], ◌∷◌, ◌++◌, length, All, Option, None, Some, MatchOption, IfSome}
 use Rattle.std.specs.Io.KnownBytes.{Keeps}
-use Rattle.cpg_cred.specs.Listed.{Listed}
+use Rattle.cpg_world_laws.specs.Worlds.{WorldValue}
 use Rattle.cpg_text.specs.Lines.{lines_of, is_line_feed}
-use Rattle.cpg_cluster.specs.Answers.{Sessions}
+use Rattle.cpg_cluster.specs.Answers.{SessionsValue, no_sessions}
 use Rattle.cpg_cluster.specs.Lines.{Printed}
 use Rattle.cpg_cluster.specs.declared.shell.lines.TheConstants.{MOST_LINE}
 use Rattle.cpg_cluster.specs.declared.shell.lines.Came.{Came}
@@ -52,10 +52,10 @@ pub record TakesIn (came : Came) (kept : List ℕ) (ended : Option Bool) (longer
   pub goes : (old mid new : Option (List ℕ)) → IsReading kept old mid → HasCome came mid new → IsSoFar ended longer old new
 
 -- The lines so far were answered: that number is the next line's, and these are the sessions.
-pub record AreShelledSo (form : Printed) (list : Listed) (nodes number : ℕ) (sessions : Sessions) (input left old new old_errors new_errors : Option (List ℕ)) : Type 0 where
+pub record AreShelledSo (form : Printed) (start : WorldValue) (nodes number : ℕ) (sessions : SessionsValue) (input left old new old_errors new_errors : Option (List ℕ)) : Type 0 where
   pub before : List (List ℕ)
   pub outcomes : List Outcome
   pub all : IfSome input (λ bytes. LeftSo left (λ rest. lines_of bytes ≡ before ++ lines_of rest))
   pub counted : number ≡ length before + 1
-  pub now : sessions ≡ sessions_after [] outcomes
-  pub shelled : AreShelled form list nodes before outcomes old new old_errors new_errors
+  pub now : sessions ≡ sessions_after no_sessions outcomes
+  pub shelled : AreShelled form start nodes before outcomes old new old_errors new_errors

@@ -5,10 +5,11 @@ use Rattle.cpg_cred.specs.declared.refusals.Refusal.TheVariants as refusal
 use Rattle.cpg_text.specs.Lines.{words_of}
 use Rattle.cpg_record.specs.declared.events.Event.{Event}
 use Rattle.cpg_board.specs.Seats.{IsSeatOf}
+use Rattle.cpg_world_laws.specs.Worlds.{WorldValue}
 use Rattle.cpg_daemon.specs.Sessions.{SessionValue}
 use Rattle.cpg_cluster.specs.declared.commands.Ask.TheVariants as ask
 use Rattle.cpg_cluster.specs.declared.commands.Numbered.{Numbered}
-use Rattle.cpg_cluster.specs.Answers.{Answer, Sessions, Stays, IsNothing, Serves}
+use Rattle.cpg_cluster.specs.Answers.{Answer, Slots, GoesOn, Serves}
 use Rattle.cpg_cluster.specs.Commands.{command_of}
 use Rattle.cpg_cluster.specs.Scripts.{numbered}
 use Rattle.cpg_cluster.specs.declared.replies.Reply.TheVariants.{Took, Audit}
@@ -25,15 +26,15 @@ poll_of (Ok (Some event)) = Some (Ok event)
 poll_of (Err (refusal.Behind reached)) = None
 poll_of (Err why) = Some (Err why)
 
--- What one poll gives, and what the session is then: nothing, or an event of its inbox, or why waiting ends.
-abbrev pub IsPolled : SessionValue → Option (Result Event Refusal) → SessionValue → Type 0
-IsPolled before None after = Stays before after × IsNothing before after.seat
-IsPolled before (Some (Ok event)) after = Serves before ask.Wait (Ok (Took event)) after
-IsPolled before (Some (Err why)) after = Serves before ask.Wait (Err why) after
+-- What one poll gives, and what the session is then: nothing that ends the wait, or an event of its inbox, or why waiting ends.
+abbrev pub IsPolled : WorldValue → SessionValue → Option (Result Event Refusal) → SessionValue → Type 0
+IsPolled start before None after = GoesOn before after
+IsPolled start before (Some (Ok event)) after = Serves start before ask.Wait (Ok (Took event)) after
+IsPolled start before (Some (Err why)) after = Serves start before ask.Wait (Err why) after
 
 -- the nodes of the open sessions are there
-abbrev pub AreWithin : ℕ → Sessions → Type 0
-AreWithin nodes sessions = All (λ slot. IfSome slot (λ session. session.who.id.node ≤ nodes)) sessions
+abbrev pub AreWithin : ℕ → Slots → Type 0
+AreWithin nodes slots = All (λ slot. IfSome slot (λ session. session.who.id.node ≤ nodes)) slots
 
 -- a seat that was answered is of that board
 abbrev pub SeatsOn : List ℕ → Answer → Type 0

@@ -49,7 +49,7 @@ fn submit<B: HistoryName, G, H: Wait>(
     call: &Call,
 ) -> Result<Reply, Refusal>
     requires { session.old.who.id.node ≤ running.now.nodes }
-    ensures answer { Serves session.old (asks.Call call.now) result session.new }
+    ensures answer { Serves B.start session.old (asks.Call call.now) result session.new }
     ensures seats { SeatsOn B.cells result }
 {
     let call = call.copy(alloc)?;
@@ -80,7 +80,7 @@ fn look<B: HistoryName, G, H: Wait>(
     session: &mut Session<B>,
 ) -> Option<Result<Event, Refusal>>
     requires { session.old.who.id.node ≤ running.now.nodes }
-    ensures { IsPolled session.old result session.new }
+    ensures { IsPolled B.start session.old result session.new }
 {
     polled(running.take(rt, session))
 }
@@ -94,7 +94,7 @@ fn poll<B: HistoryName, G, H: Wait>(
 ) -> Option<Result<Event, Refusal>>
     requires node { session.old.who.id.node ≤ running.now.nodes }
     requires few { polls.old < MOST_POLLS }
-    ensures told { IsPolled session.old result session.new }
+    ensures told { IsPolled B.start session.old result session.new }
     ensures counted { polls.new ≡ polls.old + 1 }
 {
     *polls += 1;
@@ -111,7 +111,7 @@ fn rest<H: Clock>(rt: &H, poll: u32) {
 }
 
 /// The session's next event, once it comes; nothing where it does not come for `MOST_POLLS` polls, which are counted.
-#[tactic(auto, using(crate::proofs::Seen::stays_on, crate::proofs::Seen::stays_self, crate::proofs::Seen::awaited_on, crate::proofs::Seen::nothing_on, crate::proofs::Seen::nothing_came, crate::proofs::Seen::ended_on))]
+#[tactic(auto, using(crate::proofs::Seen::stays_on, crate::proofs::Seen::stays_self, crate::proofs::Seen::awaited_on, crate::proofs::Seen::ended_on))]
 fn wait_looks<B: HistoryName, G, H: Wait + Clock>(
     rt: &H,
     running: &Running<B, G>,
@@ -120,7 +120,7 @@ fn wait_looks<B: HistoryName, G, H: Wait + Clock>(
 ) -> Result<Reply, Refusal>
     requires node { session.old.who.id.node ≤ running.now.nodes }
     requires none { polls.old ≡ 0 }
-    ensures answer { Serves session.old asks.Wait result session.new }
+    ensures answer { Serves B.start session.old asks.Wait result session.new }
     ensures polls { (seen : ℕ) → result ≡ Ok (replies.Nothing seen) → polls.new ≡ MOST_POLLS }
     ensures seats { SeatsOn B.cells result }
 {
@@ -153,7 +153,7 @@ fn rest_within<H: Clock>(rt: &H, poll: u64, start: &Instant, time: Duration) -> 
 
 /// The session's next event, once it comes; nothing where it does not come within the time since the start. It is
 /// asked for at least once, which is noted.
-#[tactic(auto, using(crate::proofs::Seen::stays_on, crate::proofs::Seen::stays_self, crate::proofs::Seen::awaited_on, crate::proofs::Seen::nothing_on, crate::proofs::Seen::nothing_came, crate::proofs::Seen::ended_on))]
+#[tactic(auto, using(crate::proofs::Seen::stays_on, crate::proofs::Seen::stays_self, crate::proofs::Seen::awaited_on, crate::proofs::Seen::ended_on))]
 fn wait_within<B: HistoryName, G, H: Wait + Clock>(
     rt: &H,
     running: &Running<B, G>,
@@ -164,7 +164,7 @@ fn wait_within<B: HistoryName, G, H: Wait + Clock>(
 ) -> Result<Reply, Refusal>
     requires node { session.old.who.id.node ≤ running.now.nodes }
     requires none { looked.old ≡ false }
-    ensures answer { Serves session.old asks.Wait result session.new }
+    ensures answer { Serves B.start session.old asks.Wait result session.new }
     ensures looked { (seen : ℕ) → result ≡ Ok (replies.Nothing seen) → looked.new ≡ true }
     ensures seats { SeatsOn B.cells result }
 {
@@ -193,7 +193,7 @@ fn wait<B: HistoryName, G, H: Wait + Clock>(
     session: &mut Session<B>,
 ) -> Result<Reply, Refusal>
     requires { session.old.who.id.node ≤ running.now.nodes }
-    ensures answer { Serves session.old asks.Wait result session.new }
+    ensures answer { Serves B.start session.old asks.Wait result session.new }
     ensures seats { SeatsOn B.cells result }
 {
     if let Patience::Millis(millis) = patience {
@@ -214,7 +214,7 @@ fn list<B: HistoryName, G, H: Wait>(
     group: &[u8],
 ) -> Result<Reply, Refusal>
     requires { session.old.who.id.node ≤ running.now.nodes }
-    ensures answer { Serves session.old (asks.List group.now) result session.new }
+    ensures answer { Serves B.start session.old (asks.List group.now) result session.new }
     ensures seats { SeatsOn B.cells result }
 {
     match running.list(rt, session, group) {
@@ -229,7 +229,7 @@ fn groups<B: HistoryName, G, H: Wait>(
     session: &mut Session<B>,
 ) -> Result<Reply, Refusal>
     requires { session.old.who.id.node ≤ running.now.nodes }
-    ensures answer { Serves session.old asks.Groups result session.new }
+    ensures answer { Serves B.start session.old asks.Groups result session.new }
     ensures seats { SeatsOn B.cells result }
 {
     match running.groups(rt, session) {
@@ -266,7 +266,7 @@ fn read_all(board: &Board, seat: &mut Seat, other: &Seat) -> Result<(), Refusal>
 
 /// A seat that knows all that the session and the board know.
 fn audit<B: HistoryName, G>(running: &Running<B, G>, session: &Session<B>) -> Result<Reply, Refusal>
-    ensures answer { Serves session.now asks.Audit result session.now }
+    ensures answer { Serves B.start session.now asks.Audit result session.now }
     ensures seats { SeatsOn B.cells result }
 {
     let mut seat = running.auditor();
@@ -289,7 +289,7 @@ pub fn serve<B: HistoryName, G, H: Wait + Clock>(
     asked: &Ask,
 ) -> Result<Reply, Refusal>
     requires { session.old.who.id.node ≤ running.now.nodes }
-    ensures answer { Serves session.old asked.now result session.new }
+    ensures answer { Serves B.start session.old asked.now result session.new }
     ensures node { session.new.who.id ≡ session.old.who.id }
     ensures seats { SeatsOn B.cells result }
 {

@@ -2,8 +2,8 @@
 //! as they are typed (`shell`).
 //!
 //! The forms are this project's own. Proved: the whole script is read and checked before it begins, sessions are
-//! numbered by accepted connections, each is answered what `cpg_daemon` promises of it, and what is printed of the
-//! answers is the definition in `specs/`, byte for byte, where the reader and the writer tell their bytes. That an
+//! numbered by accepted connections, each is answered what `cpg_daemon` promises of it over the one history, and what is
+//! printed of the answers is the definition in `specs/`, byte for byte, where the reader and the writer tell their bytes. That an
 //! event comes while it is waited for, and that what was printed is handed on before a wait begins, is tested.
 #![tactic(auto)]
 
@@ -18,6 +18,7 @@ mod reading;
 mod replies;
 mod running;
 mod scripts;
+mod sessions;
 pub mod shell;
 
 pub use acting::do_command;
@@ -28,4 +29,5 @@ pub use forms::{Manner, Noted, PLAIN, Patience, PutsAnswer, Shown};
 pub use noting::Known;
 pub use reading::command_in_line;
 pub use replies::Reply;
-pub use running::{cluster_script, hand_on};
+pub use running::{cluster_script, cluster_script_as, hand_on, run_sessions};
+pub use sessions::Sessions;

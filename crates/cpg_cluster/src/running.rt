@@ -6,16 +6,18 @@
 ghost use Rattle.std.specs.Prelude.{◌≡◌, ◌≤◌, ◌∷◌, [], None, All, length, OnOk, IfOk, OnErr, IfErr, IfSome, IsOkUnless};
 ghost use Rattle.std.specs.Io.KnownBytes.{Keeps};
 ghost use Rattle.cpg_cluster.specs.Commands.{IsWithin, waits};
+ghost use Rattle.cpg_cluster.specs.Lines.{shown_as};
 ghost use Rattle.cpg_cluster.specs.Scripts.{commands_of_script};
-ghost use Rattle.cpg_cluster.specs.Running.{AreDone, IsStopped, IsWait, LeavesOf, IsRun, Leaves, EndsRunning};
+ghost use Rattle.cpg_cluster.specs.Running.{AreDone, IsStopped, IsWait, LeavesOf, Runs, Stops, IsRun, Leaves, EndsRunning};
 ghost use Rattle.cpg_cluster.specs.Steps.{AreWithin};
 
 use crate::acting::do_command;
 use crate::commands::{Ask, Command, Numbered};
-use crate::forms::{Manner, PutsAnswer};
+use crate::forms::{Manner, PLAIN, PutsAnswer, Shown};
 use crate::scripts::read_commands;
+use crate::sessions::Sessions;
 use cpg_cred::Refusal;
-use cpg_daemon::{HistoryName, Running, Session};
+use cpg_daemon::{HistoryName, Running};
 use cpg_script::Fault;
 use cpg_text::{MOST_BYTES, read_whole, write_whole};
 use std::alloc::Global;
@@ -23,7 +25,7 @@ use std::io::{Read, Write};
 use std::sync::Wait;
 use std::time::Clock;
 
-/// Runs the commands of a script over running nodes, and writes what each prints after it.
+/// Runs the commands of a script over running nodes, from those sessions on, and writes what each prints after it.
 ///
 /// The faults come in this order: `Read`, then `BadCommand` with the first bad line, both with nothing written
 /// and nothing done; then, at a command, `Memory`, which leaves the lines of the commands before it, or
@@ -31,7 +33,41 @@ use std::time::Clock;
 /// leaves nothing written and nothing done. Other refusals are printed, and the script goes on.
 ///
 /// The writer is flushed before each wait; where that fails, it is `Write`, and the wait is not begun.
-pub fn cluster_script<B, G, H, R, W, P>(
+pub fn run_sessions<B, G, H, R, W, P>(
+    rt: &H,
+    alloc: Global,
+    reader: &mut R,
+    writer: &mut W,
+    running: &Running<B, G>,
+    manner: &Manner<P>,
+    sessions: &mut Sessions<B>,
+) -> Result<(), Fault>
+where
+    B: HistoryName,
+    H: Wait + Clock,
+    R: Read,
+    W: Write,
+    P: PutsAnswer,
+    requires { AreWithin running.now.nodes sessions.old.slots }
+    ensures ok { OnOk result (IfSome (R.remaining reader.old) (λ script.
+        (length script ≤ MOST_BYTES) × Runs (P.printed manner.now.form) B.start (commands_of_script running.now.nodes script) sessions.old (W.contents writer.old) (W.contents writer.new) sessions.new)) }
+    ensures err { IfErr result (λ fault. IfSome (R.remaining reader.old) (λ script.
+        Stops (P.printed manner.now.form) B.start (commands_of_script running.now.nodes script) fault.refusal sessions.old (W.contents writer.old) (W.contents writer.new) sessions.new)) }
+
+    // Nothing is written before the script was read and checked, even where the reader tells no bytes.
+    ensures ends { IfErr result (λ fault. EndsRunning fault.refusal (W.contents writer.old) (W.contents writer.new)) }
+    ensures whole { IfErr result (λ fault. fault.part ≡ None) }
+    ensures within { AreWithin running.now.nodes sessions.new.slots }
+{
+    match run_whole(rt, alloc, reader, writer, running, manner, sessions) {
+        Ok(()) => Ok(()),
+        Err(refusal) => Err(Fault::from(refusal)),
+    }
+}
+
+/// The same from no session on, and lets go of the sessions that are left.
+#[tactic(auto, using(crate::proofs::Doing::runs_from_none, crate::proofs::Doing::stops_from_none))]
+pub fn cluster_script_as<B, G, H, R, W, P>(
     rt: &H,
     alloc: Global,
     reader: &mut R,
@@ -46,18 +82,37 @@ where
     W: Write,
     P: PutsAnswer,
     ensures ok { OnOk result (IfSome (R.remaining reader.old) (λ script.
-        (length script ≤ MOST_BYTES) × IsRun (P.printed manner.now.form) running.now.list (commands_of_script running.now.nodes script) (W.contents writer.old) (W.contents writer.new))) }
+        (length script ≤ MOST_BYTES) × IsRun (P.printed manner.now.form) B.start (commands_of_script running.now.nodes script) (W.contents writer.old) (W.contents writer.new))) }
     ensures err { IfErr result (λ fault. IfSome (R.remaining reader.old) (λ script.
-        Leaves (P.printed manner.now.form) running.now.list (commands_of_script running.now.nodes script) fault.refusal (W.contents writer.old) (W.contents writer.new))) }
-
-    // Nothing is written before the script was read and checked, even where the reader tells no bytes.
+        Leaves (P.printed manner.now.form) B.start (commands_of_script running.now.nodes script) fault.refusal (W.contents writer.old) (W.contents writer.new))) }
     ensures ends { IfErr result (λ fault. EndsRunning fault.refusal (W.contents writer.old) (W.contents writer.new)) }
     ensures whole { IfErr result (λ fault. fault.part ≡ None) }
 {
-    match run_whole(rt, alloc, reader, writer, running, manner) {
-        Ok(()) => Ok(()),
-        Err(refusal) => Err(Fault::from(refusal)),
-    }
+    let mut sessions = Sessions::none(alloc);
+    run_sessions(rt, alloc, reader, writer, running, manner, &mut sessions)
+}
+
+/// The same with waits of `MOST_POLLS` looks, and answers as plain text.
+pub fn cluster_script<B, G, H, R, W>(
+    rt: &H,
+    alloc: Global,
+    reader: &mut R,
+    writer: &mut W,
+    running: &Running<B, G>,
+) -> Result<(), Fault>
+where
+    B: HistoryName,
+    H: Wait + Clock,
+    R: Read,
+    W: Write,
+    ensures ok { OnOk result (IfSome (R.remaining reader.old) (λ script.
+        (length script ≤ MOST_BYTES) × IsRun (shown_as Shown.Plain) B.start (commands_of_script running.now.nodes script) (W.contents writer.old) (W.contents writer.new))) }
+    ensures err { IfErr result (λ fault. IfSome (R.remaining reader.old) (λ script.
+        Leaves (shown_as Shown.Plain) B.start (commands_of_script running.now.nodes script) fault.refusal (W.contents writer.old) (W.contents writer.new))) }
+    ensures ends { IfErr result (λ fault. EndsRunning fault.refusal (W.contents writer.old) (W.contents writer.new)) }
+    ensures whole { IfErr result (λ fault. fault.part ≡ None) }
+{
+    cluster_script_as(rt, alloc, reader, writer, running, &PLAIN)
 }
 
 fn run_whole<B, G, H, R, W, P>(
@@ -67,6 +122,7 @@ fn run_whole<B, G, H, R, W, P>(
     writer: &mut W,
     running: &Running<B, G>,
     manner: &Manner<P>,
+    sessions: &mut Sessions<B>,
 ) -> Result<(), Refusal>
 where
     B: HistoryName,
@@ -74,33 +130,38 @@ where
     R: Read,
     W: Write,
     P: PutsAnswer,
+    requires { AreWithin running.now.nodes sessions.old.slots }
     ensures ok { OnOk result (IfSome (R.remaining reader.old) (λ script.
-        (length script ≤ MOST_BYTES) × IsRun (P.printed manner.now.form) running.now.list (commands_of_script running.now.nodes script) (W.contents writer.old) (W.contents writer.new))) }
+        (length script ≤ MOST_BYTES) × Runs (P.printed manner.now.form) B.start (commands_of_script running.now.nodes script) sessions.old (W.contents writer.old) (W.contents writer.new) sessions.new)) }
     ensures err { IfErr result (λ refusal. IfSome (R.remaining reader.old) (λ script.
-        Leaves (P.printed manner.now.form) running.now.list (commands_of_script running.now.nodes script) refusal (W.contents writer.old) (W.contents writer.new))) }
+        Stops (P.printed manner.now.form) B.start (commands_of_script running.now.nodes script) refusal sessions.old (W.contents writer.old) (W.contents writer.new) sessions.new)) }
     ensures ends { IfErr result (λ refusal. EndsRunning refusal (W.contents writer.old) (W.contents writer.new)) }
+    ensures within { AreWithin running.now.nodes sessions.new.slots }
 {
     let script = read_whole(alloc, reader)?;
     let commands = read_commands(alloc, running.nodes(), script.as_slice())?;
-    run_commands(rt, alloc, writer, running, manner, commands.as_slice())
+    let commands = commands.as_slice();
+    run_commands(rt, alloc, writer, running, manner, sessions, commands)
 }
 
-/// Runs the commands from no session on, one after the other, and writes the lines of each.
+/// Runs the commands one after the other, and writes the lines of each.
 fn run_commands<B: HistoryName, G, H: Wait + Clock, W: Write, P: PutsAnswer>(
     rt: &H,
     alloc: Global,
     writer: &mut W,
     running: &Running<B, G>,
     manner: &Manner<P>,
+    sessions: &mut Sessions<B>,
     lines: &[Numbered],
 ) -> Result<(), Refusal>
-    requires { All (λ line. IsWithin running.now.nodes line.command) lines.now }
-    ensures ok { OnOk result (IsRun (P.printed manner.now.form) running.now.list (Ok lines.now) (W.contents writer.old) (W.contents writer.new)) }
-    ensures err { IfErr result (λ refusal. IsStopped refusal (P.printed manner.now.form) running.now.list [] lines.now (W.contents writer.old) (W.contents writer.new)) }
+    requires lines { All (λ line. IsWithin running.now.nodes line.command) lines.now }
+    requires within { AreWithin running.now.nodes sessions.old.slots }
+    ensures ok { OnOk result (Runs (P.printed manner.now.form) B.start (Ok lines.now) sessions.old (W.contents writer.old) (W.contents writer.new) sessions.new) }
+    ensures err { IfErr result (λ refusal. IsStopped refusal (P.printed manner.now.form) B.start sessions.old lines.now (W.contents writer.old) (W.contents writer.new) sessions.new) }
+    ensures within { AreWithin running.now.nodes sessions.new.slots }
 {
-    let mut sessions = Vec::new(alloc);
     for line in lines {
-        match run_command(rt, alloc, writer, running, &mut sessions, manner, line) {
+        match run_command(rt, alloc, writer, running, sessions, manner, line) {
             Ok(()) => {}
             Err(refusal) => return Err(refusal),
         }
@@ -146,15 +207,15 @@ fn run_command<B: HistoryName, G, H: Wait + Clock, W: Write, P: PutsAnswer>(
     alloc: Global,
     writer: &mut W,
     running: &Running<B, G>,
-    sessions: &mut Vec<Option<Session<B>>>,
+    sessions: &mut Sessions<B>,
     manner: &Manner<P>,
     line: &Numbered,
 ) -> Result<(), Refusal>
     requires command { IsWithin running.now.nodes line.now.command }
-    requires within { AreWithin running.now.nodes sessions.old.items }
-    ensures ok { OnOk result (AreDone (P.printed manner.now.form) running.now.list sessions.old.items (line.now ∷ []) (W.contents writer.old) (W.contents writer.new) sessions.new.items) }
-    ensures within { AreWithin running.now.nodes sessions.new.items }
-    ensures err { IfErr result (λ refusal. LeavesOf refusal (P.printed manner.now.form) running.now.list sessions.old.items line.now (W.contents writer.old) (W.contents writer.new)) }
+    requires within { AreWithin running.now.nodes sessions.old.slots }
+    ensures ok { OnOk result (AreDone (P.printed manner.now.form) B.start sessions.old (line.now ∷ []) (W.contents writer.old) (W.contents writer.new) sessions.new) }
+    ensures within { AreWithin running.now.nodes sessions.new.slots }
+    ensures err { IfErr result (λ refusal. LeavesOf refusal (P.printed manner.now.form) B.start sessions.old line.now (W.contents writer.old) (W.contents writer.new) sessions.new) }
 {
     hand_on_before(writer, line)?;
     let mut text = Vec::new(alloc);

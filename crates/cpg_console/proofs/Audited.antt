@@ -15,11 +15,15 @@ use Rattle.cpg_why.specs.declared.asking.Asked.{Asked}
 use Rattle.cpg_why.specs.declared.asking.WhyFault.{WhyFault}
 use Rattle.cpg_why.specs.declared.asking.WhyFault.TheVariants as why
 use Rattle.cpg_why.specs.Forms as told
-use Rattle.cpg_why.specs.Scripts.{EndsBy, EndsWhy}
+use Rattle.cpg_why.specs.Scripts.{IsWritten, EndsBy, EndsWhy}
+use Rattle.cpg_record.specs.Judging.{entries_of}
+use Rattle.cpg_board.specs.Seats.{SeatValue, IsSeatOf, records_of}
+use Rattle.cpg_world_laws.specs.Worlds.{WorldValue, new_world}
 use Rattle.cpg_daemon.specs.Clusters.{ClusterValue}
+use Rattle.cpg_cluster.specs.Answers.{SessionsValue, no_sessions}
 use Rattle.cpg_cluster.specs.declared.commands.Numbered.{Numbered}
 use Rattle.cpg_cluster.specs.Scripts.{commands_of_script}
-use Rattle.cpg_why.specs.Sessions.{AreRun, AreStopped, IsTold, Leaves}
+use Rattle.cpg_why.specs.Sessions.{RunsUnprinted, StopsUnprinted, LeavesSeated, AreRun, IsTold, Leaves}
 use Rattle.cpg_console.specs.declared.failures.Failure.{Failure}
 use Rattle.cpg_console.specs.declared.failures.Failure.TheVariants.{BadWord, Fault}
 use Rattle.cpg_console.specs.declared.runs.Form.{Form}
@@ -31,17 +35,17 @@ pub none_of_words : (known : Option (List ℕ)) (form : Form) (asked : Asked) (s
 none_of_words None form asked s list a is = tt
 none_of_words (Some lines) form asked s list a is = subst (λ (l : Option Listed). TellsSessions form asked s l lines (Some BadWord) a a) (sym is) (refl, Keeps-refl a)
 
-none_stopped : (list : Listed) (commands : Result (List Numbered) ℕ) → AreStopped list commands refusal.Memory
-none_stopped list (Ok lines) = (Some [], inl (Keeps-refl (Some [])))
-none_stopped list (Err bad) = (Some [], Keeps-refl (Some []))
+none_stopped : (start : WorldValue) (commands : Result (List Numbered) ℕ) → StopsUnprinted start commands refusal.Memory no_sessions no_sessions
+none_stopped start (Ok lines) = (Some [], inl (Keeps-refl (Some []), refl))
+none_stopped start (Err bad) = (Some [], (Keeps-refl (Some []), refl))
 
-no_memory : (form : told.Form) (list : Listed) (commands : Result (List Numbered) ℕ) (asked : Asked) (a : Option (List ℕ)) → Leaves form [] list commands asked (why.Script (whole_fault refusal.Memory)) a a
-no_memory form list commands asked a = inl (refl, none_stopped list commands, Keeps-refl a)
+no_memory : (form : told.Form) (start : WorldValue) (commands : Result (List Numbered) ℕ) (asked : Asked) (a : Option (List ℕ)) → Leaves form [] start commands asked (why.Script (whole_fault refusal.Memory)) a a
+no_memory form start commands asked a = record { left = no_sessions; seat = []; read = tt; leaves = inl (refl, none_stopped start commands, Keeps-refl a) }
 
 untold : (known : Option (List ℕ)) (form : Form) (asked : Asked) (s : Settings) (list : Listed) (a : Option (List ℕ))
     → IfSome known (λ lines. TellsSessions form asked s (Some list) lines (Some (Fault (whole_fault refusal.Memory))) a a)
 untold None form asked s list a = tt
-untold (Some lines) form asked s list a = (refl, ([], no_memory (why_as form) list (commands_of_script s.nodes lines) asked a))
+untold (Some lines) form asked s list a = (refl, ([], no_memory (why_as form) (new_world s list) (commands_of_script s.nodes lines) asked a))
 
 -- where memory was refused before there was a cluster
 pub none_of_memory : (known : Option (List ℕ)) (form : Form) (asked : Asked) (s : Settings) (list : Listed) (refused : Refusal) (failure : Failure) (a : Option (List ℕ))
@@ -65,28 +69,44 @@ none_of_settings None form asked s list a out = tt
 none_of_settings (Some lines) form asked s list a out = (refl, (out, Keeps-refl a))
 
 -- the whole script was run over the new cluster, and what is asked is told of its board
-pub all_told : (known : Option (List ℕ)) (form : Form) (asked : Asked) (s : Settings) (list : Listed) (board : List ℕ) (a b : Option (List ℕ)) → length board ≡ s.places
-    → IfSome known (λ lines. (length lines ≤ MOST_BYTES) × AreRun list (commands_of_script s.nodes lines)) → IsTold (why_as form) board asked a b
+pub all_told : (known : Option (List ℕ)) (form : Form) (asked : Asked) (s : Settings) (list : Listed) (cluster : ClusterValue) (start : WorldValue) (board : List ℕ) (a b : Option (List ℕ))
+    → cluster ≡ record { nodes = s.nodes; list = list } → new_world s list ≡ start → length board ≡ s.places
+    → IfSome known (λ lines. (length lines ≤ MOST_BYTES) × AreRun start (commands_of_script cluster.nodes lines)) → IsTold (why_as form) board asked a b
     → IfSome known (λ lines. TellsSessions form asked s (Some list) lines None a b)
-all_told None form asked s list board a b places ran is = tt
-all_told (Some lines) form asked s list board a b places ran is = (ran.0, ran.1, (board, places, is))
+all_told None form asked s list cluster start board a b started named places ran is = tt
+all_told (Some lines) form asked s list cluster start board a b started named places ran is =
+    (ran.0, subst (λ (w : WorldValue). AreRun w (commands_of_script s.nodes lines)) (sym named) (subst (λ (c : ClusterValue). AreRun start (commands_of_script c.nodes lines)) started ran.1), (board, places, is))
 
 up_to : (refused : Refusal) (form : Form) (asked : Asked) (s : Settings) (list : Listed) (lines : List ℕ) (fault : script.Fault) (board : List ℕ) (a b : Option (List ℕ))
-    → EndsBy refused a b → Leaves (why_as form) board list (commands_of_script s.nodes lines) asked (why.Script fault) a b → AuditedUpTo refused form asked s list lines fault a b
+    → EndsBy refused a b → Leaves (why_as form) board (new_world s list) (commands_of_script s.nodes lines) asked (why.Script fault) a b → AuditedUpTo refused form asked s list lines fault a b
 up_to refusal.Range form asked s list lines fault board a b ends h = absurd ends
 up_to _ form asked s list lines fault board a b ends h = (board, h)
 
 part : (form : Form) (asked : Asked) (s : Settings) (list : Listed) (lines : List ℕ) (fault : WhyFault) (board : List ℕ) (a b : Option (List ℕ)) → EndsWhy asked fault a b
-    → Leaves (why_as form) board list (commands_of_script s.nodes lines) asked fault a b → TellsSessions form asked s (Some list) lines (Some (failure_of_why fault)) a b
+    → Leaves (why_as form) board (new_world s list) (commands_of_script s.nodes lines) asked fault a b → TellsSessions form asked s (Some list) lines (Some (failure_of_why fault)) a b
 part form asked s list lines (why.Script fault) board a b ends h = (ends.0, up_to fault.refusal form asked s list lines fault board a b ends.1 h)
 part form asked s list lines (why.Missing what) board a b ends h = (board, h)
 
 -- a fault ended it
-pub part_told : (known : Option (List ℕ)) (form : Form) (asked : Asked) (s : Settings) (list : Listed) (cluster : ClusterValue) (board : List ℕ) (fault : WhyFault) (failure : Failure) (a b : Option (List ℕ))
-    → cluster ≡ record { nodes = s.nodes; list = list } → failure ≡ failure_of_why fault → EndsWhy asked fault a b
-    → IfSome known (λ lines. Leaves (why_as form) board cluster.list (commands_of_script cluster.nodes lines) asked fault a b)
+pub part_told : (known : Option (List ℕ)) (form : Form) (asked : Asked) (s : Settings) (list : Listed) (cluster : ClusterValue) (start : WorldValue) (board : List ℕ) (fault : WhyFault) (failure : Failure) (a b : Option (List ℕ))
+    → cluster ≡ record { nodes = s.nodes; list = list } → new_world s list ≡ start → failure ≡ failure_of_why fault → EndsWhy asked fault a b
+    → IfSome known (λ lines. Leaves (why_as form) board start (commands_of_script cluster.nodes lines) asked fault a b)
     → IfSome known (λ lines. TellsSessions form asked s (Some list) lines (Some failure) a b)
-part_told None form asked s list cluster board fault failure a b started is ends h = tt
-part_told (Some lines) form asked s list cluster board fault failure a b started is ends h =
+part_told None form asked s list cluster start board fault failure a b started named is ends h = tt
+part_told (Some lines) form asked s list cluster start board fault failure a b started named is ends h =
     subst (λ (f : Failure). TellsSessions form asked s (Some list) lines (Some f) a b) (sym is)
-    (part form asked s list lines fault board a b ends (subst (λ (c : ClusterValue). Leaves (why_as form) board c.list (commands_of_script c.nodes lines) asked fault a b) started h))
+    (part form asked s list lines fault board a b ends
+    (subst (λ (w : WorldValue). Leaves (why_as form) board w (commands_of_script s.nodes lines) asked fault a b) (sym named)
+    (subst (λ (c : ClusterValue). Leaves (why_as form) board start (commands_of_script c.nodes lines) asked fault a b) started h)))
+
+-- a script that was run, with the sessions and the seat that are left
+pub ran_unprinted : (start : WorldValue) (script : Result (List Numbered) ℕ) (first left : SessionsValue) → first ≡ no_sessions → RunsUnprinted start script first left → AreRun start script
+ran_unprinted start script first left none ran = (left, subst (λ (s : SessionsValue). RunsUnprinted start script s left) none ran)
+
+pub told_seated : (form : told.Form) (board : List ℕ) (seat : SeatValue) (asked : Asked) (a b : Option (List ℕ)) → IsSeatOf board seat → IsWritten form (Ok (entries_of (records_of seat))) [] asked a b → IsTold form board asked a b
+told_seated form board seat asked a b read written = record { seat = seat; read = read; written = written }
+
+pub left_seated : (form : told.Form) (board : List ℕ) (start : WorldValue) (script : Result (List Numbered) ℕ) (asked : Asked) (fault : WhyFault) (first left : SessionsValue) (seat : SeatValue) (a b : Option (List ℕ)) → first ≡ no_sessions
+    → IsSeatOf board seat → LeavesSeated form start script asked fault first left seat a b → Leaves form board start script asked fault a b
+left_seated form board start script asked fault first left seat a b none read leaves =
+    record { left = left; seat = seat; read = read; leaves = subst (λ (s : SessionsValue). LeavesSeated form start script asked fault s left seat a b) none leaves }

@@ -11,12 +11,15 @@ use Rattle.cpg_script.specs.Written.{WritesLate}
 use Rattle.cpg_ring.specs.States.{IsSettings}
 use Rattle.cpg_ring.specs.declared.settings.Settings.{Settings}
 use Rattle.cpg_cluster.specs.declared.commands.Numbered.{Numbered}
+use Rattle.cpg_world_laws.specs.Worlds.{WorldValue, new_world}
+use Rattle.cpg_daemon.specs.Clusters.{ClusterValue}
+use Rattle.cpg_cluster.specs.Answers.{no_sessions}
 use Rattle.cpg_cluster.specs.Lines.{Printed}
 use Rattle.cpg_cluster.specs.Running as cluster
 use Rattle.cpg_cluster.specs.Scripts.{commands_of_script}
 use Rattle.cpg_console.specs.declared.failures.Failure.{Failure}
 use Rattle.cpg_console.specs.declared.failures.Failure.TheVariants.{BadWord, Fault, Missing}
-use Rattle.cpg_console.specs.Runs.{Clusters, ClustersUpTo, FailsLate}
+use Rattle.cpg_console.specs.Runs.{Clusters, ClustersAll, ClustersUpTo, FailsLate}
 use Rattle.cpg_console.specs.Starting.{ClusterLeaves}
 
 -- nothing is written after a wrong word
@@ -24,39 +27,50 @@ pub none_of_words : (known : Option (List ℕ)) (printed : Printed) (s : Setting
 none_of_words None printed s list a is = tt
 none_of_words (Some lines) printed s list a is = subst (λ (l : Option Listed). Clusters printed s l lines (Some BadWord) a a) (sym is) (refl, Keeps-refl a)
 
-no_memory : (printed : Printed) (list : Listed) (commands : Result (List Numbered) ℕ) (a : Option (List ℕ)) → cluster.Leaves printed list commands refusal.Memory a a
-no_memory printed list (Ok commands) a = inl (Keeps-refl a)
-no_memory printed list (Err bad) a = Keeps-refl a
+no_memory : (printed : Printed) (start : WorldValue) (commands : Result (List Numbered) ℕ) (a : Option (List ℕ)) → cluster.Leaves printed start commands refusal.Memory a a
+no_memory printed start (Ok commands) a = (no_sessions, inl (Keeps-refl a, refl))
+no_memory printed start (Err bad) a = (no_sessions, (Keeps-refl a, refl))
 
 -- where memory was refused
 pub none_of_memory : (known : Option (List ℕ)) (printed : Printed) (s : Settings) (list : Listed) (a : Option (List ℕ)) → IfSome known (λ lines. Clusters printed s (Some list) lines (Some (Fault (whole_fault refusal.Memory))) a a)
 none_of_memory None printed s list a = tt
-none_of_memory (Some lines) printed s list a = (refl, no_memory printed list (commands_of_script s.nodes lines) a)
+none_of_memory (Some lines) printed s list a = (refl, no_memory printed (new_world s list) (commands_of_script s.nodes lines) a)
 
 -- and after settings out of their ranges
 pub none_of_settings : (known : Option (List ℕ)) (printed : Printed) (s : Settings) (list : Listed) (a : Option (List ℕ)) → ¬ IsSettings s → IfSome known (λ lines. Clusters printed s (Some list) lines (Some (Fault (whole_fault refusal.Range))) a a)
 none_of_settings None printed s list a out = tt
 none_of_settings (Some lines) printed s list a out = (refl, (out, Keeps-refl a))
 
-no_range : (printed : Printed) (list : Listed) (commands : Result (List Numbered) ℕ) (a b : Option (List ℕ)) → cluster.Leaves printed list commands refusal.Range a b → ⊥
-no_range printed list (Ok commands) a b h = h
-no_range printed list (Err bad) a b h = h
+no_range : (printed : Printed) (start : WorldValue) (commands : Result (List Numbered) ℕ) (a b : Option (List ℕ)) → cluster.Leaves printed start commands refusal.Range a b → ⊥
+no_range printed start (Ok commands) a b h = h.1
+no_range printed start (Err bad) a b h = h.1
 
 up_to : (printed : Printed) (s : Settings) (list : Listed) (lines : List ℕ) (refused : Refusal) (a b : Option (List ℕ))
-    → cluster.Leaves printed list (commands_of_script s.nodes lines) refused a b → ClustersUpTo printed s list lines refused a b
-up_to printed s list lines refusal.Range a b h = absurd (no_range printed list (commands_of_script s.nodes lines) a b h)
+    → cluster.Leaves printed (new_world s list) (commands_of_script s.nodes lines) refused a b → ClustersUpTo printed s list lines refused a b
+up_to printed s list lines refusal.Range a b h = absurd (no_range printed (new_world s list) (commands_of_script s.nodes lines) a b h)
 up_to printed s list lines refused a b h = h
 
-left : (printed : Printed) (s : Settings) (list : Listed) (lines : List ℕ) (failure : Failure) (a b : Option (List ℕ)) → ClusterLeaves printed s.nodes list lines failure a b → Clusters printed s (Some list) lines (Some failure) a b
+left : (printed : Printed) (s : Settings) (list : Listed) (lines : List ℕ) (failure : Failure) (a b : Option (List ℕ)) → ClusterLeaves printed s.nodes (new_world s list) lines failure a b → Clusters printed s (Some list) lines (Some failure) a b
 left printed s list lines BadWord a b h = h
 left printed s list lines (Missing what) a b h = h
 left printed s list lines (Fault fault) a b h = (h.0, up_to printed s list lines fault.refusal a b h.1)
 
+-- the script was run over a new cluster
+pub clustered : (known : Option (List ℕ)) (printed : Printed) (s : Settings) (list : Listed) (made : ClusterValue) (start : WorldValue) (a b : Option (List ℕ))
+    → made ≡ record { nodes = s.nodes; list = list } → new_world s list ≡ start
+    → IfSome known (λ lines. ClustersAll printed made.nodes start lines a b) → IfSome known (λ lines. Clusters printed s (Some list) lines None a b)
+clustered None printed s list made start a b started named h = tt
+clustered (Some lines) printed s list made start a b started named h =
+    subst (λ (w : WorldValue). ClustersAll printed s.nodes w lines a b) (sym named) (subst (λ (c : ClusterValue). ClustersAll printed c.nodes start lines a b) started h)
+
 -- a fault of the script ended it
-pub left_clustered : (known : Option (List ℕ)) (printed : Printed) (s : Settings) (list : Listed) (failure : Failure) (a b : Option (List ℕ))
-    → IfSome known (λ lines. ClusterLeaves printed s.nodes list lines failure a b) → IfSome known (λ lines. Clusters printed s (Some list) lines (Some failure) a b)
-left_clustered None printed s list failure a b h = tt
-left_clustered (Some lines) printed s list failure a b h = left printed s list lines failure a b h
+pub left_clustered : (known : Option (List ℕ)) (printed : Printed) (s : Settings) (list : Listed) (made : ClusterValue) (start : WorldValue) (failure : Failure) (a b : Option (List ℕ))
+    → made ≡ record { nodes = s.nodes; list = list } → new_world s list ≡ start
+    → IfSome known (λ lines. ClusterLeaves printed made.nodes start lines failure a b) → IfSome known (λ lines. Clusters printed s (Some list) lines (Some failure) a b)
+left_clustered None printed s list made start failure a b started named h = tt
+left_clustered (Some lines) printed s list made start failure a b started named h =
+    left printed s list lines failure a b
+    (subst (λ (w : WorldValue). ClusterLeaves printed s.nodes w lines failure a b) (sym named) (subst (λ (c : ClusterValue). ClusterLeaves printed c.nodes start lines failure a b) started h))
 
 late_of : (refused : Refusal) (a b : Option (List ℕ)) → cluster.EndsRunning refused a b → WritesLate refused a b
 late_of refusal.Read a b h = h

@@ -8,6 +8,8 @@ use Rattle.cpg_accept.specs.Accepting.{whole_fault}
 use Rattle.cpg_text.specs.Lines.{lines_of}
 use Rattle.cpg_ring.specs.States.{IsSettings}
 use Rattle.cpg_ring.specs.declared.settings.Settings.{Settings}
+use Rattle.cpg_world_laws.specs.Worlds.{WorldValue, new_world}
+use Rattle.cpg_daemon.specs.Clusters.{ClusterValue}
 use Rattle.cpg_cluster.specs.Lines.{Printed}
 use Rattle.cpg_cluster.specs.Shelled.{IsEnded}
 use Rattle.cpg_console.specs.Shelling.{ShellEnds, Shells, ShellsUpTo}
@@ -15,8 +17,8 @@ use Rattle.cpg_console.specs.declared.failures.Failure.{Failure}
 use Rattle.cpg_console.specs.declared.failures.Failure.TheVariants.{BadWord, Fault, Missing}
 
 -- want of memory before the first line
-none_ended : (form : Printed) (list : Listed) (nodes : ℕ) (input : Option (List ℕ)) (a t : Option (List ℕ)) → IsEnded refusal.Memory form list nodes input a a t t
-none_ended form list nodes None a t = record {
+none_ended : (form : Printed) (start : WorldValue) (nodes : ℕ) (input : Option (List ℕ)) (a t : Option (List ℕ)) → IsEnded refusal.Memory form start nodes input a a t t
+none_ended form start nodes None a t = record {
   before = [];
   later = [];
   outcomes = [];
@@ -26,7 +28,7 @@ none_ended form list nodes None a t = record {
   shelled = record { came = tt; written = Appends-nil a; told = Appends-nil t };
   left = (Keeps-refl a, Keeps-refl t);
 }
-none_ended form list nodes (Some bytes) a t = record {
+none_ended form start nodes (Some bytes) a t = record {
   before = [];
   later = lines_of bytes;
   outcomes = [];
@@ -39,7 +41,7 @@ none_ended form list nodes (Some bytes) a t = record {
 
 -- where memory was refused
 pub none_of_memory : (form : Printed) (s : Settings) (list : Listed) (input : Option (List ℕ)) (a t : Option (List ℕ)) → Shells form s (Some list) (Some (Fault (whole_fault refusal.Memory))) input a a t t
-none_of_memory form s list input a t = (refl, none_ended form list s.nodes input a t)
+none_of_memory form s list input a t = (refl, none_ended form (new_world s list) s.nodes input a t)
 
 -- nothing is printed after a wrong word
 pub none_of_words : (form : Printed) (s : Settings) (list : Option Listed) (input : Option (List ℕ)) (a t : Option (List ℕ)) → list ≡ None → Shells form s list (Some BadWord) input a a t t
@@ -49,16 +51,23 @@ none_of_words form s list input a t is = subst (λ (l : Option Listed). Shells f
 pub none_of_settings : (form : Printed) (s : Settings) (list : Listed) (input : Option (List ℕ)) (a t : Option (List ℕ)) → ¬ IsSettings s → Shells form s (Some list) (Some (Fault (whole_fault refusal.Range))) input a a t t
 none_of_settings form s list input a t out = (refl, (out, Keeps-refl a, Keeps-refl t))
 
-no_range : (form : Printed) (list : Listed) (nodes : ℕ) (input a b t u : Option (List ℕ)) → IsEnded refusal.Range form list nodes input a b t u → ⊥
-no_range form list nodes input a b t u h = h.left
+no_range : (form : Printed) (start : WorldValue) (nodes : ℕ) (input a b t u : Option (List ℕ)) → IsEnded refusal.Range form start nodes input a b t u → ⊥
+no_range form start nodes input a b t u h = h.left
 
-up_to : (form : Printed) (s : Settings) (list : Listed) (refused : Refusal) (input a b t u : Option (List ℕ)) → IsEnded refused form list s.nodes input a b t u → ShellsUpTo form s list refused input a b t u
-up_to form s list refusal.Range input a b t u h = absurd (no_range form list s.nodes input a b t u h)
+up_to : (form : Printed) (s : Settings) (list : Listed) (refused : Refusal) (input a b t u : Option (List ℕ)) → IsEnded refused form (new_world s list) s.nodes input a b t u → ShellsUpTo form s list refused input a b t u
+up_to form s list refusal.Range input a b t u h = absurd (no_range form (new_world s list) s.nodes input a b t u h)
 up_to form s list refused input a b t u h = h
 
--- what a fault of the shell leaves
-pub left_shelled : (form : Printed) (s : Settings) (list : Listed) (failure : Failure) (input a b t u : Option (List ℕ))
-    → ShellEnds form list s.nodes (Some failure) input a b t u → Shells form s (Some list) (Some failure) input a b t u
-left_shelled form s list BadWord input a b t u h = h
-left_shelled form s list (Missing what) input a b t u h = h
-left_shelled form s list (Fault fault) input a b t u h = (h.0, up_to form s list fault.refusal input a b t u h.1)
+ends_shelled : (form : Printed) (s : Settings) (list : Listed) (failure : Option Failure) (input a b t u : Option (List ℕ)) → ShellEnds form (new_world s list) s.nodes failure input a b t u → Shells form s (Some list) failure input a b t u
+ends_shelled form s list None input a b t u h = h
+ends_shelled form s list (Some BadWord) input a b t u h = h
+ends_shelled form s list (Some (Missing what)) input a b t u h = h
+ends_shelled form s list (Some (Fault fault)) input a b t u h = (h.0, up_to form s list fault.refusal input a b t u h.1)
+
+-- how a shell over a new cluster ended
+pub shelled : (form : Printed) (s : Settings) (list : Listed) (cluster : ClusterValue) (start : WorldValue) (failure : Option Failure) (input a b t u : Option (List ℕ))
+    → cluster ≡ record { nodes = s.nodes; list = list } → new_world s list ≡ start → ShellEnds form start cluster.nodes failure input a b t u → Shells form s (Some list) failure input a b t u
+shelled form s list cluster start failure input a b t u started named h =
+    ends_shelled form s list failure input a b t u
+    (subst (λ (w : WorldValue). ShellEnds form w s.nodes failure input a b t u) (sym named)
+    (subst (λ (c : ClusterValue). ShellEnds form start c.nodes failure input a b t u) started h))

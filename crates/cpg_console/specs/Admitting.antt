@@ -61,10 +61,10 @@ admitted_as forms.Json list asks = admitted_json list asks
 abbrev pub printed_by : Form → Admission → List Cred → Result (List ℕ) AdmitFault
 printed_by form a asks = and_then (names_told a) (λ names. and_then (read_in file.Conf (listed names a.conf.text.now)) (λ list. Ok (admitted_as form list asks)))
 
--- the text is written, and nothing is told; or a front of it is, with the status of a fault
+-- the text is written, and nothing is told; or a front of it is, with the status of a fault, of which a front is told
 abbrev pub WritesText : List ℕ → ℕ → Option (List ℕ) → Option (List ℕ) → Option (List ℕ) → Option (List ℕ) → Type 0
 WritesText text zero old new told said = Appends old new text × Keeps told said
-WritesText text status old new told said = (status ≡ 1) × AppendsFront old new text
+WritesText text status old new told said = (status ≡ 1) × AppendsFront old new text × AppendsFront told said (error_line (whole_fault refusal.Write))
 
 -- the line of the fault is told, or that memory was refused to it, as far as the stream allows
 abbrev pub TellsOf : Admission → AdmitFault → Option (List ℕ) → Option (List ℕ) → Type 0

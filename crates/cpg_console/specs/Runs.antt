@@ -155,19 +155,19 @@ Explains form asked script (Some (Fault fault)) old new = why.Leaves (why_as for
 Explains form asked script (Some (Missing what)) old new = why.Leaves (why_as form) (entries_of_script script) (why.numbers_of script) asked (why_fault.Missing what) old new
 Explains form asked script (Some BadWord) old new = ⊥
 
--- The script was run over a cluster of so many nodes that accept by that list, and all its text is written.
-abbrev pub ClustersAll : Printed → ℕ → Listed → List ℕ → Option (List ℕ) → Option (List ℕ) → Type 0
-ClustersAll printed nodes list script old new = (length script ≤ MOST_BYTES) × cluster.IsRun printed list (clustered.commands_of_script nodes script) old new
+-- The script was run over a cluster of so many nodes whose history starts so, and all its text is written.
+abbrev pub ClustersAll : Printed → ℕ → WorldValue → List ℕ → Option (List ℕ) → Option (List ℕ) → Type 0
+ClustersAll printed nodes start script old new = (length script ≤ MOST_BYTES) × cluster.IsRun printed start (clustered.commands_of_script nodes script) old new
 
 -- What a refusal leaves written of it; Range tells that there is no cluster of those settings.
 abbrev pub ClustersUpTo : Printed → Settings → Listed → List ℕ → Refusal → Option (List ℕ) → Option (List ℕ) → Type 0
 ClustersUpTo printed s list script Range old new = (¬ IsSettings s) × Keeps old new
-ClustersUpTo printed s list script refused old new = cluster.Leaves printed list (clustered.commands_of_script s.nodes script) refused old new
+ClustersUpTo printed s list script refused old new = cluster.Leaves printed (new_world s list) (clustered.commands_of_script s.nodes script) refused old new
 
 -- what `run` writes of a script in that form, by the list that its words give
 abbrev pub Clusters : Printed → Settings → Option Listed → List ℕ → Option Failure → Option (List ℕ) → Option (List ℕ) → Type 0
 Clusters printed s None script failure old new = (failure ≡ Some BadWord) × Keeps old new
-Clusters printed s (Some list) script None old new = ClustersAll printed s.nodes list script old new
+Clusters printed s (Some list) script None old new = ClustersAll printed s.nodes (new_world s list) script old new
 Clusters printed s (Some list) script (Some (Fault fault)) old new = (fault.part ≡ None) × ClustersUpTo printed s list script fault.refusal old new
 Clusters printed s (Some list) script _ old new = ⊥
 
@@ -179,17 +179,17 @@ IsAudited form asked places old new = (board : List ℕ) × (length board ≡ pl
 abbrev pub AuditedUpTo : Refusal → Form → Asked → Settings → Listed → List ℕ → script_faults.Fault → Option (List ℕ) → Option (List ℕ) → Type 0
 AuditedUpTo Range form asked s list script fault old new = (¬ IsSettings s) × Keeps old new
 AuditedUpTo refused form asked s list script fault old new =
-    (board : List ℕ) × audit.Leaves (why_as form) board list (clustered.commands_of_script s.nodes script) asked (why_fault.Script fault) old new
+    (board : List ℕ) × audit.Leaves (why_as form) board (new_world s list) (clustered.commands_of_script s.nodes script) asked (why_fault.Script fault) old new
 
 -- what `run --why` writes of a script, by the list that its words give: what is told of what stands on a new cluster's board after its commands
 abbrev pub TellsSessions : Form → Asked → Settings → Option Listed → List ℕ → Option Failure → Option (List ℕ) → Option (List ℕ) → Type 0
 TellsSessions form asked s None script failure old new = (failure ≡ Some BadWord) × Keeps old new
 TellsSessions form asked s (Some list) script None old new =
-    (length script ≤ MOST_BYTES) × audit.AreRun list (clustered.commands_of_script s.nodes script) × IsAudited form asked s.places old new
+    (length script ≤ MOST_BYTES) × audit.AreRun (new_world s list) (clustered.commands_of_script s.nodes script) × IsAudited form asked s.places old new
 TellsSessions form asked s (Some list) script (Some (Fault fault)) old new =
     (fault.part ≡ None) × AuditedUpTo fault.refusal form asked s list script fault old new
 TellsSessions form asked s (Some list) script (Some (Missing what)) old new =
-    (board : List ℕ) × audit.Leaves (why_as form) board list (clustered.commands_of_script s.nodes script) asked (why_fault.Missing what) old new
+    (board : List ℕ) × audit.Leaves (why_as form) board (new_world s list) (clustered.commands_of_script s.nodes script) asked (why_fault.Missing what) old new
 TellsSessions form asked s (Some list) script (Some BadWord) old new = ⊥
 
 -- a word of the run's command line lets nobody in

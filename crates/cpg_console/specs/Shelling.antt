@@ -8,6 +8,7 @@ use Rattle.cpg_cred.specs.declared.refusals.Refusal.TheVariants.{Range}
 use Rattle.cpg_text.specs.Streams.{AppendsFront}
 use Rattle.cpg_ring.specs.States.{IsSettings}
 use Rattle.cpg_ring.specs.declared.settings.Settings.{Settings}
+use Rattle.cpg_world_laws.specs.Worlds.{WorldValue, new_world}
 use Rattle.cpg_cluster.specs.Lines.{Printed}
 use Rattle.cpg_cluster.specs.Shelled.{IsEnded, IsShelled}
 use Rattle.cpg_console.specs.Runs.{failure_told}
@@ -18,21 +19,21 @@ use Rattle.cpg_console.specs.declared.speaking.Spoken.TheVariants.{Noted}
 use Rattle.cpg_console.specs.declared.failures.Failure.{Failure}
 use Rattle.cpg_console.specs.declared.failures.Failure.TheVariants.{BadWord, Fault}
 
--- the lines were answered over a cluster of so many nodes that accept by that list, or up to a fault
-abbrev pub ShellEnds : Printed → Listed → ℕ → Option Failure → Option (List ℕ) → Option (List ℕ) → Option (List ℕ) → Option (List ℕ) → Option (List ℕ) → Type 0
-ShellEnds form list nodes None input old new told said = IsShelled form list nodes input old new told said
-ShellEnds form list nodes (Some (Fault fault)) input old new told said = (fault.part ≡ None) × IsEnded fault.refusal form list nodes input old new told said
-ShellEnds form list nodes (Some failure) input old new told said = ⊥
+-- the lines were answered over a cluster of so many nodes whose history starts so, or up to a fault
+abbrev pub ShellEnds : Printed → WorldValue → ℕ → Option Failure → Option (List ℕ) → Option (List ℕ) → Option (List ℕ) → Option (List ℕ) → Option (List ℕ) → Type 0
+ShellEnds form start nodes None input old new told said = IsShelled form start nodes input old new told said
+ShellEnds form start nodes (Some (Fault fault)) input old new told said = (fault.part ≡ None) × IsEnded fault.refusal form start nodes input old new told said
+ShellEnds form start nodes (Some failure) input old new told said = ⊥
 
 -- what a refusal leaves of them; Range tells that there is no cluster of those settings
 abbrev pub ShellsUpTo : Printed → Settings → Listed → Refusal → Option (List ℕ) → Option (List ℕ) → Option (List ℕ) → Option (List ℕ) → Option (List ℕ) → Type 0
 ShellsUpTo form s list Range input old new told said = (¬ IsSettings s) × Keeps old new × Keeps told said
-ShellsUpTo form s list refused input old new told said = IsEnded refused form list s.nodes input old new told said
+ShellsUpTo form s list refused input old new told said = IsEnded refused form (new_world s list) s.nodes input old new told said
 
 -- what a shell prints and tells, by the list that its words give
 abbrev pub Shells : Printed → Settings → Option Listed → Option Failure → Option (List ℕ) → Option (List ℕ) → Option (List ℕ) → Option (List ℕ) → Option (List ℕ) → Type 0
 Shells form s None failure input old new told said = (failure ≡ Some BadWord) × Keeps old new × Keeps told said
-Shells form s (Some list) None input old new told said = IsShelled form list s.nodes input old new told said
+Shells form s (Some list) None input old new told said = IsShelled form (new_world s list) s.nodes input old new told said
 Shells form s (Some list) (Some (Fault fault)) input old new told said = (fault.part ≡ None) × ShellsUpTo form s list fault.refusal input old new told said
 Shells form s (Some list) (Some failure) input old new told said = ⊥
 

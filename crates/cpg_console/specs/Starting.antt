@@ -22,7 +22,7 @@ abbrev pub IsNotStarted : Settings → Option Listed → Failure → Type 0
 IsNotStarted s None failure = failure ≡ BadWord
 IsNotStarted s (Some list) failure = (failure ≡ Fault (whole_fault Memory)) ⊎ ((failure ≡ Fault (whole_fault Range)) × (¬ IsSettings s))
 
--- what a failure leaves of a script over a cluster of so many nodes that accept by that list
-abbrev pub ClusterLeaves : Printed → ℕ → Listed → List ℕ → Failure → Option (List ℕ) → Option (List ℕ) → Type 0
-ClusterLeaves printed nodes list script (Fault fault) old new = (fault.part ≡ None) × cluster.Leaves printed list (commands_of_script nodes script) fault.refusal old new
-ClusterLeaves printed nodes list script _ old new = ⊥
+-- what a failure leaves of a script over a cluster of so many nodes whose history starts so
+abbrev pub ClusterLeaves : Printed → ℕ → WorldValue → List ℕ → Failure → Option (List ℕ) → Option (List ℕ) → Type 0
+ClusterLeaves printed nodes start script (Fault fault) old new = (fault.part ≡ None) × cluster.Leaves printed start (commands_of_script nodes script) fault.refusal old new
+ClusterLeaves printed nodes start script _ old new = ⊥

@@ -1,5 +1,5 @@
 -- what is written of what a cluster recorded
-use Rattle.std.specs.Prelude.{◌≡◌, ◌⊎◌, ℕ, List, [], ◌∷◌, ◌++◌, Bool, Option, Some, None, IfSome, codes, decimal, map}
+use Rattle.std.specs.Prelude.{◌≡◌, ◌⊎◌, ℕ, List, [], ◌∷◌, ◌++◌, Bool, Option, Some, None, IfSome, codes, decimal, length, map}
 use Rattle.std.specs.List.{flat_map}
 use Rattle.std.specs.Io.KnownBytes.{Appends}
 use Rattle.cpg_console.specs.Words.{list_of_words}
@@ -53,9 +53,10 @@ abbrev pub Traces : WorldValue → List WorldEvent → List MemberValue → List
 Traces start seen members heading None old new = IsTraced start seen members heading old new
 Traces start seen members heading (Some why) old new = IsPartlyTraced start seen members heading old new
 
--- a keeper took what was left of a cluster whose history began with that world: stations that had all seen the same of it
+-- a keeper took what was left of a cluster whose history began with that world: a station for each of its nodes, which had all seen the same of it
 abbrev pub WasKept : {K : Type 0} → (WorldValue → List WorldEvent → List MemberValue → K → K → Type 0) → WorldValue → K → K → Type 0
-WasKept keeps start old new = (seen : List WorldEvent) × (members : List MemberValue) × HaveSeen members seen × keeps start seen members old new
+WasKept keeps start old new =
+    (seen : List WorldEvent) × (members : List MemberValue) × (length members ≡ start.settings.nodes) × HaveSeen members seen × keeps start seen members old new
 
 -- the same of a cluster of those settings, whose nodes let in whom the words let in
 abbrev pub WasKeptOf : {K : Type 0} → (WorldValue → List WorldEvent → List MemberValue → K → K → Type 0) → Settings → Option Listed → K → K → Type 0

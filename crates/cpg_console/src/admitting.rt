@@ -10,12 +10,11 @@ ghost use Rattle.cpg_console.specs.Pipes.{stream_of};
 
 use crate::pipes::Piped;
 use crate::runs::Form;
-use crate::telling::{tell_fault, tell_memory, write_front};
+use crate::telling::{tell_memory, tell_unwritten, write_front};
 use cpg_accept::admit::{AdmitFault, File, NamesFrom, fault_line, print, read_list};
 use cpg_conf::Numbers;
 use cpg_cred::{Cred, Refusal};
 use cpg_json::print_json;
-use cpg_script::Fault;
 use cpg_text::write_whole;
 use std::alloc::Global;
 use std::io::Write;
@@ -151,10 +150,8 @@ pub fn write_text<W: Write, E: Write>(writer: &mut Piped<W>, errors: &mut E, tex
 {
     match write_whole(writer, text) {
         Ok(()) => 0,
-        Err(refusal) => {
-            if !writer.has_left() {
-                let _ = tell_fault(errors, &Fault::from(refusal));
-            }
+        Err(_) => {
+            tell_unwritten(errors, writer.has_left());
             1
         }
     }

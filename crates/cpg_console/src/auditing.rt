@@ -16,14 +16,14 @@ use crate::founding::new_base;
 use crate::runs::Form;
 use crate::words::read_list;
 use cpg_board::Board;
-use cpg_cluster::Patience;
+use cpg_cluster::{Patience, Sessions};
 use cpg_cred::{AcceptList, Refusal};
 use cpg_daemon::{Cluster, HistoryName, Opened, PassAll, Running};
 use cpg_json::why::AsJson;
 use cpg_ring::{Settings, are_settings};
 use cpg_text::MOST_BYTES;
 use cpg_why::sessions::why_of_sessions;
-use cpg_why::{AsText, Asked, WhyFault};
+use cpg_why::{AsText, Asked, Tells, WhyFault};
 use std::alloc::Global;
 use std::io::{Read, Write};
 use std::marker::Brand;
@@ -158,10 +158,10 @@ where
     R: Read,
     W: Write,
     ensures ok { OnOk result (IfSome (R.remaining reader.old) (λ script.
-        (length script ≤ MOST_BYTES) × AreRun cluster.list (commands_of_script cluster.nodes script))) }
+        (length script ≤ MOST_BYTES) × AreRun B.start (commands_of_script cluster.nodes script))) }
     ensures told { OnOk result (IsTold (why_as (inquiry.now).form) B.cells (inquiry.now).asked (W.contents writer.old) (W.contents writer.new)) }
     ensures err { IfErr result (λ fault. IfSome (R.remaining reader.old) (λ script.
-        Leaves (why_as (inquiry.now).form) B.cells cluster.list (commands_of_script cluster.nodes script) (inquiry.now).asked fault (W.contents writer.old) (W.contents writer.new))) }
+        Leaves (why_as (inquiry.now).form) B.cells B.start (commands_of_script cluster.nodes script) (inquiry.now).asked fault (W.contents writer.old) (W.contents writer.new))) }
     ensures ends { IfErr result (λ fault. EndsWhy (inquiry.now).asked fault (W.contents writer.old) (W.contents writer.new)) }
 {
     let done = explain(&rt, alloc, inquiry, reader, writer, &cluster);
@@ -184,23 +184,52 @@ where
     R: Read,
     W: Write,
     ensures ok { OnOk result (IfSome (R.remaining reader.old) (λ script.
-        (length script ≤ MOST_BYTES) × AreRun running.now.list (commands_of_script running.now.nodes script))) }
+        (length script ≤ MOST_BYTES) × AreRun B.start (commands_of_script running.now.nodes script))) }
     ensures told { OnOk result (IsTold (why_as (inquiry.now).form) B.cells (inquiry.now).asked (W.contents writer.old) (W.contents writer.new)) }
     ensures err { IfErr result (λ fault. IfSome (R.remaining reader.old) (λ script.
-        Leaves (why_as (inquiry.now).form) B.cells running.now.list (commands_of_script running.now.nodes script) (inquiry.now).asked fault (W.contents writer.old) (W.contents writer.new))) }
+        Leaves (why_as (inquiry.now).form) B.cells B.start (commands_of_script running.now.nodes script) (inquiry.now).asked fault (W.contents writer.old) (W.contents writer.new))) }
     ensures ends { IfErr result (λ fault. EndsWhy (inquiry.now).asked fault (W.contents writer.old) (W.contents writer.new)) }
 {
-    let Inquiry {
-        form,
-        asked,
-        patience,
-    } = *inquiry;
-    match form {
-        Form::Text => why_of_sessions::<AsText, B, PassAll, H, R, W>(
-            rt, alloc, reader, writer, running, patience, asked,
-        ),
-        Form::Json => why_of_sessions::<AsJson, B, PassAll, H, R, W>(
-            rt, alloc, reader, writer, running, patience, asked,
-        ),
+    match inquiry.form {
+        Form::Text => explain_as::<AsText, B, H, R, W>(rt, alloc, inquiry, reader, writer, running),
+        Form::Json => explain_as::<AsJson, B, H, R, W>(rt, alloc, inquiry, reader, writer, running),
     }
+}
+
+/// The same in that form.
+#[tactic(auto, using(crate::proofs::Audited::ran_unprinted, crate::proofs::Audited::told_seated, crate::proofs::Audited::left_seated))]
+fn explain_as<F, B, H, R, W>(
+    rt: &H,
+    alloc: Global,
+    inquiry: &Inquiry,
+    reader: &mut R,
+    writer: &mut W,
+    running: &Running<B, PassAll>,
+) -> Result<(), WhyFault>
+where
+    F: Tells,
+    B: HistoryName,
+    H: Wait + Clock,
+    R: Read,
+    W: Write,
+    ensures ok { OnOk result (IfSome (R.remaining reader.old) (λ script.
+        (length script ≤ MOST_BYTES) × AreRun B.start (commands_of_script running.now.nodes script))) }
+    ensures told { OnOk result (IsTold F.form B.cells (inquiry.now).asked (W.contents writer.old) (W.contents writer.new)) }
+    ensures err { IfErr result (λ fault. IfSome (R.remaining reader.old) (λ script.
+        Leaves F.form B.cells B.start (commands_of_script running.now.nodes script) (inquiry.now).asked fault (W.contents writer.old) (W.contents writer.new))) }
+    ensures ends { IfErr result (λ fault. EndsWhy (inquiry.now).asked fault (W.contents writer.old) (W.contents writer.new)) }
+{
+    let mut sessions = Sessions::none(alloc);
+    let mut seat = running.auditor();
+    why_of_sessions::<F, B, PassAll, H, R, W>(
+        rt,
+        alloc,
+        reader,
+        writer,
+        running,
+        inquiry.patience,
+        inquiry.asked,
+        &mut sessions,
+        &mut seat,
+    )
 }

@@ -17,7 +17,7 @@ use crate::speaking::Spoken;
 use crate::tracing::KeepsEnds;
 use crate::words::read_list;
 use cpg_board::Board;
-use cpg_cluster::{Manner, cluster_script};
+use cpg_cluster::{Manner, cluster_script_as};
 use cpg_cred::{AcceptList, Refusal};
 use cpg_daemon::{Cluster, HistoryName, Opened, PassAll};
 use cpg_ring::{Settings, are_settings};
@@ -102,7 +102,7 @@ where
 }
 
 /// Runs the script over a new cluster on that board, with that history.
-#[tactic(auto, using(crate::proofs::Clustered::left_clustered, crate::proofs::Clustered::none_of_memory))]
+#[tactic(auto, using(crate::proofs::Clustered::clustered, crate::proofs::Clustered::left_clustered, crate::proofs::Clustered::none_of_memory))]
 fn run_on<B, H, R, W, K>(
     rt: H,
     alloc: Global,
@@ -154,15 +154,17 @@ where
     W: Write,
     K: KeepsEnds,
     ensures ok { OnOk result (IfSome (R.remaining reader.old) (λ script.
-        ClustersAll (spoken_as (manner.now).form) cluster.nodes cluster.list script (W.contents writer.old) (W.contents writer.new))) }
+        ClustersAll (spoken_as (manner.now).form) cluster.nodes B.start script (W.contents writer.old) (W.contents writer.new))) }
     ensures err { IfErr result (λ failure. IfSome (R.remaining reader.old) (λ script.
-        ClusterLeaves (spoken_as (manner.now).form) cluster.nodes cluster.list script failure (W.contents writer.old) (W.contents writer.new))) }
+        ClusterLeaves (spoken_as (manner.now).form) cluster.nodes B.start script failure (W.contents writer.old) (W.contents writer.new))) }
     ensures late { IfErr result (λ failure. FailsLate failure (W.contents writer.old) (W.contents writer.new)) }
     ensures word { result ≢ Err Failure.BadWord }
     ensures kept { WasKept K.keeps B.start keeper.old keeper.new }
 {
-    let done = cluster_script(&rt, alloc, reader, writer, &cluster, manner);
-    keeper.keep(alloc, cluster.stop(&rt));
+    let done = cluster_script_as(&rt, alloc, reader, writer, &cluster, manner);
+    cluster.stands();
+    let (ends, front) = cluster.stop_traced(&rt);
+    keeper.keep(alloc, ends, front);
     match done {
         Ok(()) => Ok(()),
         Err(fault) => Err(Failure::from(fault)),

@@ -43,4 +43,4 @@ pub use shelling::perform_shell;
 pub use speaking::Spoken;
 pub use telling::{tell_failure, tell_fault};
 pub use tracing::{KeepsEnds, Tracer, Untraced, trace_heading, trace_words};
-pub use words::read_list;
+pub use words::{hint_wrong, read_list};

@@ -202,7 +202,7 @@ where
 }
 
 /// Answers the lines over a new cluster on that board, with that history.
-#[tactic(auto, using(crate::proofs::Shelled::none_of_memory, crate::proofs::Shelled::left_shelled))]
+#[tactic(auto, using(crate::proofs::Shelled::none_of_memory, crate::proofs::Shelled::shelled))]
 fn shell_on<B, H, R, W, E, K>(
     rt: H,
     alloc: Global,
@@ -254,14 +254,16 @@ where
     W: Write,
     E: Write,
     K: KeepsEnds,
-    ensures ok { OnOk result (ShellEnds (spoken_as (manner.now).form) cluster.list cluster.nodes None
+    ensures ok { OnOk result (ShellEnds (spoken_as (manner.now).form) B.start cluster.nodes None
         (R.remaining reader.old) (W.contents writer.old) (W.contents writer.new) (E.contents errors.old) (E.contents errors.new)) }
-    ensures err { IfErr result (λ failure. ShellEnds (spoken_as (manner.now).form) cluster.list cluster.nodes (Some failure)
+    ensures err { IfErr result (λ failure. ShellEnds (spoken_as (manner.now).form) B.start cluster.nodes (Some failure)
         (R.remaining reader.old) (W.contents writer.old) (W.contents writer.new) (E.contents errors.old) (E.contents errors.new)) }
     ensures kept { WasKept K.keeps B.start keeper.old keeper.new }
 {
     let done = shell_lines(&rt, alloc, reader, writer, errors, &cluster, manner);
-    keeper.keep(alloc, cluster.stop(&rt));
+    cluster.stands();
+    let (ends, front) = cluster.stop_traced(&rt);
+    keeper.keep(alloc, ends, front);
     match done {
         Ok(()) => Ok(()),
         Err(fault) => Err(Failure::from(fault)),

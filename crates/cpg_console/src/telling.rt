@@ -61,6 +61,19 @@ pub(crate) fn tell_memory<E: Write>(errors: &mut E)
     }
 }
 
+/// Tells that a text could not be written, as far as the stream allows, unless its reader has left.
+#[tactic(auto, using(crate::proofs::Fronts::none_of, crate::proofs::Fronts::all_of))]
+pub(crate) fn tell_unwritten<E: Write>(errors: &mut E, left: bool)
+    ensures { AppendsFront (E.contents errors.old) (E.contents errors.new) (error_line (whole_fault Refusal.Write)) }
+{
+    if left {
+        return;
+    }
+    match tell_fault(errors, &Fault::from(Refusal::Write)) {
+        Ok(()) | Err(_) => {}
+    }
+}
+
 /// Writes the failure as it is told: a fault as `tell_fault` does, and a wrong word of the command line as
 /// `cpgring: bad accept word` on a line; or `cpgring: there is no entry 9: the script has 8`, or
 /// `cpgring: there is no event 9: 1.2 was told 8`.

@@ -9,7 +9,7 @@ ghost use Rattle.cpg_console.specs.Tracing.{IsTraced, IsPartlyTraced, between, e
 
 use cpg_cluster::hand_on;
 use cpg_cred::Refusal;
-use cpg_daemon::{Ends, HistoryName};
+use cpg_daemon::{Ends, Front, HistoryName};
 use cpg_ring::Settings;
 use cpg_script::put;
 use cpg_text::push_number;
@@ -30,10 +30,10 @@ pub trait KeepsEnds {
     /// Whether the cluster is to record what happens.
     fn is_asked(&self) -> bool;
 
-    /// Takes what the cluster left.
-    fn keep<B: HistoryName>(&mut self, alloc: Global, ends: Ends<B>)
-        requires { HaveSeen ends.stations.items ends.front.seen }
-        ensures { Self.keeps B.start ends.front.seen ends.stations.items self.old self.new };
+    /// Takes what the cluster left, and a front that its stations have seen.
+    fn keep<B: HistoryName>(&mut self, alloc: Global, ends: Ends<B>, front: Front<B>)
+        requires { HaveSeen ends.stations.items front.seen }
+        ensures { Self.keeps B.start front.seen ends.stations.items self.old self.new };
 }
 
 /// Lets a stopped cluster go.
@@ -49,8 +49,9 @@ impl KeepsEnds for Untraced {
         false
     }
 
-    fn keep<B: HistoryName>(&mut self, _alloc: Global, ends: Ends<B>) {
+    fn keep<B: HistoryName>(&mut self, _alloc: Global, ends: Ends<B>, front: Front<B>) {
         drop(ends);
+        drop(front);
     }
 }
 
@@ -93,8 +94,8 @@ impl<'a, T: Write> KeepsEnds for Tracer<'a, T> {
         true
     }
 
-    fn keep<B: HistoryName>(&mut self, alloc: Global, ends: Ends<B>) {
-        self.refused = trace_ends(alloc, &mut self.writer, self.heading, ends).err();
+    fn keep<B: HistoryName>(&mut self, alloc: Global, ends: Ends<B>, front: Front<B>) {
+        self.refused = trace_ends(alloc, &mut self.writer, self.heading, ends, front).err();
     }
 }
 
@@ -104,16 +105,13 @@ fn trace_ends<B: HistoryName, T: Write>(
     writer: &mut T,
     heading: &[u8],
     ends: Ends<B>,
+    front: Front<B>,
 ) -> Result<(), Refusal>
-    requires { HaveSeen ends.stations.items ends.front.seen }
-    ensures ok { OnOk result (IsTraced B.start ends.front.seen ends.stations.items heading.now (T.contents writer.old) (T.contents writer.new)) }
-    ensures err { OnErr result (IsPartlyTraced B.start ends.front.seen ends.stations.items heading.now (T.contents writer.old) (T.contents writer.new)) }
+    requires { HaveSeen ends.stations.items front.seen }
+    ensures ok { OnOk result (IsTraced B.start front.seen ends.stations.items heading.now (T.contents writer.old) (T.contents writer.new)) }
+    ensures err { OnErr result (IsPartlyTraced B.start front.seen ends.stations.items heading.now (T.contents writer.old) (T.contents writer.new)) }
 {
-    let Ends {
-        stations,
-        front,
-        links,
-    } = ends;
+    let Ends { stations, links } = ends;
     drop(links);
     let recording = recorded_by(alloc, stations, &front)?;
     write_trace(alloc, writer, heading, &recording)?;

@@ -57,7 +57,7 @@ fn find_wrong(words: &[&str]) -> Option<usize>
 }
 
 /// What a person needs to mend the first word that lets nobody in; nothing where there is none.
-pub(crate) fn hint_wrong(alloc: Global, words: &[&str]) -> Result<Vec<u8>, Refusal>
+pub fn hint_wrong(alloc: Global, words: &[&str]) -> Result<Vec<u8>, Refusal>
     ensures ok { IfOk result (λ hint. hint.items ≡ wrong_hint words.now) }
     ensures memory { IsOkUnless result Refusal.Memory }
 {

@@ -1,5 +1,5 @@
 -- The safe mark that a node's station tells, and the beginning of the history after which it is that.
-use Rattle.std.proofs.Common.{◌≡◌, ℕ, false, List, inl, inr, subst}
+use Rattle.std.proofs.Common.{◌≡◌, ℕ, List, inl, inr, subst}
 use Rattle.cpg_ring.specs.States.{safe_mark}
 use Rattle.cpg_world_laws.specs.declared.events.WorldEvent.{WorldEvent}
 use Rattle.cpg_world_laws.specs.Worlds.{WorldValue}

@@ -60,12 +60,10 @@ impl<B: HistoryName, G> Deref for Cluster<B, G> {
     }
 }
 
-/// What a stopped cluster leaves: each node's station with its pen, in their order; a front of the history, which each of
-/// them has seen, so that its node is that node of the world after the front; and the two ends of each link.
+/// What a stopped cluster leaves: each node's station with its pen, in their order, and the two ends of each link.
 #[derive(Drop)]
 pub struct Ends<B: HistoryName> {
     pub stations: Vec<Member<B>>,
-    pub front: Front<B>,
     pub links: Vec<(LinkTx<Parcel<B>>, LinkRx<Parcel<B>>)>,
 }
 
@@ -83,7 +81,7 @@ fn new_running<B: HistoryName, G>(
 where
     G: Drop,
     requires board { board ≡ B.cells }
-    requires list { list ≡ B.start.list }
+    requires start { (list ≡ B.start.list) × (nodes ≡ B.start.settings.nodes) }
     requires nodes { (vec_len stations ≡ nodes) × (vec_len wakers.bells ≡ nodes) × (vec_len wakers.signs ≡ nodes) × (nodes ≤ 8) }
     ensures ok { IfOk result (λ running. arc_value running ≡ record { nodes = nodes; list = list }) }
     ensures memory { IsOkUnless result Refusal.Memory }
@@ -106,20 +104,20 @@ where
     )?)
 }
 
-/// What running nodes leave, once they are halted.
+/// What running nodes leave, once they are halted, and a front of the history, which each of the stations has seen.
 #[tactic(auto, using(crate::proofs::Counting::fits_fewer))]
 fn leave<B: HistoryName, G, R: Threads + Wait>(
     rt: &R,
     running: &Running<B, G>,
     threads: Begun<B>,
     room: Room<B>,
-) -> Ends<B>
+) -> (Ends<B>, Front<B>)
     requires room { room.nodes ≡ running.now.nodes }
     requires few { vec_len threads.threads ≤ running.now.nodes }
     requires threads { All (λ thread. thread.promise.0 ≡ peers_of room.nodes) threads.threads.items }
-    ensures stations { vec_len result.stations ≡ running.now.nodes }
-    ensures front { HaveSeen result.stations.items result.front.seen }
-    ensures links { vec_len result.links ≡ vec_len threads.threads * peers_of running.now.nodes }
+    ensures stations { vec_len result.0.stations ≡ running.now.nodes }
+    ensures front { HaveSeen result.0.stations.items result.1.seen }
+    ensures links { vec_len result.0.links ≡ vec_len threads.threads * peers_of running.now.nodes }
 {
     let Room {
         nodes,
@@ -138,11 +136,8 @@ fn leave<B: HistoryName, G, R: Threads + Wait>(
         spares,
         stations,
     );
-    Ends {
-        stations,
-        front,
-        links: pair(ends, links),
-    }
+    let links = pair(ends, links);
+    (Ends { stations, links }, front)
 }
 
 /// A cluster of these.
@@ -278,8 +273,18 @@ where
     /// Halts the nodes, waits for their threads to end, and gives what they leave. It takes no memory.
     pub fn stop<R: Threads + Wait>(self, rt: &R) -> Ends<B>
         ensures stations { vec_len result.stations ≡ self.nodes }
-        ensures front { HaveSeen result.stations.items result.front.seen }
         ensures links { vec_len result.links ≡ links_of self.nodes }
+    {
+        let (ends, _front) = self.stop_traced(rt);
+        ends
+    }
+
+    /// The same, and a front of the history, which each of the stations has seen: its node is that node of the world after
+    /// the front.
+    pub fn stop_traced<R: Threads + Wait>(self, rt: &R) -> (Ends<B>, Front<B>)
+        ensures stations { vec_len result.0.stations ≡ self.nodes }
+        ensures front { HaveSeen result.0.stations.items result.1.seen }
+        ensures links { vec_len result.0.links ≡ links_of self.nodes }
     {
         self.halt(rt);
         let Cluster {

@@ -16,10 +16,16 @@ mod signs;
 mod stopping;
 mod turns;
 
+use bytes::Bytes;
 pub use clusters::{Cluster, Ends};
 pub use cpg_history::{Beginning, Front, HistoryName, Member, Opened, Parcel};
-pub use cpg_link::{LinkRx, LinkTx, MOST_FRAMES, close, link};
+pub use cpg_link::{MOST_FRAMES, close, link};
 pub use cpg_station::{BoardName, Station};
 pub use gates::{Fate, Gate, PassAll};
 pub use running::Running;
 pub use sessions::Session;
+
+/// The ends of a link that carries frames. A cluster's links carry parcels: frames with their numbers in its history.
+pub type LinkTx = cpg_link::LinkTx<Bytes>;
+
+pub type LinkRx = cpg_link::LinkRx<Bytes>;

@@ -61,7 +61,7 @@ impl<B: HistoryName, G> Model for Running<B, G> {
 
     ghost view = { λ running. record { nodes = running.nodes; list = running.list } };
 
-    ghost invariant = { λ running. (running.board ≡ B.cells) × (running.list ≡ B.start.list) × (vec_len running.stations ≡ running.nodes) × (vec_len running.bells ≡ running.nodes) × (vec_len running.signs ≡ running.nodes) × (running.nodes ≤ 8) };
+    ghost invariant = { λ running. (running.board ≡ B.cells) × (running.list ≡ B.start.list) × (running.nodes ≡ B.start.settings.nodes) × (vec_len running.stations ≡ running.nodes) × (vec_len running.bells ≡ running.nodes) × (vec_len running.signs ≡ running.nodes) × (running.nodes ≤ 8) };
 }
 
 /// The pause after a look at a station that was held.
@@ -88,6 +88,14 @@ impl<B: HistoryName, G> Running<B, G> {
         ensures { result ≡ self.now.nodes }
     {
         self.nodes
+    }
+
+    /// They are the nodes of the world that the history begins with, and accept by its list. The function has nothing to do.
+    pub fn stands(&self)
+        ensures nodes { self.now.nodes ≡ B.start.settings.nodes }
+        ensures list { self.now.list ≡ B.start.list }
+    {
+        let _list = &self.list;
     }
 
     /// A seat of the board that has seen nothing, for whoever wants to compare what others saw.
@@ -158,8 +166,10 @@ impl<B: HistoryName, G> Running<B, G> {
 
     /// Halts all nodes: later calls of sessions are answered with Stopped.
     pub fn halt<R: Wait>(&self, rt: &R) {
-        for station in self.stations.iter() {
-            station.lock(rt).halt();
+        for (station, sign) in self.stations.iter().zip(self.signs.iter()) {
+            let mut held = station.lock(rt);
+            held.halt();
+            sign.halt();
         }
         self.halted.store(true, Ordering::SeqCst);
         self.ring_all(News::Halt);

@@ -96,15 +96,37 @@ impl<B: HistoryName, G> Running<B, G> {
         ensures history { IfOk result (λ session. Told B.start [] (events.Connect node pid cred) (Ok (reply.Connected session.who.id.conn)) session.seen) }
         ensures err { IfErr result (ConnectRefuses self.now.list cred) }
     {
-        let (who, front) = self
-            .hold(rt, node)
-            .admit(&self.history, &self.list, node, pid, cred)?;
+        let mut station = self.hold(rt, node);
+        let answer = station.admit(&self.history, &self.list, node, pid, cred);
+        self.note(node, &answer);
+        let (who, front) = answer?;
         Ok(Session {
             who,
             seat: self.auditor(),
             front,
             quiet: None,
         })
+    }
+
+    /// Has the node's sign say what a refusal tells of its station, whose lock is held: that its queue is full, or that it is
+    /// halted. A station that is not as a session knows it halts at that.
+    fn note_refusal(&self, node: NodeId, refusal: Refusal)
+        requires { node ≤ self.now.nodes }
+    {
+        match refusal {
+            Refusal::QueueFull => self.sign(node).fill(),
+            Refusal::Stopped => self.sign(node).halt(),
+            _ => {}
+        }
+    }
+
+    /// The same of an answer, where it is a refusal.
+    fn note<T>(&self, node: NodeId, answer: &Result<T, Refusal>)
+        requires { node ≤ self.now.nodes }
+    {
+        if let Err(refusal) = answer {
+            self.note_refusal(node, *refusal);
+        }
     }
 
     /// Whether the call would be refused with QueueFull, as far as can be seen without the node's lock: a call found the queue
@@ -117,8 +139,7 @@ impl<B: HistoryName, G> Running<B, G> {
         self.sign(node).is_full() && !self.are_halted() && call_refusal(call).is_none()
     }
 
-    /// Puts a call of the session last among what waits at its station, whose lock is held. Refused as `submit` is. Where the
-    /// queue is full, the node's sign says so.
+    /// Puts a call of the session last among what waits at its station, whose lock is held. Refused as `submit` is.
     fn submit_to(
         &self,
         station: &mut Member<B>,
@@ -134,9 +155,7 @@ impl<B: HistoryName, G> Running<B, G> {
                 Ok(())
             }
             Err(refused) => {
-                if refused.refusal == Refusal::QueueFull {
-                    self.sign(session.who.id.node).fill();
-                }
+                self.note_refusal(session.who.id.node, refused.refusal);
                 Err(refused)
             }
         }
@@ -253,16 +272,6 @@ impl<B: HistoryName, G> Running<B, G> {
         }
     }
 
-    /// Notes for the node's thread that its station is halted, where it answers so: a station that is not as a session knows
-    /// it halts at that.
-    fn note_halt<T>(&self, node: NodeId, answer: &Result<T, Refusal>)
-        requires { node ≤ self.now.nodes }
-    {
-        if let Err(Refusal::Stopped) = answer {
-            self.sign(node).halt();
-        }
-    }
-
     /// The next event of the session, if there is one. Refused with Stopped; with Behind where its node has
     /// delivered fewer places than the session has seen; with Memory. Where the session was told last that there is none, and
     /// its node has delivered nothing since, there still is none: that is answered without the node's lock then, and adds
@@ -301,7 +310,7 @@ impl<B: HistoryName, G> Running<B, G> {
             &mut session.who,
             &mut session.seat,
         );
-        self.note_halt(session.who.id.node, &answer);
+        self.note(session.who.id.node, &answer);
         let taken = answer?;
         match taken {
             Some(event) => Ok(Some(event)),
@@ -379,7 +388,8 @@ impl<B: HistoryName, G> Running<B, G> {
         ensures seat { Begins session.old.seat session.new.seat }
     {
         session.quiet = None;
-        let answer = self.hold(rt, session.who.id.node).list_for(
+        let mut station = self.hold(rt, session.who.id.node);
+        let answer = station.list_for(
             &self.history,
             &mut session.front,
             &self.board,
@@ -387,7 +397,7 @@ impl<B: HistoryName, G> Running<B, G> {
             &mut session.seat,
             group,
         );
-        self.note_halt(session.who.id.node, &answer);
+        self.note(session.who.id.node, &answer);
         answer
     }
 
@@ -402,14 +412,15 @@ impl<B: HistoryName, G> Running<B, G> {
         ensures seat { Begins session.old.seat session.new.seat }
     {
         session.quiet = None;
-        let answer = self.hold(rt, session.who.id.node).groups_for(
+        let mut station = self.hold(rt, session.who.id.node);
+        let answer = station.groups_for(
             &self.history,
             &mut session.front,
             &self.board,
             &session.who,
             &mut session.seat,
         );
-        self.note_halt(session.who.id.node, &answer);
+        self.note(session.who.id.node, &answer);
         answer
     }
 
@@ -456,8 +467,18 @@ impl<B: HistoryName, G> Running<B, G> {
         ensures err { IfErr result (λ why. IsEndRefusal why × (session.new ≡ session.old)) }
     {
         session.quiet = None;
-        self.hold(rt, session.who.id.node)
-            .close_for(&self.history, &mut session.front, &session.who)
+        let mut station = self.hold(rt, session.who.id.node);
+        let answer = station.close_for(&self.history, &mut session.front, &session.who);
+        self.note(session.who.id.node, &answer);
+        answer
+    }
+
+    /// A front of the history that has seen what both have.
+    pub fn join(&self, one: Front<B>, two: Front<B>) -> Front<B>
+        ensures one { IsPrefix one.seen result.seen }
+        ensures two { IsPrefix two.seen result.seen }
+    {
+        self.history.meet(one, two)
     }
 
     /// A front of the history that has seen what both sessions have: what they saw begins one history.

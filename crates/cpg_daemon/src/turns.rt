@@ -549,8 +549,8 @@ impl<B: HistoryName, G: Gate> Running<B, G> {
     }
 
     /// Whether the thread is to end: all are halted, or its own station is. A station halts where it refuses a delivery that
-    /// differs, and where it is not as a session knows it; whoever meets that notes it in the node's signs, so that no lock is
-    /// taken here.
+    /// differs, and where it is not as a session knows it; whoever meets that has the node's sign say so before the lock is
+    /// given back, so that none is taken here.
     fn is_over(&self, node: NodeId) -> bool
         requires { node ≤ self.now.nodes }
     {

@@ -6,9 +6,9 @@ ghost use Rattle.cpg_history.specs.Histories.{first_world};
 use cpg_board::{Board, Seat};
 use cpg_cred::{NodeId, Refusal};
 use cpg_daemon::{
-    Cluster, Ends, Fate, Front, Gate, HistoryName, LinkRx, LinkTx, Member, Opened, Parcel, PassAll,
-    Station,
+    Cluster, Ends, Fate, Gate, HistoryName, Member, Opened, Parcel, PassAll, Station,
 };
+use cpg_link::{LinkRx, LinkTx};
 use std::alloc::Global;
 use std::sync::Wait;
 use std::thread::Threads;
@@ -64,20 +64,15 @@ where
     cluster.stop(rt)
 }
 
-/// What is left of a cluster: its stations with their traces, what its history came to, and its links.
+/// What is left of a cluster: its stations with their traces, and its links.
 pub type Left<B> = (
     Vec<Member<B>>,
-    Front<B>,
     Vec<(LinkTx<Parcel<B>>, LinkRx<Parcel<B>>)>,
 );
 
 pub fn left<B: HistoryName>(ends: Ends<B>) -> Left<B> {
-    let Ends {
-        stations,
-        front,
-        links,
-    } = ends;
-    (stations, front, links)
+    let Ends { stations, links } = ends;
+    (stations, links)
 }
 
 pub fn station<B: HistoryName>(member: &Member<B>) -> &Station<B> {

@@ -1,6 +1,6 @@
 //! `cpg_console`: scripts read from one stream, and what they print written to another.
 
-use cpg_console::{Fault, PLAIN, accept_script, cluster_script, judge_script, run_script};
+use cpg_console::{Fault, accept_script, cluster_script, judge_script, run_script};
 use cpg_cred::Refusal;
 use cpg_daemon::{Cluster, HistoryName, PassAll};
 use cpg_world::World;
@@ -34,7 +34,7 @@ pub fn run<R: Read, W: Write>(
     run_script(alloc, reader, writer, world)
 }
 
-/// Runs a script of sessions, in the plain manner of `cpgring run`.
+/// Runs a script of sessions.
 pub fn sessions<B, H, R, W>(
     rt: &H,
     alloc: Global,
@@ -48,7 +48,7 @@ where
     R: Read,
     W: Write,
 {
-    cluster_script(rt, alloc, reader, writer, cluster, &PLAIN)
+    cluster_script(rt, alloc, reader, writer, cluster)
 }
 
 /// The part that a fault is of, and what it is.

@@ -1,6 +1,7 @@
 //! What a stopped cluster leaves: its stations in their order, and the frames in its links.
 
-use cpg_daemon::{Ends, HistoryName, LinkRx, LinkTx, Member, Parcel};
+use cpg_daemon::{Ends, HistoryName, Member, Parcel};
+use cpg_link::{LinkRx, LinkTx};
 use std::sync::Wait;
 
 /// What is wanted of the frames in the links of a cluster that was stopped.

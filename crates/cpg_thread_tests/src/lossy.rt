@@ -1,7 +1,7 @@
 //! A script of sessions over a cluster whose links lose and repeat frames prints what it prints over any other.
 
 use crate::playing::{Play, Stop, holds, plays, settings_of};
-use cpg_cluster::{PLAIN, cluster_script};
+use cpg_cluster::cluster_script;
 use cpg_cred::NodeId;
 use cpg_daemon::{Ends, Fate, Gate, HistoryName, Running};
 use std::alloc::Global;
@@ -44,7 +44,7 @@ fn prints<B: HistoryName, R: Wait + Clock>(
     answer: &[u8],
 ) -> bool {
     let mut written = Vec::new(alloc);
-    let done = cluster_script(rt, alloc, &mut script, &mut written, running, &PLAIN);
+    let done = cluster_script(rt, alloc, &mut script, &mut written, running);
     done.is_ok() && written.as_slice() == answer
 }
 

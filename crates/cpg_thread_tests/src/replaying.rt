@@ -4,7 +4,7 @@ ghost use Rattle.cpg_history.specs.Members.{HaveSeen};
 
 use crate::playing::settings_of;
 use cpg_cred::{AcceptList, NodeId, Refusal};
-use cpg_daemon::{Ends, HistoryName};
+use cpg_daemon::{Ends, Front, HistoryName};
 use cpg_history::Recorded;
 use cpg_record::Record;
 use cpg_trace::recorded_by;
@@ -100,14 +100,14 @@ fn delivered_in<B: HistoryName>(ends: &Ends<B>) -> Option<[usize; 3]> {
 }
 
 /// The world after all that was recorded.
-fn replayed<B: HistoryName>(alloc: Global, ends: Ends<B>) -> Result<World, Refusal>
-    requires { HaveSeen ends.stations.items ends.front.seen }
+fn replayed<B: HistoryName>(
+    alloc: Global,
+    ends: Ends<B>,
+    front: Front<B>,
+) -> Result<World, Refusal>
+    requires { HaveSeen ends.stations.items front.seen }
 {
-    let Ends {
-        stations,
-        front,
-        links,
-    } = ends;
+    let Ends { stations, links } = ends;
     drop(links);
     let recording = recorded_by(alloc, stations, &front)?;
     if recording.cut {
@@ -119,11 +119,16 @@ fn replayed<B: HistoryName>(alloc: Global, ends: Ends<B>) -> Result<World, Refus
 
 /// Whether the nodes of the world that plays what was recorded have delivered as many places as the three stations have, each
 /// judged as the records say.
-pub fn plays_again<B: HistoryName>(alloc: Global, ends: Ends<B>, records: &[Record]) -> bool
-    requires { HaveSeen ends.stations.items ends.front.seen }
+pub fn plays_again<B: HistoryName>(
+    alloc: Global,
+    ends: Ends<B>,
+    front: Front<B>,
+    records: &[Record],
+) -> bool
+    requires { HaveSeen ends.stations.items front.seen }
 {
     match delivered_in(&ends) {
-        Some(delivered) => match replayed(alloc, ends) {
+        Some(delivered) => match replayed(alloc, ends, front) {
             Ok(world) => are_judged(world, delivered, records),
             Err(_) => false,
         },

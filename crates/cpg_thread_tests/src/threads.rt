@@ -9,7 +9,7 @@ use crate::playing::{Told, connect, next_told, settings_of, submit};
 use crate::replaying::{begins, plays_again};
 use cpg_board::{Board, Seat};
 use cpg_cred::{AcceptList, Refusal};
-use cpg_daemon::{Beginning, Cluster, Ends, HistoryName, Opened, PassAll, Running, Session};
+use cpg_daemon::{Beginning, Cluster, Ends, Front, HistoryName, Opened, PassAll, Running, Session};
 use cpg_entry::{Call, Name, Op};
 use cpg_group::verify;
 use cpg_record::{Reason, Record, Verdict};
@@ -172,11 +172,16 @@ fn are_left<B: HistoryName>(ends: &Ends<B>, records: &[Record]) -> bool {
 
 /// Whether the records are sound, what is left begins them, and so does what is judged where all that was recorded is
 /// played.
-fn are_right<B: HistoryName>(alloc: Global, ends: Ends<B>, records: &[Record]) -> bool
-    requires { HaveSeen ends.stations.items ends.front.seen }
+fn are_right<B: HistoryName>(
+    alloc: Global,
+    ends: Ends<B>,
+    front: Front<B>,
+    records: &[Record],
+) -> bool
+    requires { HaveSeen ends.stations.items front.seen }
 {
     let left = are_left(&ends, records);
-    let played = plays_again(alloc, ends, records);
+    let played = plays_again(alloc, ends, front, records);
     left && played && are_sound(alloc, records)
 }
 
@@ -190,8 +195,8 @@ where
 {
     let cluster = Cluster::<B, PassAll>::start(rt, alloc, board, opened, PassAll)?;
     let seen = seen_by_three(&rt, alloc, &cluster);
-    let ends = cluster.stop(&rt);
-    Ok(are_right(alloc, ends, seen?.as_slice()))
+    let (ends, front) = cluster.stop_traced(&rt);
+    Ok(are_right(alloc, ends, front, seen?.as_slice()))
 }
 
 /// Whether a new one does, of which what happens is recorded.

@@ -1,6 +1,5 @@
 -- where a script is read from
-use Rattle.std.specs.Prelude.{ℕ, Bool, true, false, not, ◌&&◌, ◌||◌, ◌==◌, is_none, List, [], ◌∷◌, ◌++◌, codes, Option, Some, None, option_map, if◌then◌else◌}
-use Rattle.std.specs.List.{list_any}
+use Rattle.std.specs.Prelude.{ℕ, Bool, true, false, ◌&&◌, is_none, List, [], ◌∷◌, ◌++◌, codes, Option, Some, None, option_map, if◌then◌else◌}
 use Rattle.std.specs.Str.{bytes_eq}
 use Rattle.std.specs.Io.KnownBytes.{Keeps}
 use Rattle.cpg_script.specs.Words.{after_name}
@@ -24,23 +23,15 @@ but_input (Some path) = if bytes_eq path (codes "-") then None else Some path
 abbrev pub lets_nobody_in : List ℕ → Bool
 lets_nobody_in word = is_none (after_name (codes "uid:") word) && is_none (after_name (codes "gid:") word)
 
--- the byte stands in names of files alone: `/` or `.`
-abbrev pub is_of_path : ℕ → Bool
-is_of_path byte = (byte == 47) || (byte == 46)
-
--- a word names a file: `-`, or one with a `/` or a `.` that is not to let anybody in
-abbrev pub names_file : List ℕ → Bool
-names_file word = bytes_eq word (codes "-") || (lets_nobody_in word && list_any is_of_path word)
-
--- the path of the file that the first word names
+-- the path of the file that the first word names, where it is not to let anybody in
 abbrev pub first_file : List (List ℕ) → Option (List ℕ)
 first_file [] = None
-first_file (word ∷ rest) = if names_file word then but_input (Some word) else None
+first_file (word ∷ rest) = if lets_nobody_in word then but_input (Some word) else None
 
 -- the words that let users and groups in: all, but the first where it names a file
 abbrev pub words_after : List (List ℕ) → List (List ℕ)
 words_after [] = []
-words_after (word ∷ rest) = if names_file word then rest else word ∷ rest
+words_after (word ∷ rest) = if lets_nobody_in word then rest else word ∷ rest
 
 -- what is said of why a file can't be read
 abbrev pub cause_text : Unread → List ℕ

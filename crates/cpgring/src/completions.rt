@@ -26,9 +26,13 @@ _cpgring() {
         esac
         words="$words --help"
     fi
-    case ${COMP_WORDS[COMP_CWORD - 1]} in
-        --only) words='denied verdicts messages changes rules' ;;
-    esac
+    # `--only=KIND` is three words here
+    local before=${COMP_WORDS[COMP_CWORD - 1]}
+    if [ "$word" = = ]; then word= words=; elif [ "$before" = = ]; then before=${COMP_WORDS[COMP_CWORD - 2]} words=; fi
+    if [ "$before" = --only ]; then
+        COMPREPLY=($(compgen -W 'denied verdicts messages changes rules' -- "$word"))
+        return
+    fi
     COMPREPLY=($(compgen -W "$words" -- "$word"))
     if [ "$COMP_CWORD" -gt 1 ] && [ "${word#-}" = "$word" ]; then COMPREPLY+=($(compgen -f -- "$word")); fi
 }

@@ -26,13 +26,14 @@ use clap::{ArgMatches, Error};
 use commands::build_command;
 use completions::completion_of;
 use cpg_console::{
-    Counted, Ended, KeepsEnds, Piped, Run, Tracer, Untraced, perform, perform_admit, perform_shell,
-    perform_with_hint, write_text,
+    Counted, Ended, Failure, KeepsEnds, Piped, Run, Tracer, Untraced, hint_wrong, perform,
+    perform_admit, perform_shell, perform_with_hint, tell_failure, write_text,
 };
 use cpg_cred::Cred;
+use cpg_text::write_whole;
 use loading::{Loaded, NotLoaded, wrong_ask};
 use options::SHELL;
-use sources::{Source, greet, greet_shell, open_file, tell_unread};
+use sources::{Source, Unread, greet, greet_shell, open_file, tell_unread};
 use std::alloc::{AllocError, Global};
 use std::io::{BufWriter, IsTerminal, Read, Write};
 use std::process::ExitCode;
@@ -92,9 +93,41 @@ fn run<H: Threads + Wait + Clock + Copy + Send + 'static>(
         }
         Source::File(path) => match open_file(rt, path) {
             Ok(mut file) => run_over(rt, threads, &asked.run, verbose, trace, &mut file),
-            Err(why) => Ok(tell_unread(alloc, &mut rt.stderr(), path, why)),
+            Err(why) => {
+                let told = &mut rt.stderr();
+                Ok(tell_unopened(alloc, told, &asked.run, path, why, verbose))
+            }
         },
     }
+}
+
+/// Whether words that let users and groups in go with the run.
+fn takes_words(run: &Run<'_>) -> bool {
+    !matches!(
+        run,
+        Run::Judge(_) | Run::JudgeOnly(_) | Run::Why(..) | Run::Accept(_)
+    )
+}
+
+/// Says why the file of the script can't be read, and returns the exit status. Where words go with the run that let users
+/// and groups in, a word that names no file is a wrong one of these; a hint is told of it where that is asked for.
+fn tell_unopened<E: Write>(
+    alloc: Global,
+    errors: &mut E,
+    run: &Run<'_>,
+    path: &str,
+    why: Unread,
+    verbose: bool,
+) -> u8 {
+    if !(matches!(why, Unread::Missing) && takes_words(run)) {
+        return tell_unread(alloc, errors, path, why);
+    }
+    if tell_failure(errors, &Failure::BadWord).is_ok() && verbose {
+        if let Ok(hint) = hint_wrong(alloc, &[path]) {
+            let _ = write_whole(errors, hint.as_slice());
+        }
+    }
+    2
 }
 
 /// The exit status of the run of a script, which is traced where that is asked for.

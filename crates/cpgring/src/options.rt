@@ -184,7 +184,7 @@ const SCRIPT: Given = Given(
 const SCRIPT_AND_ACCEPT: Given = Given(
     ACCEPT,
     Takes::Rest("FILE|ACCEPT"),
-    "First the script's file, if any, a path with / or . in it; - or none: standard input. Then whom the nodes let in beside uid 0 and gid 0: uid:N or gid:N, each N 0 to 4294967295",
+    "First the script's file, if any; - or none: standard input. Then whom the nodes let in beside uid 0 and gid 0: uid:N or gid:N, each N 0 to 4294967295",
     &[],
 );
 

@@ -3,9 +3,8 @@
 //! The forms are this project's own. Proved: which word names a file, and what is said of a file that can't be read.
 
 ghost use Rattle.std.specs.Prelude.{◌≡◌, ◌≢◌, ◌⊎◌, IfOk, IsOkUnless, map, option_map};
-ghost use Rattle.std.specs.List.{list_any};
 ghost use Rattle.cpg_text.specs.Streams.{AppendsFront};
-ghost use Rattle.cpgring.specs.Sources.{GreetsAt, but_input, cause_text, first_file, greeting, is_of_path, shell_greeting, lets_nobody_in, names_file, path_of, unread_line, words_after};
+ghost use Rattle.cpgring.specs.Sources.{GreetsAt, but_input, cause_text, first_file, greeting, shell_greeting, lets_nobody_in, path_of, unread_line, words_after};
 
 use cpg_console::tell_fault;
 use cpg_cred::Refusal;
@@ -52,32 +51,11 @@ pub fn source_of(path: Option<&str>) -> Source<'_>
     }
 }
 
-/// Whether the word lets in neither users nor groups, whatever follows its front.
-fn is_no_accept(word: &[u8]) -> bool
+/// Whether the word lets in neither users nor groups, whatever follows its front. The first of the words then names a file.
+fn is_file_name(word: &[u8]) -> bool
     ensures { result ≡ lets_nobody_in word.now }
 {
     strip_name(b"uid:", word).is_none() && strip_name(b"gid:", word).is_none()
-}
-
-/// Whether the word names a file, where it stands before those that let users and groups in.
-fn is_file_name(word: &[u8]) -> bool
-    ensures { result ≡ names_file word.now }
-{
-    word == b"-".as_slice() || (is_no_accept(word) && has_path(word))
-}
-
-/// Whether the byte stands in names of files alone.
-fn is_path_byte(byte: u8) -> bool
-    ensures { result ≡ is_of_path byte }
-{
-    byte == b'/' || byte == b'.'
-}
-
-/// Whether one of the word's bytes stands in names of files alone.
-fn has_path(word: &[u8]) -> bool
-    ensures { result ≡ list_any is_of_path word.now }
-{
-    word.iter().any(|byte| is_path_byte(*byte))
 }
 
 /// The source that the first of the words names, if it names one, and the words that let users and groups in.

@@ -13,10 +13,11 @@ use crate::acting::do_command;
 use crate::commands::Numbered;
 use crate::forms::{Manner, PutsAnswer};
 use crate::running::hand_on;
+use crate::sessions::Sessions;
 use crate::shell::help::HELP;
 use crate::shell::typed::{Typed, read_typed};
 use cpg_cred::Refusal;
-use cpg_daemon::{HistoryName, Running, Session};
+use cpg_daemon::{HistoryName, Running};
 use cpg_script::{Fault, put, put_fault};
 use cpg_text::write_whole;
 use std::alloc::Global;
@@ -57,15 +58,15 @@ fn answer_typed<B: HistoryName, G, H: Wait + Clock, P: PutsAnswer>(
     rt: &H,
     alloc: Global,
     running: &Running<B, G>,
-    sessions: &mut Vec<Option<Session<B>>>,
+    sessions: &mut Sessions<B>,
     manner: &Manner<P>,
     number: u32,
     typed: Typed,
 ) -> Result<Answered, Refusal>
     requires typed { IsTypedWithin running.now.nodes typed }
-    requires within { AreWithin running.now.nodes sessions.old.items }
-    ensures came { IfOk result (λ done. MayCome (P.printed manner.now.form) running.now.list sessions.old.items number typed (record { printed = done.printed.items; told = done.told.items; left = sessions.new.items })) }
-    ensures within { AreWithin running.now.nodes sessions.new.items }
+    requires within { AreWithin running.now.nodes sessions.old.slots }
+    ensures came { IfOk result (λ done. MayCome (P.printed manner.now.form) B.start sessions.old number typed (record { printed = done.printed.items; told = done.told.items; left = sessions.new })) }
+    ensures within { AreWithin running.now.nodes sessions.new.slots }
     ensures memory { IsOkUnless result Refusal.Memory }
 {
     let mut printed = Vec::new(alloc);
@@ -87,14 +88,14 @@ pub fn answer_line<B: HistoryName, G, H: Wait + Clock, P: PutsAnswer>(
     rt: &H,
     alloc: Global,
     running: &Running<B, G>,
-    sessions: &mut Vec<Option<Session<B>>>,
+    sessions: &mut Sessions<B>,
     manner: &Manner<P>,
     number: u32,
     line: &[u8],
 ) -> Result<Answered, Refusal>
-    requires { AreWithin running.now.nodes sessions.old.items }
-    ensures came { IfOk result (λ done. MayCome (P.printed manner.now.form) running.now.list sessions.old.items number (typed_of running.now.nodes line.now) (record { printed = done.printed.items; told = done.told.items; left = sessions.new.items })) }
-    ensures within { AreWithin running.now.nodes sessions.new.items }
+    requires { AreWithin running.now.nodes sessions.old.slots }
+    ensures came { IfOk result (λ done. MayCome (P.printed manner.now.form) B.start sessions.old number (typed_of running.now.nodes line.now) (record { printed = done.printed.items; told = done.told.items; left = sessions.new })) }
+    ensures within { AreWithin running.now.nodes sessions.new.slots }
     ensures memory { IsOkUnless result Refusal.Memory }
 {
     let typed = read_typed(alloc, running.nodes(), line)?;

@@ -6,6 +6,7 @@ ghost use Rattle.std.specs.Prelude.{◌≡◌, [], None, OnOk, IfErr};
 ghost use Rattle.cpg_cluster.specs.Shelled.{IsShelled, IsEnded};
 
 use crate::forms::{Manner, PutsAnswer};
+use crate::sessions::Sessions;
 use crate::shell::answering::{answer_line, write_answered};
 use crate::shell::lines::read_line;
 use cpg_cred::Refusal;
@@ -42,9 +43,9 @@ where
     W: Write,
     E: Write,
     P: PutsAnswer,
-    ensures ok { OnOk result (IsShelled (P.printed manner.now.form) running.now.list running.now.nodes (R.remaining reader.old)
+    ensures ok { OnOk result (IsShelled (P.printed manner.now.form) B.start running.now.nodes (R.remaining reader.old)
         (W.contents writer.old) (W.contents writer.new) (E.contents errors.old) (E.contents errors.new)) }
-    ensures err { IfErr result (λ fault. IsEnded fault.refusal (P.printed manner.now.form) running.now.list running.now.nodes (R.remaining reader.old)
+    ensures err { IfErr result (λ fault. IsEnded fault.refusal (P.printed manner.now.form) B.start running.now.nodes (R.remaining reader.old)
         (W.contents writer.old) (W.contents writer.new) (E.contents errors.old) (E.contents errors.new)) }
     ensures whole { IfErr result (λ fault. fault.part ≡ None) }
 {
@@ -71,12 +72,12 @@ where
     W: Write,
     E: Write,
     P: PutsAnswer,
-    ensures ok { OnOk result (IsShelled (P.printed manner.now.form) running.now.list running.now.nodes (R.remaining reader.old)
+    ensures ok { OnOk result (IsShelled (P.printed manner.now.form) B.start running.now.nodes (R.remaining reader.old)
         (W.contents writer.old) (W.contents writer.new) (E.contents errors.old) (E.contents errors.new)) }
-    ensures err { IfErr result (λ refusal. IsEnded refusal (P.printed manner.now.form) running.now.list running.now.nodes (R.remaining reader.old)
+    ensures err { IfErr result (λ refusal. IsEnded refusal (P.printed manner.now.form) B.start running.now.nodes (R.remaining reader.old)
         (W.contents writer.old) (W.contents writer.new) (E.contents errors.old) (E.contents errors.new)) }
 {
-    let mut sessions = Vec::new(alloc);
+    let mut sessions = Sessions::none(alloc);
     for number in 1..u32::MAX {
         let mut line = Vec::new(alloc);
         let more = read_line(reader, &mut line)?;

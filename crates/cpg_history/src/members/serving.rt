@@ -1,7 +1,7 @@
 //! What a member is to the sessions at its node: their calls, each one event of the history, and so is a listing that is
 //! denied.
 
-ghost use Rattle.std.specs.Prelude.{◌≡◌, [], false, None, Ok, Err, IfOk, IfNone, OnOk, OnErr, IfErr};
+ghost use Rattle.std.specs.Prelude.{◌≡◌, [], true, false, None, Ok, Err, IfOk, IfNone, OnOk, OnErr, IfErr};
 ghost use Rattle.cpg_cred.specs.declared.refusals.Refusal.TheVariants.{Stopped};
 ghost use Rattle.cpg_ring.specs.Answers.{IsAnswer, answer_of};
 ghost use Rattle.cpg_node.specs.Calls.{submit_refusal, submitted, disconnected};
@@ -45,6 +45,7 @@ impl<B: HistoryName> Member<B> {
         ensures station { OnOk result ((self.old.station.halted ≡ false) × (self.new.station ≡ with_newcomer self.old.station pid cred)) }
         ensures history { IfOk result (λ r. Told B.start [] (events.Connect node pid cred) (Ok (reply.Connected r.0.id.conn)) r.1.seen) }
         ensures err { IfErr result (λ why. AdmitsNot list.now node pid cred self.old.station why self.new.station) }
+        ensures halted { self.old.station.halted ≡ true → (result ≡ Err Stopped) × (self.new.station ≡ self.old.station) }
     {
         self.admit_as::<Brand>(history, list, node, pid, cred)
     }
@@ -63,6 +64,7 @@ impl<B: HistoryName> Member<B> {
         ensures station { OnOk result ((self.old.station.halted ≡ false) × (self.new.station ≡ with_newcomer self.old.station pid cred)) }
         ensures history { IfOk result (λ r. Told B.start [] (events.Connect node pid cred) (Ok (reply.Connected r.0.id.conn)) r.1.seen) }
         ensures err { IfErr result (λ why. AdmitsNot list.now node pid cred self.old.station why self.new.station) }
+        ensures halted { self.old.station.halted ≡ true → (result ≡ Err Stopped) × (self.new.station ≡ self.old.station) }
     {
         if self.id.get() != node.get() {
             self.station.halt();

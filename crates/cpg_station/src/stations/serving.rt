@@ -1,6 +1,6 @@
 //! What a station is to the sessions at its node: their calls, each as one section under the station's lock.
 
-ghost use Rattle.std.specs.Prelude.{◌≡◌, ◌≢◌, ◌↔◌, suc, length, false, IsTrue, None, Ok, Err, IfOk, IfNone, OnOk, OnErr, IfErr};
+ghost use Rattle.std.specs.Prelude.{◌≡◌, ◌≢◌, ◌↔◌, suc, length, true, false, IsTrue, None, Ok, Err, IfOk, IfNone, OnOk, OnErr, IfErr};
 ghost use Rattle.cpg_cred.specs.declared.refusals.Refusal.TheVariants.{Stopped};
 ghost use Rattle.cpg_record.specs.Places.{Begins};
 ghost use Rattle.cpg_board.specs.Seats.{IsSeatOf};
@@ -98,6 +98,7 @@ impl<B: BoardName> Station<B> {
         ensures room { OnOk result (connect_refusal self.old.node cred ≡ None) }
         ensures station { OnOk result ((self.old.halted ≡ false) × (self.new ≡ with_newcomer self.old pid cred)) }
         ensures err { IfErr result (λ why. AdmitsNot list.now node pid cred self.old why self.new) }
+        ensures halted { self.old.halted ≡ true → (result ≡ Err Stopped) × (self.new ≡ self.old) }
     {
         if self.halted {
             return Err(Refusal::Stopped);
