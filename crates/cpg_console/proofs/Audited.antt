@@ -40,7 +40,7 @@ none_stopped start (Ok lines) = (Some [], inl (Keeps-refl (Some []), refl))
 none_stopped start (Err bad) = (Some [], (Keeps-refl (Some []), refl))
 
 no_memory : (form : told.Form) (start : WorldValue) (commands : Result (List Numbered) ℕ) (asked : Asked) (a : Option (List ℕ)) → Leaves form [] start commands asked (why.Script (whole_fault refusal.Memory)) a a
-no_memory form start commands asked a = record { left = no_sessions; seat = []; read = tt; leaves = inl (refl, none_stopped start commands, Keeps-refl a) }
+no_memory form start commands asked a = record { left = no_sessions; seat = []; read = refl; leaves = inl (refl, none_stopped start commands, Keeps-refl a) }
 
 untold : (known : Option (List ℕ)) (form : Form) (asked : Asked) (s : Settings) (list : Listed) (a : Option (List ℕ))
     → IfSome known (λ lines. TellsSessions form asked s (Some list) lines (Some (Fault (whole_fault refusal.Memory))) a a)

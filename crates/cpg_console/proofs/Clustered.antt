@@ -1,6 +1,7 @@
 -- what is written of a script that is run over a new cluster, and of one that finds none
-use Rattle.std.proofs.Common.{◌≡◌, ℕ, List, Option, Some, None, Result, Ok, Err, inl, refl, sym, subst}
-use Rattle.std.specs.Prelude.{IfSome}
+use Rattle.std.proofs.Common.{◌≡◌, ℕ, List, Option, Some, None, Result, Ok, Err, inl, refl, sym, ap, ◌∙◌, subst}
+use Rattle.std.proofs.lemmas.Bool.{false≢true}
+use Rattle.std.specs.Prelude.{IfSome, IsSome, IfErr, OnOk}
 use Rattle.std.proofs.KnownBytes.{Keeps-refl}
 use Rattle.cpg_cred.specs.Listed.{Listed}
 use Rattle.cpg_cred.specs.declared.refusals.Refusal.{Refusal}
@@ -12,6 +13,7 @@ use Rattle.cpg_ring.specs.States.{IsSettings}
 use Rattle.cpg_ring.specs.declared.settings.Settings.{Settings}
 use Rattle.cpg_cluster.specs.declared.commands.Numbered.{Numbered}
 use Rattle.cpg_world_laws.specs.Worlds.{WorldValue, new_world}
+use Rattle.cpg_history.specs.declared.histories.Beginning.{Beginning}
 use Rattle.cpg_daemon.specs.Clusters.{ClusterValue}
 use Rattle.cpg_cluster.specs.Answers.{no_sessions}
 use Rattle.cpg_cluster.specs.Lines.{Printed}
@@ -31,10 +33,21 @@ no_memory : (printed : Printed) (start : WorldValue) (commands : Result (List Nu
 no_memory printed start (Ok commands) a = (no_sessions, inl (Keeps-refl a, refl))
 no_memory printed start (Err bad) a = (no_sessions, (Keeps-refl a, refl))
 
--- where memory was refused
-pub none_of_memory : (known : Option (List ℕ)) (printed : Printed) (s : Settings) (list : Listed) (a : Option (List ℕ)) → IfSome known (λ lines. Clusters printed s (Some list) lines (Some (Fault (whole_fault refusal.Memory))) a a)
-none_of_memory None printed s list a = tt
-none_of_memory (Some lines) printed s list a = (refl, no_memory printed (new_world s list) (commands_of_script s.nodes lines) a)
+ended : (known : Option (List ℕ)) (printed : Printed) (s : Settings) (list : Listed) (a : Option (List ℕ)) → IfSome known (λ lines. Clusters printed s (Some list) lines (Some (Fault (whole_fault refusal.Memory))) a a)
+ended None printed s list a = tt
+ended (Some lines) printed s list a = (refl, no_memory printed (new_world s list) (commands_of_script s.nodes lines) a)
+
+-- where memory was refused before there was a cluster
+pub none_of_memory : (known : Option (List ℕ)) (printed : Printed) (s : Settings) (list : Listed) (refused : Refusal) (failure : Failure) (a : Option (List ℕ))
+    → failure ≡ Fault (record { part = None; refusal = refused }) → refused ≡ refusal.Memory → IfSome known (λ lines. Clusters printed s (Some list) lines (Some failure) a a)
+none_of_memory known printed s list refused failure a is e =
+    subst (λ (f : Failure). IfSome known (λ lines. Clusters printed s (Some list) lines (Some f) a a)) (sym (is ∙ ap (λ (r : Refusal). Fault (whole_fault r)) e)) (ended known printed s list a)
+
+-- the same of a list that words give
+pub none_of_words_memory : (known : Option (List ℕ)) (printed : Printed) (s : Settings) (words : Option Listed) (refused : Refusal) (failure : Failure) (a : Option (List ℕ))
+    → IsSome words → failure ≡ Fault (record { part = None; refusal = refused }) → refused ≡ refusal.Memory → IfSome known (λ lines. Clusters printed s words lines (Some failure) a a)
+none_of_words_memory known printed s None refused failure a some is e = absurd (false≢true some)
+none_of_words_memory known printed s (Some list) refused failure a some is e = none_of_memory known printed s list refused failure a is e
 
 -- and after settings out of their ranges
 pub none_of_settings : (known : Option (List ℕ)) (printed : Printed) (s : Settings) (list : Listed) (a : Option (List ℕ)) → ¬ IsSettings s → IfSome known (λ lines. Clusters printed s (Some list) lines (Some (Fault (whole_fault refusal.Range))) a a)
@@ -81,3 +94,17 @@ late_of _ a b h = absurd h
 
 pub part_late : (fault : script.Fault) (a b : Option (List ℕ)) → cluster.EndsRunning fault.refusal a b → FailsLate (Fault fault) a b
 part_late fault a b h = late_of fault.refusal a b h
+
+-- what holds after success, or of a failure
+pub when_ok : (r : Result (Unit {0}) Failure) (P Q : Type 0) → (P → Q) → OnOk r P → OnOk r Q
+when_ok (Ok done) P Q goes h = goes h
+when_ok (Err why) P Q goes h = tt
+
+pub when_err : (r : Result (Unit {0}) Failure) (P Q : Failure → Type 0) → ((why : Failure) → P why → Q why) → IfErr r P → IfErr r Q
+when_err (Ok done) P Q goes h = tt
+when_err (Err why) P Q goes h = goes why h
+
+-- a history that begins with the settings and the list
+pub of_beginning : (known : Option (List ℕ)) (printed : Printed) (begun : Beginning) (s : Settings) (list : Listed) (failure : Option Failure) (a b : Option (List ℕ)) → begun ≡ record { settings = s; list = list }
+    → IfSome known (λ lines. Clusters printed begun.settings (Some begun.list) lines failure a b) → IfSome known (λ lines. Clusters printed s (Some list) lines failure a b)
+of_beginning known printed begun s list failure a b is h = subst (λ (x : Beginning). IfSome known (λ lines. Clusters printed x.settings (Some x.list) lines failure a b)) is h

@@ -14,7 +14,7 @@ ghost use Rattle.cpg_world_laws.specs.Worlds.{new_world};
 use crate::failures::Failure;
 use crate::founding::new_base;
 use crate::speaking::Spoken;
-use crate::tracing::KeepsEnds;
+use crate::tracing::{KeepsEnds, stop_kept};
 use crate::words::read_list;
 use cpg_board::Board;
 use cpg_cluster::{Manner, cluster_script_as};
@@ -32,7 +32,7 @@ use std::time::Clock;
 /// the cluster. What that leaves is the keeper's.
 ///
 /// A wrong word comes first, then settings out of their ranges, then the faults of the script.
-#[tactic(auto, using(crate::proofs::Clustered::none_of_words, crate::proofs::Clustered::none_of_memory))]
+#[tactic(auto, using(crate::proofs::Clustered::none_of_words, crate::proofs::Clustered::none_of_words_memory))]
 pub fn run_cluster<H, R, W, K>(
     rt: H,
     alloc: Global,
@@ -102,7 +102,7 @@ where
 }
 
 /// Runs the script over a new cluster on that board, with that history.
-#[tactic(auto, using(crate::proofs::Clustered::clustered, crate::proofs::Clustered::left_clustered, crate::proofs::Clustered::none_of_memory))]
+#[tactic(auto, using(crate::proofs::Clustered::none_of_memory))]
 fn run_on<B, H, R, W, K>(
     rt: H,
     alloc: Global,
@@ -162,9 +162,7 @@ where
     ensures kept { WasKept K.keeps B.start keeper.old keeper.new }
 {
     let done = cluster_script_as(&rt, alloc, reader, writer, &cluster, manner);
-    cluster.stands();
-    let (ends, front) = cluster.stop_traced(&rt);
-    keeper.keep(alloc, ends, front);
+    stop_kept(&rt, alloc, cluster, keeper);
     match done {
         Ok(()) => Ok(()),
         Err(fault) => Err(Failure::from(fault)),

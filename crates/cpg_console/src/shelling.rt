@@ -20,7 +20,7 @@ use crate::pipes::Piped;
 use crate::runs::{Ended, failure_after, hand_on, tell};
 use crate::speaking::Spoken;
 use crate::telling::write_front;
-use crate::tracing::KeepsEnds;
+use crate::tracing::{KeepsEnds, stop_kept};
 use crate::words::{hint_wrong, read_list};
 use cpg_board::Board;
 use cpg_cluster::Manner;
@@ -261,9 +261,7 @@ where
     ensures kept { WasKept K.keeps B.start keeper.old keeper.new }
 {
     let done = shell_lines(&rt, alloc, reader, writer, errors, &cluster, manner);
-    cluster.stands();
-    let (ends, front) = cluster.stop_traced(&rt);
-    keeper.keep(alloc, ends, front);
+    stop_kept(&rt, alloc, cluster, keeper);
     match done {
         Ok(()) => Ok(()),
         Err(fault) => Err(Failure::from(fault)),

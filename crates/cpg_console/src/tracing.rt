@@ -5,17 +5,19 @@
 
 ghost use Rattle.std.specs.Prelude.{◌≡◌, ◌++◌, None, map, IfOk, OnOk, OnErr, IsOkUnless};
 ghost use Rattle.cpg_history.specs.Members.{HaveSeen};
-ghost use Rattle.cpg_console.specs.Tracing.{IsTraced, IsPartlyTraced, between, each_between, heading_text, option_word, step_words, words_text};
+ghost use Rattle.cpg_console.specs.Tracing.{IsTraced, IsPartlyTraced, WasKept, between, each_between, heading_text, option_word, step_words, words_text};
 
 use cpg_cluster::hand_on;
 use cpg_cred::Refusal;
-use cpg_daemon::{Ends, Front, HistoryName};
+use cpg_daemon::{Cluster, Ends, Front, Gate, HistoryName};
 use cpg_ring::Settings;
 use cpg_script::put;
 use cpg_text::push_number;
 use cpg_trace::{recorded_by, write_trace};
 use std::alloc::Global;
 use std::io::Write;
+use std::sync::Wait;
+use std::thread::Threads;
 
 /// What becomes of a stopped cluster.
 pub trait KeepsEnds {
@@ -34,6 +36,21 @@ pub trait KeepsEnds {
     fn keep<B: HistoryName>(&mut self, alloc: Global, ends: Ends<B>, front: Front<B>)
         requires { HaveSeen ends.stations.items front.seen }
         ensures { Self.keeps B.start front.seen ends.stations.items self.old self.new };
+}
+
+/// Stops a cluster, and hands what it leaves to the keeper.
+#[tactic(auto, using(crate::proofs::Traced::was_kept))]
+pub(crate) fn stop_kept<B, G, H, K>(rt: &H, alloc: Global, cluster: Cluster<B, G>, keeper: &mut K)
+where
+    B: HistoryName + Send + Sync + 'static,
+    G: Gate + Send + Sync + Drop + 'static,
+    H: Threads + Wait,
+    K: KeepsEnds,
+    ensures { WasKept K.keeps B.start keeper.old keeper.new }
+{
+    cluster.stands();
+    let (ends, front) = cluster.stop_traced(rt);
+    keeper.keep(alloc, ends, front);
 }
 
 /// Lets a stopped cluster go.
