@@ -1,0 +1,10 @@
+pub mod Coming
+pub mod OneByOne
+pub mod Growing
+pub mod Noted
+pub mod Kept
+pub mod Running
+pub mod Gone
+pub mod Renewed
+pub mod Seated
+pub mod AtOnce
