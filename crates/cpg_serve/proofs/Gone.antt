@@ -28,7 +28,7 @@ use Rattle.cpg_serve.proofs.Running.{is_other}
 
 -- ---- items of lists
 
-get_within : {X : Type 0} (ys : List X) (i : ℕ) (x : X) → slice_get ys i ≡ Some x → suc i ≤ length ys
+pub get_within : {X : Type 0} (ys : List X) (i : ℕ) (x : X) → slice_get ys i ≡ Some x → suc i ≤ length ys
 get_within [] i x e = absurd (none-some x e)
 get_within (y ∷ ys) zero x e = omega arith
 get_within (y ∷ ys) (suc i) x e = let more = get_within ys i x e in omega (arith, more)

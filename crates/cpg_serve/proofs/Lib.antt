@@ -8,3 +8,4 @@ pub mod Gone
 pub mod Renewed
 pub mod Seated
 pub mod AtOnce
+pub mod Doing

@@ -7,4 +7,5 @@ pub mod Serving
 pub mod Stories
 pub mod Laws
 pub mod Runs
+pub mod Deeds
 pub mod Renewing

@@ -1,14 +1,15 @@
 //! A client, as its node's daemon keeps it.
 
-ghost use Rattle.std.specs.Prelude.{◌≡◌, ◌≤◌, ◌++◌, ◌∷◌, [], None, length, drop, OnOk, OnErr, IsOkUnless};
+ghost use Rattle.std.specs.Prelude.{◌≡◌, ◌≤◌, ◌++◌, ◌∷◌, [], None, length, drop, IfOk, OnOk, OnErr, IsOkUnless};
 ghost use Rattle.cpg_ask.specs.Tells.{Answer, Greets, Denied};
 ghost use Rattle.cpg_serve.specs.Telling.{new_desk, told, wrote, spelled};
 
 use crate::events::{is_verdict, put_event};
+use bytes::Bytes;
 use cpg_ask::{AskCode, Denial, Greeting, Status, put_answer, put_denied, put_greeting};
 use cpg_cred::Refusal;
 use cpg_node::Event;
-use std::alloc::Global;
+use std::alloc::{AllocError, Global};
 use std::collections::VecDeque;
 use std::marker::Model;
 
@@ -65,6 +66,19 @@ impl Desk {
         ensures { self.new ≡ wrote self.old count }
     {
         drop_front(&mut self.out, count);
+    }
+
+    /// Takes so many of the bytes at most, to be written.
+    pub(crate) fn write(&mut self, alloc: Global, most: usize) -> Result<Bytes, AllocError>
+        ensures front { IfOk result (λ bytes. self.old.out ≡ bytes ++ drop (length bytes) self.old.out) }
+        ensures ok { IfOk result (λ bytes. self.new ≡ wrote self.old (length bytes)) }
+        ensures most { IfOk result (λ bytes. length bytes ≤ most) }
+        ensures err { OnErr result (self.new ≡ self.old) }
+    {
+        let count = self.out.len().min(most);
+        let bytes = Bytes::copy_from_slice(alloc, &self.out[..count])?;
+        self.wrote(count);
+        Ok(bytes)
     }
 
     /// Tells the client the answer to what it asked.

@@ -7,6 +7,7 @@
 
 mod answers;
 mod calls;
+mod deeds;
 mod desks;
 mod events;
 mod hearing;
@@ -14,6 +15,7 @@ mod laws;
 mod served;
 mod telling;
 
+pub use deeds::{Deed, Frames, Outcome};
 pub use desks::{Desk, Owed};
 pub use hearing::{Heard, Stop};
 pub use laws::{

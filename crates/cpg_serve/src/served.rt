@@ -9,7 +9,7 @@ ghost use Rattle.cpg_ring.specs.Answers.{IsAnswer};
 ghost use Rattle.cpg_wire.specs.Reading.{frame_of};
 ghost use Rattle.cpg_serve.specs.Telling.{new_desk};
 ghost use Rattle.cpg_serve.specs.Runs.{IsFramed};
-ghost use Rattle.cpg_serve.specs.Serving.{served_of, AreAsMany, with_node, arrived, parted, out_of, IsServedMade, IsHeard, IsCaughtUp, IsWritten, AreWritten};
+ghost use Rattle.cpg_serve.specs.Serving.{served_of, AreAsMany, with_node, arrived, parted, out_of, IsServedMade, IsAway, IsHeard, IsCaughtUp, IsWritten, AreWritten};
 
 use crate::desks::Desk;
 use crate::hearing::Heard;
@@ -88,7 +88,7 @@ impl Served {
     /// such client, or its connection ended. The caller keeps what was not heard, and calls `lost` where it is broken.
     pub fn hear(&mut self, conn: u16, bytes: &[u8]) -> Result<Heard, Refusal>
         ensures ok { IfOk result (λ heard. IsHeard conn self.old bytes.now heard.count heard.stop self.new) }
-        ensures err { IfErr result (λ why. (why ≡ Refusal.NoConnection) × (self.new ≡ self.old)) }
+        ensures err { IfErr result (λ why. (why ≡ Refusal.NoConnection) × IsAway self.old conn × (self.new ≡ self.old)) }
     {
         if self.node.connection(conn).is_none() {
             return Err(Refusal::NoConnection);
@@ -143,6 +143,11 @@ impl Served {
         }
     }
 
+    /// Where memory is asked for.
+    pub(crate) fn memory(&self) -> Global {
+        self.alloc
+    }
+
     /// So many bytes of a client's output were written to it.
     pub fn wrote(&mut self, conn: u16, count: usize)
         requires { count ≤ length (out_of (item self.old.desks conn)) }
@@ -151,10 +156,29 @@ impl Served {
         wrote_at(self.greeting, &self.node, &mut self.desks, conn, count);
     }
 
+    /// Takes so many bytes at most from a client's output, to be written to it. NoConnection where there never was
+    /// such a client.
+    pub fn write(&mut self, conn: u16, most: usize) -> Result<Bytes, Refusal>
+        ensures ok { IfOk result (λ bytes. IsWritten conn self.old bytes self.new) }
+        ensures most { IfOk result (λ bytes. length bytes ≤ most) }
+        ensures err { OnErr result (self.new ≡ self.old) }
+        ensures why { IfErr result (λ why. (why ≡ Refusal.Memory) ⊎ (why ≡ Refusal.NoConnection)) }
+    {
+        write_at(
+            self.alloc,
+            self.greeting,
+            &self.node,
+            &mut self.desks,
+            conn,
+            most,
+        )
+    }
+
     /// Tells a client all that its node has for it. On an `Err` what is left is told by a later call, and nothing is
     /// lost or told twice.
     pub fn tell(&mut self, conn: u16) -> Result<(), Refusal>
         ensures did { IsCaughtUp conn self.old (item self.old.desks conn) result self.new }
+        ensures memory { IsOkUnless result Refusal.Memory }
     {
         tell_at(self.greeting, &mut self.node, &mut self.desks, conn)
     }
@@ -170,7 +194,7 @@ fn hear_at(
 ) -> Result<Heard, Refusal>
     requires { is_some (open_client node.old conn) ≡ true }
     ensures ok { IfOk result (λ heard. IsHeard conn (served_of greeting node.old desks.old.items) bytes.now heard.count heard.stop (served_of greeting node.new desks.new.items)) }
-    ensures err { IfErr result (λ why. (why ≡ Refusal.NoConnection) × (node.new ≡ node.old) × (desks.new.items ≡ desks.old.items)) }
+    ensures err { IfErr result (λ why. (why ≡ Refusal.NoConnection) × (item desks.old.items conn ≡ None) × (node.new ≡ node.old) × (desks.new.items ≡ desks.old.items)) }
     ensures count { AreAsMany (served_of greeting node.old desks.old.items) (served_of greeting node.new desks.new.items) }
 {
     if conn == 0 {
@@ -209,6 +233,30 @@ fn wrote_at(greeting: Greeting, node: &Node, desks: &mut Vec<Desk>, conn: u16, c
     }
 }
 
+/// Takes so many bytes at most from the output of the client of that connection.
+fn write_at(
+    alloc: Global,
+    greeting: Greeting,
+    node: &Node,
+    desks: &mut Vec<Desk>,
+    conn: u16,
+    most: usize,
+) -> Result<Bytes, Refusal>
+    ensures ok { IfOk result (λ bytes. IsWritten conn (served_of greeting node.now desks.old.items) bytes (served_of greeting node.now desks.new.items)) }
+    ensures most { IfOk result (λ bytes. length bytes ≤ most) }
+    ensures err { OnErr result (desks.new.items ≡ desks.old.items) }
+    ensures why { IfErr result (λ why. (why ≡ Refusal.Memory) ⊎ (why ≡ Refusal.NoConnection)) }
+    ensures count { length desks.new.items ≡ length desks.old.items }
+{
+    if conn == 0 {
+        return Err(Refusal::NoConnection);
+    }
+    match desks.get_mut(conn as usize - 1) {
+        None => Err(Refusal::NoConnection),
+        Some(desk) => Ok(desk.write(alloc, most)?),
+    }
+}
+
 /// Tells the client of that connection all that the node has for it.
 fn tell_at(
     greeting: Greeting,
@@ -217,6 +265,7 @@ fn tell_at(
     conn: u16,
 ) -> Result<(), Refusal>
     ensures did { IsCaughtUp conn (served_of greeting node.old desks.old.items) (item desks.old.items conn) result (served_of greeting node.new desks.new.items) }
+    ensures memory { IsOkUnless result Refusal.Memory }
     ensures count { AreAsMany (served_of greeting node.old desks.old.items) (served_of greeting node.new desks.new.items) }
 {
     if conn == 0 {
