@@ -74,6 +74,9 @@ u16_reads = little_reads 2 65535 (omega arith)
 pub u32_reads : ReadsBack ℕ (little_at 4) (little_bytes 4) IsU32
 u32_reads = little_reads 4 4294967295 (omega arith)
 
+pub u64_reads : ReadsBack ℕ (little_at 8) (little_bytes 8) (λ n. n ≤ 18446744073709551615)
+u64_reads = little_reads 8 18446744073709551615 (omega arith)
+
 -- what follows does not change a number that stands in front
 pub little_more : (n : ℕ) (bytes more : List ℕ) (x : Found) → little_at n bytes ≡ Some x → little_at n (bytes ++ more) ≡ Some (x.0, x.1 ++ more)
 little_more n bytes more x e =

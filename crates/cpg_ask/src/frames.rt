@@ -9,7 +9,7 @@ use cpg_cred::Refusal;
 use std::alloc::{AllocError, Global};
 
 /// How many bytes fill up so many to a multiple of eight.
-fn gap(count: usize) -> usize
+pub fn gap(count: usize) -> usize
     ensures count { result ≡ gap count }
     ensures few { result < 8 }
 {

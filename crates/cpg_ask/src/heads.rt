@@ -14,8 +14,9 @@ pub struct Head {
 }
 
 impl Head {
+    /// The head that comes next, none where fewer than eight bytes do.
     #[tactic(auto, unfolding(crate::specs::Heads::head_at))]
-    pub(crate) fn read(input: &mut Input<'_>) -> Option<Head>
+    pub fn read(input: &mut Input<'_>) -> Option<Head>
         ensures { Reads result input.new (head_at input.old) }
     {
         let count = input.u32()?;

@@ -12,7 +12,7 @@ use std::marker::Model;
 
 /// The bytes that are still to be read. Contracts see it as their list.
 #[derive(Drop)]
-pub(crate) struct Input<'a> {
+pub struct Input<'a> {
     rest: &'a [u8],
 }
 
@@ -25,26 +25,29 @@ impl<'a> Model for Input<'a> {
 }
 
 impl<'a> Input<'a> {
-    pub(crate) fn of(bytes: &'a [u8]) -> Input<'a>
+    /// A cursor at the front of those bytes.
+    pub fn of(bytes: &'a [u8]) -> Input<'a>
         ensures { result ≡ bytes.now }
     {
         Input { rest: bytes }
     }
 
-    pub(crate) fn rest(&self) -> &'a [u8]
+    /// The bytes that are still to be read.
+    pub fn rest(&self) -> &'a [u8]
         ensures { result.now ≡ self.now }
     {
         self.rest
     }
 
-    pub(crate) fn is_at_end(&self) -> bool
+    /// Whether none are left.
+    pub fn is_at_end(&self) -> bool
         ensures { result ≡ (length self.now == 0) }
     {
         self.rest.is_empty()
     }
 
     /// The next two bytes as a number.
-    pub(crate) fn u16(&mut self) -> Option<u16>
+    pub fn u16(&mut self) -> Option<u16>
         ensures { Reads result self.new (little_at 2 self.old) }
     {
         if self.rest.len() < 2 {
@@ -56,7 +59,7 @@ impl<'a> Input<'a> {
     }
 
     /// The next four bytes as a number.
-    pub(crate) fn u32(&mut self) -> Option<u32>
+    pub fn u32(&mut self) -> Option<u32>
         ensures { Reads result self.new (little_at 4 self.old) }
     {
         if self.rest.len() < 4 {
@@ -67,9 +70,21 @@ impl<'a> Input<'a> {
         Some(number)
     }
 
+    /// The next eight bytes as a number.
+    pub fn u64(&mut self) -> Option<u64>
+        ensures { Reads result self.new (little_at 8 self.old) }
+    {
+        if self.rest.len() < 8 {
+            return None;
+        }
+        let number = LittleEndian::read_u64(self.rest);
+        self.rest = &self.rest[8..];
+        Some(number)
+    }
+
     /// The next `count` bytes.
     #[tactic(auto, unfolding(crate::specs::Numbers::text_at))]
-    pub(crate) fn text(&mut self, count: usize) -> Option<&'a [u8]>
+    pub fn text(&mut self, count: usize) -> Option<&'a [u8]>
         ensures { Reads (option_map (λ text. text.now) result) self.new (text_at count self.old) }
     {
         let (text, rest) = self.rest.split_at_checked(count)?;

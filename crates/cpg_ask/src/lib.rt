@@ -23,8 +23,10 @@ mod tells;
 
 pub use asks::{AskView, Front, MOST_ASK, WantView, read};
 pub use codes::AskCode;
+pub use frames::gap;
 pub use greetings::{Greeting, put_greeting};
 pub use heads::Head;
+pub use input::Input;
 pub use laws::{names_come_back, reads_what_is_spelled, stays_broken, streams_are_cut_in_one_way};
 pub use listings::{put_group, put_listed, put_named};
 pub use naming::{code_name, plain_name};
