@@ -56,7 +56,7 @@ events_front rs more conn p low high =
     ap (λ o. events_by p (take (p - 1) (rs ++ more)) conn o) (record_at_front rs more p high)
     ∙ ap (λ before. events_by p before conn (record_at rs p)) (take-append-le (p - 1) rs more (omega arith))
 
-inbox_push : (rs : List Record) (r : Record) (conn : ConnId) → inbox (rs ++ r ∷ []) conn ≡ inbox rs conn ++ events (rs ++ r ∷ []) (suc (length rs)) conn
+pub inbox_push : (rs : List Record) (r : Record) (conn : ConnId) → inbox (rs ++ r ∷ []) conn ≡ inbox rs conn ++ events (rs ++ r ∷ []) (suc (length rs)) conn
 inbox_push rs r conn =
     let told : ℕ → List Event = λ p. events (rs ++ r ∷ []) p conn in
     let place : 1 + length rs ≡ suc (length rs) = omega arith in

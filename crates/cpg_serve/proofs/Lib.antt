@@ -9,3 +9,4 @@ pub mod Renewed
 pub mod Seated
 pub mod AtOnce
 pub mod Doing
+pub mod JudgedOnce

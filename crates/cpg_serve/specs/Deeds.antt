@@ -1,13 +1,14 @@
 -- What is done, what came of it, and which step of a run that is.
-use Rattle.std.specs.Prelude.{◌≡◌, ◌⊎◌, suc, List, [], ◌∷◌, length, Some}
+use Rattle.std.specs.Prelude.{◌≡◌, ◌⊎◌, take, suc, List, [], ◌∷◌, length, Some}
 use Rattle.cpg_cred.specs.declared.refusals.Refusal.TheVariants as refusal
+use Rattle.cpg_ring.specs.Worlds.{item}
 use Rattle.cpg_node.specs.Nodes.{open_client}
 use Rattle.cpg_node.specs.Calls.{connect_refusal, closed_refusal, place_to_deliver}
 use Rattle.cpg_serve.specs.declared.deeds.Deed.{Deed}
 use Rattle.cpg_serve.specs.declared.deeds.Deed.TheVariants as deeds
 use Rattle.cpg_serve.specs.declared.deeds.Outcome.{Outcome}
 use Rattle.cpg_serve.specs.declared.deeds.Outcome.TheVariants as outcomes
-use Rattle.cpg_serve.specs.Serving.{ServedValue, IsAway}
+use Rattle.cpg_serve.specs.Serving.{ServedValue, IsAway, out_of}
 use Rattle.cpg_serve.specs.Runs.{Did, Arrives, Hears, Frames, Delivers, Tells, Writes, Loses, Nothing}
 
 -- the step that a deed with that outcome is
@@ -40,7 +41,7 @@ IsOutcome x deeds.Deliver (outcomes.Delivered place) = place ≡ place_to_delive
 IsOutcome x deeds.Deliver (outcomes.Refused why) = why ≡ refusal.Memory
 IsOutcome x (deeds.Tell conn) outcomes.Told = Unit {0}
 IsOutcome x (deeds.Tell conn) (outcomes.Refused why) = why ≡ refusal.Memory
-IsOutcome x (deeds.Write conn most) (outcomes.Wrote bytes) = Unit {0}
+IsOutcome x (deeds.Write conn most) (outcomes.Wrote bytes) = bytes ≡ take most (out_of (item x.desks conn))
 IsOutcome x (deeds.Write conn most) (outcomes.Refused why) = (why ≡ refusal.Memory) ⊎ (why ≡ refusal.NoConnection)
 IsOutcome x (deeds.Lose conn) outcomes.Lost = Unit {0}
 IsOutcome x (deeds.Lose conn) (outcomes.Refused why) = (why ≡ refusal.Memory) ⊎ (closed_refusal (open_client x.node conn) ≡ Some why)

@@ -9,3 +9,4 @@ pub mod Laws
 pub mod Runs
 pub mod Deeds
 pub mod Renewing
+pub mod Verdicts

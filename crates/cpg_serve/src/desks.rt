@@ -1,6 +1,6 @@
 //! A client, as its node's daemon keeps it.
 
-ghost use Rattle.std.specs.Prelude.{◌≡◌, ◌≤◌, ◌++◌, ◌∷◌, [], None, length, drop, IfOk, OnOk, OnErr, IsOkUnless};
+ghost use Rattle.std.specs.Prelude.{◌≡◌, ◌≤◌, ◌++◌, ◌∷◌, [], None, length, take, drop, List, ℕ, IfOk, OnOk, OnErr, IsOkUnless};
 ghost use Rattle.cpg_ask.specs.Tells.{Answer, Greets, Denied};
 ghost use Rattle.cpg_serve.specs.Telling.{new_desk, told, wrote, spelled};
 
@@ -72,10 +72,10 @@ impl Desk {
     pub(crate) fn write(&mut self, alloc: Global, most: usize) -> Result<Bytes, AllocError>
         ensures front { IfOk result (λ bytes. self.old.out ≡ bytes ++ drop (length bytes) self.old.out) }
         ensures ok { IfOk result (λ bytes. self.new ≡ wrote self.old (length bytes)) }
-        ensures most { IfOk result (λ bytes. length bytes ≤ most) }
+        ensures all { IfOk result (λ bytes. bytes ≡ take most self.old.out) }
         ensures err { OnErr result (self.new ≡ self.old) }
     {
-        let count = self.out.len().min(most);
+        let count = at_most(self.out.len(), most);
         let bytes = Bytes::copy_from_slice(alloc, &self.out[..count])?;
         self.wrote(count);
         Ok(bytes)
@@ -125,6 +125,14 @@ impl Desk {
         self.next = None;
         Ok(())
     }
+}
+
+/// The count, or the most where that is less.
+fn at_most(count: usize, most: usize) -> usize
+    ensures count { result ≤ count }
+    ensures most { (bytes : List ℕ) → length bytes ≡ count → take result bytes ≡ take most bytes }
+{
+    if most < count { most } else { count }
 }
 
 /// The bytes without the first ones.

@@ -1,6 +1,7 @@
 //! What follows from the calls' contracts. The functions have nothing to do: their contracts are the laws.
 
 ghost use Rattle.cpg_serve.specs.Laws.{HearsAsItsOwn, DeliveryTells, StoryOfHearing, StoryOfTelling, StoryOfDelivery};
+ghost use Rattle.cpg_serve.specs.Verdicts.{VerdictsAreItsOwn};
 ghost use Rattle.cpg_serve.specs.Renewing.{RenewalKeepsAll, SeatsAreThere};
 ghost use Rattle.cpg_serve.specs.Runs.{AllThatIsTold, StoriesBegin, LostIsGone, NothingAfterTheEnd};
 
@@ -40,4 +41,9 @@ pub fn nothing_after_the_end()
 pub fn renewal_keeps_all()
     ensures keeps { RenewalKeepsAll }
     ensures seats { SeatsAreThere }
+{}
+
+/// The verdicts in a client's inbox are those on its own entries, each once, in the order of their places.
+pub fn verdicts_are_its_own()
+    ensures { VerdictsAreItsOwn }
 {}

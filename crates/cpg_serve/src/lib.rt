@@ -20,6 +20,6 @@ pub use desks::{Desk, Owed};
 pub use hearing::{Heard, Stop};
 pub use laws::{
     all_that_is_told, delivery_tells, hears_as_its_own, nothing_after_the_end, renewal_keeps_all,
-    stories_go_on,
+    stories_go_on, verdicts_are_its_own,
 };
 pub use served::Served;

@@ -1,6 +1,6 @@
 //! One node with its clients.
 
-ghost use Rattle.std.specs.Prelude.{◌≡◌, ◌⊎◌, ◌≤◌, suc, length, Some, None, IfOk, IfErr, OnOk, OnErr, IsOkUnless, is_some, true};
+ghost use Rattle.std.specs.Prelude.{◌≡◌, ◌⊎◌, ◌≤◌, suc, length, take, Some, None, IfOk, IfErr, OnOk, OnErr, IsOkUnless, is_some, true};
 ghost use Rattle.cpg_ring.specs.Worlds.{item, with_item};
 ghost use Rattle.cpg_node.specs.Nodes.{open_client};
 ghost use Rattle.cpg_node.specs.Calls.{connect_refusal, place_to_deliver, node_after_delivery, disconnected, closed_refusal};
@@ -160,7 +160,7 @@ impl Served {
     /// such a client.
     pub fn write(&mut self, conn: u16, most: usize) -> Result<Bytes, Refusal>
         ensures ok { IfOk result (λ bytes. IsWritten conn self.old bytes self.new) }
-        ensures most { IfOk result (λ bytes. length bytes ≤ most) }
+        ensures all { IfOk result (λ bytes. bytes ≡ take most (out_of (item self.old.desks conn))) }
         ensures err { OnErr result (self.new ≡ self.old) }
         ensures why { IfErr result (λ why. (why ≡ Refusal.Memory) ⊎ (why ≡ Refusal.NoConnection)) }
     {
@@ -243,7 +243,7 @@ fn write_at(
     most: usize,
 ) -> Result<Bytes, Refusal>
     ensures ok { IfOk result (λ bytes. IsWritten conn (served_of greeting node.now desks.old.items) bytes (served_of greeting node.now desks.new.items)) }
-    ensures most { IfOk result (λ bytes. length bytes ≤ most) }
+    ensures all { IfOk result (λ bytes. bytes ≡ take most (out_of (item desks.old.items conn))) }
     ensures err { OnErr result (desks.new.items ≡ desks.old.items) }
     ensures why { IfErr result (λ why. (why ≡ Refusal.Memory) ⊎ (why ≡ Refusal.NoConnection)) }
     ensures count { length desks.new.items ≡ length desks.old.items }
