@@ -5,4 +5,4 @@
 
 mod laws;
 
-pub use laws::verdicts_in_order;
+pub use laws::{verdicts_answer_their_calls, verdicts_in_order};
