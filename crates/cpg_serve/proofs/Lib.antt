@@ -10,3 +10,4 @@ pub mod Seated
 pub mod AtOnce
 pub mod Doing
 pub mod JudgedOnce
+pub mod Newcomers

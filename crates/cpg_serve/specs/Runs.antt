@@ -1,5 +1,5 @@
 -- Runs of calls, and the story of a client over one.
-use Rattle.std.specs.Prelude.{◌≡◌, ◌≢◌, ◌≤◌, ◌==◌, ℕ, suc, List, [], ◌∷◌, ◌++◌, length, take, if◌then◌else◌, Some, None, Result}
+use Rattle.std.specs.Prelude.{◌≡◌, ◌≢◌, ◌≤◌, ◌+◌, ◌==◌, ℕ, suc, List, [], ◌∷◌, ◌++◌, length, take, if◌then◌else◌, Some, None, Result}
 use Rattle.std.specs.List.{flat_map, AllByRecursion}
 use Rattle.cpg_cred.specs.declared.credentials.Cred.{Cred}
 use Rattle.cpg_cred.specs.declared.refusals.Refusal.{Refusal}
@@ -93,3 +93,25 @@ NothingAfterTheEndOver x dids y = (conn : ℕ) → IsGone conn x → IsGone conn
 
 abbrev pub NothingAfterTheEnd : Type 0
 NothingAfterTheEnd = (x y : ServedValue) (dids : List Did) → Run x dids y → NothingAfterTheEndOver x dids y
+
+-- how many clients came
+abbrev pub arrives : Did → ℕ
+arrives (Arrives pid cred) = 1
+arrives _ = 0
+
+abbrev pub arrivals : List Did → ℕ
+arrivals [] = 0
+arrivals (did ∷ dids) = arrives did + arrivals dids
+
+-- the number of the client that comes next after these
+abbrev pub newcomer : ServedValue → List Did → ℕ
+newcomer x before = suc (length x.desks + arrivals before)
+
+-- The same of a client that comes in the run: from its coming on, what was heard of it are asks, and that is its story.
+abbrev pub AllThatNewcomersAreToldOver : ServedValue → List Did → ServedValue → Type 0
+AllThatNewcomersAreToldOver x dids y = length x.desks ≡ length x.node.clients → (before after : List Did) (pid : ℕ) (cred : Cred) → dids ≡ before ++ Arrives pid cred ∷ after
+    → AllByRecursion (IsKeptBy (newcomer x before)) after
+    → (more : List Ask) × (flat_map (heard_by (newcomer x before)) after ≡ flat_map spelling more) × StoryAt (newcomer x before) more (flat_map (written_by (newcomer x before)) after) y
+
+abbrev pub AllThatNewcomersAreTold : Type 0
+AllThatNewcomersAreTold = (x y : ServedValue) (dids : List Did) → Run x dids y → AllThatNewcomersAreToldOver x dids y

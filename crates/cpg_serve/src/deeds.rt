@@ -2,7 +2,7 @@
 
 ghost use Rattle.std.specs.Prelude.{◌≤◌, length};
 ghost use Rattle.cpg_serve.specs.Deeds.{did_of, dids_of, IsOutcome};
-ghost use Rattle.cpg_serve.specs.Runs.{Goes, Run, AllThatIsToldOver, NothingAfterTheEndOver};
+ghost use Rattle.cpg_serve.specs.Runs.{Goes, Run, AllThatIsToldOver, AllThatNewcomersAreToldOver, NothingAfterTheEndOver};
 
 use crate::hearing::Heard;
 use crate::served::Served;
@@ -102,6 +102,8 @@ impl Served {
         ensures run { Run self.old (dids_of deeds.now result.items) self.new }
         // What a client was told over the run, for as long as it is there.
         ensures told { AllThatIsToldOver self.old (dids_of deeds.now result.items) self.new }
+        // And of a client that comes in the run.
+        ensures newcomers { AllThatNewcomersAreToldOver self.old (dids_of deeds.now result.items) self.new }
         // A client that is gone is told nothing.
         ensures after { NothingAfterTheEndOver self.old (dids_of deeds.now result.items) self.new }
     {
