@@ -1,0 +1,11 @@
+pub mod Numbers
+pub mod Heads
+pub mod Asks
+pub mod Codes
+pub mod Rules
+pub mod Reading
+pub mod Spelling
+pub mod Streams
+pub mod Statuses
+pub mod Tells
+pub mod Naming

@@ -1,0 +1,190 @@
+//! What the daemon tells a client, as bytes.
+
+ghost use Rattle.std.specs.Prelude.{◌≡◌, ◌++◌, map, OnOk, OnErr, IsOkUnless};
+ghost use Rattle.std.specs.List.{flat_map};
+ghost use Rattle.cpg_ask.specs.Tells.{Answer, Denied, Message, Change, answer_kind, still, moved, cause_code, member_bytes, move_bytes, counts_bytes, all_bytes, tell_content, tell_bytes};
+
+use crate::codes::AskCode;
+use crate::frames::{put_filled, put_framed};
+use crate::output::{put_length, put_number};
+use crate::statuses::{Denial, Status};
+use bytes::BufMut;
+use cpg_cred::Refusal;
+use cpg_entry::NodeId;
+use cpg_record::{Cause, Member, Move};
+use std::alloc::{AllocError, Global};
+
+/// Puts an answer last that is a status alone, or leaves all as it was.
+pub fn put_answer(
+    alloc: Global,
+    out: &mut Vec<u8>,
+    code: AskCode,
+    tag: u16,
+    status: Status,
+) -> Result<(), Refusal>
+    ensures ok { OnOk result (out.new.items ≡ out.old.items ++ tell_bytes (Answer code tag status)) }
+    ensures err { OnErr result (out.new.items ≡ out.old.items) }
+    ensures memory { IsOkUnless result Refusal.Memory }
+{
+    let mut text = Vec::new(alloc);
+    put_number(&mut text, u32::from(status.number()))?;
+    put_framed(alloc, out, 256 + code.number(), tag, text.as_slice())
+}
+
+/// Puts last that a message was denied, or leaves all as it was.
+pub fn put_denied(
+    alloc: Global,
+    out: &mut Vec<u8>,
+    status: Status,
+    denial: Denial,
+) -> Result<(), Refusal>
+    ensures ok { OnOk result (out.new.items ≡ out.old.items ++ tell_bytes (Denied status denial)) }
+    ensures err { OnErr result (out.new.items ≡ out.old.items) }
+    ensures memory { IsOkUnless result Refusal.Memory }
+{
+    let mut text = Vec::new(alloc);
+    put_number(&mut text, u32::from(status.number()))?;
+    put_number(&mut text, denial.verdict)?;
+    put_number(&mut text, denial.rule)?;
+    put_framed(alloc, out, 515, 0, text.as_slice())
+}
+
+/// Puts a message of the client's group last, or leaves all as it was.
+pub fn put_message(
+    alloc: Global,
+    out: &mut Vec<u8>,
+    node: NodeId,
+    pid: u32,
+    group: &[u8],
+    message: &[u8],
+) -> Result<(), Refusal>
+    ensures ok { OnOk result (out.new.items ≡ out.old.items ++ tell_bytes (Message node pid group.now message.now)) }
+    ensures err { OnErr result (out.new.items ≡ out.old.items) }
+    ensures memory { IsOkUnless result Refusal.Memory }
+{
+    let mut text = Vec::new(alloc);
+    put_message_content(&mut text, node, pid, group, message)?;
+    put_framed(alloc, out, 513, 0, text.as_slice())
+}
+
+/// Puts a change of the client's group last, or leaves all as it was.
+pub fn put_change(
+    alloc: Global,
+    out: &mut Vec<u8>,
+    group: &[u8],
+    members: &[Member],
+    left: &[Move],
+    joined: &[Move],
+) -> Result<(), Refusal>
+    ensures ok { OnOk result (out.new.items ≡ out.old.items ++ tell_bytes (Change group.now (map still members.now) (map moved left.now) (map moved joined.now))) }
+    ensures err { OnErr result (out.new.items ≡ out.old.items) }
+    ensures memory { IsOkUnless result Refusal.Memory }
+{
+    let mut text = Vec::new(alloc);
+    put_change_content(&mut text, group, members, left, joined)?;
+    put_framed(alloc, out, 514, 0, text.as_slice())
+}
+
+fn put_message_content(
+    out: &mut Vec<u8>,
+    node: NodeId,
+    pid: u32,
+    group: &[u8],
+    message: &[u8],
+) -> Result<(), AllocError>
+    ensures { OnOk result (out.new.items ≡ out.old.items ++ tell_content (Message node pid group.now message.now)) }
+{
+    put_number(out, u32::from(node.get()))?;
+    put_number(out, pid)?;
+    put_length(out, message.len())?;
+    put_length(out, group.len())?;
+    put_filled(out, message)?;
+    out.put_slice(group)
+}
+
+fn put_change_content(
+    out: &mut Vec<u8>,
+    group: &[u8],
+    members: &[Member],
+    left: &[Move],
+    joined: &[Move],
+) -> Result<(), AllocError>
+    ensures { OnOk result (out.new.items ≡ out.old.items ++ tell_content (Change group.now (map still members.now) (map moved left.now) (map moved joined.now))) }
+{
+    put_counts(out, group, members, left, joined)?;
+    put_processes(out, members, left, joined)?;
+    out.put_slice(group)
+}
+
+fn put_processes(
+    out: &mut Vec<u8>,
+    members: &[Member],
+    left: &[Move],
+    joined: &[Move],
+) -> Result<(), AllocError>
+    ensures { OnOk result (out.new.items ≡ out.old.items ++ all_bytes (map still members.now) (map moved left.now) (map moved joined.now)) }
+{
+    put_members(out, members)?;
+    put_moves(out, left)?;
+    put_moves(out, joined)
+}
+
+#[tactic(auto, using(crate::proofs::Mapped::length_mapped))]
+fn put_counts(
+    out: &mut Vec<u8>,
+    group: &[u8],
+    members: &[Member],
+    left: &[Move],
+    joined: &[Move],
+) -> Result<(), AllocError>
+    ensures { OnOk result (out.new.items ≡ out.old.items ++ counts_bytes group.now (map still members.now) (map moved left.now) (map moved joined.now)) }
+{
+    put_length(out, group.len())?;
+    put_length(out, members.len())?;
+    put_length(out, left.len())?;
+    put_length(out, joined.len())
+}
+
+fn cause_number(cause: Cause) -> u32
+    ensures { result ≡ cause_code cause }
+{
+    match cause {
+        Cause::Join => 1,
+        Cause::Leave => 2,
+        Cause::Down => 5,
+    }
+}
+
+fn put_member(out: &mut Vec<u8>, member: &Member) -> Result<(), AllocError>
+    ensures { OnOk result (out.new.items ≡ out.old.items ++ member_bytes member.now) }
+{
+    put_number(out, u32::from(member.node.get()))?;
+    put_number(out, member.pid)?;
+    put_number(out, 0)
+}
+
+fn put_move(out: &mut Vec<u8>, each: &Move) -> Result<(), AllocError>
+    ensures { OnOk result (out.new.items ≡ out.old.items ++ move_bytes each.now) }
+{
+    put_number(out, u32::from(each.member.node.get()))?;
+    put_number(out, each.member.pid)?;
+    put_number(out, cause_number(each.cause))
+}
+
+fn put_members(out: &mut Vec<u8>, members: &[Member]) -> Result<(), AllocError>
+    ensures { OnOk result (out.new.items ≡ out.old.items ++ flat_map member_bytes members.now) }
+{
+    for member in members {
+        put_member(out, member)?;
+    }
+    Ok(())
+}
+
+fn put_moves(out: &mut Vec<u8>, moves: &[Move]) -> Result<(), AllocError>
+    ensures { OnOk result (out.new.items ≡ out.old.items ++ flat_map move_bytes moves.now) }
+{
+    for each in moves {
+        put_move(out, each)?;
+    }
+    Ok(())
+}

@@ -1,0 +1,13 @@
+pub mod Coming
+pub mod OneByOne
+pub mod Growing
+pub mod Noted
+pub mod Kept
+pub mod Running
+pub mod Gone
+pub mod Renewed
+pub mod Seated
+pub mod AtOnce
+pub mod Doing
+pub mod JudgedOnce
+pub mod Newcomers

@@ -1,0 +1,12 @@
+pub mod Telling
+pub mod Answering
+pub mod Asking
+pub mod Coming
+pub mod Hearing
+pub mod Serving
+pub mod Stories
+pub mod Laws
+pub mod Runs
+pub mod Deeds
+pub mod Renewing
+pub mod Verdicts

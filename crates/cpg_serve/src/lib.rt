@@ -1,0 +1,25 @@
+//! One node with its clients: a client's bytes become calls of the node by that client's own connection alone, and
+//! what the node answers and tells becomes bytes for the client.
+//!
+//! Asks and tells are those of `cpg_ask`, calls and events those of `cpg_node`. Desk n is the client of the node's
+//! connection n. Nothing here reads, writes or waits. Proved: see each call of `Served`.
+#![tactic(auto)]
+
+mod answers;
+mod calls;
+mod deeds;
+mod desks;
+mod events;
+mod hearing;
+mod laws;
+mod served;
+mod telling;
+
+pub use deeds::{Deed, Frames, Outcome};
+pub use desks::{Desk, Owed};
+pub use hearing::{Heard, Stop};
+pub use laws::{
+    all_that_is_told, delivery_tells, hears_as_its_own, nothing_after_the_end, renewal_keeps_all,
+    stories_go_on, verdicts_are_its_own,
+};
+pub use served::Served;

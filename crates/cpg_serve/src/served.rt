@@ -1,0 +1,278 @@
+//! One node with its clients.
+
+ghost use Rattle.std.specs.Prelude.{◌≡◌, ◌⊎◌, ◌≤◌, suc, length, take, Some, None, IfOk, IfErr, OnOk, OnErr, IsOkUnless, is_some, true};
+ghost use Rattle.cpg_ring.specs.Worlds.{item, with_item};
+ghost use Rattle.cpg_node.specs.Nodes.{open_client};
+ghost use Rattle.cpg_node.specs.Calls.{connect_refusal, place_to_deliver, node_after_delivery, disconnected, closed_refusal};
+ghost use Rattle.cpg_node.specs.Answers.{IsFrameAnswer};
+ghost use Rattle.cpg_ring.specs.Answers.{IsAnswer};
+ghost use Rattle.cpg_wire.specs.Reading.{frame_of};
+ghost use Rattle.cpg_serve.specs.Telling.{new_desk};
+ghost use Rattle.cpg_serve.specs.Runs.{IsFramed};
+ghost use Rattle.cpg_serve.specs.Serving.{served_of, AreAsMany, with_node, arrived, parted, out_of, IsServedMade, IsAway, IsHeard, IsCaughtUp, IsWritten, AreWritten};
+
+use crate::desks::Desk;
+use crate::hearing::Heard;
+use bytes::Bytes;
+use cpg_ask::Greeting;
+use cpg_cred::{AcceptList, Cred, NodeId, Refusal, Refused};
+use cpg_node::{Node, Settings};
+use std::alloc::Global;
+use std::marker::Model;
+
+/// One node with its clients. Contracts see it as the node, how its clients are greeted, and the desks of its
+/// connections: desk n is item n.
+#[derive(Drop)]
+pub struct Served {
+    alloc: Global,
+    greeting: Greeting,
+    node: Node,
+    desks: Vec<Desk>,
+}
+
+impl Model for Served {
+    ghost use Rattle.std.specs.Prelude.{◌≡◌, length};
+    ghost use Rattle.cpg_ring.specs.Kept.{held_code};
+    ghost use Rattle.std.specs.Coded.{codes};
+    ghost use Rattle.cpg_serve.specs.Serving.{ServedValue};
+
+    ghost Value = { ServedValue };
+
+    ghost coded = { Prim.hlevel (codes, held_code) };
+
+    ghost view = { λ served. record { greeting = served.greeting; node = served.node; desks = served.desks.items } };
+
+    ghost invariant = { λ served. length served.desks.items ≡ length served.node.clients };
+}
+
+impl Served {
+    /// A new node of a ring without clients. Range where the settings allow no such node; what is refused comes back.
+    pub fn new(
+        alloc: Global,
+        settings: Settings,
+        id: NodeId,
+        list: AcceptList,
+    ) -> Result<Served, Refused<AcceptList>>
+        ensures { IsServedMade settings id list result }
+    {
+        match Node::new(alloc, settings, id, list) {
+            Err(refused) => Err(refused),
+            Ok(node) => Ok(Served {
+                alloc,
+                greeting: Greeting {
+                    node: id,
+                    nodes: settings.nodes,
+                    ring: settings.ring,
+                },
+                node,
+                desks: Vec::new(alloc),
+            }),
+        }
+    }
+
+    /// Takes a client in, by a connection of its own, and gives its number: Access where nothing lets its user in,
+    /// ConnectionsFull after 65,535 of them.
+    pub fn arrive(&mut self, pid: u32, cred: Cred) -> Result<u16, Refusal>
+        ensures ok { IfOk result (λ conn. (conn ≡ suc (length self.old.desks)) × (connect_refusal self.old.node cred ≡ None) × (self.new ≡ arrived self.old pid cred)) }
+        ensures why { IfErr result (λ why. (why ≡ Refusal.Memory) ⊎ (connect_refusal self.old.node cred ≡ Some why)) }
+        ensures err { OnErr result (self.new ≡ self.old) }
+    {
+        self.desks.reserve(1)?;
+        let conn = self.node.connect(pid, cred)?;
+        self.desks
+            .push_reserved(Desk::new(self.alloc, self.greeting));
+        Ok(conn)
+    }
+
+    /// Hears a client's bytes: its asks are done through its own connection alone. NoConnection where there is no
+    /// such client, or its connection ended. The caller keeps what was not heard, and calls `lost` where it is broken.
+    pub fn hear(&mut self, conn: u16, bytes: &[u8]) -> Result<Heard, Refusal>
+        ensures ok { IfOk result (λ heard. IsHeard conn self.old bytes.now heard.count heard.stop self.new) }
+        ensures err { IfErr result (λ why. (why ≡ Refusal.NoConnection) × IsAway self.old conn × (self.new ≡ self.old)) }
+    {
+        if self.node.connection(conn).is_none() {
+            return Err(Refusal::NoConnection);
+        }
+        hear_at(self.greeting, &mut self.node, &mut self.desks, conn, bytes)
+    }
+
+    /// Judges the next place and takes it as delivered, if it is held.
+    pub fn deliver(&mut self) -> Result<Option<u32>, Refusal>
+        ensures ok { IfOk result (λ place. (place ≡ place_to_deliver self.old.node) × (self.new ≡ with_node self.old (node_after_delivery self.old.node))) }
+        ensures err { OnErr result (self.new ≡ self.old) }
+        ensures memory { IsOkUnless result Refusal.Memory }
+    {
+        self.node.deliver()
+    }
+
+    /// Hears a frame, and gives what is to be sent.
+    pub fn frame(&mut self, bytes: &[u8]) -> Result<Vec<Bytes>, Refusal>
+        ensures answer { IsFrameAnswer (λ list. list.items) self.old.node (frame_of bytes.now) result self.new.node }
+        ensures framed { IsFramed self.old self.new }
+    {
+        self.node.frame(bytes)
+    }
+
+    /// The node's last token sent, to be sent again.
+    pub fn timer(&mut self) -> Result<Option<Bytes>, Refusal>
+        ensures { self.new ≡ self.old }
+    {
+        self.node.timer()
+    }
+
+    /// Ends a client's connection, behind its calls; what was told it, and not written, is dropped.
+    pub fn lost(&mut self, conn: u16) -> Result<(), Refusal>
+        ensures answer { IsAnswer (closed_refusal (open_client self.old.node conn)) (λ _. self.new ≡ parted self.old conn) result }
+        ensures err { OnErr result (self.new ≡ self.old) }
+    {
+        self.node.disconnect(conn)?;
+        empty_at(self.alloc, self.greeting, &mut self.desks, conn);
+        Ok(())
+    }
+
+    /// The bytes that a client is to be written, in order; none where there is no such client.
+    pub fn output(&self, conn: u16) -> &[u8]
+        ensures { result.now ≡ out_of (item self.now.desks conn) }
+    {
+        if conn == 0 {
+            return &[];
+        }
+        match self.desks.get(conn as usize - 1) {
+            None => &[],
+            Some(desk) => desk.output(),
+        }
+    }
+
+    /// Where memory is asked for.
+    pub(crate) fn memory(&self) -> Global {
+        self.alloc
+    }
+
+    /// So many bytes of a client's output were written to it.
+    pub fn wrote(&mut self, conn: u16, count: usize)
+        requires { count ≤ length (out_of (item self.old.desks conn)) }
+        ensures { AreWritten conn self.old (item self.old.desks conn) count self.new }
+    {
+        wrote_at(self.greeting, &self.node, &mut self.desks, conn, count);
+    }
+
+    /// Takes so many bytes at most from a client's output, to be written to it. NoConnection where there never was
+    /// such a client.
+    pub fn write(&mut self, conn: u16, most: usize) -> Result<Bytes, Refusal>
+        ensures ok { IfOk result (λ bytes. IsWritten conn self.old bytes self.new) }
+        ensures all { IfOk result (λ bytes. bytes ≡ take most (out_of (item self.old.desks conn))) }
+        ensures err { OnErr result (self.new ≡ self.old) }
+        ensures why { IfErr result (λ why. (why ≡ Refusal.Memory) ⊎ (why ≡ Refusal.NoConnection)) }
+    {
+        write_at(
+            self.alloc,
+            self.greeting,
+            &self.node,
+            &mut self.desks,
+            conn,
+            most,
+        )
+    }
+
+    /// Tells a client all that its node has for it. On an `Err` what is left is told by a later call, and nothing is
+    /// lost or told twice.
+    pub fn tell(&mut self, conn: u16) -> Result<(), Refusal>
+        ensures did { IsCaughtUp conn self.old (item self.old.desks conn) result self.new }
+        ensures memory { IsOkUnless result Refusal.Memory }
+    {
+        tell_at(self.greeting, &mut self.node, &mut self.desks, conn)
+    }
+}
+
+/// Hears the bytes of the client of that connection.
+fn hear_at(
+    greeting: Greeting,
+    node: &mut Node,
+    desks: &mut Vec<Desk>,
+    conn: u16,
+    bytes: &[u8],
+) -> Result<Heard, Refusal>
+    requires { is_some (open_client node.old conn) ≡ true }
+    ensures ok { IfOk result (λ heard. IsHeard conn (served_of greeting node.old desks.old.items) bytes.now heard.count heard.stop (served_of greeting node.new desks.new.items)) }
+    ensures err { IfErr result (λ why. (why ≡ Refusal.NoConnection) × (item desks.old.items conn ≡ None) × (node.new ≡ node.old) × (desks.new.items ≡ desks.old.items)) }
+    ensures count { AreAsMany (served_of greeting node.old desks.old.items) (served_of greeting node.new desks.new.items) }
+{
+    if conn == 0 {
+        return Err(Refusal::NoConnection);
+    }
+    match desks.get_mut(conn as usize - 1) {
+        None => Err(Refusal::NoConnection),
+        Some(desk) => Ok(desk.hear(node, conn, bytes)),
+    }
+}
+
+/// Drops all that the client of that connection was told.
+fn empty_at(alloc: Global, greeting: Greeting, desks: &mut Vec<Desk>, conn: u16)
+    ensures desks { desks.new.items ≡ with_item desks.old.items conn (new_desk greeting) }
+    ensures count { length desks.new.items ≡ length desks.old.items }
+{
+    if conn == 0 {
+        return;
+    }
+    if let Some(desk) = desks.get_mut(conn as usize - 1) {
+        *desk = Desk::new(alloc, greeting);
+    }
+}
+
+/// So many bytes were written to the client of that connection.
+fn wrote_at(greeting: Greeting, node: &Node, desks: &mut Vec<Desk>, conn: u16, count: usize)
+    requires { count ≤ length (out_of (item desks.old.items conn)) }
+    ensures wrote { AreWritten conn (served_of greeting node.now desks.old.items) (item desks.old.items conn) count (served_of greeting node.now desks.new.items) }
+    ensures count { length desks.new.items ≡ length desks.old.items }
+{
+    if conn == 0 {
+        return;
+    }
+    if let Some(desk) = desks.get_mut(conn as usize - 1) {
+        desk.wrote(count);
+    }
+}
+
+/// Takes so many bytes at most from the output of the client of that connection.
+fn write_at(
+    alloc: Global,
+    greeting: Greeting,
+    node: &Node,
+    desks: &mut Vec<Desk>,
+    conn: u16,
+    most: usize,
+) -> Result<Bytes, Refusal>
+    ensures ok { IfOk result (λ bytes. IsWritten conn (served_of greeting node.now desks.old.items) bytes (served_of greeting node.now desks.new.items)) }
+    ensures all { IfOk result (λ bytes. bytes ≡ take most (out_of (item desks.old.items conn))) }
+    ensures err { OnErr result (desks.new.items ≡ desks.old.items) }
+    ensures why { IfErr result (λ why. (why ≡ Refusal.Memory) ⊎ (why ≡ Refusal.NoConnection)) }
+    ensures count { length desks.new.items ≡ length desks.old.items }
+{
+    if conn == 0 {
+        return Err(Refusal::NoConnection);
+    }
+    match desks.get_mut(conn as usize - 1) {
+        None => Err(Refusal::NoConnection),
+        Some(desk) => Ok(desk.write(alloc, most)?),
+    }
+}
+
+/// Tells the client of that connection all that the node has for it.
+fn tell_at(
+    greeting: Greeting,
+    node: &mut Node,
+    desks: &mut Vec<Desk>,
+    conn: u16,
+) -> Result<(), Refusal>
+    ensures did { IsCaughtUp conn (served_of greeting node.old desks.old.items) (item desks.old.items conn) result (served_of greeting node.new desks.new.items) }
+    ensures memory { IsOkUnless result Refusal.Memory }
+    ensures count { AreAsMany (served_of greeting node.old desks.old.items) (served_of greeting node.new desks.new.items) }
+{
+    if conn == 0 {
+        return Ok(());
+    }
+    match desks.get_mut(conn as usize - 1) {
+        None => Ok(()),
+        Some(desk) => desk.catch_up(node, conn),
+    }
+}

@@ -1,0 +1,4 @@
+pub mod Placed
+pub mod Counting
+pub mod Evening
+pub mod Matched

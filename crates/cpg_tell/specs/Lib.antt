@@ -1,0 +1,4 @@
+pub mod Kinds
+pub mod Tidings
+pub mod Reading
+pub mod Streams
