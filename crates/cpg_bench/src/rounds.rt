@@ -7,9 +7,11 @@ ghost use Rattle.cpg_cluster.specs.Steps.{AreWithin};
 
 use crate::gates::{Chance, Fates, Notes, gate_of};
 use cpg_board::Board;
-use cpg_cluster::{Manner, Numbered, Patience, Shown, command_in_line, do_command, hand_on};
+use cpg_cluster::{
+    Manner, Numbered, Patience, Sessions, Shown, command_in_line, do_command, hand_on,
+};
 use cpg_cred::Refusal;
-use cpg_daemon::{Cluster, Ends, Front, HistoryName, Opened, Running, Session};
+use cpg_daemon::{Cluster, Ends, Front, HistoryName, Opened, Running};
 use cpg_print::{put_audit, put_count};
 use cpg_record::Record;
 use cpg_script::put;
@@ -45,11 +47,11 @@ fn answer<B: HistoryName, R: Wait + Clock>(
     rt: &R,
     alloc: Global,
     running: &Running<B, Fates>,
-    sessions: &mut Vec<Option<Session<B>>>,
+    sessions: &mut Sessions<B>,
     line: &[u8],
 ) -> Result<Vec<u8>, Refusal>
-    requires { AreWithin running.now.nodes sessions.old.items }
-    ensures { AreWithin running.now.nodes sessions.new.items }
+    requires { AreWithin running.now.nodes sessions.old.slots }
+    ensures { AreWithin running.now.nodes sessions.new.slots }
 {
     let mut text = Vec::new(alloc);
     match command_in_line(alloc, running.nodes(), line)? {
@@ -76,7 +78,7 @@ fn answer_all<B: HistoryName, R: Wait + Clock, W: Write>(
     lines: &mut Lines<StdinLock<'_>, Global>,
     writer: &mut W,
 ) -> Result<(), Refusal> {
-    let mut sessions = Vec::new(alloc);
+    let mut sessions = Sessions::none(alloc);
     for _ in 0..u64::MAX {
         match lines.next() {
             Some(Ok(line)) if line.as_str() != "stop" => {

@@ -65,10 +65,7 @@ where
 }
 
 /// What is left of a cluster: its stations with their traces, and its links.
-pub type Left<B> = (
-    Vec<Member<B>>,
-    Vec<(LinkTx<Parcel<B>>, LinkRx<Parcel<B>>)>,
-);
+pub type Left<B> = (Vec<Member<B>>, Vec<(LinkTx<Parcel<B>>, LinkRx<Parcel<B>>)>);
 
 pub fn left<B: HistoryName>(ends: Ends<B>) -> Left<B> {
     let Ends { stations, links } = ends;

@@ -100,11 +100,7 @@ fn delivered_in<B: HistoryName>(ends: &Ends<B>) -> Option<[usize; 3]> {
 }
 
 /// The world after all that was recorded.
-fn replayed<B: HistoryName>(
-    alloc: Global,
-    ends: Ends<B>,
-    front: Front<B>,
-) -> Result<World, Refusal>
+fn replayed<B: HistoryName>(alloc: Global, ends: Ends<B>, front: Front<B>) -> Result<World, Refusal>
     requires { HaveSeen ends.stations.items front.seen }
 {
     let Ends { stations, links } = ends;
