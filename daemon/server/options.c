@@ -39,8 +39,8 @@ static const struct option table[] = {
     {0, "ring", "N", U32, &chosen.ring, 1, 1000000000, "number of the first ring [by the clock]"},
     {0, "places", "N", U32, &chosen.places, 16, 500000, "a ring ends after so many entries [8192]"},
     {0, "ring-bytes", "SIZE", U64, &chosen.ring_bytes, 65536, UINT64_C(1) << 40, "or after so many bytes of messages [32M]"},
-    {0, "unread", "SIZE", U64, &limits.unread, 65536, UINT64_C(1) << 40, "a client that is more behind with reading is ended [64M]"},
-    {0, "user-unread", "SIZE", U64, &limits.user_unread, 65536, UINT64_C(1) << 40, "all clients of one user together [512M]"},
+    {0, "unread", "SIZE", U64, &limits.unread, 65536, UINT64_C(1) << 40, "a client that is more behind with reading is ended [256M]"},
+    {0, "user-unread", "SIZE", U64, &limits.user_unread, 65536, UINT64_C(1) << 40, "all clients of one user together [2G]"},
     {0, "connections", "N", U32, &limits.connections, 1, 30000, "connections at once [16384]"},
     {0, "user-connections", "N", U32, &limits.user_connections, 1, 30000, "of one user [4096]"},
     {0, "user-calls", "N", U32, &limits.user_calls, 1, MOST_WAITING, "calls of one user that wait at a node, which has room for 256 [224]"},
@@ -148,7 +148,7 @@ static void set_defaults(void) {
     chosen = (struct options){.nodes = 1, .seed = 1, .places = 8192, .ring_bytes = 32 << 20, .mode = 0666, .stop_seconds = 2,
                             .owner = (uid_t)-1, .owner_group = (gid_t)-1};
     chosen.ring = (uint32_t)((uint64_t)time(NULL) % 1000000000) + 1;
-    limits = (struct limits){.unread = 64 << 20, .user_unread = 512 << 20, .connections = 16384, .user_connections = 4096, .user_calls = 224,
+    limits = (struct limits){.unread = 256 << 20, .user_unread = UINT64_C(2) << 30, .connections = 16384, .user_connections = 4096, .user_calls = 224,
                              .user_ungreeted = 256, .greet_seconds = 5, .room = 1 << 20};
 }
 
