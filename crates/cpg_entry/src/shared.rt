@@ -7,9 +7,11 @@ use cpg_cred::{Refusal, Refused};
 use std::alloc::Global;
 use std::fmt;
 use std::marker::Model;
+use std::ops::Deref;
 use std::sync::Arc;
 
-/// An entry that several records have in common, so that it is kept once. Contracts see it as the entry.
+/// An entry that several records have in common, so that it is kept once. Contracts see it as the entry, and its fields are
+/// the entry's.
 #[derive(Drop)]
 pub struct SharedEntry {
     entry: Arc<Entry>,
@@ -22,6 +24,18 @@ impl Model for SharedEntry {
     ghost Value = { Entry };
 
     ghost view = { λ shared. arc_value shared.entry };
+}
+
+impl Deref for SharedEntry {
+    type Target = Entry;
+
+    ghost use Rattle.std.specs.Prelude.{◌≡◌};
+
+    ghost deref_gives = { λ shared entry. entry ≡ shared };
+
+    fn deref(&self) -> &Entry {
+        &self.entry
+    }
 }
 
 impl fmt::Debug for SharedEntry {
