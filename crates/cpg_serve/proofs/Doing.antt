@@ -1,32 +1,33 @@
 -- One deed after another is a run.
-use Rattle.std.proofs.Common.{◌≡◌, List, [], ◌∷◌, ◌++◌, length, Some, refl, sym, ap, subst, ◌∙◌}
-use Rattle.std.specs.List.{slice_get}
-use Rattle.std.proofs.lemmas.Option.{none-some, same_Some}
+use Rattle.std.proofs.Common.{◌≡◌, ◌<◌, ◌+◌, ℕ, suc, List, [], ◌∷◌, ◌++◌, length, take, get_or, refl, sym, ap, subst}
+use Rattle.std.proofs.lemmas.List.{take_more}
 use Rattle.cpg_serve.specs.declared.deeds.Deed.{Deed}
 use Rattle.cpg_serve.specs.declared.deeds.Outcome.{Outcome}
 use Rattle.cpg_serve.specs.Serving.{ServedValue}
-use Rattle.cpg_serve.specs.Runs.{Did, Run, Goes}
-use Rattle.cpg_serve.specs.Deeds.{did_of, dids_of}
+use Rattle.cpg_serve.specs.Runs.{Run, Goes}
+use Rattle.cpg_serve.specs.Deeds.{did_of, dids_of, IsOutcome, AreDone}
 
-run_push : (x y z : ServedValue) (dids : List Did) (did : Did) → Run x dids y → Goes y did z → Run x (dids ++ did ∷ []) z
-run_push x y z [] did h g = (z, subst (λ (w : ServedValue). Goes w did z) h g, refl)
-run_push x y z (d ∷ dids) did h g = (h.0, h.1, run_push h.0 y z dids did h.2 g)
+one_more : (x y z : ServedValue) (deeds : List Deed) (outcomes : List Outcome) (deed : Deed) (outcome : Outcome) → AreDone x deeds outcomes y → Goes y (did_of deed outcome) z → IsOutcome y deed outcome z
+    → AreDone x (deeds ++ deed ∷ []) (outcomes ++ outcome ∷ []) z
+one_more x y z [] [] deed outcome h g r = (z, subst (λ (w : ServedValue). Goes w (did_of deed outcome) z) h g, subst (λ (w : ServedValue). IsOutcome w deed outcome z) h r, refl)
+one_more x y z [] (o ∷ outcomes) deed outcome h g r = absurd h
+one_more x y z (d ∷ deeds) [] deed outcome h g r = absurd h
+one_more x y z (d ∷ deeds) (o ∷ outcomes) deed outcome h g r = (h.0, h.1, h.2, one_more h.0 y z deeds outcomes deed outcome h.3 g r)
 
-dids_push : (deeds : List Deed) (outcomes : List Outcome) (deed : Deed) (outcome : Outcome) → slice_get deeds (length outcomes) ≡ Some deed
-    → dids_of deeds (outcomes ++ outcome ∷ []) ≡ dids_of deeds outcomes ++ did_of deed outcome ∷ []
-dids_push [] outcomes deed outcome e = absurd (none-some deed e)
-dids_push (d ∷ deeds) [] deed outcome e = ap (λ (w : Deed). did_of w outcome ∷ dids_of deeds []) (same_Some d deed e) ∙ ap (λ (l : List Did). did_of deed outcome ∷ l) (none_left deeds)
-  where
-    none_left : (ds : List Deed) → dids_of ds [] ≡ []
-    none_left [] = refl
-    none_left (d ∷ ds) = refl
-dids_push (d ∷ deeds) (o ∷ outcomes) deed outcome e = ap (λ (l : List Did). did_of d o ∷ l) (dids_push deeds outcomes deed outcome e)
+-- the deed at the next place was done, too
+pub next_done : (x y z : ServedValue) (deeds : List Deed) (i : ℕ) (none : Deed) (outcomes : List Outcome) (outcome : Outcome) → i < length deeds → AreDone x (take i deeds) outcomes y
+    → Goes y (did_of (get_or deeds i none) outcome) z → IsOutcome y (get_or deeds i none) outcome z → AreDone x (take (i + 1) deeds) (outcomes ++ outcome ∷ []) z
+next_done x y z deeds i none outcomes outcome within h g r =
+    subst (λ (l : List Deed). AreDone x l (outcomes ++ outcome ∷ []) z) (sym (take_more deeds i none within)) (one_more x y z (take i deeds) outcomes (get_or deeds i none) outcome h g r)
 
-pub deed_done : (x y z : ServedValue) (deeds : List Deed) (outcomes : List Outcome) (deed : Deed) (outcome : Outcome) → slice_get deeds (length outcomes) ≡ Some deed
-    → Run x (dids_of deeds outcomes) y → Goes y (did_of deed outcome) z → Run x (dids_of deeds (outcomes ++ outcome ∷ [])) z
-deed_done x y z deeds outcomes deed outcome e h g =
-    subst (λ (dids : List Did). Run x dids z) (sym (dids_push deeds outcomes deed outcome e)) (run_push x y z (dids_of deeds outcomes) (did_of deed outcome) h g)
+pub as_many : (x y : ServedValue) (deeds : List Deed) (outcomes : List Outcome) → AreDone x deeds outcomes y → length outcomes ≡ length deeds
+as_many x y [] [] h = refl
+as_many x y [] (o ∷ outcomes) h = absurd h
+as_many x y (d ∷ deeds) [] h = absurd h
+as_many x y (d ∷ deeds) (o ∷ outcomes) h = ap suc (as_many h.0 y deeds outcomes h.3)
 
-pub none_done : (x : ServedValue) (deeds : List Deed) → Run x (dids_of deeds []) x
-none_done x [] = refl
-none_done x (d ∷ deeds) = refl
+pub done_is_run : (x y : ServedValue) (deeds : List Deed) (outcomes : List Outcome) → AreDone x deeds outcomes y → Run x (dids_of deeds outcomes) y
+done_is_run x y [] [] h = h
+done_is_run x y [] (o ∷ outcomes) h = absurd h
+done_is_run x y (d ∷ deeds) [] h = absurd h
+done_is_run x y (d ∷ deeds) (o ∷ outcomes) h = (h.0, h.1, done_is_run h.0 y deeds outcomes h.3)

@@ -1,9 +1,9 @@
 -- A client that is gone stays so.
-use Rattle.std.proofs.Common.{◌≡◌, ◌≢◌, ◌≤◌, ℕ, zero, suc, true, false, Bool, cond, eqb, is_some, List, [], ◌∷◌, ◌++◌, length, take, Option, Some, None, Result, refl, sym, ap, subst, ◌∙◌, append-nil, length-append, arith}
+use Rattle.std.proofs.Common.{◌≡◌, ◌≢◌, ◌≤◌, ℕ, true, false, Bool, cond, eqb, is_some, List, [], ◌∷◌, ◌++◌, length, take, Option, Some, None, Result, refl, sym, ap, subst, ◌∙◌, append-nil, length-append, arith}
 use Rattle.std.specs.Prelude.{option_to_list}
-use Rattle.std.specs.List.{flat_map, fold, slice_get}
+use Rattle.std.specs.List.{flat_map, fold}
 use Rattle.std.proofs.lemmas.Bool.{eqb-true}
-use Rattle.std.proofs.lemmas.Option.{same_Some, none-some}
+use Rattle.std.proofs.lemmas.Option.{same_Some}
 use Rattle.cpg_cred.specs.declared.refusals.Refusal.{Refusal}
 use Rattle.cpg_ring.specs.Worlds.{item}
 use Rattle.cpg_ring.proofs.Lists.{item_with_same, item_with_other, length-with_item}
@@ -22,29 +22,9 @@ use Rattle.cpg_serve.specs.Coming.{GoesOn, left_of, rest_of}
 use Rattle.cpg_serve.specs.Serving.{ServedValue, arrived, parted, IsHeard, IsToldAt, IsCaughtUp, IsWritten}
 use Rattle.cpg_serve.specs.Runs.{Did, Arrives, Hears, Frames, Delivers, Tells, Writes, Loses, Nothing, Run, Goes, IsGone, heard_by, written_by, LostIsGone, NothingAfterTheEnd}
 use Rattle.cpg_serve.proofs.Coming.{open_is}
-use Rattle.cpg_serve.proofs.OneByOne.{asked_all_count}
-use Rattle.cpg_serve.proofs.Noted.{some_mapped}
-use Rattle.cpg_serve.proofs.Running.{is_other}
-
--- ---- items of lists
-
-pub get_within : {X : Type 0} (ys : List X) (i : ℕ) (x : X) → slice_get ys i ≡ Some x → suc i ≤ length ys
-get_within [] i x e = absurd (none-some x e)
-get_within (y ∷ ys) zero x e = omega arith
-get_within (y ∷ ys) (suc i) x e = let more = get_within ys i x e in omega (arith, more)
-
-within : {X : Type 0} (xs : List X) (n : ℕ) (x : X) → item xs n ≡ Some x → n ≤ length xs
-within xs zero x e = omega arith
-within xs (suc n) x e = get_within xs n x e
-
-get_front : {X : Type 0} (zs ys : List X) (i : ℕ) → suc i ≤ length zs → slice_get (zs ++ ys) i ≡ slice_get zs i
-get_front [] ys i h = absurd (omega (arith, h))
-get_front (z ∷ zs) ys zero h = refl
-get_front (z ∷ zs) ys (suc i) h = get_front zs ys i (omega (arith, h))
-
-front : {X : Type 0} (xs ys : List X) (n : ℕ) → n ≤ length xs → item (xs ++ ys) n ≡ item xs n
-front xs ys zero h = refl
-front xs ys (suc n) h = get_front xs ys n h
+use Rattle.cpg_serve.proofs.OneByOne.{asked_all_count, ended_count}
+use Rattle.cpg_serve.proofs.Noted.{some_mapped, is_there}
+use Rattle.cpg_serve.proofs.Running.{is_other, within, front}
 
 abbrev desk_of : Greeting → List Owed → Option Event → List ℕ → DeskValue
 desk_of g owed next out = record { greeting = g; owed = owed; next = next; out = out }
@@ -120,7 +100,7 @@ gone_told_own conn x y result k h =
     }
 
 gone_told_other : (conn by : ℕ) (x y : ServedValue) (result : Result Unit Refusal) (o : Option DeskValue) → conn ≢ by → IsCaughtUp by x o result y → IsGone conn x → IsGone conn y
-gone_told_other conn by x y result None is k h = subst (IsGone conn) (sym k) h
+gone_told_other conn by x y result None is k h = subst (IsGone conn) (sym k.1) h
 gone_told_other conn by x y result (Some old) is k h =
     gone_stays conn x y h k.greeting (k.goes.others conn is) (omega (arith, k.goes.count)) (ap (λ ds. item ds conn) k.others ∙ item_with_other x.desks by conn k.new is)
 
@@ -152,9 +132,9 @@ gone_written conn by x y bytes false e k h = (
   refl,
 )
 
-ended_other : (conn by : ℕ) (x : NodeValue) (o : Option Client) → conn ≢ by → (item (ended_by x by o).clients conn ≡ item x.clients conn) × (length (ended_by x by o).clients ≡ length x.clients)
-ended_other conn by x None is = (refl, refl)
-ended_other conn by x (Some c) is = (item_with_other x.clients by conn (record c { ended = true }) is, length-with_item x.clients by (record c { ended = true }))
+ended_other : (conn by : ℕ) (x : NodeValue) (o : Option Client) → conn ≢ by → item (ended_by x by o).clients conn ≡ item x.clients conn
+ended_other conn by x None is = refl
+ended_other conn by x (Some c) is = item_with_other x.clients by conn (record c { ended = true }) is
 
 gone_lost : (conn by : ℕ) (x : ServedValue) (b : Bool) → eqb by conn ≡ b → IsGone conn x → IsGone conn (parted x by)
 gone_lost conn by x true e h =
@@ -165,8 +145,8 @@ gone_lost conn by x true e h =
       empty = item_with_same x.desks conn (new_desk x.greeting) (new_desk x.greeting) h.empty;
     })
 gone_lost conn by x false e h =
-    let o = ended_other conn by x.node (open_client x.node by) (is_other by conn e) in
-    gone_stays conn x (parted x by) h refl o.0 (omega (arith, o.1)) (item_with_other x.desks by conn (new_desk x.greeting) (is_other by conn e))
+    let count : length (parted x by).node.clients ≡ length x.node.clients = ended_count x.node by (open_client x.node by) in
+    gone_stays conn x (parted x by) h refl (ended_other conn by x.node (open_client x.node by) (is_other by conn e)) (omega (arith, count)) (item_with_other x.desks by conn (new_desk x.greeting) (is_other by conn e))
 
 -- what one call leaves of a client that is gone
 abbrev Leaves : ℕ → Did → ServedValue → Type 0
@@ -195,10 +175,6 @@ pub nothing_after : NothingAfterTheEnd
 nothing_after x y dids k = λ conn h. over conn x y dids k h
 
 -- ---- a client that is lost
-
-is_there : (o : Option Client) → is_some o ≡ true → (c : Client) × (o ≡ Some c)
-is_there (Some c) h = (c, refl)
-is_there None h = absurd cc
 
 ended_is : (x : NodeValue) (conn : ℕ) (c : Client) → open_client x conn ≡ Some c → open_client (ended_by x conn (Some c)) conn ≡ None
 ended_is x conn c e =

@@ -1,17 +1,16 @@
 -- The story of a client that comes in a run.
-use Rattle.std.proofs.Common.{◌≡◌, ◌+◌, ℕ, suc, false, true, List, [], ◌∷◌, ◌++◌, length, Option, Some, None, Result, refl, sym, ap, subst, length-append, arith}
+use Rattle.std.proofs.Common.{◌≡◌, ◌+◌, ℕ, suc, false, List, [], ◌∷◌, ◌++◌, length, Option, Some, None, Result, sym, ap, subst, length-append, arith}
 use Rattle.cpg_cred.specs.declared.credentials.Cred.{Cred}
 use Rattle.cpg_cred.specs.declared.refusals.Refusal.{Refusal}
 use Rattle.cpg_ring.proofs.Lists.{length-with_item}
 use Rattle.cpg_node.specs.declared.connections.Client.{Client}
-use Rattle.cpg_node.specs.Nodes.{NodeValue, open_client}
-use Rattle.cpg_node.specs.Calls.{ended_by}
+use Rattle.cpg_node.specs.Nodes.{open_client}
 use Rattle.cpg_serve.specs.Telling.{DeskValue, new_desk, wrote}
 use Rattle.cpg_serve.specs.Asking.{At, at_of}
 use Rattle.cpg_serve.specs.Serving.{ServedValue, arrived, IsCaughtUp}
 use Rattle.cpg_serve.specs.Stories.{StoryAt}
 use Rattle.cpg_serve.specs.Runs.{Did, Arrives, Hears, Frames, Delivers, Tells, Writes, Loses, Nothing, Run, Goes, arrives, arrivals, newcomer, AllThatNewcomersAreTold}
-use Rattle.cpg_serve.proofs.OneByOne.{asked_all_count}
+use Rattle.cpg_serve.proofs.OneByOne.{asked_all_count, ended_count}
 use Rattle.cpg_serve.proofs.Running.{begins, over_run}
 
 -- as many desks and connections more as clients came
@@ -20,12 +19,8 @@ pub record Grows (n : ℕ) (x y : ServedValue) : Type 0 where
   pub clients : length y.node.clients ≡ length x.node.clients + n
 
 told_grows : (by : ℕ) (x y : ServedValue) (result : Result Unit Refusal) (o : Option DeskValue) → IsCaughtUp by x o result y → Grows 0 x y
-told_grows by x y result None g = subst (Grows 0 x) (sym g) (record { desks = omega arith; clients = omega arith })
+told_grows by x y result None g = subst (Grows 0 x) (sym g.1) (record { desks = omega arith; clients = omega arith })
 told_grows by x y result (Some old) g = record { desks = omega (arith, ap (λ (l : List DeskValue). length l) g.others, length-with_item x.desks by g.new); clients = omega (arith, g.goes.count) }
-
-ended_count : (x : NodeValue) (by : ℕ) (o : Option Client) → length (ended_by x by o).clients ≡ length x.clients
-ended_count x by None = refl
-ended_count x by (Some c) = length-with_item x.clients by (record c { ended = true })
 
 grows : (x y : ServedValue) (did : Did) → Goes x did y → Grows (arrives did) x y
 grows x y (Arrives pid cred) g = subst (Grows 1 x) (sym g) (record {
@@ -53,7 +48,7 @@ comes x y (did ∷ before) after pid cred run =
     (later.0, record { desks = omega (arith, first.desks, later.1.desks); clients = omega (arith, first.clients, later.1.clients) }, later.2)
 
 pub newcomers_told : AllThatNewcomersAreTold
-newcomers_told x y dids run = λ as_many before after pid cred e kept.
+newcomers_told x y dids as_many run = λ before after pid cred e kept.
     let c = comes x y before after pid cred (subst (λ (l : List Did). Run x l y) e run) in
     let z : ServedValue = c.0 in
     let same : suc (length z.desks) ≡ newcomer x before = omega (arith, c.1.desks) in

@@ -130,7 +130,7 @@ first_refused (Some w) full why e goes = e
 first_refused None true why e goes = let bad : false ≡ true = ap goes_on e ∙ goes in absurd cc
 first_refused None false why e goes = absurd cc
 
-refused_by : (x : NodeValue) (call : Call) (o : Option Client) (why : Refusal) → is_some o ≡ true → submit_refusal_by x call o ≡ Some why → goes_on (Some why) ≡ true → call_refusal call ≡ Some why
+pub refused_by : (x : NodeValue) (call : Call) (o : Option Client) (why : Refusal) → is_some o ≡ true → submit_refusal_by x call o ≡ Some why → goes_on (Some why) ≡ true → call_refusal call ≡ Some why
 refused_by x call None why alive e goes = absurd cc
 refused_by x call (Some c) why alive e goes = first_refused (call_refusal call) (is_full x.ring.state) why e goes
 
@@ -138,7 +138,7 @@ first_none : (a b : Option Refusal) → first_of a b ≡ None → a ≡ None
 first_none None b e = refl
 first_none (Some w) b e = absurd cc
 
-taken_by : (x : NodeValue) (call : Call) (o : Option Client) → is_some o ≡ true → submit_refusal_by x call o ≡ None → call_refusal call ≡ None
+pub taken_by : (x : NodeValue) (call : Call) (o : Option Client) → is_some o ≡ true → submit_refusal_by x call o ≡ None → call_refusal call ≡ None
 taken_by x call None alive e = absurd cc
 taken_by x call (Some c) alive e = first_none (call_refusal call) (full_refusal x.ring) e
 
@@ -262,7 +262,7 @@ counted_delivered conn x h = λ c found.
     let long : length (inbox_of (node_after_delivery x) conn) ≡ length (inbox_of x conn) + length (told_next x conn) = ap (λ (l : List Event). length l) (inbox_delivered x conn) ∙ length-append (inbox_of x conn) (told_next x conn) in
     omega (arith, long, h c found)
 
-is_there : (o : Option Client) → is_some o ≡ true → (c : Client) × (o ≡ Some c)
+pub is_there : (o : Option Client) → is_some o ≡ true → (c : Client) × (o ≡ Some c)
 is_there (Some c) h = (c, refl)
 is_there None h = absurd cc
 
@@ -285,11 +285,11 @@ story_delivered conn asks written x d h =
     }
 
 -- what others do is quiet
-rest_quiet : (conn : ℕ) (x y : NodeValue) (o : Option Client) → inbox_of y conn ≡ inbox_of x conn → rest_of y conn o ≡ rest_of x conn o
+pub rest_quiet : (conn : ℕ) (x y : NodeValue) (o : Option Client) → inbox_of y conn ≡ inbox_of x conn → rest_of y conn o ≡ rest_of x conn o
 rest_quiet conn x y None e = refl
 rest_quiet conn x y (Some c) e = ap (drop c.taken) e
 
-inbox_quiet : (conn : ℕ) (x y : NodeValue) → IsQuiet conn x y → inbox_of y conn ≡ inbox_of x conn
+pub inbox_quiet : (conn : ℕ) (x y : NodeValue) → IsQuiet conn x y → inbox_of y conn ≡ inbox_of x conn
 inbox_quiet conn x y q = ap (λ (rs : List Record). inbox rs (conn_id y conn)) q.records ∙ ap (λ (n : ℕ). inbox (records_of x) (record { node = n; conn = conn })) q.node
 
 asker_quiet : (conn : ℕ) (x y : NodeValue) → IsQuiet conn x y → asker_of y conn ≡ asker_of x conn

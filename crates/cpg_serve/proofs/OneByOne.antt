@@ -11,7 +11,8 @@ use Rattle.cpg_entry.specs.declared.calls.Op.{Op}
 use Rattle.cpg_entry.specs.declared.calls.Op.TheVariants.{Act}
 use Rattle.cpg_node.specs.declared.connections.Client.{Client}
 use Rattle.cpg_node.specs.Nodes.{NodeValue, open_client}
-use Rattle.cpg_node.specs.Calls.{submit_refusal, with_entry}
+use Rattle.cpg_ring.proofs.Lists.{length-with_item}
+use Rattle.cpg_node.specs.Calls.{submit_refusal, with_entry, ended_by}
 use Rattle.cpg_serve.specs.declared.desks.Owed.{Owed}
 use Rattle.cpg_serve.specs.declared.hearing.Stop.{Stop}
 use Rattle.cpg_ask.specs.Asks.{Ask}
@@ -91,3 +92,8 @@ rest_is bytes n = rw (sym (length-drop n bytes)) (take_all (drop n bytes))
     take_all : (l : List ℕ) → take (length l) l ≡ l
     take_all [] = refl
     take_all (x ∷ xs) = ap (λ t. x ∷ t) (take_all xs)
+
+-- as many connections where one ends
+pub ended_count : (x : NodeValue) (by : ℕ) (o : Option Client) → length (ended_by x by o).clients ≡ length x.clients
+ended_count x by None = refl
+ended_count x by (Some c) = length-with_item x.clients by (record c { ended = true })

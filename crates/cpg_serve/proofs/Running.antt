@@ -4,7 +4,7 @@ use Rattle.std.specs.List.{flat_map, slice_get, AllByRecursion}
 use Rattle.std.proofs.lemmas.Bool.{eqb-true}
 use Rattle.std.proofs.lemmas.Grind.{flat_map-append}
 use Rattle.std.proofs.lemmas.List.{take-append-drop, append_cancel_right}
-use Rattle.std.proofs.lemmas.Option.{none-some, same_Some}
+use Rattle.std.proofs.lemmas.Option.{same_Some, slice_get_within}
 use Rattle.cpg_cred.specs.declared.credentials.Cred.{Cred}
 use Rattle.cpg_cred.specs.declared.refusals.Refusal.{Refusal}
 use Rattle.cpg_cred.specs.declared.refusals.Refusal.TheVariants as refusal
@@ -26,12 +26,13 @@ use Rattle.cpg_serve.specs.Coming.{rest_of}
 use Rattle.cpg_serve.specs.Serving.{ServedValue, arrived, parted, IsHeard, IsCaughtUp, IsWritten}
 use Rattle.cpg_serve.specs.Stories.{IsStory, IsQuiet, StoryAt}
 use Rattle.cpg_serve.specs.Runs.{Did, Arrives, Hears, Frames, Delivers, Tells, Writes, Loses, Nothing, Run, IsFramed, Goes, IsKeptBy, heard_by, written_by, AllThatIsTold, StoriesBegin}
+use Rattle.cpg_serve.proofs.Growing.{slice_get_front}
 use Rattle.cpg_serve.proofs.Noted.{story_quiet}
 use Rattle.cpg_serve.proofs.Kept.{story_of_hearing, story_of_telling, story_of_delivery}
 
 -- ---- what others do is quiet
 
-quiet_same : (conn : ℕ) (x : NodeValue) → IsQuiet conn x x
+pub quiet_same : (conn : ℕ) (x : NodeValue) → IsQuiet conn x x
 quiet_same conn x = record { records = refl; node = refl; client = refl }
 
 quiet_then : (conn : ℕ) (x y z : NodeValue) → IsQuiet conn x y → IsQuiet conn y z → IsQuiet conn x z
@@ -55,21 +56,23 @@ quiet_all conn by s [] = quiet_same conn s.node
 quiet_all conn by s (turn ∷ turns) =
     quiet_then conn s.node (asked by s turn).node (asked_all by (asked by s turn) turns).node (quiet_asked conn by s turn (call_of turn.ask.want)) (quiet_all conn by (asked by s turn) turns)
 
-quiet_ended : (conn by : ℕ) (x : NodeValue) (o : Option Client) → conn ≢ by → IsQuiet conn x (ended_by x by o)
+pub quiet_ended : (conn by : ℕ) (x : NodeValue) (o : Option Client) → conn ≢ by → IsQuiet conn x (ended_by x by o)
 quiet_ended conn by x None h = quiet_same conn x
 quiet_ended conn by x (Some c) h = record { records = refl; node = refl; client = item_with_other x.clients by conn (record c { ended = true }) h }
 
-pub get_front : {X : Type 0} (xs ys : List X) (i : ℕ) (x : X) → slice_get xs i ≡ Some x → slice_get (xs ++ ys) i ≡ slice_get xs i
-get_front [] ys i x h = absurd (none-some x h)
-get_front (y ∷ xs) ys zero x h = refl
-get_front (y ∷ xs) ys (suc i) x h = get_front xs ys i x h
+pub within : {X : Type 0} (xs : List X) (n : ℕ) (x : X) → item xs n ≡ Some x → n ≤ length xs
+within xs zero x e = omega arith
+within xs (suc n) x e = slice_get_within xs n x e
+
+pub front : {X : Type 0} (xs ys : List X) (n : ℕ) → n ≤ length xs → item (xs ++ ys) n ≡ item xs n
+front xs ys zero h = refl
+front xs ys (suc n) h = slice_get_front xs ys n (omega (arith, h))
 
 pub item_front : {X : Type 0} (xs ys : List X) (n : ℕ) (x : X) → item xs n ≡ Some x → item (xs ++ ys) n ≡ item xs n
-item_front xs ys zero x h = refl
-item_front xs ys (suc i) x h = get_front xs ys i x h
+item_front xs ys n x h = front xs ys n (within xs n x h)
 
 -- an open connection is an item
-item_of : (o : Option Client) → is_some (if_open o) ≡ true → (c : Client) × (o ≡ Some c)
+pub item_of : (o : Option Client) → is_some (if_open o) ≡ true → (c : Client) × (o ≡ Some c)
 item_of (Some c) h = (c, refl)
 item_of None h = absurd cc
 
@@ -84,7 +87,7 @@ stays_heard conn by asks written x y bytes count stop is h k =
     (subst (λ (n : NodeValue). IsQuiet conn x.node n) (sym (ap (λ (t : At). t.node) h.did.so.done)) (quiet_all conn by (at_of x.node h.old) h.did.so.turns))
 
 stays_told : (conn by : ℕ) (asks : List Ask) (written : List ℕ) (x y : ServedValue) (result : Result Unit Refusal) (o : Option DeskValue) → conn ≢ by → IsCaughtUp by x o result y → StoryAt conn asks written x → StoryAt conn asks written y
-stays_told conn by asks written x y result None is h k = subst (λ (z : ServedValue). StoryAt conn asks written z) (sym h) k
+stays_told conn by asks written x y result None is h k = subst (λ (z : ServedValue). StoryAt conn asks written z) (sym h.1) k
 stays_told conn by asks written x y result (Some old) is h k =
     stays conn asks written x y k (ap (λ ds. item ds conn) h.others ∙ item_with_other x.desks by conn h.new is ∙ k.there) h.greeting
     (record { records = rw h.goes.ring refl; node = ap (λ r. r.node) h.goes.ring; client = h.goes.others conn is })
@@ -145,7 +148,7 @@ nothing_more conn asks written did y heard wrote k = (
 pub is_other : (by conn : ℕ) → eqb by conn ≡ false → conn ≢ by
 is_other by conn e same = let t : eqb by conn ≡ true = eq-eqb by conn (sym same) in absurd cc
 
-heard_front : (bytes front : List ℕ) (count : ℕ) → bytes ≡ front ++ drop count bytes → take count bytes ≡ front
+pub heard_front : (bytes front : List ℕ) (count : ℕ) → bytes ≡ front ++ drop count bytes → take count bytes ≡ front
 heard_front bytes front count e = append_cancel_right (take count bytes) front (drop count bytes) (take-append-drop count bytes ∙ e)
 
 heard_one : (conn by : ℕ) (asks : List Ask) (written : List ℕ) (x y : ServedValue) (bytes : List ℕ) (count : ℕ) (stop : Stop) (b : Bool) → eqb by conn ≡ b → IsHeard by x bytes count stop y → StoryAt conn asks written x

@@ -11,12 +11,13 @@ use Rattle.cpg_serve.specs.declared.hearing.Step.{Step}
 use Rattle.cpg_serve.specs.declared.hearing.Step.TheVariants as steps
 use Rattle.cpg_serve.specs.Asking.{At, Turn, IsTurn, asked, asked_all, takes_in}
 
--- Why no more was heard: less than a whole ask is left; what is left begins no ask; the node's queue is full for the next ask.
+-- Why no more was heard: less than a whole ask is left; what is left begins no ask; the node's queue is full for the
+-- next ask, which is whole; or there was no memory for it. The next ask was not heard.
 abbrev pub IsStop : ℕ → At → List ℕ → Stop → Type 0
 IsStop conn s rest stops.Part = read_of rest ≡ Part
 IsStop conn s rest stops.Broken = read_of rest ≡ Broken
 IsStop conn s rest stops.Full = (ask : Ask) × (count : ℕ) × (read_of rest ≡ Whole ask count) × (takes_in conn s ask ≡ false)
-IsStop conn s rest stops.Memory = Unit {0}
+IsStop conn s rest stops.Memory = (ask : Ask) × (count : ℕ) × (read_of rest ≡ Whole ask count)
 
 -- the asks of turns, in order
 abbrev pub asks_of : List Turn → List Ask

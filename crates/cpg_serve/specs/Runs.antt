@@ -13,8 +13,8 @@ use Rattle.cpg_serve.specs.Telling.{new_desk}
 use Rattle.cpg_serve.specs.Serving.{ServedValue, with_node, arrived, parted, IsHeard, IsCaughtUp, IsWritten}
 use Rattle.cpg_serve.specs.Stories.{StoryAt}
 
--- What was called: a client came; so many of a client's bytes were heard; a frame was heard; a place was delivered; a client was told
--- what was left, or some of it; bytes were written to a client; a client was lost; or nothing was done.
+-- What was called: a client came; so many of a client's bytes were heard; a frame was heard; a place was delivered; a
+-- client was told what was left, or some of it; bytes were written to a client; a client was lost; or nothing was done.
 pub data Did : Type 0 where
   Arrives : ℕ → Cred → Did
   Hears : ℕ → List ℕ → ℕ → Stop → Did
@@ -64,8 +64,9 @@ abbrev pub written_by : ℕ → Did → List ℕ
 written_by conn (Writes other bytes) = if other == conn then bytes else []
 written_by conn _ = []
 
--- The headline. Over any run of calls in which a client is not lost: what was heard of it are asks, and all bytes that it was told are
--- the spellings of what notes tell, of which the asks are those, in order, and the events are its inbox, in order, but for what is left.
+-- The headline. Over any run of calls in which a client is not lost: what was heard of it are asks, and all bytes that
+-- it was told are the spellings of what notes tell, of which the asks are those, in order, and the events are its
+-- inbox, in order, but for what is left.
 abbrev pub AllThatIsToldOver : ServedValue → List Did → ServedValue → Type 0
 AllThatIsToldOver x dids y = (conn : ℕ) (asks : List Ask) (written : List ℕ) → AllByRecursion (IsKeptBy conn) dids → StoryAt conn asks written x
     → (more : List Ask) × (flat_map (heard_by conn) dids ≡ flat_map spelling more) × StoryAt conn (asks ++ more) (written ++ flat_map (written_by conn) dids) y
@@ -73,7 +74,8 @@ AllThatIsToldOver x dids y = (conn : ℕ) (asks : List Ask) (written : List ℕ)
 abbrev pub AllThatIsTold : Type 0
 AllThatIsTold = (x y : ServedValue) (dids : List Did) → Run x dids y → AllThatIsToldOver x dids y
 
--- A client that comes to a node that has as many desks as connections begins with the story of no asks, and nothing written.
+-- A client that comes to a node that has as many desks as connections begins with the story of no asks, and nothing
+-- written.
 abbrev pub StoriesBegin : Type 0
 StoriesBegin = (pid : ℕ) (cred : Cred) (x : ServedValue) → length x.desks ≡ length x.node.clients → StoryAt (suc (length x.desks)) [] [] (arrived x pid cred)
 
@@ -109,9 +111,10 @@ newcomer x before = suc (length x.desks + arrivals before)
 
 -- The same of a client that comes in the run: from its coming on, what was heard of it are asks, and that is its story.
 abbrev pub AllThatNewcomersAreToldOver : ServedValue → List Did → ServedValue → Type 0
-AllThatNewcomersAreToldOver x dids y = length x.desks ≡ length x.node.clients → (before after : List Did) (pid : ℕ) (cred : Cred) → dids ≡ before ++ Arrives pid cred ∷ after
+AllThatNewcomersAreToldOver x dids y = (before after : List Did) (pid : ℕ) (cred : Cred) → dids ≡ before ++ Arrives pid cred ∷ after
     → AllByRecursion (IsKeptBy (newcomer x before)) after
     → (more : List Ask) × (flat_map (heard_by (newcomer x before)) after ≡ flat_map spelling more) × StoryAt (newcomer x before) more (flat_map (written_by (newcomer x before)) after) y
 
+-- It is so at a node that has as many desks as connections.
 abbrev pub AllThatNewcomersAreTold : Type 0
-AllThatNewcomersAreTold = (x y : ServedValue) (dids : List Did) → Run x dids y → AllThatNewcomersAreToldOver x dids y
+AllThatNewcomersAreTold = (x y : ServedValue) (dids : List Did) → length x.desks ≡ length x.node.clients → Run x dids y → AllThatNewcomersAreToldOver x dids y

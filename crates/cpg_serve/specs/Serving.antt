@@ -2,7 +2,7 @@
 use Rattle.std.specs.Prelude.{◌≡◌, ℕ, true, is_some, length, List, [], ◌∷◌, ◌++◌, Option, Some, None, OnOk, IsOkUnless, Result, Ok, Err}
 use Rattle.cpg_cred.specs.declared.credentials.Cred.{Cred}
 use Rattle.cpg_cred.specs.declared.refusals.Refusal.{Refusal}
-use Rattle.cpg_cred.specs.declared.refusals.Refusal.TheVariants.{Memory}
+use Rattle.cpg_cred.specs.declared.refusals.Refusal.TheVariants.{Memory, NoConnection}
 use Rattle.cpg_cred.specs.declared.refusals.Refused.{Refused}
 use Rattle.cpg_cred.specs.Listed.{Listed}
 use Rattle.cpg_ring.specs.declared.settings.Settings.{Settings}
@@ -56,8 +56,9 @@ pub record IsToldAt (conn : ℕ) (x : ServedValue) (old : DeskValue) (result : R
   pub greeting : y.greeting ≡ x.greeting
   pub others : y.desks ≡ with_item x.desks conn new
 
+-- the client was told so; where there never was such a client, there is nothing to tell
 abbrev pub IsCaughtUp : ℕ → ServedValue → Option DeskValue → Result Unit Refusal → ServedValue → Type 0
-IsCaughtUp conn x None result y = y ≡ x
+IsCaughtUp conn x None result y = (result ≡ Ok tt) × (y ≡ x)
 IsCaughtUp conn x (Some old) result y = IsToldAt conn x old result y
 
 -- how the clients of a node are greeted
@@ -85,6 +86,11 @@ IsAway x conn = open_client x.node conn ≡ None
 abbrev pub out_of : Option DeskValue → List ℕ
 out_of None = []
 out_of (Some d) = d.out
+
+-- why nothing was taken from that output: there never was such a client; else there was no memory
+abbrev pub IsUnwritten : Option DeskValue → Refusal → Type 0
+IsUnwritten None why = why ≡ NoConnection
+IsUnwritten (Some d) why = why ≡ Memory
 
 -- These bytes were written to the client: the first of what it was told, and nothing else changed.
 pub record IsWritten (conn : ℕ) (x : ServedValue) (bytes : List ℕ) (y : ServedValue) : Type 0 where

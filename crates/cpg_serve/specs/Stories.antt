@@ -20,7 +20,8 @@ use Rattle.cpg_serve.specs.Asking.{At, at_of, call_of, owed_to, refused_tell}
 use Rattle.cpg_serve.specs.Coming.{left_of, IsCounted}
 use Rattle.cpg_serve.specs.Serving.{ServedValue}
 
--- What was done for a client: a call was made, and its verdict is owed; an ask was answered at once, after so many places were delivered; an event was told.
+-- What was done for a client: a call was made, and its verdict is owed; an ask was answered at once, after so many
+-- places were delivered; an event was told.
 pub data Note : Type 0 where
   Made : Ask → Note
   Answered : ℕ → Ask → Tell → Note
@@ -51,7 +52,8 @@ tell_by owed (Made ask) = []
 tell_by owed (Answered places ask tell) = tell ∷ []
 tell_by owed (Happened event) = option_to_list (event_tell (slice_get owed 0) event)
 
--- what notes tell: the answers at once, the verdicts on calls, each the answer to the oldest call that has none, and the news
+-- what notes tell: the answers at once, the verdicts on calls, each the answer to the oldest call that has none, and
+-- the news
 abbrev pub tells_in : List Owed → List Note → List Tell
 tells_in owed [] = []
 tells_in owed (note ∷ notes) = tell_by owed note ++ tells_in (owed_by owed note) notes
@@ -65,7 +67,8 @@ IsPlain greeting asker records ask tell = (call_of ask.want ≡ None)
 abbrev pub IsRefused : Ask → Tell → Type 0
 IsRefused ask tell = (call : Call) × (why : Refusal) × (call_of ask.want ≡ Some call) × (call_refusal call ≡ Some why) × (tell ≡ refused_tell (owed_to ask) why)
 
--- a call is one that the ask asks for, and that a node takes; an answer at once is right over the places that were delivered then
+-- a call is one that the ask asks for, and that a node takes; an answer at once is right over the places that were
+-- delivered then
 abbrev pub IsNote : Greeting → Option Asker → List Record → Note → Type 0
 IsNote greeting asker records (Made ask) = (call : Call) × (call_of ask.want ≡ Some call) × (call_refusal call ≡ None)
 IsNote greeting asker records (Answered places ask tell) = (places ≤ length records) × (IsPlain greeting asker (take places records) ask tell ⊎ IsRefused ask tell)
@@ -78,8 +81,8 @@ IsRising least (Made ask ∷ notes) = IsRising least notes
 IsRising least (Answered places ask tell ∷ notes) = (least ≤ places) × IsRising places notes
 IsRising least (Happened event ∷ notes) = IsRising least notes
 
--- For as long as the client's connection is open: all that it was told are the spellings of what notes tell, whose asks are all that it asked, in order, and whose events
--- are its inbox, in order, but for what is left.
+-- For as long as the client's connection is open: all that it was told are the spellings of what notes tell, whose asks
+-- are all that it asked, in order, and whose events are its inbox, in order, but for what is left.
 pub record IsStory (conn : ℕ) (asks : List Ask) (written : List ℕ) (s : At) : Type 0 where
   pub notes : List Note
   pub each : AllByRecursion (IsNote s.desk.greeting (asker_of s.node conn) (records_of s.node)) notes

@@ -1,6 +1,9 @@
 //! One node with its clients.
 
-ghost use Rattle.std.specs.Prelude.{◌≡◌, ◌⊎◌, ◌≤◌, suc, length, take, Some, None, IfOk, IfErr, OnOk, OnErr, IsOkUnless, is_some, true};
+ghost use Rattle.std.specs.Prelude.{◌≡◌, ◌⊎◌, ◌≤◌, suc, length, take, [], Some, None, IfOk, IfErr, OnOk, OnErr, IsOkUnless, is_some, true, Ok, option_map};
+ghost use Rattle.cpg_entry.specs.declared.frames.Frame.TheVariants as frames;
+ghost use Rattle.cpg_wire.specs.declared.codes.Version.TheVariants.{Two};
+ghost use Rattle.cpg_wire.specs.Spelling.{spelling};
 ghost use Rattle.cpg_ring.specs.Worlds.{item, with_item};
 ghost use Rattle.cpg_node.specs.Nodes.{open_client};
 ghost use Rattle.cpg_node.specs.Calls.{connect_refusal, place_to_deliver, node_after_delivery, disconnected, closed_refusal};
@@ -8,8 +11,9 @@ ghost use Rattle.cpg_node.specs.Answers.{IsFrameAnswer};
 ghost use Rattle.cpg_ring.specs.Answers.{IsAnswer};
 ghost use Rattle.cpg_wire.specs.Reading.{frame_of};
 ghost use Rattle.cpg_serve.specs.Telling.{new_desk};
+ghost use Rattle.cpg_serve.specs.Stories.{StoryAt};
 ghost use Rattle.cpg_serve.specs.Runs.{IsFramed};
-ghost use Rattle.cpg_serve.specs.Serving.{served_of, AreAsMany, with_node, arrived, parted, out_of, IsServedMade, IsAway, IsHeard, IsCaughtUp, IsWritten, AreWritten};
+ghost use Rattle.cpg_serve.specs.Serving.{served_of, AreAsMany, with_node, arrived, parted, out_of, IsServedMade, IsAway, IsHeard, IsCaughtUp, IsWritten, IsUnwritten, AreWritten};
 
 use crate::desks::Desk;
 use crate::hearing::Heard;
@@ -76,6 +80,8 @@ impl Served {
         ensures ok { IfOk result (λ conn. (conn ≡ suc (length self.old.desks)) × (connect_refusal self.old.node cred ≡ None) × (self.new ≡ arrived self.old pid cred)) }
         ensures why { IfErr result (λ why. (why ≡ Refusal.Memory) ⊎ (connect_refusal self.old.node cred ≡ Some why)) }
         ensures err { OnErr result (self.new ≡ self.old) }
+        // It asked nothing yet, and nothing was written to it.
+        ensures begins { OnOk result (StoryAt (suc (length self.old.desks)) [] [] self.new) }
     {
         self.desks.reserve(1)?;
         let conn = self.node.connect(pid, cred)?;
@@ -101,6 +107,7 @@ impl Served {
         ensures ok { IfOk result (λ place. (place ≡ place_to_deliver self.old.node) × (self.new ≡ with_node self.old (node_after_delivery self.old.node))) }
         ensures err { OnErr result (self.new ≡ self.old) }
         ensures memory { IsOkUnless result Refusal.Memory }
+        ensures none { place_to_deliver self.old.node ≡ None → result ≡ Ok None }
     {
         self.node.deliver()
     }
@@ -113,9 +120,12 @@ impl Served {
         self.node.frame(bytes)
     }
 
-    /// The node's last token sent, to be sent again.
+    /// The node's last token sent, to be sent again; none where there is none.
     pub fn timer(&mut self) -> Result<Option<Bytes>, Refusal>
-        ensures { self.new ≡ self.old }
+        ensures ok { IfOk result (λ bytes. bytes ≡ option_map (λ t. spelling Two (frames.Token t)) self.old.node.ring.state.last_token) }
+        ensures same { self.new ≡ self.old }
+        ensures memory { IsOkUnless result Refusal.Memory }
+        ensures none { self.old.node.ring.state.last_token ≡ None → result ≡ Ok None }
     {
         self.node.timer()
     }
@@ -143,8 +153,10 @@ impl Served {
         }
     }
 
-    /// Where memory is asked for.
-    pub(crate) fn memory(&self) -> Global {
+    /// Where memory is asked for. There are as many desks as connections.
+    pub(crate) fn memory(&self) -> Global
+        ensures { length self.now.desks ≡ length self.now.node.clients }
+    {
         self.alloc
     }
 
@@ -157,12 +169,12 @@ impl Served {
     }
 
     /// Takes so many bytes at most from a client's output, to be written to it. NoConnection where there never was
-    /// such a client.
+    /// such a client, and else Memory.
     pub fn write(&mut self, conn: u16, most: usize) -> Result<Bytes, Refusal>
         ensures ok { IfOk result (λ bytes. IsWritten conn self.old bytes self.new) }
         ensures all { IfOk result (λ bytes. bytes ≡ take most (out_of (item self.old.desks conn))) }
         ensures err { OnErr result (self.new ≡ self.old) }
-        ensures why { IfErr result (λ why. (why ≡ Refusal.Memory) ⊎ (why ≡ Refusal.NoConnection)) }
+        ensures why { IfErr result (λ why. IsUnwritten (item self.old.desks conn) why) }
     {
         write_at(
             self.alloc,
@@ -245,7 +257,7 @@ fn write_at(
     ensures ok { IfOk result (λ bytes. IsWritten conn (served_of greeting node.now desks.old.items) bytes (served_of greeting node.now desks.new.items)) }
     ensures all { IfOk result (λ bytes. bytes ≡ take most (out_of (item desks.old.items conn))) }
     ensures err { OnErr result (desks.new.items ≡ desks.old.items) }
-    ensures why { IfErr result (λ why. (why ≡ Refusal.Memory) ⊎ (why ≡ Refusal.NoConnection)) }
+    ensures why { IfErr result (λ why. IsUnwritten (item desks.old.items conn) why) }
     ensures count { length desks.new.items ≡ length desks.old.items }
 {
     if conn == 0 {

@@ -30,7 +30,7 @@ mades notes = flat_map made_in notes
 abbrev pub told : List Note → ℕ
 told notes = verdicts (flat_map event_in notes)
 
-verdict_one : (e : Event) → verdicts (e ∷ []) ≡ cond (is_verdict e) 1 0
+pub verdict_one : (e : Event) → verdicts (e ∷ []) ≡ cond (is_verdict e) 1 0
 verdict_one (event.Verdict place v) = refl
 verdict_one (event.Message place g node pid m) = refl
 verdict_one (event.Change place g ms ls js) = refl

@@ -1,10 +1,9 @@
 -- So many calls are owed a verdict as have none, over a run.
-use Rattle.std.proofs.Common.{◌≡◌, ◌≢◌, ◌≤◌, ◌+◌, ℕ, Bool, true, false, cond, eqb, is_some, not, List, [], ◌∷◌, ◌++◌, length, take, drop, Option, Some, None, Result, refl, sym, ap, subst, ◌∙◌, append-nil, append_assoc, length-append, take-append-drop, arith}
+use Rattle.std.proofs.Common.{◌≡◌, ◌≢◌, ◌≤◌, ◌+◌, ℕ, Bool, true, false, cond, eqb, is_some, not, List, [], ◌∷◌, ◌++◌, length, take, drop, Option, Some, None, Result, refl, sym, ap, subst, ◌∙◌, append-nil, append_assoc, length-append, arith}
 use Rattle.std.specs.Prelude.{option_to_list}
 use Rattle.std.specs.List.{flat_map, fold}
 use Rattle.std.proofs.lemmas.Bool.{eqb-true}
 use Rattle.std.proofs.lemmas.Grind.{flat_map-append}
-use Rattle.std.proofs.lemmas.List.{append_cancel_right}
 use Rattle.std.proofs.lemmas.List.Elements.{filter-append}
 use Rattle.std.proofs.lemmas.Option.{same_Some}
 use Rattle.cpg_cred.specs.declared.credentials.Cred.{Cred}
@@ -12,17 +11,13 @@ use Rattle.cpg_cred.specs.declared.refusals.Refusal.{Refusal}
 use Rattle.cpg_cred.specs.declared.refusals.Refusal.TheVariants as refusal
 use Rattle.cpg_entry.specs.declared.calls.Call.{Call}
 use Rattle.cpg_record.specs.declared.events.Event.{Event}
-use Rattle.cpg_record.specs.declared.events.Event.TheVariants as event
-use Rattle.cpg_record.specs.declared.records.Record.{Record}
 use Rattle.cpg_record.specs.Events.{inbox}
 use Rattle.cpg_record.specs.Judging.{judged}
 use Rattle.cpg_ring.specs.Worlds.{item}
-use Rattle.cpg_ring.specs.Moves.{is_full}
-use Rattle.cpg_ring.specs.Rings.{full_refusal}
 use Rattle.cpg_ring.proofs.Lists.{item_with_same, item_with_other}
 use Rattle.cpg_node.specs.declared.connections.Client.{Client}
-use Rattle.cpg_node.specs.Nodes.{NodeValue, delivered_entries, inbox_of, open_client, if_open, conn_id, records_of}
-use Rattle.cpg_node.specs.Calls.{first_of, call_refusal, submit_refusal, submit_refusal_by, ended_by, node_after_delivery}
+use Rattle.cpg_node.specs.Nodes.{NodeValue, delivered_entries, inbox_of, open_client, if_open}
+use Rattle.cpg_node.specs.Calls.{submit_refusal, node_after_delivery}
 use Rattle.cpg_ask.specs.Asks.{Ask}
 use Rattle.cpg_ask.specs.Spelling.{spelling}
 use Rattle.cpg_serve.specs.declared.desks.Owed.{Owed}
@@ -32,35 +27,19 @@ use Rattle.cpg_serve.specs.Asking.{At, Turn, at_of, owed_to, call_of, goes_on, c
 use Rattle.cpg_serve.specs.Hearing.{AllTaken, asks_of}
 use Rattle.cpg_serve.specs.Coming.{left_of, rest_of, GoesOn}
 use Rattle.cpg_serve.specs.Serving.{ServedValue, with_node, arrived, parted, IsHeard, IsToldAt, IsCaughtUp, IsWritten}
-use Rattle.cpg_serve.specs.Stories.{IsQuiet, IsStory, StoryAt, told_next}
+use Rattle.cpg_serve.specs.Stories.{IsQuiet, StoryAt, told_next}
 use Rattle.cpg_serve.specs.Runs.{Did, Arrives, Hears, Frames, Delivers, Tells, Writes, Loses, Nothing, Goes, IsKeptBy, heard_by, written_by}
 use Rattle.cpg_serve.proofs.Growing.{inbox_delivered, left_delivered}
-use Rattle.cpg_serve.proofs.Noted.{greeting_asked, story_asked}
-use Rattle.cpg_serve.proofs.Running.{quiet_all, is_other, item_front, over_run}
+use Rattle.cpg_serve.proofs.Noted.{refused_by, taken_by, is_there, rest_quiet, inbox_quiet}
+use Rattle.cpg_serve.proofs.Kept.{story_heard}
+use Rattle.cpg_serve.proofs.Running.{quiet_same, quiet_all, quiet_ended, is_other, item_of, item_front, heard_front, over_run}
 use Rattle.cpg_serve_laws.specs.Meeting.{verdicts, is_taken, calls_among, IsHonest, IsEven, StaysEven}
-use Rattle.cpg_serve_laws.proofs.Counting.{verdicts_append}
+use Rattle.cpg_serve_laws.proofs.Counting.{verdicts_append, verdict_one}
 
 calls_append : (asks more : List Ask) → length (calls_among (asks ++ more)) ≡ length (calls_among asks) + length (calls_among more)
 calls_append asks more = ap (λ (l : List Ask). length l) (filter-append (λ (ask : Ask). is_taken (call_of ask.want)) asks more) ∙ length-append (calls_among asks) (calls_among more)
 
 -- ---- an ask
-
-first_refused : (a : Option Refusal) (full : Bool) (why : Refusal) → first_of a (cond full (Some refusal.QueueFull) None) ≡ Some why → goes_on (Some why) ≡ true → a ≡ Some why
-first_refused (Some w) full why e goes = e
-first_refused None true why e goes = let bad : false ≡ true = ap goes_on e ∙ goes in absurd cc
-first_refused None false why e goes = absurd cc
-
-refused_by : (x : NodeValue) (call : Call) (o : Option Client) (why : Refusal) → is_some o ≡ true → submit_refusal_by x call o ≡ Some why → goes_on (Some why) ≡ true → call_refusal call ≡ Some why
-refused_by x call None why alive e goes = absurd cc
-refused_by x call (Some c) why alive e goes = first_refused (call_refusal call) (is_full x.ring.state) why e goes
-
-first_none : (a b : Option Refusal) → first_of a b ≡ None → a ≡ None
-first_none None b e = refl
-first_none (Some w) b e = absurd cc
-
-taken_by : (x : NodeValue) (call : Call) (o : Option Client) → is_some o ≡ true → submit_refusal_by x call o ≡ None → call_refusal call ≡ None
-taken_by x call None alive e = absurd cc
-taken_by x call (Some c) alive e = first_none (call_refusal call) (full_refusal x.ring) e
 
 refused_owed : (conn : ℕ) (s : At) (owed : Owed) (call : Call) (why : Refusal) → (called_by conn s owed call (Some why)).desk.owed ≡ s.desk.owed
 refused_owed conn s owed call refusal.QueueFull = refl
@@ -116,13 +95,6 @@ all_owed conn s (turn ∷ turns) alive h =
 
 -- ---- what is quiet
 
-inbox_quiet : (conn : ℕ) (x y : NodeValue) → IsQuiet conn x y → inbox_of y conn ≡ inbox_of x conn
-inbox_quiet conn x y q = ap (λ (rs : List Record). inbox rs (conn_id y conn)) q.records ∙ ap (λ (n : ℕ). inbox (records_of x) (record { node = n; conn = conn })) q.node
-
-rest_quiet : (conn : ℕ) (x y : NodeValue) (o : Option Client) → inbox_of y conn ≡ inbox_of x conn → rest_of y conn o ≡ rest_of x conn o
-rest_quiet conn x y None e = refl
-rest_quiet conn x y (Some c) e = ap (drop c.taken) e
-
 left_quiet : (conn : ℕ) (x y : NodeValue) (d e : DeskValue) → e.next ≡ d.next → IsQuiet conn x y → left_of conn (at_of y e) ≡ left_of conn (at_of x d)
 left_quiet conn x y d e next q =
     ap (λ (o : Option Event). option_to_list o ++ rest_of y conn (open_client y conn)) next
@@ -136,28 +108,7 @@ even_quiet conn asks x z h e there owed next q =
     let c : verdicts (left_of conn (at_of z.node e)) ≡ verdicts (left_of conn (at_of x.node h.0)) = ap verdicts (left_quiet conn x.node z.node h.0 e next q) in
     (e, there, omega (arith, a, b, c, h.2))
 
-quiet_same : (conn : ℕ) (x : NodeValue) → IsQuiet conn x x
-quiet_same conn x = record { records = refl; node = refl; client = refl }
-
-quiet_ended : (conn by : ℕ) (x : NodeValue) (o : Option Client) → conn ≢ by → IsQuiet conn x (ended_by x by o)
-quiet_ended conn by x None h = quiet_same conn x
-quiet_ended conn by x (Some c) h = record { records = refl; node = refl; client = item_with_other x.clients by conn (record c { ended = true }) h }
-
-is_there : (o : Option Client) → is_some o ≡ true → (c : Client) × (o ≡ Some c)
-is_there (Some c) h = (c, refl)
-is_there None h = absurd cc
-
-item_of : (o : Option Client) → is_some (if_open o) ≡ true → (c : Client) × (o ≡ Some c)
-item_of (Some c) h = (c, refl)
-item_of None h = absurd cc
-
 -- ---- what is told
-
-pub verdict_one : (e : Event) → verdicts (e ∷ []) ≡ cond (is_verdict e) 1 0
-verdict_one (event.Verdict place v) = refl
-verdict_one (event.Message place g node pid m) = refl
-verdict_one (event.Change place g ms ls js) = refl
-verdict_one (event.RulesChanged place g) = refl
 
 fold_step : (b : Bool) (owed : List Owed) (es : List Event) (n : ℕ) → n ≡ cond b 1 0 + verdicts es → n ≤ length owed
     → (verdicts es ≤ length (cond b (drop 1 owed) owed) → length (fold owed_after (cond b (drop 1 owed) owed) es) + verdicts es ≡ length (cond b (drop 1 owed) owed))
@@ -209,9 +160,6 @@ unheard conn asks written x z did goes kept none k even =
     let same : List Ask → List ℕ → Type 0 = λ more bytes. StoryAt conn (asks ++ more) (written ++ bytes) z in
     ([], none, subst (λ (b : List ℕ). same [] b) (append-nil (written_by conn did)) (subst (λ (m : List Ask). same m (written_by conn did ++ [])) nothing s.2), subst (λ (l : List Ask). IsEven conn l z) (sym (append-nil asks)) even)
 
-heard_front : (bytes front : List ℕ) (count : ℕ) → bytes ≡ front ++ drop count bytes → take count bytes ≡ front
-heard_front bytes front count e = append_cancel_right (take count bytes) front (drop count bytes) (take-append-drop count bytes ∙ e)
-
 heard_own : (conn : ℕ) (asks : List Ask) (written : List ℕ) (x z : ServedValue) (bytes : List ℕ) (count : ℕ) (stop : Stop) → IsHeard conn x bytes count stop z → StoryAt conn asks written x → IsEven conn asks x
     → (more : List Ask) × (take count bytes ≡ flat_map spelling more) × StoryAt conn (asks ++ more) (written ++ []) z × IsEven conn (asks ++ more) z
 heard_own conn asks written x z bytes count stop g k h =
@@ -225,14 +173,7 @@ heard_own conn asks written x z bytes count stop g k h =
     ap (λ (t : At). length t.desk.owed) g.did.so.done ∙ all_owed conn (at_of x.node g.old) turns g.alive g.did.so.taken ∙ ap (λ (d : DeskValue). length d.owed + length (calls_among more)) same in
     let b : verdicts (inbox_of z.node conn) ≡ verdicts (inbox_of x.node conn) = ap verdicts (inbox_quiet conn x.node z.node q) in
     let c : verdicts (left_of conn (at_of z.node g.new)) ≡ verdicts (left_of conn (at_of x.node h.0)) = ap verdicts (left_quiet conn x.node z.node h.0 g.new next q) in
-    let own : g.old ≡ k.desk = same_Some g.old k.desk (sym g.there ∙ k.there) in
-    let before : IsStory conn asks written (at_of x.node g.old) = subst (λ (d : DeskValue). IsStory conn asks written (at_of x.node d)) (sym own) k.story in
-    let after : StoryAt conn (asks ++ more) written z = record {
-      desk = g.new;
-      there = there;
-      greeting = ap (λ (t : At). t.desk.greeting) g.did.so.done ∙ greeting_asked conn (at_of x.node g.old) turns ∙ ap (λ (d : DeskValue). d.greeting) own ∙ k.greeting ∙ sym g.greeting;
-      story = subst (λ (t : At). IsStory conn (asks ++ more) written t) (sym g.did.so.done) (story_asked conn asks turns written (at_of x.node g.old) g.did.so.taken before);
-    } in (
+    let after : StoryAt conn (asks ++ more) written z = story_heard conn asks written x z bytes count stop g k in (
       more,
       heard_front bytes (flat_map spelling more) count g.did.so.parts,
       subst (λ (w : List ℕ). StoryAt conn (asks ++ more) w z) (sym (append-nil written)) after,
@@ -252,7 +193,7 @@ heard_one conn by asks written x z bytes count stop false e g k h =
     (unheard conn asks written x z (Hears by bytes count stop) g tt (rw e refl) k (heard_other conn by asks x z bytes count stop (is_other by conn e) g h))
 
 told_other : (conn by : ℕ) (asks : List Ask) (x z : ServedValue) (result : Result Unit Refusal) (o : Option DeskValue) → conn ≢ by → IsCaughtUp by x o result z → IsEven conn asks x → IsEven conn asks z
-told_other conn by asks x z result None is g h = subst (IsEven conn asks) (sym g) h
+told_other conn by asks x z result None is g h = subst (IsEven conn asks) (sym g.1) h
 told_other conn by asks x z result (Some old) is g h =
     even_quiet conn asks x z h h.0 (ap (λ ds. item ds conn) g.others ∙ item_with_other x.desks by conn g.new is ∙ h.1) refl refl
     (record { records = rw g.goes.ring refl; node = ap (λ r. r.node) g.goes.ring; client = g.goes.others conn is })

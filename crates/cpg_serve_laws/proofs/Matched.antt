@@ -1,5 +1,5 @@
 -- Each verdict answers the call that it is on.
-use Rattle.std.proofs.Common.{◌≡◌, ◌+◌, ℕ, suc, false, List, [], ◌∷◌, ◌++◌, map, length, take, Some, refl, sym, ap, subst, ◌∙◌, length-append, arith}
+use Rattle.std.proofs.Common.{◌≡◌, ◌+◌, ℕ, suc, false, List, [], ◌∷◌, ◌++◌, map, length, take, Some, sym, ap, subst, ◌∙◌, length-append, arith}
 use Rattle.std.specs.List.{flat_map, slice_get}
 use Rattle.cpg_entry.specs.declared.entries.Entry.{Entry}
 use Rattle.cpg_record.specs.declared.events.Event.{Event}
@@ -11,6 +11,7 @@ use Rattle.cpg_node.specs.declared.connections.Client.{Client}
 use Rattle.cpg_node.specs.Nodes.{inbox_of, open_client, if_open, records_of}
 use Rattle.cpg_node.specs.Calls.{connected}
 use Rattle.cpg_ask.specs.Asks.{Ask}
+use Rattle.cpg_ask.proofs.Mapped.{length_mapped}
 use Rattle.cpg_serve.specs.declared.desks.Owed.{Owed}
 use Rattle.cpg_serve.specs.Telling.{DeskValue, new_desk}
 use Rattle.cpg_serve.specs.Answering.{asker_of}
@@ -23,10 +24,6 @@ use Rattle.cpg_serve_laws.specs.Orders.{conn_at, admitted_of, AreInOrder, Verdic
 use Rattle.cpg_serve_laws.specs.Meeting.{verdicts, calls_among, AnswersInOrder, EvenBegins, HonestInAWorld}
 use Rattle.cpg_serve_laws.proofs.Counting.{mades, told, verdicts_append, made_asks, answered_first}
 
-mapped : {X Y : Type 0} (f : X → Y) (xs : List X) → length (map f xs) ≡ length xs
-mapped f [] = refl
-mapped f (x ∷ xs) = ap suc (mapped f xs)
-
 pub answers_in_order : AnswersInOrder
 answers_in_order conn asks written x k h =
     let notes : List Note = k.story.notes in
@@ -38,7 +35,7 @@ answers_in_order conn asks written x k h =
     let events : verdicts (inbox_of x.node conn) ≡ told notes + verdicts left = sym (ap verdicts k.story.events) ∙ verdicts_append (flat_map event_in notes) left in
     let made : mades notes ≡ map owed_to (calls_among asks) =
     made_asks k.desk.greeting (asker_of x.node conn) (records_of x.node) notes k.story.each ∙ ap (λ (l : List Ask). map owed_to (calls_among l)) k.story.asked in
-    let count : length (mades notes) ≡ length (calls_among asks) = ap (λ (l : List Owed). length l) made ∙ mapped owed_to (calls_among asks) in
+    let count : length (mades notes) ≡ length (calls_among asks) = ap (λ (l : List Owed). length l) made ∙ length_mapped owed_to (calls_among asks) in
     answered_first [] notes (omega (arith, even, owed, events, count)) ∙ ap (take (told notes)) made
 
 pub even_begins : EvenBegins
@@ -56,7 +53,7 @@ module _ (in_order : VerdictsInOrder) where
       let n : ℕ = x.node.ring.node in
       let order : AreInOrder (admitted_of w events n conn) (records_of x.node) (conn_at n conn) = in_order w events answers settings reached replies n conn x.node at in
       let own : List Record = own_records (records_of x.node) (conn_at n conn) in
-      let judged : verdicts (inbox_of x.node conn) ≡ length own = ap (λ (l : List Verdict). length l) order.verdicts ∙ mapped (λ (r : Record). r.verdict) own in
+      let judged : verdicts (inbox_of x.node conn) ≡ length own = ap (λ (l : List Verdict). length l) order.verdicts ∙ length_mapped (λ (r : Record). r.verdict) own in
       let placed : length (admitted_of w events n conn) ≡ length own + length order.waiting =
-      ap (λ (l : List Entry). length l) order.entries ∙ length-append (map (λ (r : Record). r.entry) own) order.waiting ∙ ap (λ (k : ℕ). k + length order.waiting) (mapped (λ (r : Record). r.entry) own) in
+      ap (λ (l : List Entry). length l) order.entries ∙ length-append (map (λ (r : Record). r.entry) own) order.waiting ∙ ap (λ (k : ℕ). k + length order.waiting) (length_mapped (λ (r : Record). r.entry) own) in
       omega (arith, judged, placed, few)

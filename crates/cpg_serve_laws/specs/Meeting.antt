@@ -43,7 +43,8 @@ answered_in owed (Made ask ∷ notes) = answered_in (owed ++ owed_to ask ∷ [])
 answered_in owed (Answered places ask tell ∷ notes) = answered_in owed notes
 answered_in owed (Happened event ∷ notes) = (if is_verdict event then take 1 owed else []) ++ answered_in (owed_after owed event) notes
 
--- No more of the connection's entries were placed than it made calls: so it is at a node that hears only what its ring sent.
+-- No more of the connection's entries were placed than it made calls: so it is at a node that hears only what its ring
+-- sent.
 abbrev pub IsHonest : ℕ → List Ask → ServedValue → Type 0
 IsHonest conn asks x = verdicts (inbox_of x.node conn) ≤ length (calls_among asks)
 
@@ -72,7 +73,8 @@ StaysEven = (conn : ℕ) (asks : List Ask) (written : List ℕ) (x y : ServedVal
 abbrev pub EvenBegins : Type 0
 EvenBegins = (pid : ℕ) (cred : Cred) (x : ServedValue) → length x.desks ≡ length x.node.clients → IsEven (suc (length x.desks)) [] (arrived x pid cred)
 
--- At a node of a world of nodes, where no more was admitted of the connection than calls that it made, no more of its entries were placed.
+-- At a node of a world of nodes, where no more was admitted of the connection than calls that it made, no more of its
+-- entries were placed.
 abbrev pub HonestInAWorld : Type 0
 HonestInAWorld = (w : WorldValue) (events : List WorldEvent) (answers : List Answer) → IsSettings w.settings → Reached w → AreReplies w events answers
     → (conn : ℕ) (asks : List Ask) (x : ServedValue) → item (runs w events).nodes x.node.ring.node ≡ Some x.node

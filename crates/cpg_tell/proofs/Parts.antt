@@ -12,19 +12,19 @@ use Rattle.cpg_ask.proofs.Littles.{u32_reads}
 use Rattle.cpg_tell.specs.declared.words.Words.{Words}
 use Rattle.cpg_tell.specs.Reading.{status_of, status_at, words_at}
 
-status_small : (s : Status) → IsU32 (status_number s)
-status_small status.Fine = omega arith
-status_small status.Library = omega arith
-status_small status.Version = omega arith
-status_small status.TryAgain = omega arith
-status_small status.Param = omega arith
-status_small status.Memory = omega arith
-status_small status.Access = omega arith
-status_small status.NotExist = omega arith
-status_small status.LongName = omega arith
-status_small status.Exist = omega arith
-status_small status.Space = omega arith
-status_small status.TooBig = omega arith
+pub status_fits : (s : Status) → IsU32 (status_number s)
+status_fits status.Fine = omega arith
+status_fits status.Library = omega arith
+status_fits status.Version = omega arith
+status_fits status.TryAgain = omega arith
+status_fits status.Param = omega arith
+status_fits status.Memory = omega arith
+status_fits status.Access = omega arith
+status_fits status.NotExist = omega arith
+status_fits status.LongName = omega arith
+status_fits status.Exist = omega arith
+status_fits status.Space = omega arith
+status_fits status.TooBig = omega arith
 
 pub status_again : (s : Status) → status_of (status_number s) ≡ Some s
 unfolding status_of
@@ -48,11 +48,8 @@ number_again n rest h = u32_reads.again n rest h
 pub status_at_again : (s : Status) (rest : List ℕ) → status_at (number (status_number s) ++ rest) ≡ Some (s, rest)
 unfolding status_at
 status_at_again s rest =
-    ap (λ (o : Option (ℕ × List ℕ)). o >>= λ n. status_of n.0 >>= λ t. Some (t, n.1)) (number_again (status_number s) rest (status_small s))
+    ap (λ (o : Option (ℕ × List ℕ)). o >>= λ n. status_of n.0 >>= λ t. Some (t, n.1)) (number_again (status_number s) rest (status_fits s))
     ∙ ap (λ (o : Option Status). o >>= λ t. Some (t, rest)) (status_again s)
-
-pub status_fits : (s : Status) → IsU32 (status_number s)
-status_fits s = status_small s
 
 abbrev pub words_bytes : Words → List ℕ
 words_bytes w = little_bytes 4 w.first ++ (little_bytes 4 w.second ++ (little_bytes 4 w.third ++ little_bytes 4 w.fourth))

@@ -1,8 +1,8 @@
 -- What is told is read again.
-use Rattle.std.proofs.Common.{◌≡◌, ℕ, zero, suc, ◌+◌, ◌*◌, ◌≤◌, false, ltb, List, ◌++◌, length, take, drop, replicate, Option, Some, refl, sym, ap, ◌∙◌, append_assoc, length-append, arith}
+use Rattle.std.proofs.Common.{◌≡◌, ℕ, ◌+◌, ◌*◌, ◌≤◌, false, ltb, List, ◌++◌, length, take, drop, replicate, Option, Some, refl, sym, ap, ◌∙◌, append_assoc, length-append, arith}
 use Rattle.std.specs.List.{flat_map}
 use Rattle.std.proofs.lemmas.Bool.{le-ltb}
-use Rattle.std.proofs.lemmas.List.{take_at, drop_at}
+use Rattle.std.proofs.lemmas.List.{take_at, drop_at, length-replicate}
 use Rattle.byteorder.specs.Endian.{little_bytes}
 use Rattle.cpg_entry.specs.declared.messages.TheConstants.{MOST_MESSAGE_BYTES}
 use Rattle.cpg_wire.specs.Reading.{◌>>=◌}
@@ -22,7 +22,7 @@ use Rattle.cpg_tell.specs.declared.words.Words.{Words}
 use Rattle.cpg_tell.specs.declared.tidings.TheConstants.{MOST_TELL}
 use Rattle.cpg_tell.specs.Kinds.{kind_of}
 use Rattle.cpg_tell.specs.Tidings as tidings
-use Rattle.cpg_tell.specs.Tidings.{Tiding, filling, tiding_of}
+use Rattle.cpg_tell.specs.Tidings.{filling, tiding_of}
 use Rattle.cpg_tell.specs.Reading.{answer_in, greeting_of, greeting_in, members_in, groups_in, denied_in, message_of, message_in, change_of, change_in, told_as, tiding_in, Whole, behind, read_of}
 use Rattle.cpg_tell.specs.Streams.{TellFits, IsTell}
 use Rattle.cpg_tell.proofs.Parts.{status_again, status_fits, number_again, status_at_again, words_reads, processes_length}
@@ -32,10 +32,6 @@ Number = ℕ × List ℕ
 
 abbrev Text : Type 0
 Text = List ℕ × List ℕ
-
-replicated : (n x : ℕ) → length (replicate n x) ≡ n
-replicated zero x = refl
-replicated (suc n) x = ap suc (replicated n x)
 
 answer_again : (code : AskCode) (tag : ℕ) (s : Status) (z : List ℕ) → answer_in code tag (number (status_number s) ++ z) ≡ Some (tidings.Answer code tag s)
 unfolding answer_in
@@ -80,7 +76,7 @@ message_behind node pid m g z =
     let cut : (filled_up m ++ g) ++ z ≡ m ++ (zeros ++ (g ++ z)) = append_assoc (filled_up m) g z ∙ append_assoc m zeros (g ++ z) in
     let first : text_at (length m) ((filled_up m ++ g) ++ z) ≡ Some (m, zeros ++ (g ++ z)) = ap (text_at (length m)) cut ∙ (text_reads (length m)).again m (zeros ++ (g ++ z)) refl in
     ap (λ (o : Option Text). o >>= λ a. text_at (gap (length m)) a.1 >>= λ b. text_at (length g) b.1 >>= λ c. Some (tidings.Message node pid c.0 a.0)) first
-    ∙ (ap (λ (o : Option Text). o >>= λ b. text_at (length g) b.1 >>= λ c. Some (tidings.Message node pid c.0 m)) ((text_reads (gap (length m))).again zeros (g ++ z) (replicated (gap (length m)) 0))
+    ∙ (ap (λ (o : Option Text). o >>= λ b. text_at (length g) b.1 >>= λ c. Some (tidings.Message node pid c.0 m)) ((text_reads (gap (length m))).again zeros (g ++ z) (length-replicate (gap (length m)) 0))
     ∙ ap (λ (o : Option Text). o >>= λ c. Some (tidings.Message node pid c.0 m)) ((text_reads (length g)).again g z refl))
 
 message_again : (node pid : ℕ) (g m z : List ℕ) → TellFits (Message node pid g m) → message_in (tell_content (Message node pid g m) ++ z) ≡ Some (tidings.Message node pid g m)
@@ -161,7 +157,7 @@ unfolding read_of
 read_again tell more h =
     let text : List ℕ = filled_up (tell_content tell) in
     let n : ℕ = length (tell_content tell) + gap (length (tell_content tell)) in
-    let long : length text ≡ n = length-append (tell_content tell) (filling tell) ∙ ap (λ (k : ℕ). length (tell_content tell) + k) (replicated (gap (length (tell_content tell))) 0) in
+    let long : length text ≡ n = length-append (tell_content tell) (filling tell) ∙ ap (λ (k : ℕ). length (tell_content tell) + k) (length-replicate (gap (length (tell_content tell))) 0) in
     let short : ltb MOST_TELL n ≡ false = le-ltb _ _ h.short in
     let found : text_at n (text ++ more) ≡ Some (text, more) = (text_reads n).again text more long in
     let count : 8 + n ≡ length (tell_bytes tell) = omega (arith, long) in

@@ -8,8 +8,9 @@ use Rattle.cpg_ask.specs.Tells as tells
 use Rattle.cpg_tell.specs.declared.tidings.Told.{Told}
 use Rattle.cpg_tell.specs.declared.tidings.Told.TheVariants as views
 
--- the answer to an ask; to Hello, with node, nodes, the longest message and the ring; to Members and to Groups, with a count and bytes;
--- that a message was denied, by which verdict and rule; a message of the group; a change of it, with three counts and bytes
+-- the answer to an ask; to Hello, with node, nodes, the longest message and the ring; to Members and to Groups, with a
+-- count and bytes; that a message was denied, by which verdict and rule; a message of the group; a change of it, with
+-- three counts and bytes
 pub data Tiding : Type 0 where
   Answer : AskCode → ℕ → Status → Tiding
   Greeting : ℕ → Status → ℕ → ℕ → ℕ → ℕ → Tiding
