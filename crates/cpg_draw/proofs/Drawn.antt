@@ -1,5 +1,5 @@
 -- commands drawn, one after the other
-use Rattle.std.proofs.Common.{◌≡◌, ℕ, ◌+◌, ◌<◌, ◌≤◌, List, [], ◌∷◌, ◌++◌, length, drop, get_or, codes, Option, Some, Result, Ok, Err, refl, sym, ap, subst, ◌∙◌, append_assoc, append-nil}
+use Rattle.std.proofs.Common.{◌≡◌, ℕ, ◌+◌, ◌<◌, ◌≤◌, List, [], ◌∷◌, ◌++◌, length, drop, get_or, codes, Some, Result, Ok, Err, sym, ap, subst, ◌∙◌, append-nil}
 use Rattle.std.specs.List.{concat, flat_map}
 use Rattle.std.specs.Prelude.{OnOk}
 use Rattle.cpg_cred.specs.declared.refusals.Refusal.{Refusal}
@@ -11,7 +11,7 @@ use Rattle.cpg_step.specs.Lines.{answer_line}
 use Rattle.cpg_draw.proofs.Joined.{joined, columned, rows_joined}
 use Rattle.cpg_draw.specs.Arrows.{arrows_of, seq_brought, with_brought}
 use Rattle.cpg_draw.specs.Columns.{columns}
-use Rattle.cpg_draw.specs.Words.{brought_text, sent_text, lost_texts}
+use Rattle.cpg_draw.specs.Words.{brought_text, sent_text, misses_text}
 use Rattle.cpg_world.proofs.Running.{as_many_nodes}
 use Rattle.cpg_world_laws.specs.declared.events.WorldEvent.{WorldEvent}
 use Rattle.cpg_world_laws.specs.Worlds.{WorldValue, node_in, happens}
@@ -26,7 +26,7 @@ use Rattle.cpg_draw.specs.Telling.{IsTold}
 -- the parts of what an event's row says, put one after the other
 pub row_told : (row : ℕ) (arrows : List Arrow) (w v : WorldValue) (e : WorldEvent) (x : NodeValue) (answer : Answer) (old second new : List ℕ) (known sent later : List Arrow)
     → IsReply w e answer → v ≡ happens w e
-    → known ≡ with_brought arrows (brings e)
+    → known ≡ with_brought arrows (brings e) (node_in e)
     → sent ≡ arrows_of (length w.sent + 1) row (node_in e) (seq_brought (item w.sent (brings e))) (drop (length w.sent) v.sent)
     → item v.nodes (node_in e) ≡ Some x
     → second ≡ old ++ (row_text row ++ event_text e ++ brought_text (item arrows (brings e)) ++ flat_map sent_text sent ++ state_text (Some x) ++ codes ": ")
@@ -38,7 +38,7 @@ row_told row arrows w v e x answer old second new known sent later replied happe
       answer = answer;
       replied = replied;
       happened = happened;
-      noted = joint ∙ (ap (λ x. x ++ sent) noted ∙ ap (λ x. with_brought arrows (brings e) ++ x) begun);
+      noted = joint ∙ (ap (λ x. x ++ sent) noted ∙ ap (λ x. with_brought arrows (brings e) (node_in e) ++ x) begun);
       put = joined old (row_text row) (event_text e) (brought_text (item arrows (brings e)))
           (flat_map sent_text sent) (flat_map sent_text (sent_by row w e)) (state_text (Some x)) (state_text (item (happens w e).nodes (node_in e)))
           (codes ": ") (answer_line answer) second new (ap (flat_map sent_text) begun) state said answered;
@@ -90,16 +90,16 @@ pub step_rows : (commands : List Command) (i : ℕ) (c : Command) (arrows then f
 step_rows commands i c arrows then first w v start old new begun within e known goes whole rest =
     known whole (subst (λ cs. AreRows (i + 1) arrows w cs old whole) (sym (drop_more commands i c within ∙ ap (λ x. x ∷ drop (i + 1) commands) e)) (goes (drop (i + 1) commands) whole rest))
 
--- no command is left, and the lost frames are put
+-- no command is left, and what did not come is put
 pub last_rows : (commands : List Command) (i : ℕ) (arrows first : List Arrow) (w start : WorldValue) (old new begun : List ℕ)
     → length commands ≤ i
     → ((whole : List ℕ) → AreRows (i + 1) arrows w (drop i commands) old whole → AreRows 1 first start commands begun whole)
-    → new ≡ old ++ lost_texts arrows → AreRows 1 first start commands begun new
+    → new ≡ old ++ misses_text (length w.nodes) arrows → AreRows 1 first start commands begun new
 last_rows commands i arrows first w start old new begun all known lost =
     known new (subst (λ cs. AreRows (i + 1) arrows w cs old new) (sym (drop_all i commands all)) ended)
   where
     ended : AreRows (i + 1) arrows w [] old new
-    ended = record { answers = []; replies = tt; put = lost ∙ ap (λ x. old ++ x) (sym (append-nil (lost_texts arrows))) }
+    ended = record { answers = []; replies = tt; put = lost ∙ ap (λ x. old ++ x) (sym (append-nil (misses_text (length w.nodes) arrows))) }
 
 -- the head and the rows are the picture
 pub picture_drawn : (w : WorldValue) (commands : List Command) (arrows : List Arrow) (top text : List ℕ)

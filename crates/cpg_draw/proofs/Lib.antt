@@ -1,5 +1,6 @@
 pub mod Drawn
 pub mod Joined
-pub mod Marks
+pub mod Overtaken
 pub mod PictureDrawn
 pub mod Sent
+pub mod Unions

@@ -9,14 +9,15 @@ use Rattle.cpg_world_laws.specs.Worlds.{WorldValue, node_in, happens}
 use Rattle.cpg_step.specs.declared.commands.Look.{Look as LookValue}
 use Rattle.cpg_step.specs.declared.commands.Command.{Command}
 use Rattle.cpg_step.specs.declared.commands.Command.TheVariants.{Act, Look}
-use Rattle.cpg_step.specs.Running.{after}
 use Rattle.cpg_draw.specs.declared.arrows.Arrow.{Arrow}
 use Rattle.cpg_draw.specs.Rows.{brings, first_arrows, row_text, look_at, look_text, arrows_after}
 use Rattle.cpg_draw.specs.Words.{sent_text}
+use Rattle.cpg_draw.specs.declared.misses.Miss.{Miss}
+use Rattle.cpg_draw.specs.Misses.{misses_in}
 use Rattle.cpg_draw.specs.Telling.{IsTold}
 use Rattle.cpg_draw.specs.declared.svg.layout.TheConstants.{LEAST_LETTERS}
 use Rattle.cpg_draw.specs.declared.svg.sheets.Sheet.{Sheet}
-use Rattle.cpg_draw.specs.PictureArrows.{arrow_shape, lost_in}
+use Rattle.cpg_draw.specs.PictureArrows.{arrow_shape}
 use Rattle.cpg_draw.specs.PictureRows.{Row, line_of, dot_of, words_of, row_with, act_row, look_row, start_row, rows_of, arrows_past, most_letters, shapes_of}
 use Rattle.cpg_draw.specs.Pictures.{picture_of, picture_with, IsPicture}
 use Rattle.cpg_draw.specs.PictureSteps.{IsPut, IsActed, AreRows, StandsBefore}
@@ -121,13 +122,13 @@ last_rows commands i arrows first w start old begun all known =
     ended : AreRows (i + 1) arrows w [] old arrows w old
     ended = record { answers = []; replies = tt; put = sym (append-nil old.text.items); letters = refl; ended = refl; world_after = refl }
 
--- the first row, the rows and the lost frames are the picture
-pub picture_drawn : (w v : WorldValue) (commands : List Command) (arrows last lost : List Arrow) (empty top sheet : Sheet) (text : List ℕ)
+-- the first row, the rows and what did not come are the picture
+pub picture_drawn : (w v : WorldValue) (commands : List Command) (arrows last : List Arrow) (misses : List Miss) (empty top sheet : Sheet) (text : List ℕ)
     → arrows ≡ first_arrows w → empty.text.items ≡ [] → empty.letters ≡ LEAST_LETTERS
     → IsPut (row_with (length w.nodes) 0 [] [] (codes "0 start" ++ flat_map sent_text arrows)) empty top
-    → AreRows 1 arrows w commands top last v sheet → lost ≡ lost_in last
-    → text ≡ picture_of (length commands) sheet.letters sheet.text.items v lost → IsPicture w commands text
-picture_drawn w v commands arrows last lost empty top sheet text known none least put rows found drawn =
+    → AreRows 1 arrows w commands top last v sheet → misses ≡ misses_in (length v.nodes) last
+    → text ≡ picture_of (length commands) sheet.letters sheet.text.items v misses → IsPicture w commands text
+picture_drawn w v commands arrows last misses empty top sheet text known none least put rows found drawn =
     let start : IsPut (start_row w) empty top
     = subst (λ x. IsPut (row_with (length w.nodes) 0 [] [] (codes "0 start" ++ flat_map sent_text x)) empty top) known put in
     let there : AreRows 1 (first_arrows w) w commands top last v sheet = subst (λ x. AreRows 1 x w commands top last v sheet) known rows in
@@ -136,12 +137,12 @@ picture_drawn w v commands arrows last lost empty top sheet text known none leas
     = there.letters ∙ ap (λ n. most_letters n later) (start.letters ∙ ap (λ n. max n (length (start_row w).words)) least) in
     let shapes : sheet.text.items ≡ shapes_of (start_row w ∷ later)
     = there.put ∙ ap (λ x. x ++ shapes_of later) (start.put ∙ ap (λ x. x ++ (start_row w).shape) none) in
-    let gone : lost ≡ lost_in (arrows_past 1 (first_arrows w) w commands) = found ∙ ap lost_in there.ended in
+    let gone : misses ≡ misses_in (length v.nodes) (arrows_past 1 (first_arrows w) w commands) = found ∙ ap (misses_in (length v.nodes)) there.ended in
     record {
       answers = there.answers;
       replies = there.replies;
-      drawn = drawn ∙ (ap (λ n. picture_of (length commands) n sheet.text.items v lost) letters
-          ∙ (ap (λ x. picture_of (length commands) (most_letters LEAST_LETTERS (start_row w ∷ later)) x v lost) shapes
-          ∙ (ap (λ x. picture_with (length commands) (start_row w ∷ later) x lost) there.world_after
-          ∙ ap (λ x. picture_with (length commands) (start_row w ∷ later) (after w commands) x) gone)));
+      drawn = drawn ∙ (ap (λ n. picture_of (length commands) n sheet.text.items v misses) letters
+          ∙ (ap (λ x. picture_of (length commands) (most_letters LEAST_LETTERS (start_row w ∷ later)) x v misses) shapes
+          ∙ (ap (λ x. picture_of (length commands) (most_letters LEAST_LETTERS (start_row w ∷ later)) (shapes_of (start_row w ∷ later)) v x) gone
+          ∙ ap (λ x. picture_with (length commands) (start_row w ∷ later) x (arrows_past 1 (first_arrows w) w commands)) there.world_after)));
     }

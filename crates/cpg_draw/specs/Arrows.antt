@@ -1,11 +1,12 @@
 -- frames as arrows
-use Rattle.std.specs.Prelude.{ℕ, zero, suc, ◌+◌, Bool, true, false, not, List, [], ◌∷◌, ◌++◌, nat_le, Option, Some, None, if◌then◌else◌}
+use Rattle.std.specs.Prelude.{ℕ, ◌+◌, List, [], ◌∷◌, nat_le, Option, Some, None, if◌then◌else◌}
 use Rattle.cpg_entry.specs.declared.frames.Frame.{Frame}
 use Rattle.cpg_entry.specs.declared.frames.Frame.TheVariants as frame
 use Rattle.cpg_ring.specs.Worlds.{item, with_item}
 use Rattle.cpg_draw.specs.declared.arrows.Arrow.{Arrow}
 use Rattle.cpg_draw.specs.declared.arrows.Kind.{Kind}
 use Rattle.cpg_draw.specs.declared.arrows.Kind.TheVariants.{Data, Again, Token}
+use Rattle.cpg_draw.specs.Sets.{with_node}
 
 -- What a frame is in a row that brought a token of that seq: the token; or data, served again where its place is not above that seq.
 abbrev pub kind_of : ℕ → Frame → Kind
@@ -24,7 +25,7 @@ seq_of (frame.Packet packet) = 0
 
 -- The arrow of the frame of that number: it begins at the row whose reply sent it, in the column of the node that sent it.
 abbrev pub arrow_of : ℕ → ℕ → ℕ → ℕ → Frame → Arrow
-arrow_of number row node seq f = record { number = number; row = row; node = node; kind = kind_of seq f; mark = mark_of f; brought = false }
+arrow_of number row node seq f = record { number = number; row = row; node = node; kind = kind_of seq f; mark = mark_of f; came = 0 }
 
 -- the arrows of frames that one row sent, the first of which has that number
 abbrev pub arrows_of : ℕ → ℕ → ℕ → ℕ → List Frame → List Arrow
@@ -46,11 +47,11 @@ abbrev pub seq_brought : Option Frame → ℕ
 seq_brought None = 0
 seq_brought (Some f) = seq_of f
 
--- the arrow, if there is one, ends in a row
-abbrev pub with_end : List Arrow → ℕ → Option Arrow → List Arrow
-with_end arrows number None = arrows
-with_end arrows number (Some a) = with_item arrows number (record a { brought = true })
+-- the arrow, if there is one, ends in a row of that node
+abbrev pub with_end : List Arrow → ℕ → ℕ → Option Arrow → List Arrow
+with_end arrows number node None = arrows
+with_end arrows number node (Some a) = with_item arrows number (record a { came = with_node a.came node })
 
--- the arrows, where the frame of that number is brought
-abbrev pub with_brought : List Arrow → ℕ → List Arrow
-with_brought arrows number = with_end arrows number (item arrows number)
+-- the arrows, where the frame of that number is brought to that node
+abbrev pub with_brought : List Arrow → ℕ → ℕ → List Arrow
+with_brought arrows number node = with_end arrows number node (item arrows number)

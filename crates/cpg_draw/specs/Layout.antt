@@ -35,7 +35,8 @@ number_x node = x_of node - 4
 abbrev pub number_y : ℕ
 number_y = TOP - 24
 
--- The marks of a row's lost frames, from 0 on, stand side by side right of their sender's column; after so many a line below.
+-- The marks of a row's frames that did not come, from 0 on, stand side by side right of their sender's column;
+-- after so many a line below.
 abbrev pub mark_right : ℕ → ℕ
 mark_right place = 11 + 8 * (place % MARKS)
 

@@ -2,12 +2,15 @@ pub mod Arrows
 pub mod Columns
 pub mod Drawing
 pub mod Layout
+pub mod Misses
+pub mod Passed
 pub mod PictureArrows
 pub mod PictureDrawing
 pub mod PictureRows
 pub mod PictureSteps
 pub mod Pictures
 pub mod Rows
+pub mod Sets
 pub mod Shapes
 pub mod Steps
 pub mod Telling

@@ -1,16 +1,18 @@
--- The picture of a run as one SVG: rows, and then the marks of the frames that were lost.
+-- The picture of a run as one SVG: rows, and then the marks of the frames that did not come.
 use Rattle.std.specs.Prelude.{ℕ, zero, suc, ◌≡◌, ◌+◌, List, [], ◌∷◌, ◌++◌, codes, decimal, length}
 use Rattle.cpg_world_laws.specs.Worlds.{WorldValue}
 use Rattle.cpg_world_laws.specs.Replies.{Answer, AreReplies}
 use Rattle.cpg_step.specs.declared.commands.Command.{Command}
 use Rattle.cpg_step.specs.Running.{events_in, after}
 use Rattle.cpg_draw.specs.declared.arrows.Arrow.{Arrow}
+use Rattle.cpg_draw.specs.declared.misses.Miss.{Miss}
+use Rattle.cpg_draw.specs.Misses.{misses_in}
 use Rattle.cpg_draw.specs.Rows.{first_arrows}
 use Rattle.cpg_draw.specs.declared.svg.layout.TheConstants.{LEAST_LETTERS}
 use Rattle.cpg_draw.specs.declared.svg.style.TheConstants.{STYLE}
 use Rattle.cpg_draw.specs.Layout.{x_of, y_of, width_of, number_x, number_y}
 use Rattle.cpg_draw.specs.Shapes.{point, text_at}
-use Rattle.cpg_draw.specs.PictureArrows.{lost_in, lost_shapes}
+use Rattle.cpg_draw.specs.PictureArrows.{miss_shapes}
 use Rattle.cpg_draw.specs.PictureRows.{Row, start_row, rows_of, arrows_past, most_letters, shapes_of}
 
 -- the number of a node over its column, and the column down to a row
@@ -38,25 +40,25 @@ opening width height =
     namespace ++ point width height
     ++ codes "' width='" ++ decimal width ++ codes "' height='" ++ decimal height ++ codes "'>\n"
 
--- what stands before the rows: there are so many, and so many frames were lost
+-- what stands before the rows: there are so many, and so many lines after them
 unfoldable pub head_of : ℕ → ℕ → ℕ → ℕ → List ℕ
-head_of nodes rows lost letters = opening (width_of nodes letters) (y_of (rows + lost + 1)) ++ style ++ columns_of rows nodes
+head_of nodes rows lines letters = opening (width_of nodes letters) (y_of (rows + lines + 1)) ++ style ++ columns_of rows nodes
 
 -- the picture of so many rows after the first, which are drawn like this and say so many letters at most, of the world at their end
--- and of the frames that were lost
-abbrev pub picture_of : ℕ → ℕ → List ℕ → WorldValue → List Arrow → List ℕ
-picture_of count letters shapes w lost =
-    head_of (length w.nodes) count (length lost) letters ++ shapes ++ lost_shapes w (length w.nodes) (count + 1) 0 0 lost ++ codes "</svg>\n"
+-- and of the frames that did not come
+abbrev pub picture_of : ℕ → ℕ → List ℕ → WorldValue → List Miss → List ℕ
+picture_of count letters shapes w misses =
+    head_of (length w.nodes) count (length misses) letters ++ shapes ++ miss_shapes w (length w.nodes) (count + 1) 0 0 misses ++ codes "</svg>\n"
 
--- the same of rows
+-- the same of rows, and of the arrows after them
 abbrev pub picture_with : ℕ → List Row → WorldValue → List Arrow → List ℕ
-picture_with count rows w lost = picture_of count (most_letters LEAST_LETTERS rows) (shapes_of rows) w lost
+picture_with count rows w arrows = picture_of count (most_letters LEAST_LETTERS rows) (shapes_of rows) w (misses_in (length w.nodes) arrows)
 
 -- the picture of commands, where that is what their events are answered
 abbrev pub picture : WorldValue → List Command → List Answer → List ℕ
 picture w commands answers =
     picture_with (length commands) (start_row w ∷ rows_of 1 (first_arrows w) w commands answers) (after w commands)
-    (lost_in (arrows_past 1 (first_arrows w) w commands))
+    (arrows_past 1 (first_arrows w) w commands)
 
 -- The text is the picture of the commands, as the world answers their events.
 pub record IsPicture (w : WorldValue) (commands : List Command) (text : List ℕ) : Type 0 where

@@ -1,5 +1,5 @@
--- The picture of a run: a row for each command, from 1 on, and then a line for each frame that was lost.
-use Rattle.std.specs.Prelude.{ℕ, ◌≡◌, ◌+◌, List, [], ◌∷◌, ◌++◌, drop, length, codes, decimal, Option, Some, None, Ok}
+-- The picture of a run: a row for each command, from 1 on, and then a line for each frame that did not come to a node.
+use Rattle.std.specs.Prelude.{ℕ, ◌≡◌, ◌+◌, List, [], ◌∷◌, ◌++◌, drop, length, codes, decimal, Option, Some, None}
 use Rattle.std.specs.List.{concat, flat_map}
 use Rattle.cpg_ring.specs.States.{safe_mark}
 use Rattle.cpg_ring.specs.Worlds.{item}
@@ -17,7 +17,7 @@ use Rattle.cpg_step.specs.Running.{events_in}
 use Rattle.cpg_draw.specs.declared.arrows.Arrow.{Arrow}
 use Rattle.cpg_draw.specs.Arrows.{arrows_of, seq_brought, with_brought}
 use Rattle.cpg_draw.specs.Columns.{columns, heads}
-use Rattle.cpg_draw.specs.Words.{brought_text, sent_text, lost_texts}
+use Rattle.cpg_draw.specs.Words.{brought_text, sent_text, misses_text}
 
 -- the number of the frame that an event brings; 0 is no frame's
 abbrev pub brings : WorldEvent → ℕ
@@ -30,7 +30,7 @@ sent_by row w e = arrows_of (length w.sent + 1) row (node_in e) (seq_brought (it
 
 -- the arrows after a row: the one of the frame that it brings ends there, and those of the frames that it sends begin there
 abbrev pub arrows_after : ℕ → List Arrow → WorldValue → WorldEvent → List Arrow
-arrows_after row arrows w e = with_brought arrows (brings e) ++ sent_by row w e
+arrows_after row arrows w e = with_brought arrows (brings e) (node_in e) ++ sent_by row w e
 
 -- the arrows before the first row, of the frames that were sent before the script: they begin outside the ring
 abbrev pub first_arrows : WorldValue → List Arrow
@@ -89,9 +89,10 @@ look_text arrows w (Safe n) = codes "safe" ++ state_text (item w.nodes n)
 abbrev pub look_row : ℕ → List Arrow → WorldValue → LookValue → List ℕ
 look_row row arrows w l = columns (look_at l) None (length w.nodes) ++ row_text row ++ look_text arrows w l ++ codes "\n"
 
--- The rows of commands from that row on, with the arrows so far, where that is what their events are answered; and then the lost frames.
+-- The rows of commands from that row on, with the arrows so far, where that is what their events are answered;
+-- and then what did not come.
 abbrev pub rows_of : ℕ → List Arrow → WorldValue → List Command → List Answer → List (List ℕ)
-rows_of row arrows w [] answers = lost_texts arrows ∷ []
+rows_of row arrows w [] answers = misses_text (length w.nodes) arrows ∷ []
 rows_of row arrows w (Look l ∷ later) answers = look_row row arrows w l ∷ rows_of (row + 1) arrows w later answers
 rows_of row arrows w (Act e ∷ later) [] = []
 rows_of row arrows w (Act e ∷ later) (a ∷ answers) = act_row row arrows w e a ∷ rows_of (row + 1) (arrows_after row arrows w e) (happens w e) later answers

@@ -1,9 +1,11 @@
 -- what is said of arrows
-use Rattle.std.specs.Prelude.{ℕ, List, [], ◌++◌, codes, decimal, Option, Some, None, if◌then◌else◌}
+use Rattle.std.specs.Prelude.{ℕ, Bool, ◌||◌, nat_le, List, [], ◌++◌, codes, decimal, Option, Some, None, if◌then◌else◌}
 use Rattle.std.specs.List.{flat_map}
 use Rattle.cpg_draw.specs.declared.arrows.Arrow.{Arrow}
 use Rattle.cpg_draw.specs.declared.arrows.Kind.{Kind}
 use Rattle.cpg_draw.specs.declared.arrows.Kind.TheVariants.{Data, Again, Token}
+use Rattle.cpg_draw.specs.declared.misses.Miss.{Miss}
+use Rattle.cpg_draw.specs.Misses.{is_token, misses_in}
 
 -- data, data that is served again, or the token
 abbrev pub kind_text : Kind → List ℕ
@@ -24,10 +26,19 @@ brought_text (Some a) = codes ", " ++ arrow_text a ++ codes " of row " ++ decima
 abbrev pub sent_text : Arrow → List ℕ
 sent_text a = codes ", sends " ++ decimal a.number ++ codes " " ++ arrow_text a
 
--- the line of a frame that no row brought
-abbrev pub lost_text : Arrow → List ℕ
-lost_text a = if a.brought then [] else codes "lost " ++ decimal a.number ++ codes " " ++ arrow_text a ++ codes " of row " ++ decimal a.row ++ codes "\n"
+-- what is said of a frame that did not come
+unfoldable pub fate_text : Bool → List ℕ
+fate_text lost = if lost then codes "lost " else codes "under way "
 
--- the lines of the frames that no row brought
-abbrev pub lost_texts : List Arrow → List ℕ
-lost_texts arrows = flat_map lost_text arrows
+-- and to which node, where several nodes wait for it
+unfoldable pub for_text : ℕ → Miss → List ℕ
+for_text nodes m = if is_token m.arrow.kind || nat_le nodes 2 then [] else codes " for node " ++ decimal m.node
+
+-- the line of a frame that did not come
+abbrev pub miss_text : ℕ → Miss → List ℕ
+miss_text nodes m =
+    fate_text m.lost ++ decimal m.arrow.number ++ codes " " ++ arrow_text m.arrow ++ codes " of row " ++ decimal m.arrow.row ++ for_text nodes m ++ codes "\n"
+
+-- the lines of all of them
+abbrev pub misses_text : ℕ → List Arrow → List ℕ
+misses_text nodes arrows = flat_map (miss_text nodes) (misses_in nodes arrows)

@@ -4,6 +4,7 @@ ghost use Rattle.std.specs.Prelude.{◌≡◌};
 ghost use Rattle.cpg_ring.specs.Worlds.{item};
 ghost use Rattle.cpg_draw.specs.Arrows.{arrow_of, kind_of, mark_of, seq_of, with_brought};
 
+use crate::sets::with;
 use cpg_entry::Frame;
 
 /// What an arrow stands for.
@@ -30,8 +31,8 @@ pub struct Arrow {
     pub kind: Kind,
     /// Its place, or its hop.
     pub mark: u64,
-    /// Whether a row brought it to a node.
-    pub brought: bool,
+    /// The nodes that a row brought it to, a bit for each.
+    pub came: u8,
 }
 
 /// The arrow of the frame of that number, that a node sent in a row that brought a token of that seq.
@@ -44,7 +45,7 @@ pub(crate) fn make_arrow(number: u64, row: u64, node: u8, seq: u32, frame: &Fram
         node,
         kind: kind_in(seq, frame),
         mark: mark_in(frame),
-        brought: false,
+        came: 0,
     }
 }
 
@@ -87,14 +88,14 @@ pub fn find_arrow(arrows: &[Arrow], number: usize) -> Option<Arrow>
     arrows.get(number - 1).copied()
 }
 
-/// Notes that the frame of that number was brought, if there is one.
-pub(crate) fn note_brought(arrows: &mut Vec<Arrow>, number: usize)
-    ensures { arrows.new.items ≡ with_brought arrows.old.items number }
+/// Notes that the frame of that number was brought to a node, if there is one.
+pub(crate) fn note_brought(arrows: &mut Vec<Arrow>, number: usize, node: u8)
+    ensures { arrows.new.items ≡ with_brought arrows.old.items number node }
 {
     if number == 0 || number > arrows.len() {
         return;
     }
     let mut arrow = arrows[number - 1];
-    arrow.brought = true;
+    arrow.came = with(arrow.came, node);
     arrows[number - 1] = arrow;
 }

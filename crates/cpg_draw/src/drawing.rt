@@ -15,7 +15,7 @@ use crate::arrows::Arrow;
 use crate::columns::{put_columns, put_heads};
 use crate::frames::push_arrows;
 use crate::rows::draw_command;
-use crate::words::{put_lost, put_sent};
+use crate::words::{put_misses, put_sent};
 use cpg_cred::Refusal;
 use cpg_script::{Fault, put};
 use cpg_step::{Command, read_commands};
@@ -94,7 +94,7 @@ fn put_head(text: &mut Vec<u8>, nodes: u8, arrows: &[Arrow]) -> Result<(), Refus
     put(text, "\n")
 }
 
-/// Does the commands one after the other, and puts their rows and then the lost frames.
+/// Does the commands one after the other, and puts their rows and then what did not come.
 fn draw_rows(
     alloc: Global,
     text: &mut Vec<u8>,
@@ -111,5 +111,5 @@ fn draw_rows(
         row += 1;
         draw_command(alloc, text, arrows, row, world, command)?;
     }
-    put_lost(text, arrows.as_slice())
+    put_misses(alloc, text, world.nodes(), arrows.as_slice())
 }

@@ -1,14 +1,17 @@
 //! A script of `step` as a picture, with nodes as columns and time downwards: in letters, or as one SVG (`svg`).
 //!
-//! Each command is a row. An arrow goes from the row that sent a frame to the row that brings it, and a frame
-//! that no command brings is lost. Proved: what is written is that picture of the world's run.
+//! Each command is a row. An arrow goes from the row that sent a frame to the row that brings it. A frame that
+//! did not come to a node is lost for it where a later frame of its sender came there, and under way where none
+//! did. Proved: what is written is that picture of the world's run.
 #![tactic(auto)]
 
 mod arrows;
 mod columns;
 mod drawing;
 mod frames;
+mod misses;
 mod rows;
+mod sets;
 pub mod svg;
 mod words;
 

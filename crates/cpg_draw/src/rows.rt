@@ -126,7 +126,7 @@ pub fn tell_event(
     let seq = seq_at(alloc, world, number)?;
     let before = world.sent();
     let answer = answer_to(alloc, world, event)?;
-    note_brought(arrows, number);
+    note_brought(arrows, number, node.get());
     let mut sent = Vec::new(alloc);
     push_arrows(alloc, &mut sent, world, (row, node.get(), seq), before)?;
     put_event_row(text, row, event, arrow, sent.as_slice(), world.node(node))?;

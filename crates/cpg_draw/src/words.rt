@@ -4,12 +4,14 @@
 
 ghost use Rattle.std.specs.Prelude.{◌≡◌, ◌++◌, codes, decimal, OnOk, IsOkUnless};
 ghost use Rattle.std.specs.List.{flat_map};
-ghost use Rattle.cpg_draw.specs.Words.{kind_text, arrow_text, brought_text, sent_text, lost_text, lost_texts};
+ghost use Rattle.cpg_draw.specs.Words.{kind_text, arrow_text, brought_text, sent_text, fate_text, for_text, miss_text, misses_text};
 
 use crate::arrows::{Arrow, Kind};
+use crate::misses::{Miss, find_misses, holds_token};
 use cpg_cred::Refusal;
 use cpg_script::put;
 use cpg_text::push_number;
+use std::alloc::Global;
 
 /// Puts what an arrow stands for. `Memory` is the only error.
 pub fn put_kind(line: &mut Vec<u8>, kind: Kind) -> Result<(), Refusal>
@@ -62,30 +64,67 @@ pub fn put_sent(line: &mut Vec<u8>, arrows: &[Arrow]) -> Result<(), Refusal>
     Ok(())
 }
 
-/// Puts the line of the frame, where no row brought it. `Memory` is the only error.
-pub fn put_lost_one(line: &mut Vec<u8>, arrow: &Arrow) -> Result<(), Refusal>
-    ensures ok { OnOk result (line.new.items ≡ line.old.items ++ lost_text arrow.now) }
+/// Puts whether the frame is lost or under way.
+#[tactic(auto, unfolding(crate::specs::Words::fate_text))]
+fn put_fate(line: &mut Vec<u8>, lost: bool) -> Result<(), Refusal>
+    ensures ok { OnOk result (line.new.items ≡ line.old.items ++ fate_text lost) }
     ensures memory { IsOkUnless result Refusal.Memory }
 {
-    if arrow.brought {
+    if lost {
+        put(line, "lost ")
+    } else {
+        put(line, "under way ")
+    }
+}
+
+/// Puts the node that the frame did not come to, where several of so many nodes wait for it.
+#[tactic(auto, unfolding(crate::specs::Words::for_text))]
+fn put_waiting(line: &mut Vec<u8>, nodes: u8, miss: &Miss) -> Result<(), Refusal>
+    ensures ok { OnOk result (line.new.items ≡ line.old.items ++ for_text nodes miss.now) }
+    ensures memory { IsOkUnless result Refusal.Memory }
+{
+    if holds_token(miss.arrow.kind) || nodes <= 2 {
         return Ok(());
     }
-    put(line, "lost ")?;
-    push_number(line, arrow.number)?;
+    put(line, " for node ")?;
+    push_number(line, u64::from(miss.node))
+}
+
+/// Puts the line of a frame that did not come to one of so many nodes. `Memory` is the only error.
+pub fn put_miss(line: &mut Vec<u8>, nodes: u8, miss: &Miss) -> Result<(), Refusal>
+    ensures ok { OnOk result (line.new.items ≡ line.old.items ++ miss_text nodes miss.now) }
+    ensures memory { IsOkUnless result Refusal.Memory }
+{
+    put_fate(line, miss.lost)?;
+    push_number(line, miss.arrow.number)?;
     put(line, " ")?;
-    put_arrow(line, arrow)?;
+    put_arrow(line, &miss.arrow)?;
     put(line, " of row ")?;
-    push_number(line, arrow.row)?;
+    push_number(line, miss.arrow.row)?;
+    put_waiting(line, nodes, miss)?;
     put(line, "\n")
 }
 
-/// Puts a line for each frame that no row brought.
-pub(crate) fn put_lost(line: &mut Vec<u8>, arrows: &[Arrow]) -> Result<(), Refusal>
-    ensures ok { OnOk result (line.new.items ≡ line.old.items ++ lost_texts arrows.now) }
+/// Puts a line for each frame and each of so many nodes that it did not come to.
+pub(crate) fn put_misses(
+    alloc: Global,
+    line: &mut Vec<u8>,
+    nodes: u8,
+    arrows: &[Arrow],
+) -> Result<(), Refusal>
+    ensures ok { OnOk result (line.new.items ≡ line.old.items ++ misses_text nodes arrows.now) }
     ensures memory { IsOkUnless result Refusal.Memory }
 {
-    for arrow in arrows {
-        put_lost_one(line, arrow)?;
+    let misses = find_misses(alloc, nodes, arrows)?;
+    put_lines(line, nodes, misses.as_slice())
+}
+
+fn put_lines(line: &mut Vec<u8>, nodes: u8, misses: &[Miss]) -> Result<(), Refusal>
+    ensures ok { OnOk result (line.new.items ≡ line.old.items ++ flat_map (miss_text nodes) misses.now) }
+    ensures memory { IsOkUnless result Refusal.Memory }
+{
+    for miss in misses {
+        put_miss(line, nodes, miss)?;
     }
     Ok(())
 }

@@ -336,9 +336,10 @@ are columns, and time goes down, a row for each command. Printed is one SVG, whi
 
 pub const DRAW_MORE: &str = "\
 In the SVG an arrow goes from the row that sent a frame to the row that brings it, with the frame's place or hop:
-solid is data, dashed data that is served again, dotted the token. A frame that no command brings ends in a
-cross beside its sender. The title of an arrow is the frame as `show` of `cpgring step` prints it. Right of the
-columns stands what a row of --text has.
+solid is data, dashed data that is served again, dotted the token. Beside its sender a frame
+has a mark for each node that it went to and did not come to: a cross where it is lost, an open diamond where it
+is under way. The title of an arrow is the frame as `show` of `cpgring step` prints it. Right of the columns stands
+what a row of --text has.
 
 With --text, in a row `*` is the node that the command is at, and an arrow comes in from the node that sent the frame that
 the row brings, marked `o`: --> is data, ==> data that is sent again, ..> the token. The first token, which
@@ -351,8 +352,10 @@ and the row that sent it; each frame that the row sends, with its number; how ma
 its safe mark; and what `cpgring step` prints. WHAT is data PLACE, again PLACE or token HOP. A command that
 only looks has no answer: its row says what the frame is that is shown, or how the node stands.
 
-Last comes a line for each frame that no command brought, `lost K WHAT of row ROW`. Nothing is printed before
-the picture is whole.
+Last come the frames that did not come to a node that they went to, data to every other node and the token to the
+next: `lost K WHAT of row ROW` where a later frame of the same sender came to that node, as links keep their order,
+and `under way K WHAT of row ROW` where none did. With three nodes or more, ` for node NODE` follows for data, and
+there is a line for each node. Nothing is printed before the picture is whole.
 
 Example: frame 2, the data of place 1, never reaches node 2.
   $ cpgring draw lost.step uid:7 > lost.svg
@@ -371,7 +374,7 @@ Example: frame 2, the data of place 1, never reaches node 2.
      o==>*  8 frame 6, again 1 of row 7, waiting 0, safe 0: sent 0
      |   *  9 deliver, waiting 0, safe 0: delivered 1
   lost 2 data 1 of row 4
-  lost 7 token 3 of row 7
+  under way 7 token 3 of row 7
 
 Exit status: 0 done; 1 a fault, told on standard error; 2 a fault of the command line, `cpgring: bad accept
 word` among them. The faults are `cpgring: 41 BadCommand LINE`, the first line that is no command; `cpgring: 42

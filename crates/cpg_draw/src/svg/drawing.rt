@@ -12,9 +12,10 @@ ghost use Rattle.cpg_draw.specs.PictureSteps.{AreRows};
 
 use crate::arrows::Arrow;
 use crate::frames::push_arrows;
+use crate::misses::{Miss, find_misses};
 use crate::svg::head::put_head;
 use crate::svg::layout::LEAST_LETTERS;
-use crate::svg::lost::{draw_lost, find_lost};
+use crate::svg::marks::draw_misses;
 use crate::svg::rows::{draw_command, draw_start};
 use crate::svg::sheets::Sheet;
 use cpg_cred::Refusal;
@@ -83,8 +84,8 @@ fn draw_commands(alloc: Global, mut world: World, commands: &[Command]) -> Resul
     push_arrows(alloc, &mut arrows, &world, (0, 0, 0), 0)?;
     draw_start(alloc, &mut sheet, world.nodes(), arrows.as_slice())?;
     draw_rows(alloc, &mut sheet, &mut arrows, &mut world, commands)?;
-    let lost = find_lost(alloc, arrows.as_slice())?;
-    finish(alloc, sheet, &world, commands.len(), lost.as_slice())
+    let misses = find_misses(alloc, world.nodes(), arrows.as_slice())?;
+    finish(alloc, sheet, &world, commands.len(), misses.as_slice())
 }
 
 /// Does the commands one after the other, and puts their rows.
@@ -107,16 +108,16 @@ fn draw_rows(
     Ok(())
 }
 
-/// The picture of so many rows after the first, which are on the sheet, and of the frames that were lost.
+/// The picture of so many rows after the first, which are on the sheet, and of the frames that did not come.
 fn finish(
     alloc: Global,
     mut sheet: Sheet,
     world: &World,
     rows: usize,
-    lost: &[Arrow],
+    misses: &[Miss],
 ) -> Result<Vec<u8>, Refusal>
     requires { rows < 2 ^ 63 }
-    ensures ok { IfOk result (λ picture. picture.items ≡ picture_of rows sheet.letters sheet.text.items world.now lost.now) }
+    ensures ok { IfOk result (λ picture. picture.items ≡ picture_of rows sheet.letters sheet.text.items world.now misses.now) }
     ensures memory { IsOkUnless result Refusal.Memory }
 {
     let mut text = Vec::new(alloc);
@@ -125,11 +126,11 @@ fn finish(
         &mut text,
         nodes,
         rows as u64,
-        lost.len() as u64,
+        misses.len() as u64,
         sheet.letters,
     )?;
     text.append(&mut sheet.text)?;
-    draw_lost(alloc, &mut text, world, rows as u64, lost)?;
+    draw_misses(alloc, &mut text, world, rows as u64, misses)?;
     put(&mut text, "</svg>\n")?;
     Ok(text)
 }

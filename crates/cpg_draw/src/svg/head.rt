@@ -73,21 +73,21 @@ fn put_opening(text: &mut Vec<u8>, width: u64, height: u64) -> Result<(), Refusa
     put(text, "'>\n")
 }
 
-/// Puts what stands before so many rows, with so many lost frames, where a row says so many letters at most.
+/// Puts what stands before so many rows, with so many lines after them, where a row says so many letters at most.
 #[tactic(auto, unfolding(crate::specs::Pictures::head_of))]
 pub(crate) fn put_head(
     text: &mut Vec<u8>,
     nodes: u8,
     rows: u64,
-    lost: u64,
+    lines: u64,
     letters: u64,
 ) -> Result<(), Refusal>
     requires rows { rows < 2 ^ 63 }
-    requires lost { lost < 2 ^ 63 }
-    ensures ok { OnOk result (text.new.items ≡ text.old.items ++ head_of nodes rows lost letters) }
+    requires lines { lines < 2 ^ 63 }
+    ensures ok { OnOk result (text.new.items ≡ text.old.items ++ head_of nodes rows lines letters) }
     ensures memory { IsOkUnless result Refusal.Memory }
 {
-    let height = row_at(rows + lost + 1);
+    let height = row_at(rows + lines + 1);
     put_opening(text, width(nodes, letters), height)?;
     put_style(text)?;
     put_columns(text, rows, nodes)

@@ -26,7 +26,7 @@ pub const LEAST_LETTERS: u64 = 96;
 /// Rows after so many, and letters after so many, would be drawn over the last; no script has so many commands.
 pub const MOST: u64 = 4_294_967_296;
 
-/// How many marks of lost frames stand side by side, before the next ones stand below them.
+/// How many marks of frames that did not come stand side by side, before the next ones stand below them.
 pub const MARKS: u64 = 14;
 
 /// The numbers of the layout.
@@ -105,7 +105,7 @@ pub(crate) fn number_down() -> u64
     TOP - 24
 }
 
-/// How far right of its sender's column the mark of a row's lost frame stands, counted from 0.
+/// How far right of its sender's column the mark of a row's frame that did not come stands, counted from 0.
 pub(crate) fn right_by(place: u64) -> u64
     ensures { result ≡ mark_right place }
 {

@@ -16,6 +16,7 @@ g g text{font-size:10px;paint-order:stroke;stroke:#fff;stroke-width:4px}
 .again path{stroke:#b8480a;stroke-width:2.6;stroke-dasharray:9 4;marker-end:url(#tip)}
 .token path{stroke:#666;stroke-width:1.3;stroke-dasharray:1.5 3.5;marker-end:url(#tip)}
 .lost path{stroke:#c01818;stroke-width:1.5;stroke-dasharray:none;marker-end:none}
+.way path{stroke:#0b7a66;stroke-width:1.5;stroke-dasharray:none;marker-end:none}
 .left text{text-anchor:end}
 @media(prefers-color-scheme:dark){
 text{fill:#ddd}
@@ -28,6 +29,7 @@ g g text{stroke:#17191c}
 .again path{stroke:#f0a060}
 .token path{stroke:#a4a8ae}
 .lost path{stroke:#ff7a7a}
+.way path{stroke:#52cbb2}
 }
 </style>
 <defs><marker id='tip' viewBox='0 0 8 8' refX='12' refY='4' markerWidth='8' markerHeight='8' markerUnits='userSpaceOnUse' orient='auto'><path class='tip' d='M0 0L8 4L0 8z'/></marker></defs>
@@ -36,4 +38,5 @@ g g text{stroke:#17191c}
 <g class='again'><path d='M152 20H200'/><text x='212' y='24'>data served again</text></g>
 <g class='token'><path d='M376 20H424'/><text x='436' y='24'>token</text></g>
 <g class='lost'><path d='M512 16v2m-3 0l6 5m0-5l-6 5'/><text x='524' y='24'>lost</text></g>
+<g class='way'><path d='M592 16v1m0 0l3 3-3 3-3-3z'/><text x='604' y='24'>under way</text></g>
 ";

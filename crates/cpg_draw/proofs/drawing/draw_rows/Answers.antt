@@ -1,6 +1,6 @@
 use Rattle.std.proofs.Common.{◌≡◌, ◌<◌, ◌≤◌, ◌+◌, ◌++◌, length, sym, ap, subst, ◌∙◌, arith}
 use Rattle.cpg_draw.specs.Steps.{AreRows, StandsBefore}
-use Rattle.cpg_draw.specs.Words.{lost_texts}
+use Rattle.cpg_draw.specs.Words.{misses_text}
 use Rattle.cpg_draw.proofs.Drawn.{step_rows, last_rows, where_ok}
 use Rattle.cpg_draw.proofs.drawing.draw_rows.Goals as goal
 
@@ -20,11 +20,12 @@ pub returns-clause-ok : goal.returns-clause-ok
 returns-clause-ok c =
     let i = c.loop-command.command-index in
     let old = c.loop-command.text.items in
-    let new = c.put_lost.new.line.items in
+    let new = c.put_misses.new.line.items in
     let all : length c.args.commands.now ≤ i = omega arith in
     let known : c.as_slice.result.now ≡ c.loop-command.arrows.items = c.as_slice.ensures.value in
-    where_ok {P = new ≡ old ++ lost_texts c.as_slice.result.now} {Q = AreRows 1 c.args.arrows.now.items c.args.world.now c.args.commands.now c.args.text.now.items new}
-    c.put_lost.result
+    let many : c.nodes.result ≡ length c.loop-command.world.nodes = c.nodes.ensures.count in
+    where_ok {P = new ≡ old ++ misses_text c.nodes.result c.as_slice.result.now} {Q = AreRows 1 c.args.arrows.now.items c.args.world.now c.args.commands.now c.args.text.now.items new}
+    c.put_misses.result
     (λ put. last_rows c.args.commands.now i c.loop-command.arrows.items c.args.arrows.now.items c.loop-command.world c.args.world.now old new c.args.text.now.items all
-    c.loop-command.invariant.drawn (put ∙ ap (λ arrows. old ++ lost_texts arrows) known))
-    c.put_lost.ensures.ok
+    c.loop-command.invariant.drawn (put ∙ (ap (λ n. old ++ misses_text n c.as_slice.result.now) many ∙ ap (λ arrows. old ++ misses_text (length c.loop-command.world.nodes) arrows) known)))
+    c.put_misses.ensures.ok

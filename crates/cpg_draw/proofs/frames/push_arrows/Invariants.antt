@@ -1,4 +1,4 @@
-use Rattle.std.proofs.Common.{◌≡◌, ◌+◌, ◌≤◌, ◌++◌, drop, length}
+use Rattle.std.proofs.Common.{◌≡◌, ◌+◌, ◌++◌, drop}
 use Rattle.cpg_draw.specs.Arrows.{arrows_of}
 use Rattle.cpg_draw.proofs.frames.push_arrows.Given as goal
 
