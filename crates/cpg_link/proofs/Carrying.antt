@@ -1,5 +1,5 @@
 -- Each step of a link keeps its rule.
-use Rattle.std.proofs.Common.{◌≡◌, ◌≢◌, ◌⊎◌, ℕ, zero, suc, ◌+◌, true, false, true≢false, List, [], ◌∷◌, ◌++◌, length, set, inl, inr, ⊎_elim, sym, refl, ap, ◌∙◌, subst, append_assoc, arith}
+use Rattle.std.proofs.Common.{◌≡◌, ◌≢◌, ◌⊎◌, ℕ, zero, suc, ◌+◌, ◌≤◌, true, false, true≢false, List, [], ◌∷◌, ◌++◌, length, set, inl, inr, ⊎_elim, sym, refl, ap, ◌∙◌, subst, append_assoc, arith}
 use Rattle.std.proofs.lemmas.List.{length-append}
 use mathlib.Core.Option.{some, some-injective, some-ne-none}
 use lib.ListN.{get_elem?}
@@ -108,3 +108,7 @@ module _ {T : Type 0} where
   -- what stands in the queue is the end of what the sender put
   pub behind : (pass : ℕ) (v : Known T) → v.puts ≡ true → Learns Carries pass v (StandBehind v)
   behind pass v may items views h at = (h.3, ((h.5 pass v at).0 may).1 ∙ h.4)
+
+-- what stands in a link was put there
+pub filled : {T : Type 0} (frames taken standing : List T) (room : ℕ) → frames ≡ taken ++ standing → length standing ≡ room → room ≤ length frames
+filled frames taken standing room are full = let long : length frames ≡ length taken + length standing = ap length are ∙ length-append taken standing in omega (arith, long, full)

@@ -15,9 +15,9 @@ pub record LinkEnd (T : Type 0) : Type 0 where
   pub room : ℕ
   pub frames : List T
 
--- the link of a sender's end is full: of the frames that were put, all but those that were taken stand in it, as many as it has room for
-abbrev pub IsFull : {T : Type 0} → LinkEnd T → Type 0
-IsFull {T} sender = (taken : List T) × (standing : List T) × (sender.frames ≡ taken ++ standing) × (length standing ≡ sender.room)
+-- as far as a sender knows, its link may be full: it has put as many frames as there is room for, or more
+abbrev pub MayBeFull : {T : Type 0} → LinkEnd T → Type 0
+MayBeFull sender = sender.room ≤ length sender.frames
 
 -- the end with one frame more
 abbrev pub with_frame : {T : Type 0} → LinkEnd T → T → LinkEnd T

@@ -3,7 +3,7 @@
 ghost use Rattle.std.specs.Prelude.{◌≡◌, true, [], ◌++◌, ◌≤◌, length, IfOk, IfErr, MatchOption, MatchResult, vec_capacity};
 ghost use Rattle.crossbeam_queue.specs.Passes.{view, IsPassOf, ruled_capacity};
 ghost use Rattle.cpg_cred.specs.declared.refusals.Refusal.TheVariants.{Memory};
-ghost use Rattle.cpg_link.specs.Links.{known, most_frames, IsNoLink, AreEnds, IsFull, with_frame};
+ghost use Rattle.cpg_link.specs.Links.{known, most_frames, IsNoLink, AreEnds, MayBeFull, with_frame};
 
 use crate::passes::{Empties, Ends, InOrder, Known, Puts, Takes};
 use cpg_cred::{Refusal, Refused};
@@ -86,10 +86,11 @@ pub fn link<T: Drop>(alloc: Global, capacity: usize) -> Result<(LinkTx<T>, LinkR
 }
 
 impl<T: Drop> LinkTx<T> {
-    /// Puts a frame behind those that were put. It comes back where the link is full: where as many frames as
-    /// it has room for stand in it.
+    /// Puts a frame behind those that were put. It comes back where the link is full. What a sender can know of that
+    /// is proved: it has put as many as there is room for, or more.
+    #[tactic(auto, using(crate::proofs::Carrying::filled))]
     pub fn put<R: Wait>(&mut self, rt: &R, frame: T) -> Result<(), T>
-        ensures { MatchResult result (λ _. self.new ≡ with_frame self.old frame) (λ back. (back ≡ frame) × (self.new ≡ self.old) × IsFull self.old) }
+        ensures { MatchResult result (λ _. self.new ≡ with_frame self.old frame) (λ back. (back ≡ frame) × (self.new ≡ self.old) × MayBeFull self.old) }
     {
         self.line.push_as::<Puts, R>(rt, &mut self.pass, frame)
     }
