@@ -1,13 +1,15 @@
 //! A cluster under load, from its start to its end.
 
 ghost use Rattle.std.specs.Prelude.{◌≡◌};
-ghost use Rattle.cpg_history.specs.Histories.{first_world};
+ghost use Rattle.cpg_world_laws.specs.Worlds.{new_world};
 
 use crate::clients::{Ended, nanos_since, run_client};
 use crate::gates::{Fates, Notes, gate_of};
 use crate::load::{Load, Signals};
 use cpg_board::Board;
-use cpg_daemon::{Cluster, Ends, HistoryName, MOST_FRAMES, Opened, Running};
+use cpg_cred::AcceptList;
+use cpg_daemon::{Cluster, Ends, HistoryName, MOST_FRAMES, Running};
+use cpg_node::Settings;
 use cpg_wire::FrameView;
 use std::alloc::{AllocError, Global};
 use std::io;
@@ -237,12 +239,18 @@ where
 }
 
 /// What the load comes to, on that board.
-pub fn run<B, R>(rt: R, alloc: Global, board: Board, opened: Opened, load: Load) -> io::Result<()>
+pub fn run<B, R>(
+    rt: R,
+    alloc: Global,
+    settings: Settings,
+    board: Board,
+    list: &AcceptList,
+    load: Load,
+) -> io::Result<()>
 where
     B: HistoryName + Send + Sync + 'static,
     R: Threads + Wait + Clock + Print + Alloc + Copy + Send + Sync + 'static,
-    requires board { board ≡ B.cells }
-    requires history { (opened.table ≡ B.table) × (first_world opened.start ≡ B.start) }
+    requires name { (board.cells ≡ B.cells) × (board.table ≡ B.table) × (new_world settings list.now ≡ B.start) }
 {
     let (Ok((gate, notes)), Ok(signals)) = (
         gate_of(alloc, load.nodes, None),
@@ -250,7 +258,7 @@ where
     ) else {
         return println!(rt; "no memory");
     };
-    match Cluster::<B, Fates>::start(rt, alloc, board, opened, gate) {
+    match Cluster::<B, Fates>::start(rt, alloc, settings, board, list, gate) {
         Ok(cluster) => run_cluster(&rt, alloc, cluster, load, &signals, &notes),
         Err(refusal) => println!(rt; "no cluster: {refusal}"),
     }

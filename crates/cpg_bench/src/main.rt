@@ -23,7 +23,7 @@ use cpg_cred::Refusal;
 use cpg_text::{Words, read_number};
 use load::{Load, MOST_PLACES};
 use rounds::{PLACES, Plan, go};
-use sessions::opened_for;
+use sessions::{list_for, settings_for};
 use std::alloc::Global;
 use std::io::{Lines, StdinLock, Write};
 use std::marker::Brand;
@@ -102,11 +102,9 @@ fn run_load<R>(rt: R, alloc: Global, load: Load) -> io::Result<()>
 where
     R: Threads + Wait + Clock + Print + Alloc + Copy + Send + Sync + 'static,
 {
-    match (
-        Board::new(alloc, load.places()),
-        opened_for(alloc, load.nodes, load.places(), false),
-    ) {
-        (Ok(board), Ok(opened)) => run::<Brand, R>(rt, alloc, board, opened, load),
+    let settings = settings_for(load.nodes, load.places());
+    match (Board::new(alloc, settings.places), list_for(alloc)) {
+        (Ok(board), Ok(list)) => run::<Brand, R>(rt, alloc, settings, board, &list, load),
         _ => println!(rt; "no board"),
     }
 }
@@ -135,9 +133,14 @@ where
     R: Threads + Wait + Clock + Copy + Send + 'static,
     W: Write,
 {
-    let board = Board::new(alloc, PLACES)?;
-    let opened = opened_for(alloc, plan.nodes, PLACES, plan.traced)?;
-    go::<Brand, R, W>(rt, alloc, board, opened, plan, lines, writer)
+    let settings = settings_for(plan.nodes, PLACES);
+    let board = if plan.traced {
+        Board::recorded(alloc, PLACES)?
+    } else {
+        Board::new(alloc, PLACES)?
+    };
+    let list = list_for(alloc)?;
+    go::<Brand, R, W>(rt, alloc, settings, board, &list, plan, lines, writer)
 }
 
 /// The rounds of all lines.

@@ -1,7 +1,7 @@
 //! A round of the soak: a cluster, the commands of its sessions, and what is left of it.
 
 ghost use Rattle.std.specs.Prelude.{◌≡◌};
-ghost use Rattle.cpg_history.specs.Histories.{first_world};
+ghost use Rattle.cpg_world_laws.specs.Worlds.{new_world};
 ghost use Rattle.cpg_history.specs.Members.{HaveSeen};
 ghost use Rattle.cpg_cluster.specs.Steps.{AreWithin};
 
@@ -10,8 +10,9 @@ use cpg_board::Board;
 use cpg_cluster::{
     Manner, Numbered, Patience, Sessions, Shown, command_in_line, do_command, hand_on,
 };
-use cpg_cred::Refusal;
-use cpg_daemon::{Cluster, Ends, Front, HistoryName, Opened, Running};
+use cpg_cred::{AcceptList, Refusal};
+use cpg_daemon::{Cluster, Front, HistoryName, Member, Running};
+use cpg_node::Settings;
 use cpg_print::{put_audit, put_count};
 use cpg_record::Record;
 use cpg_script::put;
@@ -116,22 +117,20 @@ fn put_notes(text: &mut Vec<u8>, notes: &Notes) -> Result<(), Refusal> {
 /// the plan asks for it.
 fn text_of<B: HistoryName>(
     alloc: Global,
-    ends: Ends<B>,
+    members: Vec<Member<B>>,
     front: Front<B>,
     notes: &Notes,
     plan: Plan,
 ) -> Result<Vec<u8>, Refusal>
-    requires { HaveSeen ends.stations.items front.seen }
+    requires { HaveSeen members.items front.seen }
 {
     let mut text = Vec::new(alloc);
-    for station in ends.stations.iter() {
-        put_station(&mut text, station.station().audit())?;
+    for member in members.iter() {
+        put_station(&mut text, member.station().audit())?;
     }
     put_notes(&mut text, notes)?;
-    let Ends { stations, links } = ends;
-    drop(links);
     if plan.traced {
-        let recording = recorded_by(alloc, stations, &front)?;
+        let recording = recorded_by(alloc, members, &front)?;
         write_trace(alloc, &mut text, &[], &recording)?;
     }
     put(&mut text, "done\n")?;
@@ -142,8 +141,9 @@ fn text_of<B: HistoryName>(
 pub fn go<B, R, W>(
     rt: R,
     alloc: Global,
+    settings: Settings,
     board: Board,
-    opened: Opened,
+    list: &AcceptList,
     plan: Plan,
     lines: &mut Lines<StdinLock<'_>, Global>,
     writer: &mut W,
@@ -152,14 +152,13 @@ where
     B: HistoryName + Send + Sync + 'static,
     R: Threads + Wait + Clock + Copy + Send + 'static,
     W: Write,
-    requires board { board ≡ B.cells }
-    requires history { (opened.table ≡ B.table) × (first_world opened.start ≡ B.start) }
+    requires name { (board.cells ≡ B.cells) × (board.table ≡ B.table) × (new_world settings list.now ≡ B.start) }
 {
     let (gate, notes) = gate_of(alloc, plan.nodes, Some(Chance::of(plan.seed)))?;
-    let cluster = Cluster::<B, Fates>::start(rt, alloc, board, opened, gate)?;
+    let cluster = Cluster::<B, Fates>::start(rt, alloc, settings, board, list, gate)?;
     let gone = answer_all(&rt, alloc, &cluster, lines, writer);
-    let (ends, front) = cluster.stop_traced(&rt);
-    let text = text_of(alloc, ends, front, &notes, plan)?;
+    let (members, front) = cluster.stop_traced(&rt);
+    let text = text_of(alloc, members, front, &notes, plan)?;
     write_out(writer, text.as_slice())?;
     gone
 }

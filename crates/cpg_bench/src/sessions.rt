@@ -1,32 +1,31 @@
-//! What both benches ask of a cluster: a history to begin with, sessions, and their calls.
+//! What both benches ask of a cluster: its settings and whom it lets in, sessions, and their calls.
 
 ghost use Rattle.std.specs.Prelude.{◌≤◌, IsTrue};
 
 use crate::gates::Fates;
 use cpg_cred::{AcceptList, Cred, NodeId, Refusal};
-use cpg_daemon::{Beginning, HistoryName, Opened, Running, Session};
+use cpg_daemon::{HistoryName, Running, Session};
 use cpg_entry::Call;
 use cpg_node::Settings;
 use std::alloc::Global;
 use std::sync::Wait;
 
-/// A history that begins with so many nodes, which let in root and users 7 and 8.
-pub fn opened_for(alloc: Global, nodes: u8, places: u32, traced: bool) -> Result<Opened, Refusal> {
-    let settings = Settings {
+/// Settings of so many nodes and places.
+pub fn settings_for(nodes: u8, places: u32) -> Settings {
+    Settings {
         ring: 1,
         nodes,
         places,
         hops: 1 << 62,
-    };
+    }
+}
+
+/// A list that lets in root and users 7 and 8.
+pub fn list_for(alloc: Global) -> Result<AcceptList, Refusal> {
     let mut list = AcceptList::new(alloc);
     list.add_uid(7)?;
     list.add_uid(8)?;
-    let beginning = Beginning { settings, list };
-    Ok(if traced {
-        Opened::traced(alloc, beginning)?
-    } else {
-        Opened::new(alloc, beginning)?
-    })
+    Ok(list)
 }
 
 /// A session of a process of root at the node of that index, from 0. Range: there is no such node.

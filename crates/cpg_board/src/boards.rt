@@ -1,17 +1,19 @@
 //! The board, with its calls.
 
-ghost use Rattle.std.specs.Prelude.{◌≡◌, ◌≢◌, ◌/◌, ◌++◌, ◌∷◌, ◌<◌, ◌≤◌, [], length, take, Some, None, Ok, IsOk, slice_get, IfOk, IfErr, OnOk, OnErr, IsOkUnless, MatchOption, MatchResult, vec_len, vec_capacity};
+ghost use Rattle.std.specs.Prelude.{◌≡◌, ◌≢◌, ◌/◌, ◌++◌, ◌∷◌, ◌<◌, ◌≤◌, [], length, take, Some, None, Ok, true, false, IsOk, slice_get, IfOk, IfErr, IfSome, OnOk, OnErr, IsOkUnless, MatchOption, MatchResult, vec_len, vec_capacity};
 ghost use Rattle.cpg_record.specs.Places.{record_at, Begins};
 ghost use Rattle.cpg_ledger.specs.declared.limits.TheConstants.{BLOCK};
 ghost use Rattle.cpg_board.specs.Making.{HasBoard, IsUnmade};
 ghost use Rattle.cpg_board.specs.Noted.{known_of, AllKnow};
 ghost use Rattle.cpg_board.specs.Seats.{IsSeatOf, records_of, Meets, IsLonger};
 ghost use Rattle.cpg_board.specs.Settling.{Refuses};
+ghost use Rattle.cpg_board.specs.Words.{first_seat, is_counted, many_words};
 ghost use Rattle.cpg_board.specs.declared.settling.Settled.TheVariants.{Differs};
 
 use crate::notes::learn;
 use crate::seats::Seat;
 use crate::settling::Settled;
+use crate::words::{Line, Pens, Words};
 use cpg_cred::Refusal;
 use cpg_ledger::Shelf;
 use cpg_record::{MOST_PLACES, Record};
@@ -20,22 +22,25 @@ use std::alloc::Global;
 use std::cmp::Ordering;
 use std::marker::Model;
 
-/// Places in a row, each of which holds at most one record, for good. Contracts see the names of its cells.
+/// Places in a row, each of which holds at most one record, for good, and the words of the history of the nodes that share
+/// it. Contracts see the names of its cells, and the table of these words.
 #[derive(Drop)]
 pub struct Board {
     alloc: Global,
     cells: Vec<OnceBox<Record>>,
     shelf: Shelf,
+    words: Words,
 }
 
 impl Model for Board {
-    ghost use Rattle.std.specs.Prelude.{◌≡◌, ◌/◌, ℕ, List, map, length};
+    ghost use Rattle.std.specs.Prelude.{◌≡◌, ◌/◌, map, length};
     ghost use Rattle.once_cell.specs.Once.{cell_name};
     ghost use Rattle.cpg_ledger.specs.declared.limits.TheConstants.{BLOCK};
+    ghost use Rattle.cpg_board.specs.Words.{BoardValue};
 
-    ghost Value = { List ℕ };
+    ghost Value = { BoardValue };
 
-    ghost view = { λ board. map cell_name board.cells.items };
+    ghost view = { λ board. record { cells = map cell_name board.cells.items; table = board.words } };
 
     ghost invariant = { λ board. board.shelf ≡ length (map cell_name board.cells.items) / BLOCK };
 }
@@ -43,7 +48,22 @@ impl Model for Board {
 impl Board {
     /// A board of so many places, from 1 to 1,048,576, all empty. Refused with Range for another number.
     pub fn new(alloc: Global, places: u32) -> Result<Board, Refusal>
-        ensures ok { IfOk result (λ board. HasBoard places × (length board ≡ places)) }
+        ensures ok { IfOk result (λ board. HasBoard places × (length board.cells ≡ places) × (is_counted board.table ≡ false)) }
+        ensures err { IfErr result (IsUnmade places) }
+    {
+        Board::of(alloc, places, false)
+    }
+
+    /// The same, for nodes of which all that happens is recorded. That is our own.
+    pub fn recorded(alloc: Global, places: u32) -> Result<Board, Refusal>
+        ensures ok { IfOk result (λ board. HasBoard places × (length board.cells ≡ places) × (is_counted board.table ≡ true)) }
+        ensures err { IfErr result (IsUnmade places) }
+    {
+        Board::of(alloc, places, true)
+    }
+
+    fn of(alloc: Global, places: u32, counted: bool) -> Result<Board, Refusal>
+        ensures ok { IfOk result (λ board. HasBoard places × (length board.cells ≡ places) × (is_counted board.table ≡ counted)) }
         ensures err { IfErr result (IsUnmade places) }
     {
         if places == 0 || places > MOST_PLACES {
@@ -54,24 +74,49 @@ impl Board {
             cells.push(OnceBox::new(alloc))?;
         }
         let shelf = Shelf::new(alloc, places)?;
+        let words = Words::new(alloc, counted)?;
         Ok(Board {
             alloc,
             cells,
             shelf,
+            words,
         })
+    }
+
+    /// The words of the history of the nodes that share the board.
+    pub fn line(&self) -> &Line
+        ensures table { result.now.shared.table_id ≡ self.now.table }
+        ensures words { (self.now.table).words ≡ many_words (is_counted self.now.table) }
+        ensures key { result.now.shared.key ≡ is_counted self.now.table }
+    {
+        self.words.line()
+    }
+
+    /// Whether what happens at these nodes is counted, and so recorded.
+    pub fn is_counted(&self) -> bool
+        ensures { result ≡ is_counted self.now.table }
+    {
+        self.words.is_counted()
+    }
+
+    /// The right to add all events of that history, if nobody took it before.
+    pub fn pens(&self) -> Option<Pens>
+        ensures { IfSome result (λ pens. (pens.table_id ≡ self.now.table) × (pens.me ≡ first_seat)) }
+    {
+        self.words.take()
     }
 
     /// Where the nodes that share the board lay down what each of them delivered: there is a place for each block of
     /// entries that it has places for.
     pub fn shelf(&self) -> &Shelf
-        ensures { result.now ≡ length self.now / BLOCK }
+        ensures { result.now ≡ length self.now.cells / BLOCK }
     {
         &self.shelf
     }
 
     /// A seat that has seen nothing.
     pub fn seat(&self) -> Seat
-        ensures { (result ≡ []) × IsSeatOf self.now result }
+        ensures { (result ≡ []) × IsSeatOf self.now.cells result }
     {
         Seat::empty(self.alloc)
     }
@@ -79,7 +124,7 @@ impl Board {
     /// A note of the cell of that index, which knows nothing yet, if the board has one.
     #[tactic(auto, using(crate::proofs::Known::cell_at))]
     fn note_at(&self, index: usize) -> Option<Note<Record>>
-        ensures { MatchOption result (length self.now ≤ index) (λ note. (slice_get self.now index ≡ Some note.cell) × (note.known ≡ None)) }
+        ensures { MatchOption result (length self.now.cells ≤ index) (λ note. (slice_get self.now.cells index ≡ Some note.cell) × (note.known ≡ None)) }
     {
         if index < self.cells.len() {
             Some(self.cells[index].note())
@@ -97,7 +142,7 @@ impl Board {
         wanted: &Record,
         note: &mut Note<Record>,
     ) -> Result<&'a Record, Refusal>
-        requires { slice_get self.now index ≡ Some note.old.cell }
+        requires { slice_get self.now.cells index ≡ Some note.old.cell }
         ensures cell { note.new.cell ≡ note.old.cell }
         ensures ok { IfOk result (λ standing. note.new.known ≡ Some standing.now) }
     {
@@ -111,10 +156,10 @@ impl Board {
     /// copied.
     #[tactic(auto, using(crate::proofs::Known::known_length, crate::proofs::Known::all_push, crate::proofs::Known::grown_seat, crate::proofs::Known::grown_begins, crate::proofs::Known::grown_records))]
     pub fn settle<'a>(&'a self, seat: &mut Seat, wanted: &Record) -> Result<(), Settled<'a>>
-        requires { IsSeatOf self.now seat.old }
-        ensures seat { IsSeatOf self.now seat.new × Begins seat.old seat.new }
+        requires { IsSeatOf self.now.cells seat.old }
+        ensures seat { IsSeatOf self.now.cells seat.new × Begins seat.old seat.new }
         ensures ok { OnOk result (records_of seat.new ≡ records_of seat.old ++ wanted.now ∷ []) }
-        ensures err { IfErr result (λ why. Refuses self.now seat.old wanted.now why seat.new) }
+        ensures err { IfErr result (λ why. Refuses self.now.cells seat.old wanted.now why seat.new) }
     {
         let index = seat.len();
         let Some(mut note) = self.note_at(index) else {
@@ -136,12 +181,12 @@ impl Board {
     /// does.
     #[tactic(auto, using(crate::proofs::Known::known_length, crate::proofs::Known::cell_at, crate::proofs::Known::all_push, crate::proofs::Known::grown_seat, crate::proofs::Known::grown_begins, crate::proofs::Known::grown_records))]
     pub fn read_next<'a>(&'a self, seat: &mut Seat) -> Result<Option<&'a Record>, Refusal>
-        requires { IsSeatOf self.now seat.old }
-        ensures seat { IsSeatOf self.now seat.new × Begins seat.old seat.new }
+        requires { IsSeatOf self.now.cells seat.old }
+        ensures seat { IsSeatOf self.now.cells seat.new × Begins seat.old seat.new }
         ensures ok { IfOk result (λ seen. MatchOption seen (seat.new ≡ seat.old) (λ standing. records_of seat.new ≡ records_of seat.old ++ standing.now ∷ [])) }
         ensures err { OnErr result (seat.new ≡ seat.old) }
         ensures memory { IsOkUnless result Refusal.Memory }
-        ensures full { length seat.old ≡ length self.now → result ≡ Ok None }
+        ensures full { length seat.old ≡ length self.now.cells → result ≡ Ok None }
     {
         let next = seat.len();
         let Some(mut note) = self.note_at(next) else {
@@ -159,9 +204,9 @@ impl Board {
     /// A note of a cell that the seat knows, by the cell's index.
     #[tactic(auto, using(crate::proofs::Known::known_length, crate::proofs::Known::known_at, crate::proofs::Known::seat_cell, crate::proofs::Known::cell_at))]
     fn recall(&self, seat: &Seat, index: usize) -> Note<Record>
-        requires seat { IsSeatOf self.now seat.now }
+        requires seat { IsSeatOf self.now.cells seat.now }
         requires index { index < length seat.now }
-        ensures board { slice_get self.now index ≡ Some result.cell }
+        ensures board { slice_get self.now.cells index ≡ Some result.cell }
         ensures seat { (x : _) × (result.known ≡ Some x) × (slice_get seat.now index ≡ Some (result.cell, x)) }
     {
         let mut note = self.cells[index].note();
@@ -171,7 +216,7 @@ impl Board {
 
     /// The record of that index among those that the seat knows.
     fn known_at<'a>(&'a self, seat: &Seat, index: usize) -> &'a Record
-        requires seat { IsSeatOf self.now seat.now }
+        requires seat { IsSeatOf self.now.cells seat.now }
         requires index { index < length seat.now }
         ensures { slice_get (records_of seat.now) index ≡ Some result.now }
     {
@@ -185,7 +230,7 @@ impl Board {
     /// The record at a place that the seat knows.
     #[tactic(auto, using(crate::proofs::Known::at_place))]
     pub fn known<'a>(&'a self, seat: &Seat, place: u32) -> &'a Record
-        requires seat { IsSeatOf self.now seat.now }
+        requires seat { IsSeatOf self.now.cells seat.now }
         requires place { (1 ≤ place) × (place ≤ length seat.now) }
         ensures { record_at (records_of seat.now) place ≡ Some result.now }
     {
@@ -195,7 +240,7 @@ impl Board {
     /// How the numbers of places that two seats know compare. The one that knows no more begins the other.
     #[tactic(auto, using(crate::proofs::Known::take_both))]
     pub fn meet(&self, one: &Seat, other: &Seat) -> Ordering
-        requires { IsSeatOf self.now one.now × IsSeatOf self.now other.now }
+        requires { IsSeatOf self.now.cells one.now × IsSeatOf self.now.cells other.now }
         ensures { Meets one.now other.now result }
     {
         let shared = one.len().min(other.len());
@@ -209,8 +254,8 @@ impl Board {
     /// The seat knows what the other knows, if that is more; it grows to that.
     #[tactic(auto, using(crate::proofs::Known::known_length))]
     pub fn catch_up(&self, seat: &mut Seat, other: &Seat) -> Result<(), Refusal>
-        requires { IsSeatOf self.now seat.old × IsSeatOf self.now other.now }
-        ensures seat { IsSeatOf self.now seat.new × Begins seat.old seat.new }
+        requires { IsSeatOf self.now.cells seat.old × IsSeatOf self.now.cells other.now }
+        ensures seat { IsSeatOf self.now.cells seat.new × Begins seat.old seat.new }
         ensures ok { OnOk result (IsLonger seat.old other.now seat.new × Begins other.now seat.new) }
         ensures err { OnErr result (seat.new ≡ seat.old) }
         ensures memory { IsOkUnless result Refusal.Memory }
@@ -230,7 +275,7 @@ impl Board {
     /// Adds a note for each record that the other seat knows beyond these notes.
     #[tactic(auto, using(crate::proofs::Known::known_length, crate::proofs::Known::extended))]
     fn extend(&self, notes: &mut Vec<Note<Record>>, other: &Seat)
-        requires seat { IsSeatOf self.now other.now }
+        requires seat { IsSeatOf self.now.cells other.now }
         requires room { length other.now ≤ vec_capacity notes.old }
         requires known { AllKnow notes.old.items × Begins (known_of notes.old.items) other.now × (vec_len notes.old ≤ length other.now) }
         ensures { AllKnow notes.new.items × (known_of notes.new.items ≡ other.now) }

@@ -1,5 +1,5 @@
 -- seats that have seen more
-use Rattle.std.proofs.Common.{ℕ, ◌≡◌, ◌≤◌, List, length, take, Option, Some, None, Result, Ok, Err, slice_get, refl, sym, ap, subst, ◌∙◌, arith}
+use Rattle.std.proofs.Common.{◌≡◌, ◌≤◌, List, length, take, Option, Some, None, Result, Ok, Err, slice_get, refl, sym, ap, subst, ◌∙◌, arith}
 use Rattle.std.specs.Prelude.{IfOk, OnErr}
 use Rattle.std.proofs.lemmas.List.{take-take, length-take, take_all}
 use Rattle.cpg_cred.specs.declared.refusals.Refusal.{Refusal}
@@ -21,8 +21,8 @@ use Rattle.cpg_daemon.specs.Sessions.{SessionValue, IsTaken}
 use Rattle.cpg_daemon.specs.Taking.{TakeTold, TakesOne, take_of}
 use Rattle.cpg_cluster.proofs.Fronts.{none_on, told_since}
 use Rattle.cpg_cluster.specs.declared.commands.Ask.TheVariants as ask
-use Rattle.cpg_cluster.specs.declared.replies.Reply.TheVariants.{Took, Nothing}
-use Rattle.cpg_cluster.specs.Answers.{Stays, GoesOn, IsTold, Serves}
+use Rattle.cpg_cluster.specs.declared.replies.Reply.TheVariants.{Took}
+use Rattle.cpg_cluster.specs.Answers.{GoesOn, IsTold, Serves}
 use Rattle.cpg_cluster.specs.Steps.{IsPolled, poll_of}
 
 begins_length : {X : Type 0} (xs ys : List X) → Begins xs ys → length xs ≤ length ys

@@ -241,8 +241,8 @@ fn groups<B: HistoryName, G, H: Wait>(
 /// The seat reads what stands on the board after what it knows, up to the first place that is empty.
 #[tactic(auto, using(crate::proofs::Seen::begins_on, crate::proofs::Seen::begins_self))]
 fn read_rest(board: &Board, seat: &mut Seat) -> Result<(), Refusal>
-    requires { IsSeatOf board.now seat.old }
-    ensures seat { IsSeatOf board.now seat.new × Begins seat.old seat.new }
+    requires { IsSeatOf board.now.cells seat.old }
+    ensures seat { IsSeatOf board.now.cells seat.new × Begins seat.old seat.new }
     ensures memory { IsOkUnless result Refusal.Memory }
 {
     for _ in 0..u64::MAX {
@@ -256,8 +256,8 @@ fn read_rest(board: &Board, seat: &mut Seat) -> Result<(), Refusal>
 /// The seat knows what the other knows, and what follows on the board.
 #[tactic(auto, using(crate::proofs::Seen::begins_on))]
 fn read_all(board: &Board, seat: &mut Seat, other: &Seat) -> Result<(), Refusal>
-    requires { IsSeatOf board.now seat.old × IsSeatOf board.now other.now }
-    ensures ok { OnOk result (IsSeatOf board.now seat.new × Begins other.now seat.new) }
+    requires { IsSeatOf board.now.cells seat.old × IsSeatOf board.now.cells other.now }
+    ensures ok { OnOk result (IsSeatOf board.now.cells seat.new × Begins other.now seat.new) }
     ensures memory { IsOkUnless result Refusal.Memory }
 {
     board.catch_up(seat, other)?;

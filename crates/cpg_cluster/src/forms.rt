@@ -53,7 +53,7 @@ pub trait PutsAnswer {
         line: &Numbered,
         answer: &Result<Reply, Refusal>,
     ) -> Result<(), Refusal>
-        requires { SeatsOn board.now answer.now }
+        requires { SeatsOn board.now.cells answer.now }
         ensures ok { OnOk result (text.new.items ≡ text.old.items ++ printed self.now line.now answer.now) }
         ensures memory { IsOkUnless result Refusal.Memory };
 }
@@ -108,7 +108,7 @@ fn put_noted(
     known: &Known,
     answer: &Result<Reply, Refusal>,
 ) -> Result<(), Refusal>
-    requires { SeatsOn board.now answer.now }
+    requires { SeatsOn board.now.cells answer.now }
     ensures ok { OnOk result (text.new.items ≡ text.old.items ++ answer_text answer.now ++ note_of known.now answer.now) }
     ensures memory { IsOkUnless result Refusal.Memory }
 {

@@ -29,5 +29,5 @@ pub use forms::{Manner, Noted, PLAIN, Patience, PutsAnswer, Shown};
 pub use noting::Known;
 pub use reading::command_in_line;
 pub use replies::Reply;
-pub use running::{cluster_script, cluster_script_as, hand_on, run_sessions};
+pub use running::{cluster_script, hand_on, run_sessions};
 pub use sessions::Sessions;

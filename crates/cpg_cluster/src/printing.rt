@@ -30,7 +30,7 @@ fn put_session(text: &mut Vec<u8>, number: usize) -> Result<(), Refusal>
 
 #[tactic(auto, using(crate::proofs::Put::known_put))]
 fn put_records(text: &mut Vec<u8>, board: &Board, seat: &Seat, count: u32) -> Result<(), Refusal>
-    requires seat { IsSeatOf board.now seat.now }
+    requires seat { IsSeatOf board.now.cells seat.now }
     requires count { count ≡ length seat.now }
     ensures ok { OnOk result (text.new.items ≡ text.old.items ++ concat (audit_lines (records_of seat.now))) }
     ensures memory { IsOkUnless result Refusal.Memory }
@@ -45,7 +45,7 @@ fn put_records(text: &mut Vec<u8>, board: &Board, seat: &Seat, count: u32) -> Re
 /// places, so the count fits.
 #[tactic(auto, using(crate::proofs::Put::seat_put))]
 fn put_seat(text: &mut Vec<u8>, board: &Board, seat: &Seat) -> Result<(), Refusal>
-    requires { IsSeatOf board.now seat.now }
+    requires { IsSeatOf board.now.cells seat.now }
     ensures ok { OnOk result (text.new.items ≡ text.old.items ++ audit_text (records_of seat.now)) }
     ensures memory { IsOkUnless result Refusal.Memory }
 {
@@ -58,7 +58,7 @@ fn put_seat(text: &mut Vec<u8>, board: &Board, seat: &Seat) -> Result<(), Refusa
 
 /// Puts the text of a reply at the text's end.
 fn put_reply(text: &mut Vec<u8>, board: &Board, reply: &Reply) -> Result<(), Refusal>
-    requires { SeatsOn board.now (Ok reply.now) }
+    requires { SeatsOn board.now.cells (Ok reply.now) }
     ensures ok { OnOk result (text.new.items ≡ text.old.items ++ reply_text reply.now) }
     ensures memory { IsOkUnless result Refusal.Memory }
 {
@@ -82,7 +82,7 @@ pub fn put_answer(
     board: &Board,
     answer: &Result<Reply, Refusal>,
 ) -> Result<(), Refusal>
-    requires { SeatsOn board.now answer.now }
+    requires { SeatsOn board.now.cells answer.now }
     ensures ok { OnOk result (text.new.items ≡ text.old.items ++ answer_text answer.now) }
     ensures memory { IsOkUnless result Refusal.Memory }
 {

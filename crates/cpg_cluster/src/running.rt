@@ -59,40 +59,16 @@ where
     ensures whole { IfErr result (λ fault. fault.part ≡ None) }
     ensures within { AreWithin running.now.nodes sessions.new.slots }
 {
-    match run_whole(rt, alloc, reader, writer, running, manner, sessions) {
-        Ok(()) => Ok(()),
-        Err(refusal) => Err(Fault::from(refusal)),
-    }
+    let script = read_whole(alloc, reader)?;
+    let commands = read_commands(alloc, running.nodes(), script.as_slice())?;
+    let commands = commands.as_slice();
+    run_commands(rt, alloc, writer, running, manner, sessions, commands)?;
+    Ok(())
 }
 
-/// The same from no session on, and lets go of the sessions that are left.
+/// The same from no session on, with waits of `MOST_POLLS` looks, and answers as plain text. It lets go of the sessions that
+/// are left.
 #[tactic(auto, using(crate::proofs::Doing::runs_from_none, crate::proofs::Doing::stops_from_none))]
-pub fn cluster_script_as<B, G, H, R, W, P>(
-    rt: &H,
-    alloc: Global,
-    reader: &mut R,
-    writer: &mut W,
-    running: &Running<B, G>,
-    manner: &Manner<P>,
-) -> Result<(), Fault>
-where
-    B: HistoryName,
-    H: Wait + Clock,
-    R: Read,
-    W: Write,
-    P: PutsAnswer,
-    ensures ok { OnOk result (IfSome (R.remaining reader.old) (λ script.
-        (length script ≤ MOST_BYTES) × IsRun (P.printed manner.now.form) B.start (commands_of_script running.now.nodes script) (W.contents writer.old) (W.contents writer.new))) }
-    ensures err { IfErr result (λ fault. IfSome (R.remaining reader.old) (λ script.
-        Leaves (P.printed manner.now.form) B.start (commands_of_script running.now.nodes script) fault.refusal (W.contents writer.old) (W.contents writer.new))) }
-    ensures ends { IfErr result (λ fault. EndsRunning fault.refusal (W.contents writer.old) (W.contents writer.new)) }
-    ensures whole { IfErr result (λ fault. fault.part ≡ None) }
-{
-    let mut sessions = Sessions::none(alloc);
-    run_sessions(rt, alloc, reader, writer, running, manner, &mut sessions)
-}
-
-/// The same with waits of `MOST_POLLS` looks, and answers as plain text.
 pub fn cluster_script<B, G, H, R, W>(
     rt: &H,
     alloc: Global,
@@ -112,36 +88,8 @@ where
     ensures ends { IfErr result (λ fault. EndsRunning fault.refusal (W.contents writer.old) (W.contents writer.new)) }
     ensures whole { IfErr result (λ fault. fault.part ≡ None) }
 {
-    cluster_script_as(rt, alloc, reader, writer, running, &PLAIN)
-}
-
-fn run_whole<B, G, H, R, W, P>(
-    rt: &H,
-    alloc: Global,
-    reader: &mut R,
-    writer: &mut W,
-    running: &Running<B, G>,
-    manner: &Manner<P>,
-    sessions: &mut Sessions<B>,
-) -> Result<(), Refusal>
-where
-    B: HistoryName,
-    H: Wait + Clock,
-    R: Read,
-    W: Write,
-    P: PutsAnswer,
-    requires { AreWithin running.now.nodes sessions.old.slots }
-    ensures ok { OnOk result (IfSome (R.remaining reader.old) (λ script.
-        (length script ≤ MOST_BYTES) × Runs (P.printed manner.now.form) B.start (commands_of_script running.now.nodes script) sessions.old (W.contents writer.old) (W.contents writer.new) sessions.new)) }
-    ensures err { IfErr result (λ refusal. IfSome (R.remaining reader.old) (λ script.
-        Stops (P.printed manner.now.form) B.start (commands_of_script running.now.nodes script) refusal sessions.old (W.contents writer.old) (W.contents writer.new) sessions.new)) }
-    ensures ends { IfErr result (λ refusal. EndsRunning refusal (W.contents writer.old) (W.contents writer.new)) }
-    ensures within { AreWithin running.now.nodes sessions.new.slots }
-{
-    let script = read_whole(alloc, reader)?;
-    let commands = read_commands(alloc, running.nodes(), script.as_slice())?;
-    let commands = commands.as_slice();
-    run_commands(rt, alloc, writer, running, manner, sessions, commands)
+    let mut sessions = Sessions::none(alloc);
+    run_sessions(rt, alloc, reader, writer, running, &PLAIN, &mut sessions)
 }
 
 /// Runs the commands one after the other, and writes the lines of each.

@@ -13,7 +13,6 @@ use Rattle.cpg_ring.specs.States.{IsSettings}
 use Rattle.cpg_ring.specs.declared.settings.Settings.{Settings}
 use Rattle.cpg_cluster.specs.declared.commands.Numbered.{Numbered}
 use Rattle.cpg_world_laws.specs.Worlds.{WorldValue, new_world}
-use Rattle.cpg_history.specs.declared.histories.Beginning.{Beginning}
 use Rattle.cpg_daemon.specs.Clusters.{ClusterValue}
 use Rattle.cpg_cluster.specs.Answers.{no_sessions}
 use Rattle.cpg_cluster.specs.Lines.{Printed}
@@ -103,8 +102,3 @@ when_ok (Err why) P Q goes h = tt
 pub when_err : (r : Result (Unit {0}) Failure) (P Q : Failure → Type 0) → ((why : Failure) → P why → Q why) → IfErr r P → IfErr r Q
 when_err (Ok done) P Q goes h = tt
 when_err (Err why) P Q goes h = goes why h
-
--- a history that begins with the settings and the list
-pub of_beginning : (known : Option (List ℕ)) (printed : Printed) (begun : Beginning) (s : Settings) (list : Listed) (failure : Option Failure) (a b : Option (List ℕ)) → begun ≡ record { settings = s; list = list }
-    → IfSome known (λ lines. Clusters printed begun.settings (Some begun.list) lines failure a b) → IfSome known (λ lines. Clusters printed s (Some list) lines failure a b)
-of_beginning known printed begun s list failure a b is h = subst (λ (x : Beginning). IfSome known (λ lines. Clusters printed x.settings (Some x.list) lines failure a b)) is h

@@ -7,18 +7,18 @@ ghost use Rattle.std.specs.Prelude.{◌≡◌, ◌≢◌, ◌≤◌, ◌↔◌, 
 ghost use Rattle.cpg_why.specs.Scripts.{EndsWhy};
 ghost use Rattle.cpg_cluster.specs.Scripts.{commands_of_script};
 ghost use Rattle.cpg_why.specs.Sessions.{AreRun, IsTold, Leaves};
-ghost use Rattle.cpg_history.specs.Histories.{first_world};
 ghost use Rattle.cpg_console.specs.Runs.{why_as, FailsLate, TellsSessions};
 ghost use Rattle.cpg_console.specs.Words.{list_of_words};
+ghost use Rattle.cpg_world_laws.specs.Worlds.{new_world};
 
 use crate::failures::Failure;
-use crate::founding::new_base;
+use crate::founding::new_board;
 use crate::runs::Form;
 use crate::words::read_list;
 use cpg_board::Board;
 use cpg_cluster::{Patience, Sessions};
 use cpg_cred::{AcceptList, Refusal};
-use cpg_daemon::{Cluster, HistoryName, Opened, PassAll, Running};
+use cpg_daemon::{Cluster, HistoryName, PassAll, Running};
 use cpg_json::why::AsJson;
 use cpg_ring::{Settings, are_settings};
 use cpg_text::MOST_BYTES;
@@ -75,7 +75,7 @@ where
     }
 }
 
-/// The same over a new cluster of those settings and that list. The board and the history are made here, and named.
+/// The same over a new cluster of those settings and that list. The board is made here, and named.
 #[tactic(auto, using(crate::proofs::Audited::none_of_settings, crate::proofs::Audited::none_of_memory))]
 fn explain_listed<H, R, W>(
     rt: H,
@@ -100,22 +100,23 @@ where
     if !are_settings(&settings) {
         return Err(Failure::from(Refusal::Range));
     }
-    match new_base(alloc, settings, list, false) {
+    match new_board(alloc, settings, false) {
         Err(_) => Err(Failure::from(Refusal::Memory)),
-        Ok((board, opened)) => explain_on::<Brand, H, R, W>(
-            rt, alloc, inquiry, board, opened, reader, writer,
+        Ok(board) => explain_on::<Brand, H, R, W>(
+            rt, alloc, inquiry, settings, board, &list, reader, writer,
         ),
     }
 }
 
-/// The same over a new cluster on that board, with that history.
+/// The same over a new cluster on that board.
 #[tactic(auto, using(crate::proofs::Audited::none_of_memory, crate::proofs::Audited::all_told, crate::proofs::Audited::part_told, crate::proofs::Explained::part_late))]
 fn explain_on<B, H, R, W>(
     rt: H,
     alloc: Global,
     inquiry: &Inquiry,
+    settings: Settings,
     board: Board,
-    opened: Opened,
+    list: &AcceptList,
     reader: &mut R,
     writer: &mut W,
 ) -> Result<(), Failure>
@@ -124,17 +125,16 @@ where
     H: Threads + Wait + Clock + Copy + Send + 'static,
     R: Read,
     W: Write,
-    requires named { board ≡ B.cells }
-    requires history { (opened.table ≡ B.table) × (first_world opened.start ≡ B.start) }
-    requires places { length B.cells ≡ opened.start.settings.places }
+    requires name { (board.cells ≡ B.cells) × (board.table ≡ B.table) × (new_world settings list.now ≡ B.start) }
+    requires places { length B.cells ≡ settings.places }
     ensures ok { OnOk result (IfSome (R.remaining reader.old) (λ script.
-        TellsSessions (inquiry.now).form (inquiry.now).asked opened.start.settings (Some opened.start.list) script None (W.contents writer.old) (W.contents writer.new))) }
+        TellsSessions (inquiry.now).form (inquiry.now).asked settings (Some list.now) script None (W.contents writer.old) (W.contents writer.new))) }
     ensures err { IfErr result (λ failure. IfSome (R.remaining reader.old) (λ script.
-        TellsSessions (inquiry.now).form (inquiry.now).asked opened.start.settings (Some opened.start.list) script (Some failure) (W.contents writer.old) (W.contents writer.new))) }
+        TellsSessions (inquiry.now).form (inquiry.now).asked settings (Some list.now) script (Some failure) (W.contents writer.old) (W.contents writer.new))) }
     ensures late { IfErr result (λ failure. FailsLate failure (W.contents writer.old) (W.contents writer.new)) }
     ensures word { result ≢ Err Failure.BadWord }
 {
-    match Cluster::<B, PassAll>::start(rt, alloc, board, opened, PassAll) {
+    match Cluster::<B, PassAll>::start(rt, alloc, settings, board, list, PassAll) {
         Err(_) => Err(Failure::from(Refusal::Memory)),
         Ok(cluster) => match explain_over(rt, alloc, inquiry, cluster, reader, writer) {
             Err(fault) => Err(Failure::from(fault)),

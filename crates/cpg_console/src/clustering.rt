@@ -3,7 +3,6 @@
 //! Proved: the words of the command line come first, then the settings, then the script; and what is written.
 
 ghost use Rattle.std.specs.Prelude.{◌≡◌, ◌≢◌, ◌⊎◌, ◌↔◌, Err, Some, None, map, OnOk, OnErr, IfErr, IfSome};
-ghost use Rattle.cpg_history.specs.Histories.{first_world};
 ghost use Rattle.cpg_console.specs.Runs.{Clusters, ClustersAll, FailsLate};
 ghost use Rattle.cpg_console.specs.Speaking.{spoken_as};
 ghost use Rattle.cpg_console.specs.Starting.{ClusterLeaves};
@@ -12,14 +11,14 @@ ghost use Rattle.cpg_console.specs.Words.{list_of_words};
 ghost use Rattle.cpg_world_laws.specs.Worlds.{new_world};
 
 use crate::failures::Failure;
-use crate::founding::new_base;
+use crate::founding::new_board;
 use crate::speaking::Spoken;
 use crate::tracing::{KeepsEnds, stop_kept};
 use crate::words::read_list;
 use cpg_board::Board;
-use cpg_cluster::{Manner, cluster_script_as};
+use cpg_cluster::{Manner, Sessions, run_sessions};
 use cpg_cred::{AcceptList, Refusal};
-use cpg_daemon::{Cluster, HistoryName, Opened, PassAll};
+use cpg_daemon::{Cluster, HistoryName, PassAll};
 use cpg_ring::{Settings, are_settings};
 use std::alloc::Global;
 use std::io::{Read, Write};
@@ -64,7 +63,7 @@ where
     }
 }
 
-/// Runs the script over a new cluster of those settings and that list. The board and the history are made here, and named.
+/// Runs the script over a new cluster of those settings and that list. The board is made here, and named.
 #[tactic(auto, using(crate::proofs::Clustered::none_of_settings, crate::proofs::Clustered::none_of_memory))]
 fn run_listed<H, R, W, K>(
     rt: H,
@@ -93,22 +92,23 @@ where
     if !are_settings(&settings) {
         return Err(Failure::from(Refusal::Range));
     }
-    match new_base(alloc, settings, list, keeper.is_asked()) {
+    match new_board(alloc, settings, keeper.is_asked()) {
         Err(_) => Err(Failure::from(Refusal::Memory)),
-        Ok((board, opened)) => run_on::<Brand, H, R, W, K>(
-            rt, alloc, manner, board, opened, reader, writer, keeper,
+        Ok(board) => run_on::<Brand, H, R, W, K>(
+            rt, alloc, manner, settings, board, &list, reader, writer, keeper,
         ),
     }
 }
 
-/// Runs the script over a new cluster on that board, with that history.
+/// Runs the script over a new cluster on that board.
 #[tactic(auto, using(crate::proofs::Clustered::none_of_memory))]
 fn run_on<B, H, R, W, K>(
     rt: H,
     alloc: Global,
     manner: &Manner<Spoken>,
+    settings: Settings,
     board: Board,
-    opened: Opened,
+    list: &AcceptList,
     reader: &mut R,
     writer: &mut W,
     keeper: &mut K,
@@ -119,25 +119,24 @@ where
     R: Read,
     W: Write,
     K: KeepsEnds,
-    requires board { board ≡ B.cells }
-    requires history { (opened.table ≡ B.table) × (first_world opened.start ≡ B.start) }
+    requires name { (board.cells ≡ B.cells) × (board.table ≡ B.table) × (new_world settings list.now ≡ B.start) }
     ensures ok { OnOk result (IfSome (R.remaining reader.old) (λ script.
-        Clusters (spoken_as (manner.now).form) opened.start.settings (Some opened.start.list) script None (W.contents writer.old) (W.contents writer.new))) }
+        Clusters (spoken_as (manner.now).form) settings (Some list.now) script None (W.contents writer.old) (W.contents writer.new))) }
     ensures err { IfErr result (λ failure. IfSome (R.remaining reader.old) (λ script.
-        Clusters (spoken_as (manner.now).form) opened.start.settings (Some opened.start.list) script (Some failure) (W.contents writer.old) (W.contents writer.new))) }
+        Clusters (spoken_as (manner.now).form) settings (Some list.now) script (Some failure) (W.contents writer.old) (W.contents writer.new))) }
     ensures late { IfErr result (λ failure. FailsLate failure (W.contents writer.old) (W.contents writer.new)) }
     ensures word { result ≢ Err Failure.BadWord }
     ensures kept { OnOk result (WasKept K.keeps B.start keeper.old keeper.new) }
     ensures left { OnErr result ((keeper.new ≡ keeper.old) ⊎ WasKept K.keeps B.start keeper.old keeper.new) }
 {
-    match Cluster::<B, PassAll>::start(rt, alloc, board, opened, PassAll) {
+    match Cluster::<B, PassAll>::start(rt, alloc, settings, board, list, PassAll) {
         Err(_) => Err(Failure::from(Refusal::Memory)),
         Ok(cluster) => run_over(rt, alloc, manner, cluster, reader, writer, keeper),
     }
 }
 
 /// Runs the script over the cluster, and stops it.
-#[tactic(auto, using(crate::proofs::Clustered::part_late))]
+#[tactic(auto, using(cpg_cluster::proofs::Doing::runs_from_none, cpg_cluster::proofs::Doing::stops_from_none, crate::proofs::Clustered::part_late))]
 fn run_over<B, H, R, W, K>(
     rt: H,
     alloc: Global,
@@ -161,7 +160,9 @@ where
     ensures word { result ≢ Err Failure.BadWord }
     ensures kept { WasKept K.keeps B.start keeper.old keeper.new }
 {
-    let done = cluster_script_as(&rt, alloc, reader, writer, &cluster, manner);
+    let mut sessions = Sessions::none(alloc);
+    let done = run_sessions(&rt, alloc, reader, writer, &cluster, manner, &mut sessions);
+    drop(sessions);
     stop_kept(&rt, alloc, cluster, keeper);
     match done {
         Ok(()) => Ok(()),

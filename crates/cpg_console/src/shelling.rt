@@ -5,7 +5,6 @@
 
 ghost use Rattle.std.specs.Prelude.{◌≡◌, ◌⊎◌, ◌++◌, None, Some, map, OnOk, OnErr, IfErr, IfOk, IfSome, IsOkUnless};
 ghost use Rattle.cpg_text.specs.Streams.{AppendsFront};
-ghost use Rattle.cpg_history.specs.Histories.{first_world};
 ghost use Rattle.cpg_console.specs.Pipes.{has_left, written};
 ghost use Rattle.cpg_console.specs.Shelling.{ShellEnds, ShellRuns, Shells, word_told};
 ghost use Rattle.cpg_console.specs.Speaking.{spoken_as};
@@ -15,7 +14,7 @@ ghost use Rattle.cpg_console.specs.Words.{list_of_words};
 ghost use Rattle.cpg_world_laws.specs.Worlds.{new_world};
 
 use crate::failures::Failure;
-use crate::founding::new_base;
+use crate::founding::new_board;
 use crate::pipes::Piped;
 use crate::runs::{Ended, failure_after, hand_on, tell};
 use crate::speaking::Spoken;
@@ -26,7 +25,7 @@ use cpg_board::Board;
 use cpg_cluster::Manner;
 use cpg_cluster::shell::shell_lines;
 use cpg_cred::{AcceptList, Refusal};
-use cpg_daemon::{Cluster, HistoryName, Opened, PassAll};
+use cpg_daemon::{Cluster, HistoryName, PassAll};
 use cpg_ring::{Settings, are_settings};
 use std::alloc::Global;
 use std::io::{BufWriter, Read, Write};
@@ -164,7 +163,7 @@ where
     }
 }
 
-/// Answers the lines over a new cluster of those settings and that list. The board and the history are made here, and named.
+/// Answers the lines over a new cluster of those settings and that list. The board is made here, and named.
 #[tactic(auto, using(crate::proofs::Shelled::none_of_settings, crate::proofs::Shelled::none_of_memory))]
 fn shell_listed<H, R, W, E, K>(
     rt: H,
@@ -193,22 +192,23 @@ where
     if !are_settings(&settings) {
         return Err(Failure::from(Refusal::Range));
     }
-    match new_base(alloc, settings, list, keeper.is_asked()) {
+    match new_board(alloc, settings, keeper.is_asked()) {
         Err(_) => Err(Failure::from(Refusal::Memory)),
-        Ok((board, opened)) => shell_on::<Brand, H, R, W, E, K>(
-            rt, alloc, manner, board, opened, reader, writer, errors, keeper,
+        Ok(board) => shell_on::<Brand, H, R, W, E, K>(
+            rt, alloc, manner, settings, board, &list, reader, writer, errors, keeper,
         ),
     }
 }
 
-/// Answers the lines over a new cluster on that board, with that history.
+/// Answers the lines over a new cluster on that board.
 #[tactic(auto, using(crate::proofs::Shelled::none_of_memory, crate::proofs::Shelled::shelled))]
 fn shell_on<B, H, R, W, E, K>(
     rt: H,
     alloc: Global,
     manner: &Manner<Spoken>,
+    settings: Settings,
     board: Board,
-    opened: Opened,
+    list: &AcceptList,
     reader: &mut R,
     writer: &mut W,
     errors: &mut E,
@@ -221,16 +221,15 @@ where
     W: Write,
     E: Write,
     K: KeepsEnds,
-    requires board { board ≡ B.cells }
-    requires history { (opened.table ≡ B.table) × (first_world opened.start ≡ B.start) }
-    ensures ok { OnOk result (Shells (spoken_as (manner.now).form) opened.start.settings (Some opened.start.list) None
+    requires name { (board.cells ≡ B.cells) × (board.table ≡ B.table) × (new_world settings list.now ≡ B.start) }
+    ensures ok { OnOk result (Shells (spoken_as (manner.now).form) settings (Some list.now) None
         (R.remaining reader.old) (W.contents writer.old) (W.contents writer.new) (E.contents errors.old) (E.contents errors.new)) }
-    ensures err { IfErr result (λ failure. Shells (spoken_as (manner.now).form) opened.start.settings (Some opened.start.list) (Some failure)
+    ensures err { IfErr result (λ failure. Shells (spoken_as (manner.now).form) settings (Some list.now) (Some failure)
         (R.remaining reader.old) (W.contents writer.old) (W.contents writer.new) (E.contents errors.old) (E.contents errors.new)) }
     ensures kept { OnOk result (WasKept K.keeps B.start keeper.old keeper.new) }
     ensures left { OnErr result ((keeper.new ≡ keeper.old) ⊎ WasKept K.keeps B.start keeper.old keeper.new) }
 {
-    match Cluster::<B, PassAll>::start(rt, alloc, board, opened, PassAll) {
+    match Cluster::<B, PassAll>::start(rt, alloc, settings, board, list, PassAll) {
         Err(_) => Err(Failure::from(Refusal::Memory)),
         Ok(cluster) => { shell_over(rt, alloc, manner, cluster, reader, writer, errors, keeper) },
     }

@@ -9,7 +9,7 @@ ghost use Rattle.cpg_console.specs.Tracing.{IsTraced, IsPartlyTraced, WasKept, b
 
 use cpg_cluster::hand_on;
 use cpg_cred::Refusal;
-use cpg_daemon::{Cluster, Ends, Front, Gate, HistoryName};
+use cpg_daemon::{Cluster, Front, Gate, HistoryName, Member};
 use cpg_ring::Settings;
 use cpg_script::put;
 use cpg_text::push_number;
@@ -32,10 +32,10 @@ pub trait KeepsEnds {
     /// Whether the cluster is to record what happens.
     fn is_asked(&self) -> bool;
 
-    /// Takes what the cluster left, and a front that its stations have seen.
-    fn keep<B: HistoryName>(&mut self, alloc: Global, ends: Ends<B>, front: Front<B>)
-        requires { HaveSeen ends.stations.items front.seen }
-        ensures { Self.keeps B.start front.seen ends.stations.items self.old self.new };
+    /// Takes the stations that the cluster left, with what was recorded of each, and a front that they have seen.
+    fn keep<B: HistoryName>(&mut self, alloc: Global, members: Vec<Member<B>>, front: Front<B>)
+        requires { HaveSeen members.items front.seen }
+        ensures { Self.keeps B.start front.seen members.items self.old self.new };
 }
 
 /// Stops a cluster, and hands what it leaves to the keeper.
@@ -49,8 +49,8 @@ where
     ensures { WasKept K.keeps B.start keeper.old keeper.new }
 {
     cluster.stands();
-    let (ends, front) = cluster.stop_traced(rt);
-    keeper.keep(alloc, ends, front);
+    let (members, front) = cluster.stop_traced(rt);
+    keeper.keep(alloc, members, front);
 }
 
 /// Lets a stopped cluster go.
@@ -66,8 +66,8 @@ impl KeepsEnds for Untraced {
         false
     }
 
-    fn keep<B: HistoryName>(&mut self, _alloc: Global, ends: Ends<B>, front: Front<B>) {
-        drop(ends);
+    fn keep<B: HistoryName>(&mut self, _alloc: Global, members: Vec<Member<B>>, front: Front<B>) {
+        drop(members);
         drop(front);
     }
 }
@@ -111,8 +111,8 @@ impl<'a, T: Write> KeepsEnds for Tracer<'a, T> {
         true
     }
 
-    fn keep<B: HistoryName>(&mut self, alloc: Global, ends: Ends<B>, front: Front<B>) {
-        self.refused = trace_ends(alloc, &mut self.writer, self.heading, ends, front).err();
+    fn keep<B: HistoryName>(&mut self, alloc: Global, members: Vec<Member<B>>, front: Front<B>) {
+        self.refused = trace_ends(alloc, &mut self.writer, self.heading, members, front).err();
     }
 }
 
@@ -121,16 +121,14 @@ fn trace_ends<B: HistoryName, T: Write>(
     alloc: Global,
     writer: &mut T,
     heading: &[u8],
-    ends: Ends<B>,
+    members: Vec<Member<B>>,
     front: Front<B>,
 ) -> Result<(), Refusal>
-    requires { HaveSeen ends.stations.items front.seen }
-    ensures ok { OnOk result (IsTraced B.start front.seen ends.stations.items heading.now (T.contents writer.old) (T.contents writer.new)) }
-    ensures err { OnErr result (IsPartlyTraced B.start front.seen ends.stations.items heading.now (T.contents writer.old) (T.contents writer.new)) }
+    requires { HaveSeen members.items front.seen }
+    ensures ok { OnOk result (IsTraced B.start front.seen members.items heading.now (T.contents writer.old) (T.contents writer.new)) }
+    ensures err { OnErr result (IsPartlyTraced B.start front.seen members.items heading.now (T.contents writer.old) (T.contents writer.new)) }
 {
-    let Ends { stations, links } = ends;
-    drop(links);
-    let recording = recorded_by(alloc, stations, &front)?;
+    let recording = recorded_by(alloc, members, &front)?;
     write_trace(alloc, writer, heading, &recording)?;
     hand_on(writer)
 }

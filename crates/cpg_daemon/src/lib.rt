@@ -18,7 +18,7 @@ mod turns;
 
 use bytes::Bytes;
 pub use clusters::{Cluster, Ends};
-pub use cpg_history::{Beginning, Front, HistoryName, Member, Opened, Parcel};
+pub use cpg_history::{Front, HistoryName, Member, Parcel};
 pub use cpg_link::{MOST_FRAMES, close, link};
 pub use cpg_station::{BoardName, Station};
 pub use gates::{Fate, Gate, PassAll};

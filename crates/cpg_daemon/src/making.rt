@@ -2,17 +2,19 @@
 
 ghost use Rattle.std.specs.Prelude.{◌≡◌, ◌≤◌, ◌<◌, ◌+◌, ◌*◌, suc, IfOk, OnOk, IsOkUnless, vec_len, vec_capacity};
 ghost use Rattle.cpg_ring.specs.States.{IsSettings};
-ghost use Rattle.cpg_history.specs.Histories.{first_world, all_nodes};
+ghost use Rattle.cpg_board.specs.Words.{all_nodes};
+ghost use Rattle.cpg_history.specs.Histories.{first_world};
 ghost use Rattle.cpg_daemon.specs.Links.{links_of, peers_of, peer_of};
 
+use crate::clusters::Links;
 use crate::lines::{Incoming, Lines, Outgoing, ROOM};
 use crate::running::Lock;
 use crate::signs::{Sign, new_signs};
 use crate::stopping::Room;
-use cpg_board::Board;
 use cpg_cred::{NodeId, Refusal};
 use cpg_history::{Beginning, History, HistoryName, Member, Parcel, Pen, new_member, new_spares};
-use cpg_link::{Bell, LinkRx, LinkTx, link, new_bells};
+use cpg_link::{Bell, link, new_bells};
+use cpg_station::Station;
 use crossbeam_utils::CachePadded;
 use std::alloc::Global;
 use std::sync::{Mutex, Wait};
@@ -21,14 +23,12 @@ use std::sync::{Mutex, Wait};
 /// the history counts it.
 pub(crate) fn new_locks<B: HistoryName>(
     alloc: Global,
-    board: &Board,
     beginning: &Beginning,
     history: &History<B>,
     pens: &mut Pen<B>,
 ) -> Result<Vec<Lock<B>>, Refusal>
     requires settings { IsSettings beginning.now.settings }
     requires begins { first_world beginning.now ≡ B.start }
-    requires board { board.now ≡ B.cells }
     requires pens { pens.old ≡ all_nodes }
     ensures ok { IfOk result (λ locks. vec_len locks ≡ beginning.now.settings.nodes) }
     ensures rest { OnOk result ((pens.new.from ≡ suc beginning.now.settings.nodes) × (pens.new.to ≡ pens.old.to)) }
@@ -39,7 +39,7 @@ pub(crate) fn new_locks<B: HistoryName>(
         let Some(id) = NodeId::new(before + 1) else {
             return Err(Refusal::Range);
         };
-        let member = new_member(alloc, id, board, beginning, history, pens)?;
+        let member = new_member(alloc, id, beginning, history, pens)?;
         locks.push(Mutex::new(CachePadded::new(member)))?;
     }
     Ok(locks)
@@ -167,13 +167,15 @@ pub(crate) fn put_first<B: HistoryName, R: Wait>(
 
 /// Room for the stations and the ends of links of so many nodes.
 struct Space<B: HistoryName> {
-    stations: Vec<Member<B>>,
+    members: Vec<Member<B>>,
+    stations: Vec<Station<B>>,
     ends: Lines<B>,
-    links: Vec<(LinkTx<Parcel<B>>, LinkRx<Parcel<B>>)>,
+    links: Links<B>,
 }
 
 fn new_space<B: HistoryName>(alloc: Global, nodes: u8) -> Result<Space<B>, Refusal>
     requires nodes { (1 ≤ nodes) × (nodes ≤ 8) }
+    ensures members { IfOk result (λ space. (vec_len space.members ≡ 0) × (nodes ≤ vec_capacity space.members)) }
     ensures stations { IfOk result (λ space. (vec_len space.stations ≡ 0) × (nodes ≤ vec_capacity space.stations)) }
     ensures outgoing { IfOk result (λ space. (vec_len space.ends.outgoing ≡ 0) × (links_of nodes ≤ vec_capacity space.ends.outgoing)) }
     ensures incoming { IfOk result (λ space. (vec_len space.ends.incoming ≡ 0) × (links_of nodes ≤ vec_capacity space.ends.incoming)) }
@@ -181,11 +183,13 @@ fn new_space<B: HistoryName>(alloc: Global, nodes: u8) -> Result<Space<B>, Refus
     ensures memory { IsOkUnless result Refusal.Memory }
 {
     let ends = usize::from(nodes) * usize::from(peers(nodes));
+    let members = Vec::with_capacity(alloc, usize::from(nodes))?;
     let stations = Vec::with_capacity(alloc, usize::from(nodes))?;
     let outgoing = Vec::with_capacity(alloc, ends)?;
     let incoming = Vec::with_capacity(alloc, ends)?;
     let links = Vec::with_capacity(alloc, ends)?;
     Ok(Space {
+        members,
         stations,
         ends: Lines { outgoing, incoming },
         links,
@@ -195,30 +199,30 @@ fn new_space<B: HistoryName>(alloc: Global, nodes: u8) -> Result<Space<B>, Refus
 /// A lock for each node with a new station in it, and room for what a cluster of them leaves.
 fn new_nodes<B: HistoryName>(
     alloc: Global,
-    board: &Board,
     beginning: &Beginning,
     history: &History<B>,
     mut pens: Pen<B>,
 ) -> Result<(Vec<Lock<B>>, Room<B>), Refusal>
     requires settings { IsSettings beginning.now.settings }
     requires begins { first_world beginning.now ≡ B.start }
-    requires board { board.now ≡ B.cells }
     requires pens { pens ≡ all_nodes }
     ensures ok { IfOk result (λ made. (vec_len made.0 ≡ beginning.now.settings.nodes) × (made.1.nodes ≡ beginning.now.settings.nodes)) }
     ensures memory { IsOkUnless result Refusal.Memory }
 {
     let settings = beginning.settings;
     let Space {
+        members,
         stations,
         ends,
         links,
     } = new_space(alloc, settings.nodes)?;
-    let locks = new_locks(alloc, board, beginning, history, &mut pens)?;
-    let spares = new_spares(alloc, settings, board, history, &mut pens)?;
+    let locks = new_locks(alloc, beginning, history, &mut pens)?;
+    let spares = new_spares(alloc, settings, history, &mut pens)?;
     let room = Room {
         nodes: settings.nodes,
         pens,
         spares,
+        members,
         stations,
         ends,
         links,
@@ -242,7 +246,7 @@ fn new_wakers(alloc: Global, nodes: u8) -> Result<Wakers, Refusal>
     Ok(Wakers { bells, signs })
 }
 
-/// What a cluster is made of but for its board, its history and its gate: all that asks for memory.
+/// What a cluster is made of but for its history and its gate: all that asks for memory.
 #[derive(Drop)]
 pub(crate) struct Parts<B: HistoryName> {
     pub stations: Vec<Lock<B>>,
@@ -255,14 +259,12 @@ pub(crate) struct Parts<B: HistoryName> {
 pub(crate) fn new_parts<B: HistoryName, R: Wait>(
     rt: &R,
     alloc: Global,
-    board: &Board,
     beginning: &Beginning,
     history: &History<B>,
     pens: Pen<B>,
 ) -> Result<Parts<B>, Refusal>
     requires settings { IsSettings beginning.now.settings }
     requires begins { first_world beginning.now ≡ B.start }
-    requires board { board.now ≡ B.cells }
     requires pens { pens ≡ all_nodes }
     ensures nodes { IfOk result (λ parts. (vec_len parts.stations ≡ beginning.now.settings.nodes) × (parts.room.nodes ≡ beginning.now.settings.nodes)) }
     ensures wakers { IfOk result (λ parts. (vec_len parts.wakers.bells ≡ beginning.now.settings.nodes) × (vec_len parts.wakers.signs ≡ beginning.now.settings.nodes)) }
@@ -270,7 +272,7 @@ pub(crate) fn new_parts<B: HistoryName, R: Wait>(
     ensures memory { IsOkUnless result Refusal.Memory }
 {
     let nodes = beginning.settings.nodes;
-    let (stations, room) = new_nodes(alloc, board, beginning, history, pens)?;
+    let (stations, room) = new_nodes(alloc, beginning, history, pens)?;
     let token = first_token(rt, history, &stations)?;
     let mut lines = new_links(alloc, nodes, peers(nodes))?;
     put_first(rt, nodes, token, lines.outgoing.as_mut_slice());

@@ -33,12 +33,11 @@ pub(crate) type Lock<B> = Mutex<CachePadded<Member<B>>>;
 /// A node's station, while its lock is held.
 pub(crate) type Held<'a, B> = MutexGuard<'a, CachePadded<Member<B>>>;
 
-/// Running nodes: a station for each behind a lock, with its node's pen of their history, their board, the list that they
-/// accept by, the bells of their threads, and what sessions may look at without a lock. All threads may share it. Contracts
+/// Running nodes: a station for each behind a lock, with its node's pen of their history, which keeps their board, the list
+/// that they accept by, the bells of their threads, and what sessions may look at without a lock. All threads may share it. Contracts
 /// see how many nodes there are, and the list.
 #[derive(Drop)]
 pub struct Running<B: HistoryName, G> {
-    pub(crate) board: Board,
     pub(crate) history: History<B>,
     pub(crate) list: AcceptList,
     pub(crate) nodes: u8,
@@ -61,7 +60,7 @@ impl<B: HistoryName, G> Model for Running<B, G> {
 
     ghost view = { λ running. record { nodes = running.nodes; list = running.list } };
 
-    ghost invariant = { λ running. (running.board ≡ B.cells) × (running.list ≡ B.start.list) × (running.nodes ≡ B.start.settings.nodes) × (vec_len running.stations ≡ running.nodes) × (vec_len running.bells ≡ running.nodes) × (vec_len running.signs ≡ running.nodes) × (running.nodes ≤ 8) };
+    ghost invariant = { λ running. (running.list ≡ B.start.list) × (running.nodes ≡ B.start.settings.nodes) × (vec_len running.stations ≡ running.nodes) × (vec_len running.bells ≡ running.nodes) × (vec_len running.signs ≡ running.nodes) × (running.nodes ≤ 8) };
 }
 
 /// The pause after a look at a station that was held.
@@ -78,9 +77,9 @@ fn pause(look: u32) {
 impl<B: HistoryName, G> Running<B, G> {
     /// The board that all nodes share.
     pub fn board(&self) -> &Board
-        ensures { result.now ≡ B.cells }
+        ensures { result.now.cells ≡ B.cells }
     {
-        &self.board
+        self.history.board()
     }
 
     /// How many nodes there are.
@@ -102,7 +101,7 @@ impl<B: HistoryName, G> Running<B, G> {
     pub fn auditor(&self) -> Seat
         ensures { (result ≡ []) × IsSeatOf B.cells result }
     {
-        self.board.seat()
+        self.board().seat()
     }
 
     /// The lock of a node.

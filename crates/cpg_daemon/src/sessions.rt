@@ -306,7 +306,7 @@ impl<B: HistoryName, G> Running<B, G> {
         let answer = station.take_for(
             &self.history,
             &mut session.front,
-            &self.board,
+            self.board(),
             &mut session.who,
             &mut session.seat,
         );
@@ -392,7 +392,7 @@ impl<B: HistoryName, G> Running<B, G> {
         let answer = station.list_for(
             &self.history,
             &mut session.front,
-            &self.board,
+            self.board(),
             &session.who,
             &mut session.seat,
             group,
@@ -416,7 +416,7 @@ impl<B: HistoryName, G> Running<B, G> {
         let answer = station.groups_for(
             &self.history,
             &mut session.front,
-            &self.board,
+            self.board(),
             &session.who,
             &mut session.seat,
         );
@@ -502,6 +502,6 @@ impl<B: HistoryName, G> Running<B, G> {
         ensures none { length seat.now ≤ length session.old.seat → IsOk result }
     {
         session.quiet = None;
-        self.board.catch_up(&mut session.seat, seat)
+        self.board().catch_up(&mut session.seat, seat)
     }
 }

@@ -5,10 +5,12 @@ ghost use mathlib.Core.List.{IsPrefix};
 ghost use Rattle.cpg_history.specs.Members.{Began, HaveSeen};
 ghost use Rattle.cpg_daemon.specs.Links.{links_of, peers_of};
 
+use crate::clusters::Links;
 use crate::lines::{Incoming, Lines, Outgoing};
 use crate::running::Lock;
 use cpg_history::{Front, History, HistoryName, Member, Parcel, Pen};
 use cpg_link::{LinkRx, LinkTx};
+use cpg_station::Station;
 use std::alloc::{AllocError, Global};
 use std::marker::Brand;
 use std::sync::Wait;
@@ -60,13 +62,14 @@ pub(crate) struct Room<B: HistoryName> {
     pub nodes: u8,
     pub pens: Pen<B>,
     pub spares: Vec<Member<B>>,
-    pub stations: Vec<Member<B>>,
+    pub members: Vec<Member<B>>,
+    pub stations: Vec<Station<B>>,
     pub ends: Lines<B>,
-    pub links: Vec<(LinkTx<Parcel<B>>, LinkRx<Parcel<B>>)>,
+    pub links: Links<B>,
     ghost some: { 1 ≤ nodes },
     ghost spared: { vec_len spares ≡ nodes },
-    ghost empty: { (vec_len stations ≡ 0) × (vec_len ends.outgoing ≡ 0) × (vec_len ends.incoming ≡ 0) × (vec_len links ≡ 0) },
-    ghost for_stations: { nodes ≤ vec_capacity stations },
+    ghost empty: { (vec_len members ≡ 0) × (vec_len stations ≡ 0) × (vec_len ends.outgoing ≡ 0) × (vec_len ends.incoming ≡ 0) × (vec_len links ≡ 0) },
+    ghost for_stations: { (nodes ≤ vec_capacity members) × (nodes ≤ vec_capacity stations) },
     ghost for_ends: { (links_of nodes ≤ vec_capacity ends.outgoing) × (links_of nodes ≤ vec_capacity ends.incoming) },
     ghost for_links: { links_of nodes ≤ vec_capacity links },
 }
@@ -144,10 +147,7 @@ fn receiver_of<B: HistoryName>(end: Incoming<B>) -> LinkRx<Parcel<B>> {
 
 /// The two ends of each link, in the order of the nodes that the links come from, and then of those that they
 /// go to.
-pub(crate) fn pair<B: HistoryName>(
-    mut ends: Lines<B>,
-    mut links: Vec<(LinkTx<Parcel<B>>, LinkRx<Parcel<B>>)>,
-) -> Vec<(LinkTx<Parcel<B>>, LinkRx<Parcel<B>>)>
+pub(crate) fn pair<B: HistoryName>(mut ends: Lines<B>, mut links: Links<B>) -> Links<B>
     requires same { vec_len ends.outgoing ≡ vec_len ends.incoming }
     requires room { (vec_len links ≡ 0) × (vec_len ends.outgoing ≤ vec_capacity links) }
     ensures { vec_len result ≡ vec_len ends.outgoing }
@@ -169,6 +169,23 @@ pub(crate) fn pair<B: HistoryName>(
     }
     links.as_mut_slice().reverse();
     links
+}
+
+/// The stations alone, in their order, in the room for them.
+pub(crate) fn stations_of<B: HistoryName>(
+    mut members: Vec<Member<B>>,
+    mut stations: Vec<Station<B>>,
+) -> Vec<Station<B>>
+    requires { (vec_len stations ≡ 0) × (vec_len members ≤ vec_capacity stations) }
+    ensures { vec_len result ≡ vec_len members }
+{
+    for _ in 0..members.len() {
+        if let Some(member) = members.pop() {
+            stations.push_reserved(member.into_station());
+        }
+    }
+    stations.as_mut_slice().reverse();
+    stations
 }
 
 /// The station. The pen has seen then all that it had seen and all that the station's has.

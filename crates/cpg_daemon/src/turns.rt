@@ -407,7 +407,7 @@ impl<B: HistoryName, G: Gate> Running<B, G> {
         let mut has_delivered = false;
         let mut is_refused = false;
         for _ in rt.forever() {
-            match station.deliver(&self.history, &self.board) {
+            match station.deliver(&self.history, self.board()) {
                 Ok(None) => break,
                 Ok(Some(_)) => has_delivered = true,
                 Err(_) => {
@@ -458,7 +458,8 @@ impl<B: HistoryName, G: Gate> Running<B, G> {
         pace.after(heard, calls)
     }
 
-    /// How many turns in a row a thread takes under one lock at most, before it delivers what they brought.
+    /// How many turns in a row a thread takes under one lock at most, before it delivers what they brought. It asks the gate,
+    /// so it is called while no lock is held.
     fn turns_at_once(&self) -> u32
         ensures { (1 ≤ result) × (result ≤ 9) }
     {
@@ -471,9 +472,15 @@ impl<B: HistoryName, G: Gate> Running<B, G> {
 
     /// Turns in a row, the first of which has taken its frames. They end with one that is to be answered, with one that finds
     /// no frame, and where all are halted.
-    fn hear_on(&self, pace: Pace, station: &mut Member<B>, incoming: &mut [Incoming<B>]) -> Pace {
+    fn hear_on(
+        &self,
+        pace: Pace,
+        station: &mut Member<B>,
+        incoming: &mut [Incoming<B>],
+        turns: u32,
+    ) -> Pace {
         let mut pace = self.paced(pace, self.hear_each(station, incoming));
-        for _ in 1..self.turns_at_once() {
+        for _ in 1..turns {
             if are_answered(incoming) || self.are_halted() {
                 break;
             }
@@ -504,8 +511,9 @@ impl<B: HistoryName, G: Gate> Running<B, G> {
     ) -> Pace
         requires { node ≤ self.now.nodes }
     {
+        let turns = self.turns_at_once();
         let mut station = self.hold(rt, node);
-        let heard = self.hear_on(pace, &mut station, incoming);
+        let heard = self.hear_on(pace, &mut station, incoming, turns);
         if are_answered(incoming) {
             self.sign(node).open();
         }

@@ -7,8 +7,9 @@ use Rattle.cpg_world_laws.specs.Worlds.{WorldValue, moves, node_in}
 use Rattle.cpg_world_laws.specs.Replies.{Answer, IsAnswerAt}
 use Rattle.cpg_station.specs.Serving.{HearsSession}
 use Rattle.cpg_station.specs.Stations.{StationValue}
-use Rattle.cpg_history.specs.declared.histories.View.{View}
-use Rattle.cpg_history.specs.Histories.{Came, FrontValue, Owns, front, later, told}
+use Rattle.cpg_board.specs.declared.words.View.{View}
+use Rattle.cpg_board.specs.Words.{Owns}
+use Rattle.cpg_history.specs.Histories.{Came, FrontValue, front, later, told}
 use Rattle.cpg_history.specs.Members.{HasTrace, IsMember, IsPenOf, Told}
 use Rattle.cpg_history.specs.Traces.{IsWritten, Notes, TraceValue}
 use Rattle.cpg_history.proofs.Coming.{is_member, pen_after, told_after}

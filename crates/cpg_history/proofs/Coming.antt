@@ -2,7 +2,7 @@
 use Rattle.std.proofs.Common.{◌≡◌, ℕ, zero, suc, Bool, false, true≢false, List, [], ◌∷◌, ◌++◌, length, set, slice_get, Some, refl, sym, ap, ◌∙◌, subst}
 use Rattle.std.proofs.lemmas.Option.{none-some}
 use Rattle.cpg_world_laws.specs.declared.events.WorldEvent.{WorldEvent}
-use Rattle.cpg_history.specs.declared.histories.View.{View}
+use Rattle.cpg_board.specs.declared.words.View.{View}
 use Rattle.cpg_ring.specs.States.{Frame}
 use Rattle.cpg_ring.specs.Worlds.{item, with_item}
 use Rattle.cpg_node.specs.Nodes.{NodeValue}

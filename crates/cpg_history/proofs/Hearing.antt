@@ -17,7 +17,7 @@ use Rattle.cpg_world_laws.specs.declared.replies.Reply.TheVariants as reply
 use Rattle.cpg_world_laws.specs.Worlds.{WorldValue, NodeOutcome, unless, hears, runs}
 use Rattle.cpg_world_laws.specs.Replies.{or_reply, frame_answer}
 use Rattle.cpg_history.proofs.Reading.{ReadAgain}
-use Rattle.cpg_history.specs.declared.histories.View.{View}
+use Rattle.cpg_board.specs.declared.words.View.{View}
 use Rattle.cpg_station.specs.Stations.{StationValue}
 use Rattle.cpg_history.specs.Histories.{Came, FrontValue, told, front}
 use Rattle.cpg_history.specs.Members.{how_many, MemberValue, Replied, WereSent, WasSent, IsAt, member, before_last}

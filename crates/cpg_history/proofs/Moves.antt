@@ -1,22 +1,22 @@
 -- Each step keeps the one history.
-use Rattle.std.proofs.Common.{◌≡◌, ◌≢◌, ◌⊎◌, Bool, true, false, true≢false, ℕ, zero, suc, ◌+◌, ◌<◌, ◌%◌, ◌^◌, List, [], ◌∷◌, ◌++◌, ◌==◌, length, set, eqb, eq-eqb, ne_eqb, refl, sym, ap, ◌∙◌, subst, inl, inr, ⊎_elim, arith, length-append, slice_set}
+use Rattle.std.proofs.Common.{◌≡◌, ◌≢◌, ◌⊎◌, Bool, true, false, true≢false, ℕ, zero, suc, ◌+◌, ◌<◌, ◌%◌, ◌^◌, List, [], ◌∷◌, ◌++◌, length, set, eqb, eq-eqb, ne_eqb, refl, sym, ap, ◌∙◌, subst, inl, inr, ⊎_elim, arith, length-append, slice_set}
 use Rattle.std.specs.Prelude.{slice_index}
 use Rattle.std.proofs.Math.Nat.{mod-add-mod}
 use mathlib.Core.Option.{some, some-ne-none, some-injective}
 use mathlib.Core.List.{IsPrefix}
 use prog.Atomic.{either}
 use lib.ListN.{get_elem?}
-use Rattle.atomic_table.specs.Table.{State, keeps, Me, Step, Allows, Splits, Joins}
+use Rattle.atomic_table.specs.Table.{keeps, Me, Step, Allows, Splits, Joins}
 use Rattle.atomic_table.proofs.Lists.{at_set, set_again}
 use Rattle.cpg_world_laws.specs.declared.events.WorldEvent.{WorldEvent}
-use Rattle.cpg_history.specs.declared.histories.View.{View}
+use Rattle.cpg_board.specs.declared.words.View.{View}
 use Rattle.cpg_world_laws.specs.Worlds.{node_in}
-use Rattle.cpg_history.specs.Histories.{view, Owns, FitsHistory, Kept, Adds, Looks, first_node, other_nodes, front_of, told, nobody, all_nodes, spread, many_words, words_of, TellsCatch}
+use Rattle.atomic_table.specs.Seated.{TableId}
+use Rattle.cpg_board.specs.Words.{is_counted, view, Owns, FitsHistory, spread, many_words, words_of}
+use Rattle.cpg_history.specs.Histories.{Adds, Looks, first_node, other_nodes, front_of, told, nobody, TellsCatch}
 use Rattle.cpg_history.proofs.Runs.{prefix_self, prefix_on}
-use Rattle.cpg_history.proofs.Resting.{rests_self, rests_on, rests_before, rests_behind}
-
-abbrev pub Rule : Bool → State ℕ View → Type 0
-Rule counted s = Kept counted s.words s.views
+use Rattle.cpg_history.proofs.Resting.{rests_on, rests_before, rests_behind}
+use Rattle.cpg_board.proofs.Counting.{Rule, rests_self}
 
 -- it is so of each pass
 abbrev Each : List View → (ℕ → View → Type 0) → Type 0
@@ -54,18 +54,15 @@ counts words log e count =
     ∙ ap spread (mod-add-mod (length log) (2 ^ 64) 1 ∙ ap (λ n. n % 2 ^ 64) (sym (length-append log (e ∷ []))))
 
 -- there is a first word, and one in the middle
-pub has_word : (counted : Bool) (words : ℕ) → words ≡ many_words counted → 0 < words
-has_word true words is = omega (arith, is)
-has_word false words is = omega (arith, is)
-
-pub has_middle : (counted : Bool) (words : ℕ) → words ≡ many_words counted → 8 < words
+has_middle : (counted : Bool) (words : ℕ) → words ≡ many_words counted → 8 < words
 has_middle true words is = omega (arith, is)
 has_middle false words is = omega (arith, is)
 
--- by their number, whether events are counted
-pub tells_counted : (counted : Bool) (words : ℕ) → words ≡ many_words counted → (words == 17) ≡ counted
-tells_counted true words is = ap (λ n. n == 17) is
-tells_counted false words is = ap (λ n. n == 17) is
+pub has_middle_of : (table named : TableId) → table ≡ named → named.words ≡ many_words (is_counted named) → 8 < table.words
+has_middle_of table named same is = has_middle (is_counted named) table.words (ap (λ (t : TableId). t.words) same ∙ is)
+
+pub has_word_of : (table named : TableId) → table ≡ named → named.words ≡ many_words (is_counted named) → 0 < table.words
+has_word_of table named same is = let middle = has_middle_of table named same is in omega (arith, middle)
 
 -- a word that is read stays as it is
 reads : (counted : Bool) (words : List ℕ) (n : ℕ) → words ≡ words_of counted n → slice_set words 0 (slice_index words 0) ≡ words_of counted n
@@ -191,17 +188,6 @@ next counted id v some_left s h at =
           }))
           (last_of rest (first_node v) u j now);
     }
-
--- a new history
-pub begins : (counted : Bool) (words : List ℕ) → words ≡ words_of counted 0 → Rule counted record { words = words; homes = []; views = all_nodes ∷ [] }
-begins counted words count = record { log = []; seat = λ n. 0; count = count; each = first }
-  where
-    v : View
-    v = all_nodes
-
-    first : Each (v ∷ []) (FitsHistory [] (λ n. 0))
-    first zero u at = subst (FitsHistory [] (λ n. 0) 0) (some-injective v u at) (record { seen = ([], refl); also = ([], refl); own = λ n owns. (refl, rests_self n []) })
-    first (suc j) u at = absurd (some-ne-none u (sym at))
 
 pub looks : (counted : Bool) (slots id : ℕ) (me : Me ℕ View) (st : Step ℕ) → Allows (Rule counted) slots id me 0 (λ n. n) (Looks st me)
 looks counted slots id me st s h len at small =

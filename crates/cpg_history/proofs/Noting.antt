@@ -8,9 +8,10 @@ use Rattle.cpg_ring.specs.States.{Frame}
 use Rattle.cpg_node.specs.Nodes.{NodeValue}
 use Rattle.cpg_world_laws.specs.declared.events.WorldEvent.{WorldEvent}
 use Rattle.cpg_world_laws.specs.Worlds.{WorldValue, unless, moves, node_in, runs}
-use Rattle.cpg_history.specs.declared.histories.View.{View}
+use Rattle.cpg_board.specs.declared.words.View.{View}
 use Rattle.cpg_history.specs.declared.traces.Recorded.{Recorded}
-use Rattle.cpg_history.specs.Histories.{Came, Rests}
+use Rattle.cpg_board.specs.Words.{Rests}
+use Rattle.cpg_history.specs.Histories.{Came}
 use Rattle.cpg_history.specs.Members.{HasTrace, IsAt, IsPenOf, before_last}
 use Rattle.cpg_history.specs.Traces.{TraceValue, WasAdded, HasNumber, IsWritten, WasRecorded, AreRecorded, IsTraceOf, NotesOf, NotesAfter, Notes, new_trace, recorded_of, recorded_stamps, stamps_of}
 use Rattle.cpg_history.proofs.Runs.{prefix_self}

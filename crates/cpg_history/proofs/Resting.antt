@@ -7,7 +7,7 @@ use mathlib.Core.List.{IsPrefix}
 use Rattle.cpg_ring.specs.Worlds.{item}
 use Rattle.cpg_world_laws.specs.declared.events.WorldEvent.{WorldEvent}
 use Rattle.cpg_world_laws.specs.Worlds.{WorldValue, node_in, happens, runs}
-use Rattle.cpg_history.specs.Histories.{Rests}
+use Rattle.cpg_board.specs.Words.{Rests}
 use Rattle.cpg_history.specs.Traces.{stamps_of}
 use Rattle.cpg_history.proofs.Runs.{runs_on, happens_other}
 
@@ -17,9 +17,6 @@ AreElsewhere n es = AllByRecursion (λ e. node_in e ≢ n) es
 
 pub prefix_then : {A : Type 0} (xs ys zs : List A) → IsPrefix xs ys → IsPrefix ys zs → IsPrefix xs zs
 prefix_then xs ys zs p q = (p.0 ++ q.0, sym (append_assoc xs p.0 q.0) ∙ (ap (λ l. l ++ q.0) p.1 ∙ q.1))
-
-pub rests_self : (n : ℕ) (xs : List WorldEvent) → Rests n xs xs
-rests_self n xs = ([], append-nil xs, tt)
 
 elsewhere_push : (n : ℕ) (es : List WorldEvent) (e : WorldEvent) → AreElsewhere n es → node_in e ≢ n → AreElsewhere n (es ++ e ∷ [])
 elsewhere_push n [] e all one = (one, tt)

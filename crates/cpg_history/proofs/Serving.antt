@@ -14,8 +14,9 @@ use Rattle.cpg_world_laws.specs.Worlds.{WorldValue}
 use Rattle.cpg_station.specs.Stations.{StationValue}
 use Rattle.cpg_station.specs.Serving.{HearsSession, IsKnown, StaysOrHalts, halted_of}
 use Rattle.cpg_station.specs.Admitting.{AdmitsNot, StopsAdmitting, IsOther}
-use Rattle.cpg_history.specs.declared.histories.View.{View}
-use Rattle.cpg_history.specs.Histories.{Catches, FrontValue, Owns, Rests, front, told}
+use Rattle.cpg_board.specs.declared.words.View.{View}
+use Rattle.cpg_board.specs.Words.{Owns, Rests}
+use Rattle.cpg_history.specs.Histories.{Catches, FrontValue, front, told}
 use Rattle.cpg_history.specs.Members.{HasTrace, IsAt, IsMember, IsNewWorld, IsPenOf}
 use Rattle.cpg_history.specs.Traces.{IsTraceOf, TraceValue, new_trace}
 use Rattle.cpg_history.proofs.Noting.{trace_begins, trace_nothing, trace_rests}

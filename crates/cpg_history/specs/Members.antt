@@ -13,7 +13,7 @@ use Rattle.cpg_world_laws.specs.Worlds.{WorldValue, runs}
 use Rattle.cpg_world_laws.specs.Replies.{Answer, IsReply}
 use Rattle.cpg_station.specs.Stations.{StationValue}
 use Rattle.cpg_history.specs.declared.histories.Beginning.{Beginning}
-use Rattle.cpg_history.specs.declared.histories.View.{View}
+use Rattle.cpg_board.specs.declared.words.View.{View}
 use Rattle.cpg_history.specs.Histories.{first_world}
 use Rattle.cpg_history.specs.Traces.{TraceValue, IsTraceOf, new_trace}
 

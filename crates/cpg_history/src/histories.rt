@@ -1,32 +1,26 @@
-//! One history of all that happens in running nodes. It exists in proofs alone. Where it is recorded, what threads share is
-//! its length, in a word that each event adds one to; else it is words that nobody writes, one of which each event reads, so
-//! that no thread waits for another.
+//! One history of all that happens in running nodes. It exists in proofs alone. Its words, which threads share, are those of
+//! the board that the nodes share: so whoever names the board names the history.
 //!
-//! The form is our own: the rule of an `atomic_table` says that every view fits the one history, and who has a view of
-//! nodes may add their events.
+//! The form is our own: the rule of these words says that every view fits the one history, and who has a view of nodes may
+//! add their events.
 
-ghost use Rattle.std.specs.Prelude.{◌≡◌, ◌<◌, true, false, IfOk};
+ghost use Rattle.std.specs.Prelude.{◌≡◌, ◌<◌, IfSome};
 ghost use mathlib.Core.List.{IsPrefix};
 ghost use Rattle.cpg_world_laws.specs.Worlds.{node_in};
-ghost use Rattle.cpg_history.specs.Histories.{Came, Catches, Owns, Sees, first_world, all_nodes, is_counted, later, first_node, other_nodes, told, front as front_at};
+ghost use Rattle.cpg_board.specs.Words.{Owns, all_nodes, is_counted, many_words};
+ghost use Rattle.cpg_history.specs.Histories.{Came, Catches, Sees, later, first_node, other_nodes, told, front as front_at};
 ghost use Rattle.cpg_history.specs.Members.{IsNewWorld};
 
-use atomic_table::{Badge, Join, Play, Seat, Split, Table, TableRule};
+use atomic_table::{Badge, Join, Play, Seat, Split};
+use cpg_board::{Board, Line, Pens, View};
 use cpg_cred::AcceptList;
 use cpg_node::Settings;
 use cpg_station::BoardName;
 use cpg_world_laws::WorldEvent;
-use std::alloc::{AllocError, Global};
-use std::collections::LinkedList;
 use std::marker::{Brand, Model, PhantomData};
 
-/// How many words all threads share where events are counted, and how many where they are not.
-const COUNTED: usize = 17;
-
-const UNCOUNTED: usize = 18;
-
-/// Which of them each event is added by: it counts, if any does, and no other is ever written. As many as a cache line holds
-/// stand on either side, so that neither who reads the first one nor what lies beside them waits for it.
+/// Which word each event is added by: where events are counted it counts, and no other is ever written. As many as a cache
+/// line holds stand on either side, so that neither who reads the first one nor what lies beside them waits for it.
 const MIDDLE: usize = 8;
 
 /// What a history begins with: a new world of these.
@@ -34,27 +28,6 @@ const MIDDLE: usize = 8;
 pub struct Beginning {
     pub settings: Settings,
     pub list: AcceptList,
-}
-
-/// What the rule of a history's words goes by: what the history begins with, and whether its events are counted.
-#[derive(Drop)]
-struct Basis {
-    beginning: Beginning,
-    counted: bool,
-}
-
-/// What one may add to a history, and has seen of it. It is for contracts: no value of it is made.
-pub struct View {
-    /// The first of the nodes whose events it may add.
-    pub from: u64,
-    /// The number after the last of them.
-    pub to: u64,
-    /// A beginning of the history, since which nothing happened at these nodes.
-    pub seen: LinkedList<WorldEvent>,
-    /// Another beginning of the history, of which one was told.
-    pub also: LinkedList<WorldEvent>,
-    /// A number that goes with it, as that of a frame among those sent.
-    pub number: u64,
 }
 
 /// Which history it is: its table, and the world that it begins with; and which board its nodes share.
@@ -86,17 +59,6 @@ impl Happens for Brand {
     ghost use Rattle.cpg_world_laws.specs.declared.events.WorldEvent.TheVariants.{Timer};
 
     ghost event = { Timer 0 };
-}
-
-/// The rule of the words and of all views: there is one history, and each view fits it.
-struct OneHistory;
-
-impl TableRule<u64, View, Basis> for OneHistory {
-    ghost use Rattle.cpg_history.specs.Histories.{Kept, all_nodes};
-
-    ghost holds = { λ basis s. Kept basis.counted s.words s.views };
-
-    ghost first = { λ basis. all_nodes };
 }
 
 /// A step that adds an event, and counts it.
@@ -163,8 +125,6 @@ impl Join<View> for Learns {
     ghost spent = { nobody };
 }
 
-type Line = Table<u64, View, Basis, OneHistory, Global>;
-
 /// A step that sees the history as it is.
 struct Look;
 
@@ -183,127 +143,34 @@ impl Play<u64, View> for CatchUp {
     ghost then = { TellsCatch };
 }
 
-/// An empty history, which has no name yet, and what it begins with.
-#[derive(Drop)]
-pub struct Opened {
-    basis: Basis,
-    line: Line,
-    seat: Seat<u64, View>,
-}
-
-impl Model for Opened {
-    ghost use Rattle.std.specs.Prelude.{◌≡◌};
-    ghost use Rattle.cpg_history.specs.Histories.{OpenedValue, first_seat, many_words};
-
-    ghost Value = { OpenedValue };
-
-    ghost view = { λ o. record { table = o.line.shared.table_id; start = o.basis.beginning; traced = o.basis.counted } };
-
-    ghost invariant = { λ o. (o.line.shared.table_id.words ≡ many_words o.basis.counted) × (o.seat.table_id ≡ o.line.shared.table_id) × (o.seat.me ≡ first_seat) × (o.line.shared.key ≡ o.basis) };
-}
-
-impl Opened {
-    /// A new history, which begins with a new world of that. Refused where memory is.
-    pub fn new(alloc: Global, beginning: Beginning) -> Result<Opened, AllocError>
-        ensures { IfOk result (λ o. (o.start ≡ beginning) × (o.traced ≡ false)) }
-    {
-        Opened::on(
-            alloc,
-            Basis {
-                beginning,
-                counted: false,
-            },
-        )
-    }
-
-    /// The same, of which what happens at each node is recorded.
-    pub fn traced(alloc: Global, beginning: Beginning) -> Result<Opened, AllocError>
-        ensures { IfOk result (λ o. (o.start ≡ beginning) × (o.traced ≡ true)) }
-    {
-        Opened::on(
-            alloc,
-            Basis {
-                beginning,
-                counted: true,
-            },
-        )
-    }
-
-    fn on(alloc: Global, basis: Basis) -> Result<Opened, AllocError>
-        ensures { IfOk result (λ o. (o.start ≡ basis.beginning) × (o.traced ≡ basis.counted)) }
-    {
-        let (line, seat) = if basis.counted {
-            Table::of_words(alloc, &[0; COUNTED], &basis)?
-        } else {
-            Table::of_words(alloc, &[0; UNCOUNTED], &basis)?
-        };
-        Ok(Opened { basis, line, seat })
-    }
-
-    /// Whether what happens is recorded.
-    pub fn is_traced(&self) -> bool
-        ensures { result ≡ self.now.traced }
-    {
-        self.basis.counted
-    }
-
-    /// What it begins with.
-    pub fn beginning(&self) -> &Beginning
-        ensures { result.now ≡ self.now.start }
-    {
-        &self.basis.beginning
-    }
-
-    /// The history under a name, the pen of all nodes, and what it begins with.
-    pub fn named<B: HistoryName>(self) -> (History<B>, Pen<B>, Beginning)
-        requires { (self.table ≡ B.table) × (first_world self.start ≡ B.start) }
-        ensures pen { result.1 ≡ all_nodes }
-        ensures beginning { result.2 ≡ self.start }
-    {
-        let Opened { basis, line, seat } = self;
-        let Basis { beginning, counted } = basis;
-        let history = History {
-            line,
-            counted,
-            of: PhantomData,
-        };
-        let pens = Pen {
-            seat,
-            of: PhantomData,
-        };
-        (history, pens, beginning)
-    }
-}
-
-/// A history: the words that all threads share, and their rule. Where it is recorded, one of them counts the events.
+/// The history of the nodes that share a board, under the board's name. It keeps the board.
 #[derive(Drop)]
 pub struct History<B: HistoryName> {
-    line: Line,
-    counted: bool,
+    board: Board,
     of: PhantomData<B>,
 }
 
 impl<B: HistoryName> Model for History<B> {
-    ghost use Rattle.cpg_history.specs.Histories.{first_world, many_words};
+    ghost use Rattle.cpg_history.specs.Members.{IsNewWorld};
     ghost use Rattle.std.specs.Prelude.{◌≡◌, ℕ};
 
     ghost Value = { ℕ };
 
-    ghost view = { λ h. h.line.shared.table_id.words };
+    ghost view = { λ h. h.board.table.words };
 
-    ghost invariant = { λ h. (h.line.shared.table_id ≡ B.table) × (h.line.shared.table_id.words ≡ many_words h.counted) × (h.line.shared.key.counted ≡ h.counted) × (first_world h.line.shared.key.beginning ≡ B.start) };
+    ghost invariant = { λ h. (h.board.cells ≡ B.cells) × (h.board.table ≡ B.table) × IsNewWorld B.start };
 }
 
 /// What adds the events of some nodes, which no other pen can. Contracts see which nodes these are, and what it has seen.
 #[derive(Drop)]
 pub struct Pen<B: HistoryName> {
-    seat: Seat<u64, View>,
+    seat: Pens,
     of: PhantomData<B>,
 }
 
 impl<B: HistoryName> Model for Pen<B> {
     ghost use Rattle.std.specs.Prelude.{◌≡◌, []};
-    ghost use Rattle.cpg_history.specs.declared.histories.View.{View};
+    ghost use Rattle.cpg_board.specs.declared.words.View.{View};
 
     ghost Value = { View };
 
@@ -331,18 +198,53 @@ impl<B: HistoryName> Model for Front<B> {
 }
 
 impl<B: HistoryName> History<B> {
+    /// The history of the nodes that share the board, which begins with a new world, and the pen of all nodes, unless it
+    /// was taken before.
+    pub fn on(board: Board) -> Option<(History<B>, Pen<B>)>
+        requires name { (board.cells ≡ B.cells) × (board.table ≡ B.table) }
+        requires begins { IsNewWorld B.start }
+        ensures { IfSome result (λ made. made.1 ≡ all_nodes) }
+    {
+        let seat = board.pens()?;
+        let history = History {
+            board,
+            of: PhantomData,
+        };
+        let pens = Pen {
+            seat,
+            of: PhantomData,
+        };
+        Some((history, pens))
+    }
+
+    /// The board.
+    pub fn board(&self) -> &Board
+        ensures { result.now.cells ≡ B.cells }
+    {
+        &self.board
+    }
+
+    /// The words that all threads share.
+    fn line(&self) -> &Line
+        ensures table { result.now.shared.table_id ≡ B.table }
+        ensures words { (B.table).words ≡ many_words (is_counted B.table) }
+        ensures key { result.now.shared.key ≡ is_counted B.table }
+    {
+        self.board.line()
+    }
+
     /// It begins with a new world. The function has nothing to do.
     pub fn begins(&self)
         ensures { IsNewWorld B.start }
     {
-        let _line = &self.line;
+        let _board = &self.board;
     }
 
     /// Whether its events are counted, so that they can be recorded.
     pub fn is_counted(&self) -> bool
         ensures { result ≡ is_counted B.table }
     {
-        self.counted
+        self.board.is_counted()
     }
 
     /// Adds the event to the history, and gives its stamp: where events are counted, how many came before it.
@@ -351,8 +253,8 @@ impl<B: HistoryName> History<B> {
         ensures came { Came (is_counted B.table) pen.old E.event result pen.new.seen }
         ensures pen { pen.new ≡ later pen.old pen.new.seen }
     {
-        let shared = &self.line.shared;
-        if self.counted {
+        let shared = &self.line().shared;
+        if self.is_counted() {
             shared.fetch_add::<Add<E>>(&mut pen.seat, MIDDLE, 1)
         } else {
             shared.load::<Enter<E>>(&mut pen.seat, MIDDLE)
@@ -378,7 +280,7 @@ impl<B: HistoryName> History<B> {
         ensures front { result ≡ record { seen = pen.old.seen; number = N.number } }
         ensures pen { pen.new ≡ pen.old }
     {
-        let seat = self.line.shared.split_seat::<Tells<N>>(&mut pen.seat);
+        let seat = self.line().shared.split_seat::<Tells<N>>(&mut pen.seat);
         Front {
             badge: seat.into_badge(),
             of: PhantomData,
@@ -391,7 +293,7 @@ impl<B: HistoryName> History<B> {
         ensures next { result ≡ first_node pen.old }
         ensures pen { pen.new ≡ other_nodes pen.old }
     {
-        let seat = self.line.shared.split_seat::<Next>(&mut pen.seat);
+        let seat = self.line().shared.split_seat::<Next>(&mut pen.seat);
         Pen {
             seat,
             of: PhantomData,
@@ -404,14 +306,14 @@ impl<B: HistoryName> History<B> {
     {
         let Front { badge, of: _ } = front;
         let seat = badge.into_seat();
-        self.line.shared.join_seat::<Learns>(&mut pen.seat, seat);
+        self.line().shared.join_seat::<Learns>(&mut pen.seat, seat);
     }
 
     /// The pen sees all of the history.
     pub fn observe(&self, pen: &mut Pen<B>)
         ensures { Sees pen.old pen.new }
     {
-        self.line.shared.load::<Look>(&mut pen.seat, 0);
+        self.line().shared.load::<Look>(&mut pen.seat, 0);
     }
 
     /// The pen has seen just what the front has, and its next event comes after that.
@@ -428,7 +330,7 @@ impl<B: HistoryName> History<B> {
         requires { IsPrefix pen.old.seen pen.old.also }
         ensures { Catches pen.old pen.new }
     {
-        self.line.shared.load::<CatchUp>(&mut pen.seat, 0);
+        self.line().shared.load::<CatchUp>(&mut pen.seat, 0);
     }
 
     /// A front that both begin: all of the history.
@@ -453,7 +355,7 @@ impl<B: HistoryName> History<B> {
     {
         let badge = std::mem::replace(&mut front.badge, Badge::blank());
         let mut seat: Seat<u64, View> = badge.into_seat();
-        let other = self.line.shared.split_seat::<Tells<N>>(&mut seat);
+        let other = self.line().shared.split_seat::<Tells<N>>(&mut seat);
         front.badge = seat.into_badge();
         Front {
             badge: other.into_badge(),

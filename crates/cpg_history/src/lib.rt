@@ -7,7 +7,7 @@ mod members;
 mod parcels;
 mod traces;
 
-pub use histories::{Beginning, Front, Happens, History, HistoryName, Numbers, Opened, Pen, View};
+pub use histories::{Beginning, Front, Happens, History, HistoryName, Numbers, Pen};
 pub use members::{Member, new_member, new_spares};
 pub use parcels::{Parcel, Parcels};
 pub use traces::{Recorded, Trace};

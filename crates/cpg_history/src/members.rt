@@ -13,7 +13,7 @@ ghost use Rattle.cpg_world_laws.specs.declared.events.WorldEvent.TheVariants as 
 ghost use Rattle.cpg_world_laws.specs.declared.replies.Reply.TheVariants as reply;
 ghost use Rattle.cpg_station.specs.Delivering.{Delivers, DeliverRefuses};
 ghost use Rattle.cpg_station.specs.Serving.{halted_of};
-ghost use Rattle.cpg_history.specs.Histories.{is_counted};
+ghost use Rattle.cpg_board.specs.Words.{is_counted};
 ghost use Rattle.cpg_history.specs.Members.{IsAt, IsNewWorld, IsPenOf, IsSafeAt, Replied, how_many};
 ghost use Rattle.cpg_history.specs.Traces.{IsTraceOf, new_trace};
 
@@ -49,7 +49,7 @@ pub struct Member<B: HistoryName> {
 impl<B: HistoryName> Model for Member<B> {
     ghost use Rattle.std.specs.Coded.{codes};
     ghost use Rattle.cpg_ring.specs.Kept.{held_code};
-    ghost use Rattle.cpg_history.specs.Histories.{is_counted};
+    ghost use Rattle.cpg_board.specs.Words.{is_counted};
     ghost use Rattle.cpg_history.specs.Members.{MemberValue, IsMember, HasTrace};
 
     ghost Value = { MemberValue };
@@ -147,6 +147,22 @@ impl<B: HistoryName> Member<B> {
         ensures { result.now ≡ self.now.trace }
     {
         &self.trace
+    }
+
+    /// Its station alone, when it adds no more.
+    pub fn into_station(self) -> Station<B>
+        ensures { result ≡ self.station }
+    {
+        let Member {
+            id: _,
+            station,
+            spare: _,
+            pen,
+            trace,
+        } = self;
+        drop(pen);
+        drop(trace);
+        station
     }
 
     /// What was recorded, when it adds no more.
@@ -296,7 +312,7 @@ impl<B: HistoryName> Member<B> {
     /// Judges the next place, if it is held, has the judgement stand on the board, and takes the place as delivered;
     /// gives the place. Refused as a station's `deliver` is. A spare answers Stopped.
     pub fn deliver(&mut self, history: &History<B>, board: &Board) -> Result<Option<u32>, Refusal>
-        requires { board.now ≡ B.cells }
+        requires { board.now.cells ≡ B.cells }
         ensures some { IfOk result (λ place. IfSome place (λ p. Delivers p self.old.station self.new.station × Replied B.start self.old (events.Deliver self.old.id) (Ok (reply.Delivered place)) self.new)) }
         ensures none { result ≡ Ok None → (next_record self.old.station.node ≡ None) × (self.new ≡ self.old) }
         ensures err { self.old.spare ≡ false → IfErr result (λ why. DeliverRefuses B.cells self.old.station why self.new.station) }
@@ -310,7 +326,7 @@ impl<B: HistoryName> Member<B> {
         history: &History<B>,
         board: &Board,
     ) -> Result<Option<u32>, Refusal>
-        requires board { board.now ≡ B.cells }
+        requires board { board.now.cells ≡ B.cells }
         requires event { E.event ≡ events.Deliver self.old.id }
         ensures some { IfOk result (λ place. IfSome place (λ p. Delivers p self.old.station self.new.station × Replied B.start self.old (events.Deliver self.old.id) (Ok (reply.Delivered place)) self.new)) }
         ensures none { result ≡ Ok None → (next_record self.old.station.node ≡ None) × (self.new ≡ self.old) }

@@ -20,7 +20,7 @@ pub struct Parcel<B: HistoryName> {
 
 impl<B: HistoryName> Model for Parcel<B> {
     ghost use Rattle.cpg_history.specs.Members.{ParcelValue, WasSent};
-    ghost use Rattle.cpg_history.specs.Histories.{is_counted};
+    ghost use Rattle.cpg_board.specs.Words.{is_counted};
     ghost use Rattle.cpg_history.specs.Traces.{HasNumber};
     ghost use Rattle.std.specs.Prelude.{◌≡◌, true};
 
@@ -73,7 +73,7 @@ pub struct Parcels<B: HistoryName> {
 
 impl<B: HistoryName> Model for Parcels<B> {
     ghost use Rattle.cpg_history.specs.Members.{ParcelsValue, WereSent};
-    ghost use Rattle.cpg_history.specs.Histories.{is_counted};
+    ghost use Rattle.cpg_board.specs.Words.{is_counted};
     ghost use Rattle.cpg_history.specs.Traces.{HasNumber};
     ghost use Rattle.std.specs.Prelude.{◌≡◌, true};
 

@@ -35,7 +35,7 @@ pub struct Desk<B: BoardName> {
     seats: Vec<Place<B>>,
     policy: Policy,
     records: Vec<Record>,
-    ghost named: { board ≡ B.cells },
+    ghost named: { board.cells ≡ B.cells },
 }
 
 /// The index of the seat of that letter.
@@ -53,7 +53,7 @@ fn put_standing(line: &mut Vec<u8>, length: usize, standing: &Record) -> Result<
 
 /// Puts the record that the seat knows at that place.
 fn put_known_at(board: &Board, line: &mut Vec<u8>, seat: &Seat, place: u32) -> Result<(), Refusal>
-    requires { IsSeatOf board.now seat.now }
+    requires { IsSeatOf board.now.cells seat.now }
 {
     if place < 1 || place as usize > seat.len() {
         return Err(NO_COMMAND);
@@ -63,7 +63,7 @@ fn put_known_at(board: &Board, line: &mut Vec<u8>, seat: &Seat, place: u32) -> R
 
 impl<B: BoardName> Place<B> {
     fn new(board: &Board) -> Place<B>
-        requires { board.now ≡ B.cells }
+        requires { board.now.cells ≡ B.cells }
     {
         Place {
             seat: board.seat(),
@@ -72,7 +72,7 @@ impl<B: BoardName> Place<B> {
     }
 
     fn settle(&mut self, board: &Board, line: &mut Vec<u8>, wanted: &Record) -> Result<(), Refusal>
-        requires { board.now ≡ B.cells }
+        requires { board.now.cells ≡ B.cells }
     {
         match board.settle(&mut self.seat, wanted) {
             Ok(()) => put(line, "settled\n"),
@@ -86,7 +86,7 @@ impl<B: BoardName> Place<B> {
     }
 
     fn read(&mut self, board: &Board, line: &mut Vec<u8>) -> Result<(), Refusal>
-        requires { board.now ≡ B.cells }
+        requires { board.now.cells ≡ B.cells }
     {
         match board.read_next(&mut self.seat)? {
             Some(standing) => put_standing(line, self.seat.len(), standing),
@@ -96,7 +96,7 @@ impl<B: BoardName> Place<B> {
 
     /// Puts what the seat knows.
     fn put_known(&self, board: &Board, line: &mut Vec<u8>) -> Result<(), Refusal>
-        requires { board.now ≡ B.cells }
+        requires { board.now.cells ≡ B.cells }
     {
         for index in 0..self.seat.len() {
             let place = u32::try_from(index).unwrap_or(0).saturating_add(1);
@@ -107,7 +107,7 @@ impl<B: BoardName> Place<B> {
 
     /// Puts what can still be read.
     fn put_rest(&mut self, board: &Board, line: &mut Vec<u8>) -> Result<(), Refusal>
-        requires { board.now ≡ B.cells }
+        requires { board.now.cells ≡ B.cells }
     {
         for _ in 0..=u32::MAX {
             let before = self.seat.len();
@@ -122,7 +122,7 @@ impl<B: BoardName> Place<B> {
 
 impl<B: BoardName> Desk<B> {
     pub fn new(alloc: Global, board: Board) -> Desk<B>
-        requires { board ≡ B.cells }
+        requires { board.cells ≡ B.cells }
     {
         Desk {
             board,

@@ -21,7 +21,7 @@ use std::marker::PhantomData;
 pub struct Shared<B: BoardName> {
     board: Board,
     of: PhantomData<B>,
-    ghost named: { board ≡ B.cells },
+    ghost named: { board.cells ≡ B.cells },
 }
 
 /// What serves the connections of a node.
@@ -74,7 +74,7 @@ fn commit_at(node: &mut Node) -> Result<Option<u32>, Refusal> {
 
 impl<B: BoardName> Shared<B> {
     pub fn new(board: Board) -> Shared<B>
-        requires { board ≡ B.cells }
+        requires { board.cells ≡ B.cells }
     {
         Shared {
             board,

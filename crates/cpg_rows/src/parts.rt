@@ -129,7 +129,7 @@ fn play_at_board<'a>(player: &mut Player<'a>, kind: Option<Kind>, text: &[u8]) -
 }
 
 fn play_board<'a, B: BoardName>(player: &mut Player<'a>, board: Board) -> Next<'a>
-    requires { board ≡ B.cells }
+    requires { board.cells ≡ B.cells }
 {
     let mut desk = Desk::<B>::new(player.alloc, board);
     match desk.fill() {
@@ -144,7 +144,7 @@ fn play_crew<'a, B: BoardName>(
     kind: Kind,
     words: &[u8],
 ) -> Next<'a>
-    requires { board ≡ B.cells }
+    requires { board.cells ≡ B.cells }
 {
     let alloc = player.alloc;
     let mut crew = Crew::new(alloc, Shared::<B>::new(board));

@@ -13,7 +13,7 @@ use cpg_node::{Node, Record};
 
 /// Whether what stands at a place that the seat knows is the record.
 fn compare(board: &Board, seat: &Seat, place: u32, wanted: &Record) -> Result<(), Refusal>
-    requires seat { IsSeatOf board.now seat.now }
+    requires seat { IsSeatOf board.now.cells seat.now }
     requires place { (1 ≤ place) × (place ≤ length seat.now) }
     ensures ok { OnOk result (record_at (records_of seat.now) place ≡ Some wanted.now) }
     ensures err { IfErr result (λ why. (why ≡ Differs) × IsAnother (record_at (records_of seat.now) place) wanted.now) }
@@ -28,7 +28,7 @@ fn compare(board: &Board, seat: &Seat, place: u32, wanted: &Record) -> Result<()
 #[tactic(auto, using(crate::proofs::Steps::seat_within, crate::proofs::Steps::same_entry))]
 /// The record has its entry in common from then on with the same record that stands at that place.
 pub(crate) fn share_standing(board: &Board, seat: &Seat, place: u32, wanted: &mut Record)
-    requires seat { IsSeatOf board.now seat.now }
+    requires seat { IsSeatOf board.now.cells seat.now }
     requires place { record_at (records_of seat.now) place ≡ Some wanted.old }
     ensures { wanted.new ≡ wanted.old }
 {
@@ -44,13 +44,13 @@ pub(crate) fn stand(
     node: &Node,
     wanted: &Record,
 ) -> Result<u32, Refusal>
-    requires seat { IsSeatOf board.now seat.old }
+    requires seat { IsSeatOf board.now.cells seat.old }
     requires kept { Keeps (audit_of node.now) seat.old }
-    ensures seat { IsSeatOf board.now seat.new × Begins seat.old seat.new }
+    ensures seat { IsSeatOf board.now.cells seat.new × Begins seat.old seat.new }
     ensures kept { Keeps (audit_of node.now) seat.new }
     ensures number { IfOk result (λ place. place ≡ suc node.now.ring.state.delivered) }
     ensures ok { IfOk result (λ place. (place ≡ suc (length (audit_of node.now))) × (record_at (records_of seat.new) place ≡ Some wanted.now)) }
-    ensures err { IfErr result (λ why. StandsNot board.now seat.old (suc (length (audit_of node.now))) wanted.now why seat.new) }
+    ensures err { IfErr result (λ why. StandsNot board.now.cells seat.old (suc (length (audit_of node.now))) wanted.now why seat.new) }
 {
     let place = node.delivered() + 1;
     if place as usize <= seat.len() {

@@ -33,9 +33,9 @@ use std::marker::{Model, PhantomData};
 /// A node with its seat of the board. Contracts see it as these two, and whether it is halted.
 #[derive(Drop)]
 pub struct Station<B: BoardName> {
-    node: Node,
-    seat: Seat,
-    halted: bool,
+    pub node: Node,
+    pub seat: Seat,
+    pub halted: bool,
     of: PhantomData<B>,
 }
 
@@ -154,7 +154,7 @@ impl<B: BoardName> Station<B> {
     /// halts the station; Memory at the end, where the judgement stands and the next call takes it up.
     #[tactic(auto, using(crate::proofs::Steps::kept_delivered, crate::proofs::Steps::no_place))]
     pub fn deliver(&mut self, board: &Board) -> Result<Option<u32>, Refusal>
-        requires { board.now ≡ B.cells }
+        requires { board.now.cells ≡ B.cells }
         ensures some { IfOk result (λ place. IfSome place (λ place. Delivers place self.old self.new)) }
         ensures place { IfOk result (λ place. place ≡ place_to_deliver self.old.node) }
         ensures none { IfOk result (λ place. IfNone place ((next_record self.old.node ≡ None) × (self.new ≡ self.old))) }
@@ -248,7 +248,7 @@ impl<B: BoardName> Station<B> {
     /// with Stopped where the station is halted; with Behind where it has delivered fewer places than the
     /// seat knows; with Memory.
     pub fn bring_up(&self, board: &Board, seat: &mut Seat) -> Result<(), Refusal>
-        requires board { board.now ≡ B.cells }
+        requires board { board.now.cells ≡ B.cells }
         requires seat { IsSeatOf B.cells seat.old }
         ensures seat { IsSeatOf B.cells seat.new × Begins seat.old seat.new }
         ensures ok { OnOk result (BringsUp self.now seat.old seat.new) }

@@ -22,7 +22,7 @@ pub fn len(seat: &Seat) -> usize {
 }
 
 pub fn settle<'a>(board: &'a Board, seat: &mut Seat, record: &Record) -> Result<(), Settled<'a>>
-    requires { IsSeatOf board.now seat.old }
+    requires { IsSeatOf board.now.cells seat.old }
 {
     board.settle(seat, record)
 }
@@ -36,26 +36,26 @@ pub fn standing(refused: Settled<'_>) -> Option<&Record> {
 }
 
 pub fn read_next<'a>(board: &'a Board, seat: &mut Seat) -> Result<Option<&'a Record>, Refusal>
-    requires { IsSeatOf board.now seat.old }
+    requires { IsSeatOf board.now.cells seat.old }
 {
     board.read_next(seat)
 }
 
 pub fn known<'a>(board: &'a Board, seat: &Seat, place: u32) -> &'a Record
-    requires seat { IsSeatOf board.now seat.now }
+    requires seat { IsSeatOf board.now.cells seat.now }
     requires place { (1 ≤ place) × (place ≤ length seat.now) }
 {
     board.known(seat, place)
 }
 
 pub fn meet(board: &Board, one: &Seat, other: &Seat) -> Ordering
-    requires { IsSeatOf board.now one.now × IsSeatOf board.now other.now }
+    requires { IsSeatOf board.now.cells one.now × IsSeatOf board.now.cells other.now }
 {
     board.meet(one, other)
 }
 
 pub fn catch_up(board: &Board, seat: &mut Seat, other: &Seat) -> Result<(), Refusal>
-    requires { IsSeatOf board.now seat.old × IsSeatOf board.now other.now }
+    requires { IsSeatOf board.now.cells seat.old × IsSeatOf board.now.cells other.now }
 {
     board.catch_up(seat, other)
 }

@@ -1,14 +1,13 @@
 //! `cpg_daemon`: a cluster of running nodes, and the gates that hold them back.
 
 ghost use Rattle.std.specs.Prelude.{◌≡◌, ◌≤◌};
-ghost use Rattle.cpg_history.specs.Histories.{first_world};
+ghost use Rattle.cpg_world_laws.specs.Worlds.{new_world};
 
 use cpg_board::{Board, Seat};
-use cpg_cred::{NodeId, Refusal};
-use cpg_daemon::{
-    Cluster, Ends, Fate, Gate, HistoryName, Member, Opened, Parcel, PassAll, Station,
-};
+use cpg_cred::{AcceptList, NodeId, Refusal};
+use cpg_daemon::{Cluster, Ends, Fate, Gate, HistoryName, Parcel, PassAll, Station};
 use cpg_link::{LinkRx, LinkTx};
+use cpg_node::{Node, Settings};
 use std::alloc::Global;
 use std::sync::Wait;
 use std::thread::Threads;
@@ -34,22 +33,22 @@ impl Gate for Always {
     }
 }
 
-/// Starts a cluster over a board, with a history that was opened with its settings and who is let in.
+/// Starts a cluster of those settings over a board, which lets in whom the list lets in.
 pub fn start<B, G, R>(
     rt: R,
     alloc: Global,
+    settings: Settings,
     board: Board,
-    opened: Opened,
+    list: &AcceptList,
     gate: G,
 ) -> Result<Cluster<B, G>, Refusal>
 where
     B: HistoryName + Send + Sync + 'static,
     G: Gate + Send + Sync + Drop + 'static,
     R: Threads + Wait + Clock + Copy + Send + 'static,
-    requires board { board ≡ B.cells }
-    requires history { (opened.table ≡ B.table) × (first_world opened.start ≡ B.start) }
+    requires name { (board.cells ≡ B.cells) × (board.table ≡ B.table) × (new_world settings list.now ≡ B.start) }
 {
-    Cluster::<B, G>::start(rt, alloc, board, opened, gate)
+    Cluster::<B, G>::start(rt, alloc, settings, board, list, gate)
 }
 
 pub fn halt<B: HistoryName, R: Wait>(rt: &R, cluster: &Cluster<B, PassAll>) {
@@ -64,16 +63,17 @@ where
     cluster.stop(rt)
 }
 
-/// What is left of a cluster: its stations with their traces, and its links.
-pub type Left<B> = (Vec<Member<B>>, Vec<(LinkTx<Parcel<B>>, LinkRx<Parcel<B>>)>);
+/// What is left of a cluster: its stations, and its links.
+pub type Left<B> = (Vec<Station<B>>, Vec<(LinkTx<Parcel<B>>, LinkRx<Parcel<B>>)>);
 
 pub fn left<B: HistoryName>(ends: Ends<B>) -> Left<B> {
     let Ends { stations, links } = ends;
     (stations, links)
 }
 
-pub fn station<B: HistoryName>(member: &Member<B>) -> &Station<B> {
-    member.station()
+/// The node, the seat and whether it is halted, of a station that is left.
+pub fn station<B: HistoryName>(station: &Station<B>) -> (&Node, &Seat, bool) {
+    (&station.node, &station.seat, station.halted)
 }
 
 pub fn safe<B: HistoryName, R: Wait>(rt: &R, cluster: &Cluster<B, PassAll>, node: NodeId) -> u32

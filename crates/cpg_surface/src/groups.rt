@@ -4,10 +4,9 @@ ghost use Rattle.std.specs.Prelude.{◌≤◌, ◌<◌, length};
 ghost use Rattle.cpg_record.specs.Judging.{most_places, IsNext};
 
 use cpg_cred::{By, NodeId, Refusal, Refused};
-use cpg_entry::SharedEntry;
 use cpg_group::{
     ConnId, Event, Events, Member, Members, Names, Policy, Processes, Reason, Record, Records,
-    Verdict, verify,
+    SharedEntry, Verdict, verify,
 };
 use cpg_rules::{Asker, Table};
 use cpg_wire::{Entry, Name};
@@ -67,7 +66,7 @@ pub fn are_judged(alloc: Global, records: &[Record]) -> Result<bool, Refusal> {
     verify(alloc, records)
 }
 
-/// A record has its entry behind a counted pointer.
+/// A record has its entry in common with others.
 pub fn record(
     entry: SharedEntry,
     group: Option<Name>,
@@ -87,7 +86,11 @@ pub fn share(alloc: Global, entry: Entry) -> Result<SharedEntry, Refused<Entry>>
 }
 
 pub fn entry_of(record: &Record) -> &Entry {
-    record.entry()
+    &record.entry
+}
+
+pub fn process_of(record: &Record) -> u32 {
+    record.entry.pid
 }
 
 pub fn copy_record(record: &Record, alloc: Global) -> Result<Record, Refusal> {

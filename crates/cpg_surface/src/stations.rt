@@ -50,7 +50,7 @@ pub fn deliver<B: BoardName>(
     station: &mut Station<B>,
     board: &Board,
 ) -> Result<Option<u32>, Refusal>
-    requires { board.now ≡ B.cells }
+    requires { board.now.cells ≡ B.cells }
 {
     station.deliver(board)
 }

@@ -51,8 +51,8 @@ enum Answer {
 
 /// Settles the record of the process, where that of another may stand instead.
 fn settle(alloc: Global, board: &Board, seat: &mut Seat, pid: u32, other: u32) -> Answer
-    requires { IsSeatOf board.now seat.old }
-    ensures { IsSeatOf board.now seat.new }
+    requires { IsSeatOf board.now.cells seat.old }
+    ensures { IsSeatOf board.now.cells seat.new }
 {
     let Ok(wanted) = record_of(alloc, pid) else {
         return Answer::Otherwise;
@@ -66,15 +66,15 @@ fn settle(alloc: Global, board: &Board, seat: &mut Seat, pid: u32, other: u32) -
 
 /// Whether the record of the process settles.
 fn settles(alloc: Global, board: &Board, seat: &mut Seat, pid: u32) -> bool
-    requires { IsSeatOf board.now seat.old }
-    ensures { IsSeatOf board.now seat.new }
+    requires { IsSeatOf board.now.cells seat.old }
+    ensures { IsSeatOf board.now.cells seat.new }
 {
     settle(alloc, board, seat, pid, pid) == Answer::Settled
 }
 
 /// A new seat that settles three records, and whether all settled.
 fn settle_three(alloc: Global, board: &Board) -> (Seat, bool)
-    ensures { IsSeatOf board.now result.0 }
+    ensures { IsSeatOf board.now.cells result.0 }
 {
     let mut seat = board.seat();
     let all = settles(alloc, board, &mut seat, 1)
@@ -90,10 +90,10 @@ fn two_threads_settle_the_same(rt: HostRuntime) -> Result<(), Fail> {
     let ((one, all), (other, too)) = thread::join(
         &rt,
         || -> (Seat, bool)
-            ensures { IsSeatOf board result.0 }
+            ensures { IsSeatOf board.cells result.0 }
         { settle_three(alloc, &board) },
         || -> (Seat, bool)
-            ensures { IsSeatOf board result.0 }
+            ensures { IsSeatOf board.cells result.0 }
         { settle_three(alloc, &board) },
     );
     assert!(rt; all && too && one.len() == 3 && other.len() == 3);
@@ -103,7 +103,7 @@ fn two_threads_settle_the_same(rt: HostRuntime) -> Result<(), Fail> {
 
 /// A new seat that settles the record of the process, and the answer.
 fn settle_first(alloc: Global, board: &Board, pid: u32, other: u32) -> (Seat, Answer)
-    ensures { IsSeatOf board.now result.0 }
+    ensures { IsSeatOf board.now.cells result.0 }
 {
     let mut seat = board.seat();
     let answer = settle(alloc, board, &mut seat, pid, other);
@@ -112,7 +112,7 @@ fn settle_first(alloc: Global, board: &Board, pid: u32, other: u32) -> (Seat, An
 
 /// Whether both seats know one record, and the same.
 fn know_the_same(board: &Board, one: &Seat, other: &Seat) -> bool
-    requires { IsSeatOf board.now one.now × IsSeatOf board.now other.now }
+    requires { IsSeatOf board.now.cells one.now × IsSeatOf board.now.cells other.now }
 {
     one.len() == 1 && other.len() == 1 && board.known(one, 1).equals(board.known(other, 1))
 }
@@ -124,10 +124,10 @@ fn two_threads_settle_different_records(rt: HostRuntime) -> Result<(), Fail> {
     let ((one, first), (other, second)) = thread::join(
         &rt,
         || -> (Seat, Answer)
-            ensures { IsSeatOf board result.0 }
+            ensures { IsSeatOf board.cells result.0 }
         { settle_first(alloc, &board, 1, 2) },
         || -> (Seat, Answer)
-            ensures { IsSeatOf board result.0 }
+            ensures { IsSeatOf board.cells result.0 }
         { settle_first(alloc, &board, 2, 1) },
     );
     let answers = (first, second);

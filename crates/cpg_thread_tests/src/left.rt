@@ -1,6 +1,6 @@
 //! What a stopped cluster leaves: its stations in their order, and the frames in its links.
 
-use cpg_daemon::{Ends, HistoryName, Member, Parcel};
+use cpg_daemon::{Ends, HistoryName, Parcel, Station};
 use cpg_link::{LinkRx, LinkTx};
 use std::sync::Wait;
 
@@ -21,24 +21,24 @@ pub enum Left {
 }
 
 /// Whether the station is that node's, by its first connection, if that is open.
-fn is_of<B: HistoryName>(member: &Member<B>, number: u8) -> bool {
-    match member.station().connection(1) {
+fn is_of<B: HistoryName>(station: &Station<B>, number: u8) -> bool {
+    match station.connection(1) {
         Some(who) => who.id.node.get() == number,
         None => true,
     }
 }
 
 /// Whether it is the halted station of the node of that number.
-fn is_station<B: HistoryName>(member: &Member<B>, number: u8) -> bool {
-    is_of(member, number) && member.id().get() == number && member.is_halted() && !member.is_spare()
+fn is_station<B: HistoryName>(station: &Station<B>, number: u8) -> bool {
+    is_of(station, number) && station.halted
 }
 
 /// Whether these are the stations of so many nodes, in their order.
-fn are_stations<B: HistoryName>(stations: &[Member<B>], nodes: u8) -> bool {
+fn are_stations<B: HistoryName>(stations: &[Station<B>], nodes: u8) -> bool {
     let mut number = 0u8;
-    for member in stations {
+    for station in stations {
         number = number.saturating_add(1);
-        if !is_station(member, number) {
+        if !is_station(station, number) {
             return false;
         }
     }

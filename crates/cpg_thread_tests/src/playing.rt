@@ -1,11 +1,11 @@
 //! What the tests of clusters share: a cluster for each, sessions, their calls, and what they are told in short.
 
 ghost use Rattle.std.specs.Prelude.{◌≡◌, ◌≤◌, IsTrue};
-ghost use Rattle.cpg_history.specs.Histories.{first_world};
+ghost use Rattle.cpg_world_laws.specs.Worlds.{new_world};
 
 use cpg_board::Board;
 use cpg_cred::{AcceptList, By, Cred, NodeId, Refusal, Refused};
-use cpg_daemon::{Beginning, Cluster, Ends, Gate, HistoryName, Opened, Running, Session};
+use cpg_daemon::{Cluster, Ends, Gate, HistoryName, Running, Session};
 use cpg_entry::Call;
 use cpg_node::Settings;
 use cpg_record::{Event, Verdict};
@@ -70,20 +70,21 @@ pub fn settings_of(nodes: u8) -> Settings {
     }
 }
 
-/// A history that begins with those settings, and lets in users 0, 7 and 8.
-pub fn opened_of(alloc: Global, settings: Settings) -> Result<Opened, Refusal> {
+/// A list that lets in users 0, 7 and 8.
+pub fn list_of(alloc: Global) -> Result<AcceptList, Refusal> {
     let mut list = AcceptList::new(alloc);
     list.add_uid(7)?;
     list.add_uid(8)?;
-    Ok(Opened::new(alloc, Beginning { settings, list })?)
+    Ok(list)
 }
 
-/// The test over a new cluster with that history, which is stopped.
+/// The test over a new cluster on that board, which is stopped.
 fn played_on<B, G, P, R>(
     rt: R,
     alloc: Global,
+    settings: Settings,
     board: Board,
-    opened: Opened,
+    list: &AcceptList,
     gate: G,
     play: &P,
 ) -> Result<(), Stop>
@@ -92,10 +93,9 @@ where
     G: Gate + Send + Sync + Drop + 'static,
     P: Play<G>,
     R: Threads + Wait + Clock + Copy + Send + 'static,
-    requires board { board ≡ B.cells }
-    requires history { (opened.table ≡ B.table) × (first_world opened.start ≡ B.start) }
+    requires name { (board.cells ≡ B.cells) × (board.table ≡ B.table) × (new_world settings list.now ≡ B.start) }
 {
-    let cluster = Cluster::<B, G>::start(rt, alloc, board, opened, gate)?;
+    let cluster = Cluster::<B, G>::start(rt, alloc, settings, board, list, gate)?;
     let gone = play.goes(&rt, alloc, &cluster);
     let left = play.leaves(&rt, cluster.stop(&rt));
     gone?;
@@ -117,8 +117,8 @@ where
     R: Threads + Wait + Clock + Copy + Send + 'static,
 {
     let board = Board::new(alloc, places)?;
-    let opened = opened_of(alloc, settings)?;
-    played_on::<Brand, G, P, R>(rt, alloc, board, opened, gate, play)
+    let list = list_of(alloc)?;
+    played_on::<Brand, G, P, R>(rt, alloc, settings, board, &list, gate, play)
 }
 
 /// A session of the process and the user at the node of that number. Range: there is no such node.

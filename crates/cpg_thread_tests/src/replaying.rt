@@ -4,7 +4,7 @@ ghost use Rattle.cpg_history.specs.Members.{HaveSeen};
 
 use crate::playing::settings_of;
 use cpg_cred::{AcceptList, NodeId, Refusal};
-use cpg_daemon::{Ends, Front, HistoryName};
+use cpg_daemon::{Front, HistoryName, Member};
 use cpg_history::Recorded;
 use cpg_record::Record;
 use cpg_trace::recorded_by;
@@ -88,8 +88,8 @@ fn are_judged(world: World, delivered: [usize; 3], records: &[Record]) -> bool {
 }
 
 /// How many places each of three stations has delivered; none where there are others.
-fn delivered_in<B: HistoryName>(ends: &Ends<B>) -> Option<[usize; 3]> {
-    match ends.stations.as_slice() {
+fn delivered_in<B: HistoryName>(members: &[Member<B>]) -> Option<[usize; 3]> {
+    match members {
         [one, two, three] => Some([
             one.station().audit().len(),
             two.station().audit().len(),
@@ -100,12 +100,14 @@ fn delivered_in<B: HistoryName>(ends: &Ends<B>) -> Option<[usize; 3]> {
 }
 
 /// The world after all that was recorded.
-fn replayed<B: HistoryName>(alloc: Global, ends: Ends<B>, front: Front<B>) -> Result<World, Refusal>
-    requires { HaveSeen ends.stations.items front.seen }
+fn replayed<B: HistoryName>(
+    alloc: Global,
+    members: Vec<Member<B>>,
+    front: Front<B>,
+) -> Result<World, Refusal>
+    requires { HaveSeen members.items front.seen }
 {
-    let Ends { stations, links } = ends;
-    drop(links);
-    let recording = recorded_by(alloc, stations, &front)?;
+    let recording = recorded_by(alloc, members, &front)?;
     if recording.cut {
         return Err(Refusal::Memory);
     }
@@ -117,14 +119,14 @@ fn replayed<B: HistoryName>(alloc: Global, ends: Ends<B>, front: Front<B>) -> Re
 /// judged as the records say.
 pub fn plays_again<B: HistoryName>(
     alloc: Global,
-    ends: Ends<B>,
+    members: Vec<Member<B>>,
     front: Front<B>,
     records: &[Record],
 ) -> bool
-    requires { HaveSeen ends.stations.items front.seen }
+    requires { HaveSeen members.items front.seen }
 {
-    match delivered_in(&ends) {
-        Some(delivered) => match replayed(alloc, ends, front) {
+    match delivered_in(members.as_slice()) {
+        Some(delivered) => match replayed(alloc, members, front) {
             Ok(world) => are_judged(world, delivered, records),
             Err(_) => false,
         },

@@ -72,7 +72,7 @@ fn deliver_next<B: BoardName>(
     station: &mut Station<B>,
     place: u32,
 ) -> Result<(), Refusal>
-    requires board { board.now ≡ B.cells }
+    requires board { board.now.cells ≡ B.cells }
     requires from { 1 ≤ place }
     requires up_to { place ≤ COUNT }
 {
@@ -88,7 +88,7 @@ fn delivers_all<B: BoardName>(
     board: &Board,
     station: &mut Station<B>,
 ) -> Result<bool, Refusal>
-    requires { board.now ≡ B.cells }
+    requires { board.now.cells ≡ B.cells }
 {
     for before in 0..COUNT {
         deliver_next(alloc, board, station, before + 1)?;
@@ -113,7 +113,7 @@ fn holds_others(alloc: Global, shelf: &Shelf) -> Result<bool, Refusal> {
 
 /// A station of that node that delivered all places.
 fn delivered<B: BoardName>(alloc: Global, board: &Board, number: u8) -> Result<Station<B>, Refusal>
-    requires { board.now ≡ B.cells }
+    requires { board.now.cells ≡ B.cells }
 {
     let mut station = new_station::<B>(alloc, board, number)?;
     match delivers_all(alloc, board, &mut station) {
@@ -124,7 +124,7 @@ fn delivered<B: BoardName>(alloc: Global, board: &Board, number: u8) -> Result<S
 
 /// Whether a station that delivered all places laid them down.
 fn lays_down<B: BoardName>(alloc: Global, board: &Board) -> Result<bool, Refusal>
-    requires { board.now ≡ B.cells }
+    requires { board.now.cells ≡ B.cells }
 {
     drop(delivered::<B>(alloc, board, 1)?);
     holds_others(alloc, board.shelf())
@@ -160,7 +160,7 @@ fn keeps_beside<B: BoardName>(
     board: &Board,
     station: &Station<B>,
 ) -> Result<bool, Refusal>
-    requires { board.now ≡ B.cells }
+    requires { board.now.cells ≡ B.cells }
 {
     let other = delivered::<B>(alloc, board, 2)?;
     let last = COUNT as usize - 1;
@@ -169,7 +169,7 @@ fn keeps_beside<B: BoardName>(
 
 /// Whether two stations of the board do so.
 fn keep_once<B: BoardName>(alloc: Global, board: &Board) -> Result<bool, Refusal>
-    requires { board.now ≡ B.cells }
+    requires { board.now.cells ≡ B.cells }
 {
     let station = delivered::<B>(alloc, board, 1)?;
     keeps_beside(alloc, board, &station)

@@ -2,16 +2,17 @@
 
 ghost use Rattle.std.specs.Prelude.{◌≡◌};
 ghost use Rattle.cpg_board.specs.Seats.{IsSeatOf};
-ghost use Rattle.cpg_history.specs.Histories.{first_world};
+ghost use Rattle.cpg_world_laws.specs.Worlds.{new_world};
 ghost use Rattle.cpg_history.specs.Members.{HaveSeen};
 
 use crate::playing::{Told, connect, next_told, settings_of, submit};
 use crate::replaying::{begins, plays_again};
 use cpg_board::{Board, Seat};
 use cpg_cred::{AcceptList, Refusal};
-use cpg_daemon::{Beginning, Cluster, Ends, Front, HistoryName, Opened, PassAll, Running, Session};
+use cpg_daemon::{Cluster, Front, HistoryName, Member, PassAll, Running, Session};
 use cpg_entry::{Call, Name, Op};
 use cpg_group::verify;
+use cpg_node::Settings;
 use cpg_record::{Reason, Record, Verdict};
 use std::alloc::Global;
 use std::marker::Brand;
@@ -84,7 +85,7 @@ fn catch_up<B: HistoryName>(
 
 /// Copies of all records that the seat knows.
 fn copies_of(alloc: Global, board: &Board, seat: &Seat) -> Result<Vec<Record>, Refusal>
-    requires { IsSeatOf board.now seat.now }
+    requires { IsSeatOf board.now.cells seat.now }
 {
     let mut copies = Vec::new(alloc);
     for index in 0..seat.len() {
@@ -157,14 +158,16 @@ fn are_sound(alloc: Global, records: &[Record]) -> bool {
         && verify(alloc, records) == Ok(true)
 }
 
+/// Whether it is the station of the node of that number, whose audit begins the records.
+fn is_left<B: HistoryName>(member: &Member<B>, number: u8, records: &[Record]) -> bool {
+    member.id().get() == number && !member.is_spare() && begins(member.station().audit(), records)
+}
+
 /// Whether three stations are left, whose audits begin the records.
-fn are_left<B: HistoryName>(ends: &Ends<B>, records: &[Record]) -> bool {
-    match ends.stations.as_slice() {
+fn are_left<B: HistoryName>(members: &[Member<B>], records: &[Record]) -> bool {
+    match members {
         [one, two, three] => {
-            begins(one.station().audit(), records)
-                && begins(two.station().audit(), records)
-                && begins(three.station().audit(), records)
-                && ends.links.len() == 6
+            is_left(one, 1, records) && is_left(two, 2, records) && is_left(three, 3, records)
         }
         _ => false,
     }
@@ -174,29 +177,34 @@ fn are_left<B: HistoryName>(ends: &Ends<B>, records: &[Record]) -> bool {
 /// played.
 fn are_right<B: HistoryName>(
     alloc: Global,
-    ends: Ends<B>,
+    members: Vec<Member<B>>,
     front: Front<B>,
     records: &[Record],
 ) -> bool
-    requires { HaveSeen ends.stations.items front.seen }
+    requires { HaveSeen members.items front.seen }
 {
-    let left = are_left(&ends, records);
-    let played = plays_again(alloc, ends, front, records);
+    let left = are_left(members.as_slice(), records);
+    let played = plays_again(alloc, members, front, records);
     left && played && are_sound(alloc, records)
 }
 
 /// Whether a cluster of three nodes serves three clients so.
-fn three_on<B, R>(rt: R, alloc: Global, board: Board, opened: Opened) -> Result<bool, Refusal>
+fn three_on<B, R>(
+    rt: R,
+    alloc: Global,
+    settings: Settings,
+    board: Board,
+    list: &AcceptList,
+) -> Result<bool, Refusal>
 where
     B: HistoryName + Send + Sync + 'static,
     R: Threads + Wait + Clock + Copy + Send + Sync + 'static,
-    requires board { board ≡ B.cells }
-    requires history { (opened.table ≡ B.table) × (first_world opened.start ≡ B.start) }
+    requires name { (board.cells ≡ B.cells) × (board.table ≡ B.table) × (new_world settings list.now ≡ B.start) }
 {
-    let cluster = Cluster::<B, PassAll>::start(rt, alloc, board, opened, PassAll)?;
+    let cluster = Cluster::<B, PassAll>::start(rt, alloc, settings, board, list, PassAll)?;
     let seen = seen_by_three(&rt, alloc, &cluster);
-    let (ends, front) = cluster.stop_traced(&rt);
-    Ok(are_right(alloc, ends, front, seen?.as_slice()))
+    let (members, front) = cluster.stop_traced(&rt);
+    Ok(are_right(alloc, members, front, seen?.as_slice()))
 }
 
 /// Whether a new one does, of which what happens is recorded.
@@ -205,9 +213,8 @@ where
     R: Threads + Wait + Clock + Copy + Send + Sync + 'static,
 {
     let (settings, list) = (settings_of(3), AcceptList::new(alloc));
-    let board = Board::new(alloc, settings.places)?;
-    let opened = Opened::traced(alloc, Beginning { settings, list })?;
-    three_on::<Brand, R>(rt, alloc, board, opened)
+    let board = Board::recorded(alloc, settings.places)?;
+    three_on::<Brand, R>(rt, alloc, settings, board, &list)
 }
 
 #[test]

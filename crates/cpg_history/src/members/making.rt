@@ -3,7 +3,8 @@
 ghost use Rattle.std.specs.Prelude.{◌≡◌, ◌≤◌, ◌<◌, ◌+◌, suc, [], false, IfOk, OnOk, IsOkUnless, vec_len};
 ghost use Rattle.cpg_ring.specs.States.{IsSettings};
 ghost use Rattle.cpg_node.specs.Nodes.{new_value};
-ghost use Rattle.cpg_history.specs.Histories.{first_world, is_counted};
+ghost use Rattle.cpg_board.specs.Words.{is_counted};
+ghost use Rattle.cpg_history.specs.Histories.{first_world};
 ghost use Rattle.cpg_history.specs.Traces.{new_trace};
 
 use super::Member;
@@ -25,7 +26,7 @@ fn new_station<B: BoardName>(
 ) -> Result<Station<B>, Refusal>
     requires settings { IsSettings settings }
     requires number { id ≤ settings.nodes }
-    requires board { board.now ≡ B.cells }
+    requires board { board.now.cells ≡ B.cells }
     ensures ok { IfOk result (λ station. station ≡ record { node = new_value settings id list.now; seat = []; halted = false }) }
     ensures memory { IsOkUnless result Refusal.Memory }
 {
@@ -39,7 +40,6 @@ fn new_station<B: BoardName>(
 pub fn new_member<B: HistoryName>(
     alloc: Global,
     id: NodeId,
-    board: &Board,
     beginning: &Beginning,
     history: &History<B>,
     pens: &mut Pen<B>,
@@ -47,7 +47,6 @@ pub fn new_member<B: HistoryName>(
     requires settings { IsSettings beginning.now.settings }
     requires number { id ≤ beginning.now.settings.nodes }
     requires begins { first_world beginning.now ≡ B.start }
-    requires board { board.now ≡ B.cells }
     requires pens { (pens.old.from ≡ id) × (id < pens.old.to) × (pens.old.seen ≡ []) }
     ensures ok { IfOk result (λ member. member ≡ record { id = id; station = record { node = new_value beginning.now.settings id beginning.now.list; seat = []; halted = false }; spare = false; seen = []; trace = new_trace (is_counted B.table) }) }
     ensures rest { OnOk result ((pens.new.from ≡ suc id) × (pens.new.to ≡ pens.old.to) × (pens.new.seen ≡ [])) }
@@ -55,7 +54,13 @@ pub fn new_member<B: HistoryName>(
 {
     first_nodes();
     history.begins();
-    let station = new_station(alloc, beginning.settings, id, board, &beginning.list)?;
+    let station = new_station(
+        alloc,
+        beginning.settings,
+        id,
+        history.board(),
+        &beginning.list,
+    )?;
     let pen = history.next(pens);
     Ok(Member::new(alloc, id, station, pen, history.is_counted()))
 }
@@ -64,12 +69,10 @@ pub fn new_member<B: HistoryName>(
 pub fn new_spares<B: HistoryName>(
     alloc: Global,
     settings: Settings,
-    board: &Board,
     history: &History<B>,
     pens: &mut Pen<B>,
 ) -> Result<Vec<Member<B>>, Refusal>
     requires settings { IsSettings settings }
-    requires board { board.now ≡ B.cells }
     requires pens { pens.old.from + settings.nodes ≤ pens.old.to }
     ensures ok { IfOk result (λ spares. vec_len spares ≡ settings.nodes) }
     ensures memory { IsOkUnless result Refusal.Memory }
@@ -81,7 +84,7 @@ pub fn new_spares<B: HistoryName>(
         let Some(id) = NodeId::new(before + 1) else {
             return Err(Refusal::Range);
         };
-        let station = new_station(alloc, settings, id, board, &none)?;
+        let station = new_station(alloc, settings, id, history.board(), &none)?;
         spares.push(Member::spare(alloc, id, station, history.next(pens)))?;
     }
     Ok(spares)

@@ -176,7 +176,7 @@ impl<B: HistoryName> Member<B> {
         who: &mut Connection,
         seat: &mut Seat,
     ) -> Result<Option<Event>, Refusal>
-        requires board { board.now ≡ B.cells }
+        requires board { board.now.cells ≡ B.cells }
         requires seat { IsSeatOf B.cells seat.old }
         ensures seat { IsSeatOf B.cells seat.new × Begins seat.old seat.new }
         ensures answer { IsTakeFor who.old seat.old self.new.station seat.new result }
@@ -197,7 +197,7 @@ impl<B: HistoryName> Member<B> {
         who: &mut Connection,
         seat: &mut Seat,
     ) -> Result<Option<Event>, Refusal>
-        requires board { board.now ≡ B.cells }
+        requires board { board.now.cells ≡ B.cells }
         requires seat { IsSeatOf B.cells seat.old }
         requires event { E.event ≡ events.Take who.old.id.node who.old.id.conn }
         ensures seat { IsSeatOf B.cells seat.new × Begins seat.old seat.new }
@@ -226,7 +226,7 @@ impl<B: HistoryName> Member<B> {
         seat: &mut Seat,
         group: &[u8],
     ) -> Result<Processes, Refusal>
-        requires board { board.now ≡ B.cells }
+        requires board { board.now.cells ≡ B.cells }
         requires seat { IsSeatOf B.cells seat.old }
         ensures seat { IsSeatOf B.cells seat.new × Begins seat.old seat.new }
         ensures answer { IsListFor who.now group.now seat.old self.new.station seat.new result }
@@ -246,7 +246,7 @@ impl<B: HistoryName> Member<B> {
         seat: &mut Seat,
         group: &[u8],
     ) -> Result<Processes, Refusal>
-        requires board { board.now ≡ B.cells }
+        requires board { board.now.cells ≡ B.cells }
         requires seat { IsSeatOf B.cells seat.old }
         requires event { E.event ≡ events.List who.now.id.node who.now.id.conn group.now }
         ensures seat { IsSeatOf B.cells seat.new × Begins seat.old seat.new }
@@ -275,7 +275,7 @@ impl<B: HistoryName> Member<B> {
         who: &Connection,
         seat: &mut Seat,
     ) -> Result<Names, Refusal>
-        requires board { board.now ≡ B.cells }
+        requires board { board.now.cells ≡ B.cells }
         requires seat { IsSeatOf B.cells seat.old }
         ensures seat { IsSeatOf B.cells seat.new × Begins seat.old seat.new }
         ensures answer { IsGroupsFor who.now seat.old self.new.station seat.new result }
@@ -294,7 +294,7 @@ impl<B: HistoryName> Member<B> {
         who: &Connection,
         seat: &mut Seat,
     ) -> Result<Names, Refusal>
-        requires board { board.now ≡ B.cells }
+        requires board { board.now.cells ≡ B.cells }
         requires seat { IsSeatOf B.cells seat.old }
         requires event { E.event ≡ events.Groups who.now.id.node who.now.id.conn }
         ensures seat { IsSeatOf B.cells seat.new × Begins seat.old seat.new }

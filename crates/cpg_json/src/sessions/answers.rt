@@ -98,7 +98,7 @@ fn put_names(text: &mut Vec<u8>, session: Option<u32>, names: &[Name]) -> Result
 
 #[tactic(auto, using(crate::proofs::Put::known_put))]
 fn put_records(text: &mut Vec<u8>, board: &Board, seat: &Seat, count: u32) -> Result<(), Refusal>
-    requires seat { IsSeatOf board.now seat.now }
+    requires seat { IsSeatOf board.now.cells seat.now }
     requires count { count ≡ length seat.now }
     ensures ok { OnOk result (text.new.items ≡ text.old.items ++ concat (records_json (records_of seat.now))) }
     ensures memory { IsOkUnless result Refusal.Memory }
@@ -113,7 +113,7 @@ fn put_records(text: &mut Vec<u8>, board: &Board, seat: &Seat, count: u32) -> Re
 /// the count fits.
 #[tactic(auto, using(crate::proofs::Put::seat_put))]
 fn put_seat(text: &mut Vec<u8>, board: &Board, seat: &Seat) -> Result<(), Refusal>
-    requires { IsSeatOf board.now seat.now }
+    requires { IsSeatOf board.now.cells seat.now }
     ensures ok { OnOk result (text.new.items ≡ text.old.items ++ audit_text (records_of seat.now)) }
     ensures memory { IsOkUnless result Refusal.Memory }
 {
@@ -130,7 +130,7 @@ fn put_reply(
     session: Option<u32>,
     reply: &Reply,
 ) -> Result<(), Refusal>
-    requires { SeatsOn board.now (Ok reply.now) }
+    requires { SeatsOn board.now.cells (Ok reply.now) }
     ensures ok { OnOk result (text.new.items ≡ text.old.items ++ reply_json session reply.now) }
     ensures memory { IsOkUnless result Refusal.Memory }
 {
@@ -166,7 +166,7 @@ pub fn put_answer_json(
     session: Option<u32>,
     answer: &Result<Reply, Refusal>,
 ) -> Result<(), Refusal>
-    requires { SeatsOn board.now answer.now }
+    requires { SeatsOn board.now.cells answer.now }
     ensures ok { OnOk result (text.new.items ≡ text.old.items ++ answer_json session answer.now) }
     ensures memory { IsOkUnless result Refusal.Memory }
 {

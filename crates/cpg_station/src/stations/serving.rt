@@ -123,7 +123,7 @@ impl<B: BoardName> Station<B> {
     /// where the station is halted; with Behind where it has delivered fewer places than the seat knows;
     /// with Memory.
     pub fn serve(&mut self, board: &Board, who: &Connection, seat: &mut Seat) -> Result<(), Refusal>
-        requires board { board.now ≡ B.cells }
+        requires board { board.now.cells ≡ B.cells }
         requires seat { IsSeatOf B.cells seat.old }
         ensures seat { IsSeatOf B.cells seat.new × Begins seat.old seat.new }
         ensures ok { OnOk result (IsKnown self.old.node who.now × BringsUp self.new seat.old seat.new) }
@@ -144,7 +144,7 @@ impl<B: BoardName> Station<B> {
         who: &mut Connection,
         seat: &mut Seat,
     ) -> Result<Option<Event>, Refusal>
-        requires board { board.now ≡ B.cells }
+        requires board { board.now.cells ≡ B.cells }
         requires seat { IsSeatOf B.cells seat.old }
         ensures seat { IsSeatOf B.cells seat.new × Begins seat.old seat.new }
         ensures answer { IsTakeFor who.old seat.old self.new seat.new result }
@@ -206,7 +206,7 @@ impl<B: BoardName> Station<B> {
         seat: &mut Seat,
         group: &[u8],
     ) -> Result<Processes, Refusal>
-        requires board { board.now ≡ B.cells }
+        requires board { board.now.cells ≡ B.cells }
         requires seat { IsSeatOf B.cells seat.old }
         ensures seat { IsSeatOf B.cells seat.new × Begins seat.old seat.new }
         ensures answer { IsListFor who.now group.now seat.old self.new seat.new result }
@@ -227,7 +227,7 @@ impl<B: BoardName> Station<B> {
         who: &Connection,
         seat: &mut Seat,
     ) -> Result<Names, Refusal>
-        requires board { board.now ≡ B.cells }
+        requires board { board.now.cells ≡ B.cells }
         requires seat { IsSeatOf B.cells seat.old }
         ensures seat { IsSeatOf B.cells seat.new × Begins seat.old seat.new }
         ensures answer { IsGroupsFor who.now seat.old self.new seat.new result }

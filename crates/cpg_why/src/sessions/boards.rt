@@ -24,9 +24,9 @@ fn read_next(
     seat: &mut Seat,
     entries: &mut Vec<Entry>,
 ) -> Result<bool, Refusal>
-    requires seat { IsSeatOf board.now seat.old }
+    requires seat { IsSeatOf board.now.cells seat.old }
     requires entries { entries.old.items ≡ entries_of (records_of seat.old) }
-    ensures seat { IsSeatOf board.now seat.new }
+    ensures seat { IsSeatOf board.now.cells seat.new }
     ensures ok { OnOk result (entries.new.items ≡ entries_of (records_of seat.new)) }
     ensures memory { IsOkUnless result Refusal.Memory }
 {
@@ -41,9 +41,9 @@ fn read_next(
 
 /// Reads the records that stand on the board, up to the first place that is empty, and gives their entries.
 fn read_entries(alloc: Global, board: &Board, seat: &mut Seat) -> Result<Vec<Entry>, Refusal>
-    requires seat { IsSeatOf board.now seat.old }
+    requires seat { IsSeatOf board.now.cells seat.old }
     requires none { seat.old ≡ [] }
-    ensures seat { IsSeatOf board.now seat.new }
+    ensures seat { IsSeatOf board.now.cells seat.new }
     ensures ok { IfOk result (λ entries. entries.items ≡ entries_of (records_of seat.new)) }
     ensures memory { IsOkUnless result Refusal.Memory }
 {
@@ -68,9 +68,9 @@ pub fn why_of_board<F: Tells, W: Write>(
     seat: &mut Seat,
     asked: Asked,
 ) -> Result<(), WhyFault>
-    requires seat { IsSeatOf board.now seat.old }
+    requires seat { IsSeatOf board.now.cells seat.old }
     requires none { seat.old ≡ [] }
-    ensures seat { IsSeatOf board.now seat.new }
+    ensures seat { IsSeatOf board.now.cells seat.new }
     ensures ok { OnOk result (IsWritten F.form (Ok (entries_of (records_of seat.new))) [] asked (W.contents writer.old) (W.contents writer.new)) }
     ensures err { IfErr result (λ fault. LeavesEntries F.form [] (entries_of (records_of seat.new)) asked fault (W.contents writer.old) (W.contents writer.new)) }
 {

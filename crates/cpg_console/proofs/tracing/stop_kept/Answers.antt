@@ -5,5 +5,5 @@ use Rattle.cpg_console.proofs.tracing.stop_kept.Goals as goal
 
 pub returns : goal.returns
 returns g c =
-    was_kept g.K.KeepsEnds.keeps g.B.HistoryName.start c.stop_traced-ends.result.1.seen c.stop_traced-ends.result.0.stations.items c.args.cluster.nodes c.args.keeper.now c.keep.new.self
-    (sym c.stop_traced-ends.result.0.stations.ok.0 ∙ c.stop_traced-ends.ensures.stations) (subst (λ (running : ClusterValue). running.nodes ≡ g.B.HistoryName.start.settings.nodes) c.deref.ensures c.stands.ensures.nodes) c.stop_traced-ends.ensures.front c.keep.ensures
+    was_kept g.K.KeepsEnds.keeps g.B.HistoryName.start c.stop_traced-members.result.1.seen c.stop_traced-members.result.0.items c.args.cluster.nodes c.args.keeper.now c.keep.new.self
+    (sym c.stop_traced-members.result.0.ok.0 ∙ c.stop_traced-members.ensures.members) (subst (λ (running : ClusterValue). running.nodes ≡ g.B.HistoryName.start.settings.nodes) c.deref.ensures c.stands.ensures.nodes) c.stop_traced-members.ensures.front c.keep.ensures

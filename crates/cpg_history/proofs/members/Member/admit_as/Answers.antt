@@ -3,8 +3,9 @@ use Rattle.cpg_world_laws.specs.declared.events.WorldEvent.TheVariants.{Connect}
 use Rattle.cpg_world_laws.specs.declared.replies.Reply.TheVariants as reply
 use Rattle.cpg_station.specs.Admitting.{StopsAdmitting}
 use Rattle.cpg_station.specs.Stations.{StationValue}
-use Rattle.cpg_history.specs.Histories.{FrontValue, is_counted}
-use Rattle.cpg_history.specs.declared.histories.View.{View}
+use Rattle.cpg_board.specs.Words.{is_counted}
+use Rattle.cpg_history.specs.Histories.{FrontValue}
+use Rattle.cpg_board.specs.declared.words.View.{View}
 use Rattle.cpg_history.specs.Members.{MemberValue, HasTrace, IsMember, Told}
 use Rattle.cpg_history.proofs.Answering.{connects, connects_at}
 use Rattle.cpg_history.proofs.Coming.{told_first, pen_after, is_member}

@@ -8,8 +8,9 @@ use Rattle.cpg_world_laws.specs.declared.events.WorldEvent.{WorldEvent}
 use Rattle.cpg_world_laws.specs.declared.events.WorldEvent.TheVariants.{Frame as Arrival}
 use Rattle.cpg_world_laws.specs.declared.replies.Reply.TheVariants as reply
 use Rattle.cpg_world_laws.specs.Replies.{Answer}
-use Rattle.cpg_history.specs.declared.histories.View.{View}
-use Rattle.cpg_history.specs.Histories.{Came, FrontValue, is_counted, told, front}
+use Rattle.cpg_board.specs.declared.words.View.{View}
+use Rattle.cpg_board.specs.Words.{is_counted}
+use Rattle.cpg_history.specs.Histories.{Came, FrontValue, told, front}
 use Rattle.cpg_history.specs.Members.{MemberValue, ParcelValue, HasTrace, IsMember, Replied, WereSent, IsPenOf, member}
 use Rattle.cpg_history.proofs.Coming.{is_member}
 use Rattle.cpg_history.specs.Traces.{HasNumber, WasRecorded, recorded_of}

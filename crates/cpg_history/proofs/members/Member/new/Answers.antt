@@ -1,5 +1,5 @@
 use Rattle.std.proofs.Common.{false, sym, subst}
-use Rattle.cpg_history.specs.Histories.{is_counted}
+use Rattle.cpg_board.specs.Words.{is_counted}
 use Rattle.cpg_history.specs.Members.{HasTrace, IsMember}
 use Rattle.cpg_history.proofs.Serving.{begun}
 use Rattle.cpg_history.proofs.members.Member.new.Goals as goal

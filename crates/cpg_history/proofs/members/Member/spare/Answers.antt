@@ -1,6 +1,6 @@
 use Rattle.std.proofs.Common.{true, ap, sym, subst}
 use Rattle.cpg_station.specs.Stations.{StationValue}
-use Rattle.cpg_history.specs.Histories.{is_counted}
+use Rattle.cpg_board.specs.Words.{is_counted}
 use Rattle.cpg_history.specs.Members.{HasTrace, IsMember}
 use Rattle.cpg_history.proofs.Serving.{spared}
 use Rattle.cpg_history.proofs.members.Member.spare.Goals as goal

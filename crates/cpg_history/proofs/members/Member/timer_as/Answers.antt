@@ -3,8 +3,9 @@ use Rattle.cpg_ring.specs.Worlds.{send_again}
 use Rattle.cpg_world_laws.specs.declared.events.WorldEvent.{WorldEvent}
 use Rattle.cpg_world_laws.specs.declared.events.WorldEvent.TheVariants.{Timer}
 use Rattle.cpg_world_laws.specs.declared.replies.Reply.TheVariants as reply
-use Rattle.cpg_history.specs.declared.histories.View.{View}
-use Rattle.cpg_history.specs.Histories.{FrontValue, Came, is_counted}
+use Rattle.cpg_board.specs.declared.words.View.{View}
+use Rattle.cpg_board.specs.Words.{is_counted}
+use Rattle.cpg_history.specs.Histories.{FrontValue, Came}
 use Rattle.cpg_history.specs.Members.{MemberValue, HasTrace, IsMember, Replied, WasSent, member, how_many}
 use Rattle.cpg_history.proofs.Coming.{stays, is_member}
 use Rattle.cpg_history.specs.Traces.{HasNumber, WasRecorded, recorded_of}

@@ -1,0 +1,6 @@
+use Rattle.std.proofs.Common.{◌≡◌, ◌≤◌, ◌+◌, vec_len, vec_capacity}
+use Rattle.cpg_daemon.proofs.stopping.stations_of.Given as goal
+
+abbrev pub invariant-loop : goal.invariant-loop
+invariant-loop g l =
+    (vec_len l.stations ≡ l.counter) × (vec_len l.members + l.counter ≡ vec_len l.fn.members) × (vec_len l.fn.members ≤ vec_capacity l.stations)
