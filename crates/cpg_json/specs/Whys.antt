@@ -1,5 +1,5 @@
 -- why an entry was answered as it was, as an object of JSON on its line
-use Rattle.std.specs.Prelude.{ℕ, List, [], ◌∷◌, ◌++◌, length, take, codes, slice_get, Option, Some, None, if◌then◌else◌}
+use Rattle.std.specs.Prelude.{ℕ, Bool, true, false, List, [], ◌∷◌, ◌++◌, length, take, codes, slice_get, Option, Some, None, if◌then◌else◌}
 use Rattle.std.specs.List.{enumerate_from, flat_map, position_or_len}
 use Rattle.cpg_cred.specs.declared.bases.By.TheVariants as by
 use Rattle.cpg_rules.specs.declared.rules.Asker.{Asker}
@@ -21,14 +21,19 @@ use Rattle.cpg_record.specs.declared.verdicts.Verdict.{Verdict}
 use Rattle.cpg_record.specs.declared.verdicts.Verdict.TheVariants.{Allowed, Denied}
 use Rattle.cpg_record.specs.Connections.{conn_of, is_conn}
 use Rattle.cpg_record.specs.Events.{events}
-use Rattle.cpg_record.specs.Places.{record_at}
+use Rattle.cpg_record.specs.Membership.{group_of}
+use Rattle.cpg_record.specs.Places.{record_at, records_before}
 use Rattle.cpg_record.specs.RuleTables.{rules_of}
 use Rattle.cpg_print.specs.Rules.{right_text}
 use Rattle.cpg_why.specs.declared.unmet.Kind.{Kind}
 use Rattle.cpg_why.specs.declared.unmet.Kind.TheVariants.{Uid, Gid, Node}
 use Rattle.cpg_why.specs.declared.unmet.Unmet.{Unmet}
 use Rattle.cpg_why.specs.Forms.{Form}
+use Rattle.cpg_why.specs.declared.standings.Standing.{Standing}
+use Rattle.cpg_why.specs.declared.standings.Standing.TheVariants as standings
+use Rattle.cpg_why.specs.declared.standings.Standing.TheVariants.{Maker, Groupless, Member, Elsewhere, Outside}
 use Rattle.cpg_why.specs.Moves.{last_move}
+use Rattle.cpg_why.specs.Standings.{is_outside, is_told, last_tried, standing}
 use Rattle.cpg_why.specs.Texts.{holder, line_at, right_needed, subject}
 use Rattle.cpg_why.specs.Unmet.{unmet}
 use Rattle.cpg_why.specs.Without.{verdict_without}
@@ -219,6 +224,71 @@ change_json conn _ = []
 abbrev pub way_json : List ℕ → List Record → ConnId → ℕ → List ℕ
 way_json numbers records conn place = own_by numbers conn place (record_at records place) ++ flat_map (change_json conn) (events records place conn)
 
+
+-- ---- how a connection stands to an entry
+
+abbrev pub standing_name : Standing → List ℕ
+standing_name Maker = codes "maker"
+standing_name standings.Denied = codes "denied"
+standing_name Groupless = codes "groupless"
+standing_name Member = codes "member"
+standing_name Elsewhere = codes "elsewhere"
+standing_name Outside = codes "outside"
+
+abbrev pub told_value : Bool → List ℕ
+told_value true = codes "true"
+told_value false = codes "false"
+
+-- the group that the connection is in, if it is in one
+abbrev pub group_fields : Option (List ℕ) → List (List ℕ)
+group_fields None = []
+group_fields (Some g) = group_field g ∷ []
+
+-- an entry at its place with its verdict, in braces; or null
+abbrev pub judged_by : List ℕ → ℕ → Option Record → List ℕ
+judged_by numbers place None = codes "null"
+judged_by numbers place (Some r) = object (judged_fields numbers place r)
+
+-- the denied join, if there is one
+abbrev pub tried_fields : List ℕ → List Record → Option ℕ → List (List ℕ)
+tried_fields numbers before None = []
+tried_fields numbers before (Some place) = field (codes "tried") (judged_by numbers place (record_at before place)) ∷ []
+
+-- the connection, where it is since its last move, and the denied join of that place
+abbrev pub place_fields : List ℕ → List Record → ConnId → Option ℕ → List (List ℕ)
+place_fields numbers before conn again =
+    conn_fields conn ++ group_fields (group_of before conn) ++ field (codes "since") (since_value numbers before (last_move before conn)) ∷ tried_fields numbers before again
+
+-- the same of who stands so: of who is in no group its last denied join is told
+abbrev pub placed_fields : List ℕ → List Record → ConnId → Standing → List (List ℕ)
+placed_fields numbers before conn stands = place_fields numbers before conn (if is_outside stands then last_tried before conn else None)
+
+-- what is told of who stands so: the connection, and where it is, if that decided
+abbrev pub standing_fields : List ℕ → List Record → ConnId → Standing → List (List ℕ)
+standing_fields numbers before conn Maker = conn_fields conn
+standing_fields numbers before conn standings.Denied = conn_fields conn
+standing_fields numbers before conn Groupless = conn_fields conn
+standing_fields numbers before conn stands = placed_fields numbers before conn stands
+
+-- whether the connection is told, and what decided that
+abbrev pub stands_fields : List ℕ → List Record → ConnId → Standing → List (List ℕ)
+stands_fields numbers before conn stands =
+    field (codes "told") (told_value (is_told stands)) ∷ decided_field (standing_name stands) (standing_fields numbers before conn stands) ∷ []
+
+-- the entry with its verdict, whether the connection is told, and what decided that
+abbrev pub stand_json : List ℕ → List Record → ConnId → ℕ → Record → List ℕ
+stand_json numbers before conn place r = line (kind (codes "to") ∷ judged_fields numbers place r ++ stands_fields numbers before conn (standing before r conn))
+
+-- the same of a record that is there
+abbrev pub stand_by : List ℕ → List Record → ConnId → ℕ → Option Record → List ℕ
+stand_by numbers before conn place None = []
+stand_by numbers before conn place (Some r) = stand_json numbers before conn place r
+
+-- why the connection is told of the entry of a place, or is not, and what it is told
+abbrev pub stand_at : List ℕ → List Record → ConnId → ℕ → List ℕ
+stand_at numbers records conn place =
+    stand_by numbers (records_before records place) conn place (record_at records place) ++ flat_map (event_json conn) (events records place conn)
+
 -- objects, one a line, with nothing between them
 abbrev pub as_json : Form
-as_json = record { block = why_json; gap = []; way = way_json }
+as_json = record { block = why_json; gap = []; way = way_json; stand = stand_at }

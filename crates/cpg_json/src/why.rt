@@ -5,6 +5,7 @@
 
 mod entries;
 mod reasons;
+mod standings;
 mod tables;
 mod telling;
 mod way;

@@ -8,6 +8,7 @@ pub mod Deciding
 pub mod Denied
 pub mod Done
 pub mod Few
+pub mod Heard
 pub mod Left
 pub mod Moved
 pub mod Naming
@@ -15,5 +16,6 @@ pub mod Numbered
 pub mod Pieces
 pub mod Seated
 pub mod Tabled
+pub mod Tried
 pub mod Under
 pub mod Walked

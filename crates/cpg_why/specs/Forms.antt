@@ -6,18 +6,20 @@ use Rattle.cpg_record.specs.declared.records.Record.{Record}
 use Rattle.cpg_record.specs.Events.{inbox}
 use Rattle.cpg_record.specs.Places.{places_of, record_at, records_before}
 use Rattle.cpg_record.specs.Receiving.{place_of}
+use Rattle.cpg_why.specs.Standings.{stand_at}
 use Rattle.cpg_why.specs.Texts.{block_text, is_denied, way_at}
 
 -- A form, over the numbers of the entries' lines: how the entry of a record at a place is explained, over the records before it; what
--- stands between two that are; and what a place has of the way of a connection, over all records.
+-- stands between two that are; and over all records, what a place has of the way of a connection, and why it is told of a place, or is not.
 pub record Form : Type 0 where
   pub block : List ℕ → List Record → ℕ → Record → List ℕ
   pub gap : List ℕ
   pub way : List ℕ → List Record → ConnId → ℕ → List ℕ
+  pub stand : List ℕ → List Record → ConnId → ℕ → List ℕ
 
 -- lines of text, with a blank one between two explained entries
 abbrev pub as_text : Form
-as_text = record { block = block_text; gap = codes "\n"; way = way_at }
+as_text = record { block = block_text; gap = codes "\n"; way = way_at; stand = stand_at }
 
 -- why the entry of a record at a place was answered as it was, if one is there
 abbrev pub block_by : Form → List ℕ → List Record → ℕ → Option Record → List ℕ
@@ -47,6 +49,10 @@ way_by form numbers records conn place = form.way numbers records conn place
 -- the way of a connection: what each place has of it, in order
 abbrev pub way_told : Form → List ℕ → List Record → ConnId → List ℕ
 way_told form numbers records conn = flat_map (way_by form numbers records conn) (range_with_len 1 (length records))
+
+-- why a connection is told of the entry of a place, or is not
+abbrev pub stand_told : Form → List ℕ → List Record → ConnId → ℕ → List ℕ
+stand_told form numbers records conn place = form.stand numbers records conn place
 
 -- the place of the event of that number, from 1, that the connection was told, if it was told so many
 abbrev pub event_place : List Record → ConnId → ℕ → Option ℕ

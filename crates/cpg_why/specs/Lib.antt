@@ -4,6 +4,7 @@ pub mod Laws
 pub mod Moves
 pub mod Scripts
 pub mod Sessions
+pub mod Standings
 pub mod Texts
 pub mod Unmet
 pub mod Without

@@ -1,5 +1,5 @@
 -- what is asked of a script, and what is written
-use Rattle.std.specs.Prelude.{ℕ, ◌≡◌, ◌≤◌, ⊤, List, length, map, Option, Result, Ok, Err, None}
+use Rattle.std.specs.Prelude.{ℕ, ◌≡◌, ◌≤◌, ⊤, List, length, map, Option, Some, None, Result, Ok, Err}
 use Rattle.std.specs.Io.KnownBytes.{Appends, Keeps}
 use Rattle.cpg_cred.specs.declared.refusals.Refusal.{Refusal}
 use Rattle.cpg_cred.specs.declared.refusals.Refusal.TheVariants as refusal
@@ -11,12 +11,12 @@ use Rattle.cpg_text.specs.Streams.{AppendsFront}
 use Rattle.cpg_script.specs.Commands.{commands_of}
 use Rattle.cpg_script.specs.Reading.{FailsAs}
 use Rattle.cpg_why.specs.declared.asking.Asked.{Asked}
-use Rattle.cpg_why.specs.declared.asking.Asked.TheVariants.{Place, Denials, Connection, Told}
+use Rattle.cpg_why.specs.declared.asking.Asked.TheVariants.{Place, Denials, Connection, Told, To}
 use Rattle.cpg_why.specs.declared.asking.Missing as absent
 use Rattle.cpg_why.specs.declared.asking.Missing.TheVariants as missing
 use Rattle.cpg_why.specs.declared.asking.WhyFault.{WhyFault}
 use Rattle.cpg_why.specs.declared.asking.WhyFault.TheVariants.{Script, Missing}
-use Rattle.cpg_why.specs.Forms.{Form, denials_told, event_told, way_told, why_told}
+use Rattle.cpg_why.specs.Forms.{Form, denials_told, event_told, stand_told, way_told, why_told}
 
 -- the numbers of the lines of a script's entries
 abbrev pub numbers_of : List ℕ → List ℕ
@@ -33,6 +33,7 @@ events_told entries conn = length (inbox (judged entries) conn)
 -- what is asked of can be told: a place must have an entry, and an event must have been told
 abbrev pub CanTell : Asked → List Entry → Type 0
 CanTell (Place place) entries = Stands place (length entries)
+CanTell (To place conn) entries = Stands place (length entries)
 CanTell (Told conn event) entries = Stands event (events_told entries conn)
 CanTell _ entries = ⊤
 
@@ -41,6 +42,7 @@ abbrev pub asked_told : Form → List ℕ → List Entry → Asked → List ℕ
 asked_told form numbers entries (Place place) = why_told form numbers (judged entries) place
 asked_told form numbers entries Denials = denials_told form numbers (judged entries)
 asked_told form numbers entries (Connection conn) = way_told form numbers (judged entries) conn
+asked_told form numbers entries (To place conn) = stand_told form numbers (judged entries) conn place
 asked_told form numbers entries (Told conn event) = event_told form numbers (judged entries) conn event
 
 -- it is what is told of a script that has a meaning
@@ -48,9 +50,15 @@ abbrev pub IsTold : Form → Result (List Entry) ℕ → List ℕ → Asked → 
 IsTold form (Ok entries) numbers asked text = CanTell asked entries × (text ≡ asked_told form numbers entries asked)
 IsTold form (Err line) numbers asked text = ⊥
 
+-- the place that is asked of, if one is
+abbrev pub place_asked : Asked → Option ℕ
+place_asked (Place place) = Some place
+place_asked (To place conn) = Some place
+place_asked _ = None
+
 -- what is asked of is not there: no entry stands at the place, of so many, or the connection was told so many events and none of that number
 abbrev pub IsMissing : List Entry → Asked → absent.Missing → Type 0
-IsMissing entries asked (missing.Entry place count) = (asked ≡ Place place) × (count ≡ length entries) × (¬ Stands place count)
+IsMissing entries asked (missing.Entry place count) = (place_asked asked ≡ Some place) × (count ≡ length entries) × (¬ Stands place count)
 IsMissing entries asked (missing.Event conn event count) = (asked ≡ Told conn event) × (count ≡ events_told entries conn) × (¬ Stands event count)
 
 -- the same of the entries of a script that has a meaning
@@ -91,7 +99,7 @@ EndsBy _ old new = ⊥
 
 -- what can be missing of what is asked: a place's entry, or an event that a connection was told
 abbrev pub IsAskedOf : Asked → absent.Missing → Type 0
-IsAskedOf asked (missing.Entry place count) = asked ≡ Place place
+IsAskedOf asked (missing.Entry place count) = place_asked asked ≡ Some place
 IsAskedOf asked (missing.Event conn event count) = asked ≡ Told conn event
 
 -- the same of a fault

@@ -18,6 +18,8 @@ pub enum Asked {
     /// The way of that connection: each of its entries with its verdict, and each change of its group's members that
     /// it was told, in order. A connection that made no entry has none.
     Connection(ConnId),
+    /// Why the entry at that place told the connection something, or did not, and what.
+    To(u32, ConnId),
     /// Why the entry was answered as it was that told that connection its event of that number; events are counted
     /// from 1, in the order in which the connection was told them.
     Told(ConnId, u32),

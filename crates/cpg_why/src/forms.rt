@@ -1,6 +1,7 @@
 //! Forms in which what is asked is told. Here that is lines of text.
 
 use crate::reasons::put_block;
+use crate::standings::put_stand_at;
 use crate::way::put_way_at;
 use cpg_cred::Refusal;
 use cpg_group::Policy;
@@ -11,7 +12,7 @@ use cpg_script::put_byte;
 pub trait Tells {
     ghost use Rattle.std.specs.Prelude.{◌≡◌, ◌≤◌, ◌++◌, length, OnOk, IsOkUnless, Some};
     ghost use Rattle.cpg_record.specs.Judging.{judged, record_of};
-    ghost use Rattle.cpg_why.specs.Forms.{Form, block_by, gap_of, way_by};
+    ghost use Rattle.cpg_why.specs.Forms.{Form, block_by, gap_of, stand_told, way_by};
     ghost use Rattle.cpg_why.specs.Moves.{last_move};
     ghost use Rattle.cpg_why.specs.Texts.{subject};
 
@@ -50,6 +51,18 @@ pub trait Tells {
         requires { (1 ≤ place) × (place ≤ length policy.now) }
         ensures ok { OnOk result (line.new.items ≡ line.old.items ++ way_by form numbers.now (judged policy.now) conn.now place) }
         ensures memory { IsOkUnless result Refusal.Memory };
+
+    /// Puts why the connection is told of the entry of a place, or is not, and what it is told.
+    fn put_stand_at(
+        line: &mut Vec<u8>,
+        numbers: &[u32],
+        policy: &Policy,
+        conn: &ConnId,
+        place: u32,
+    ) -> Result<(), Refusal>
+        requires { (1 ≤ place) × (place ≤ length policy.now) }
+        ensures ok { OnOk result (line.new.items ≡ line.old.items ++ stand_told form numbers.now (judged policy.now) conn.now place) }
+        ensures memory { IsOkUnless result Refusal.Memory };
 }
 
 /// Lines of text, with a blank one between two explained entries.
@@ -84,5 +97,15 @@ impl Tells for AsText {
         place: u32,
     ) -> Result<(), Refusal> {
         put_way_at(line, numbers, policy, conn, place)
+    }
+
+    fn put_stand_at(
+        line: &mut Vec<u8>,
+        numbers: &[u32],
+        policy: &Policy,
+        conn: &ConnId,
+        place: u32,
+    ) -> Result<(), Refusal> {
+        put_stand_at(line, numbers, policy, conn, place)
     }
 }

@@ -1,6 +1,7 @@
 //! What follows from the definitions. Each function has nothing to do: its contract is the law.
 
 ghost use Rattle.cpg_why.specs.Laws.{NamedDecides, NamedIsTheVerdicts, PassedDoNotMatch, RemovalTellsWhatDecides, TellsTheUnmet, TellsVerdictsUnder, TellsVerdictsWithout, TellsWhereNotMatched};
+ghost use Rattle.cpg_why.specs.Standings.{ToldByStanding};
 
 /// The rule that is named is the one that decides, and where none is named the default does; where a verdict is by a
 /// rule, that one is named.
@@ -27,4 +28,10 @@ pub fn passed_do_not_match()
     ensures passed { PassedDoNotMatch }
     ensures told { TellsWhereNotMatched }
     ensures unmet { TellsTheUnmet }
+{}
+
+/// A connection is told something of an entry exactly where it stands so to it: it made the entry, or the entry is allowed
+/// and of the group that it is in.
+pub fn told_by_standing()
+    ensures { ToldByStanding }
 {}

@@ -16,6 +16,7 @@ mod numbers;
 mod reasons;
 mod scripts;
 pub mod sessions;
+mod standings;
 pub mod steps;
 mod tables;
 mod telling;
@@ -30,9 +31,11 @@ pub use cpg_script::Fault;
 pub use forms::{AsText, Tells};
 pub use laws::{
     named_decides, passed_do_not_match, removal_tells_what_decides, tells_verdicts_without,
+    told_by_standing,
 };
 pub use numbers::{find_record, line_of};
 pub use reasons::{count_rules, find_holder, find_right};
+pub use standings::{Standing, find_last, find_standing, group_before, is_told};
 pub use tables::find_first;
 pub use telling::{why_in_form, why_script};
 pub use unmet::{Kind, Unmet, find_unmet};

@@ -76,7 +76,7 @@ fn put_rights(
 
 /// Puts since which entry, or that there is none.
 #[tactic(auto, unfolding(crate::specs::Texts::since_text))]
-fn put_since(
+pub(crate) fn put_since(
     line: &mut Vec<u8>,
     numbers: &[u32],
     records: &[Record],
@@ -440,7 +440,7 @@ fn put_reason(
     }
 }
 
-fn put_verdict_line(line: &mut Vec<u8>, verdict: Verdict) -> Result<(), Refusal>
+pub(crate) fn put_verdict_line(line: &mut Vec<u8>, verdict: Verdict) -> Result<(), Refusal>
     ensures ok { OnOk result (line.new.items ≡ line.old.items ++ verdict_line verdict) }
     ensures memory { IsOkUnless result Refusal.Memory }
 {

@@ -13,6 +13,7 @@ use crate::forms::{AsText, Tells};
 use crate::inboxes::{find_told, stands};
 use crate::numbers::read_numbers;
 use crate::scripts::read_entries;
+use crate::standings::put_stand_in;
 use crate::walk::{pass_all, put_denials, put_why_of};
 use crate::way::put_way_of;
 use cpg_entry::Entry;
@@ -88,6 +89,7 @@ pub(crate) fn tell_entries<F: Tells>(
         Asked::Place(place) => tell_place::<F>(alloc, numbers, entries, place),
         Asked::Denials => tell_denials::<F>(alloc, numbers, entries),
         Asked::Connection(conn) => tell_way::<F>(alloc, numbers, entries, &conn),
+        Asked::To(place, conn) => tell_stand::<F>(alloc, numbers, entries, &conn, place),
         Asked::Told(conn, event) => tell_event::<F>(alloc, numbers, entries, &conn, event),
     }
 }
@@ -147,6 +149,32 @@ fn tell_way<F: Tells>(
 {
     let mut text = Vec::new(alloc);
     match put_way_of::<F>(&mut text, numbers, entries, conn) {
+        Ok(()) => Ok(text),
+        Err(refusal) => Err(WhyFault::from(refusal)),
+    }
+}
+
+/// Why the connection is told of the entry of a place, or is not.
+fn tell_stand<F: Tells>(
+    alloc: Global,
+    numbers: &[u32],
+    entries: &[Entry],
+    conn: &ConnId,
+    place: u32,
+) -> Result<Vec<u8>, WhyFault>
+    requires { length entries.now ≤ most_places }
+    ensures ok { IfOk result (λ text. CanTell (Asked.To place conn.now) entries.now × (text.items ≡ asked_told F.form numbers.now entries.now (Asked.To place conn.now))) }
+    ensures err { IfErr result (TellsNot (Ok entries.now) (Asked.To place conn.now)) }
+{
+    let count = entries.len() as u32;
+    if !stands(place, count) {
+        return Err(WhyFault::Missing(Missing::Entry {
+            place,
+            entries: count,
+        }));
+    }
+    let mut text = Vec::new(alloc);
+    match put_stand_in::<F>(&mut text, numbers, entries, conn, place) {
         Ok(()) => Ok(text),
         Err(refusal) => Err(WhyFault::from(refusal)),
     }

@@ -42,7 +42,7 @@ fn put_own(
 }
 
 /// Puts the entry of a place, with its verdict, where the connection made it.
-fn put_own_at(
+pub(crate) fn put_own_at(
     line: &mut Vec<u8>,
     numbers: &[u32],
     records: &[Record],

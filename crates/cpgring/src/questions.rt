@@ -2,9 +2,9 @@
 //!
 //! Proved: the question is the definition of `specs/Questions.antt`.
 
-ghost use Rattle.std.specs.Prelude.{◌≡◌};
+ghost use Rattle.std.specs.Prelude.{◌≡◌, Some, option_map};
 ghost use Rattle.cpg_print.specs.Entries.{conn_of_word};
-ghost use Rattle.cpgring.specs.Questions.{entry_named, event_named, question_named};
+ghost use Rattle.cpgring.specs.Questions.{entry_named, event_named, of_place, question_named, unless_to};
 
 use cpg_console::Asked;
 use cpg_cred::{MOST_NODES, NodeId};
@@ -33,25 +33,47 @@ fn read_event(word: &[u8]) -> Option<Asked>
     Some(Asked::Told(read_conn(conn)?, read_u32(1, u32::MAX, event)?))
 }
 
-/// The one entry that a word asks of: by its place, or by an event that it told.
-pub(crate) fn read_entry(word: &[u8]) -> Option<Asked>
-    ensures { result ≡ entry_named word.now }
+/// The entry of a place; where a connection is named, why that is told of it, or is not.
+fn of_place(to: Option<&str>, place: u32) -> Option<Asked>
+    ensures { result ≡ of_place (option_map (λ text. text.now) to.entry) place }
+{
+    match to {
+        None => Some(Asked::Place(place)),
+        Some(word) => Some(Asked::To(place, read_conn(word.as_bytes())?)),
+    }
+}
+
+/// The one entry that a word asks of: by its place, or by an event that it told. By its place it may be asked why a
+/// connection was told of it, or was not.
+pub(crate) fn read_entry(to: Option<&str>, word: &[u8]) -> Option<Asked>
+    ensures { result ≡ entry_named (option_map (λ text. text.now) to.entry) word.now }
 {
     match read_u32(1, u32::MAX, word) {
-        Some(place) => Some(Asked::Place(place)),
-        None => read_event(word),
+        Some(place) => of_place(to, place),
+        None if to.is_none() => read_event(word),
+        None => None,
     }
 }
 
 /// What a word asks why of: every denial, the way of a connection, or one entry.
-pub(crate) fn read_question(word: &[u8]) -> Option<Asked>
-    ensures { result ≡ question_named word.now }
+pub(crate) fn read_question(to: Option<&str>, word: &[u8]) -> Option<Asked>
+    ensures { result ≡ question_named (option_map (λ text. text.now) to.entry) word.now }
 {
     if is(word, b"all") {
-        return Some(Asked::Denials);
+        return unless_to(to, Asked::Denials);
     }
     match read_conn(word) {
-        Some(conn) => Some(Asked::Connection(conn)),
-        None => read_entry(word),
+        Some(conn) => unless_to(to, Asked::Connection(conn)),
+        None => read_entry(to, word),
+    }
+}
+
+/// The question, where no connection is named beside it.
+fn unless_to(to: Option<&str>, question: Asked) -> Option<Asked>
+    ensures { result ≡ unless_to (option_map (λ text. text.now) to.entry) (Some question) }
+{
+    match to {
+        None => Some(question),
+        Some(_) => None,
     }
 }

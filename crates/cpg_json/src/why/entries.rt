@@ -2,8 +2,9 @@
 
 ghost use Rattle.std.specs.Prelude.{◌≡◌, ◌≤◌, ◌++◌, codes, OnOk, IsOkUnless};
 ghost use Rattle.std.specs.Option.{option_copied};
+ghost use Rattle.cpg_record.specs.Places.{record_at};
 ghost use Rattle.cpg_json.specs.Objects.{after_comma, field, more, object};
-ghost use Rattle.cpg_json.specs.Whys.{after_place, entry_at, entry_fields, judged_fields, line_fields, since_value};
+ghost use Rattle.cpg_json.specs.Whys.{after_place, entry_at, entry_fields, judged_by, judged_fields, line_fields, since_value};
 
 use crate::calls::put_verdict;
 use crate::frames::put_whole_call;
@@ -71,6 +72,42 @@ fn put_object(line: &mut Vec<u8>, numbers: &[u32], place: u32, entry: &Entry) ->
     push_number(line, u64::from(place))?;
     put_after_place(line, numbers, place, entry)?;
     put(line, "}")
+}
+
+/// Puts the entry of a record at its place, and its verdict, in braces at the line's end.
+#[tactic(auto, using(crate::proofs::Fields::more_append), unfolding(crate::specs::Objects::field))]
+fn put_judged_object(
+    line: &mut Vec<u8>,
+    numbers: &[u32],
+    place: u32,
+    past: &Record,
+) -> Result<(), Refusal>
+    requires { 1 ≤ place }
+    ensures ok { OnOk result (line.new.items ≡ line.old.items ++ object (judged_fields numbers.now place past.now)) }
+    ensures memory { IsOkUnless result Refusal.Memory }
+{
+    put(line, "{\"place\":")?;
+    push_number(line, u64::from(place))?;
+    put_after_place(line, numbers, place, past.entry())?;
+    put_verdict(line, past.verdict)?;
+    put(line, "}")
+}
+
+/// Puts the entry of the record at a place with its verdict, or `null`, at the line's end.
+pub(crate) fn put_judged_at(
+    line: &mut Vec<u8>,
+    numbers: &[u32],
+    records: &[Record],
+    place: u32,
+) -> Result<(), Refusal>
+    requires { 1 ≤ place }
+    ensures ok { OnOk result (line.new.items ≡ line.old.items ++ judged_by numbers.now place (record_at records.now place)) }
+    ensures memory { IsOkUnless result Refusal.Memory }
+{
+    match find_record(records, place) {
+        None => put(line, "null"),
+        Some(past) => put_judged_object(line, numbers, place, past),
+    }
 }
 
 /// Puts the entry of the record at a place, or `null`, at the line's end.

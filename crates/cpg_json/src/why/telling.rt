@@ -13,6 +13,7 @@ ghost use Rattle.cpg_json.specs.Whys.{as_json, why_json};
 use crate::objects::{put_end, put_kind};
 use crate::why::entries::put_judged;
 use crate::why::reasons::put_reason;
+use crate::why::standings::put_stand_at;
 use crate::why::way::put_way_at;
 use cpg_cred::Refusal;
 use cpg_group::Policy;
@@ -76,6 +77,16 @@ impl Tells for AsJson {
         place: u32,
     ) -> Result<(), Refusal> {
         put_way_at(line, numbers, policy, conn, place)
+    }
+
+    fn put_stand_at(
+        line: &mut Vec<u8>,
+        numbers: &[u32],
+        policy: &Policy,
+        conn: &ConnId,
+        place: u32,
+    ) -> Result<(), Refusal> {
+        put_stand_at(line, numbers, policy, conn, place)
     }
 }
 

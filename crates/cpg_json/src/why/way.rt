@@ -56,7 +56,7 @@ fn put_own_at(
 
 /// Puts the line of an event that a connection is told.
 #[tactic(auto, using(crate::proofs::Fields::more_append))]
-fn put_told(line: &mut Vec<u8>, conn: &ConnId, event: &Event) -> Result<(), Refusal>
+pub(crate) fn put_told(line: &mut Vec<u8>, conn: &ConnId, event: &Event) -> Result<(), Refusal>
     ensures ok { OnOk result (line.new.items ≡ line.old.items ++ event_json conn.now event.now) }
     ensures memory { IsOkUnless result Refusal.Memory }
 {
