@@ -23,7 +23,7 @@ kind_of (Step form settings words) = kind.Step settings.nodes
 kind_of (StepWhy form asked settings words) = kind.Step settings.nodes
 kind_of (Draw picture settings words) = kind.Step settings.nodes
 kind_of (Number settings words) = kind.Step settings.nodes
-kind_of (Cluster manner settings words) = kind.Cluster settings.nodes
+kind_of (Cluster manner chances settings words) = kind.Cluster settings.nodes
 kind_of (ClusterWhy inquiry settings words) = kind.Cluster settings.nodes
 
 -- the words of a run's command line that let users and groups in
@@ -36,7 +36,7 @@ words_of (Step form settings words) = words.now
 words_of (StepWhy form asked settings words) = words.now
 words_of (Draw picture settings words) = words.now
 words_of (Number settings words) = words.now
-words_of (Cluster manner settings words) = words.now
+words_of (Cluster manner chances settings words) = words.now
 words_of (ClusterWhy inquiry settings words) = words.now
 
 -- what is told behind the line of a fault, of the script or of a word

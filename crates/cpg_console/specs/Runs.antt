@@ -202,7 +202,7 @@ HasWrongWord (Step form settings words) = list_of_words (map (λ word. word.now)
 HasWrongWord (StepWhy form asked settings words) = list_of_words (map (λ word. word.now) words.now) ≡ None
 HasWrongWord (Draw picture settings words) = list_of_words (map (λ word. word.now) words.now) ≡ None
 HasWrongWord (Number settings words) = list_of_words (map (λ word. word.now) words.now) ≡ None
-HasWrongWord (Cluster manner settings words) = list_of_words (map (λ word. word.now) words.now) ≡ None
+HasWrongWord (Cluster manner chances settings words) = list_of_words (map (λ word. word.now) words.now) ≡ None
 HasWrongWord (ClusterWhy inquiry settings words) = list_of_words (map (λ word. word.now) words.now) ≡ None
 
 -- what a run writes of a script to standard output: all of its text, or after a fault what that fault leaves
@@ -218,7 +218,7 @@ Prints (Step form settings words) script failure old new = Steps form settings (
 Prints (StepWhy form asked settings words) script failure old new = TellsSteps form asked settings (list_of_words (map (λ word. word.now) words.now)) script failure old new
 Prints (Draw kind settings words) script failure old new = Draws kind settings (list_of_words (map (λ word. word.now) words.now)) script failure old new
 Prints (Number settings words) script failure old new = Draws picture.Numbered settings (list_of_words (map (λ word. word.now) words.now)) script failure old new
-Prints (Cluster manner settings words) script failure old new = Clusters (spoken_as manner.form) settings (list_of_words (map (λ word. word.now) words.now)) script failure old new
+Prints (Cluster manner chances settings words) script failure old new = Clusters (spoken_as manner.form) settings (list_of_words (map (λ word. word.now) words.now)) script failure old new
 Prints (ClusterWhy inquiry settings words) script failure old new =
     TellsSessions inquiry.form inquiry.asked settings (list_of_words (map (λ word. word.now) words.now)) script failure old new
 Prints _ script _ old new = ⊥

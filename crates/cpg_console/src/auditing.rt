@@ -11,6 +11,7 @@ ghost use Rattle.cpg_console.specs.Runs.{why_as, FailsLate, TellsSessions};
 ghost use Rattle.cpg_console.specs.Words.{list_of_words};
 ghost use Rattle.cpg_world_laws.specs.Worlds.{new_world};
 
+use crate::chances::Chances;
 use crate::failures::Failure;
 use crate::founding::new_board;
 use crate::runs::Form;
@@ -18,7 +19,7 @@ use crate::words::read_list;
 use cpg_board::Board;
 use cpg_cluster::{Patience, Sessions};
 use cpg_cred::{AcceptList, Refusal};
-use cpg_daemon::{Cluster, HistoryName, PassAll, Running};
+use cpg_daemon::{Cluster, HistoryName, Running};
 use cpg_json::why::AsJson;
 use cpg_ring::{Settings, are_settings};
 use cpg_text::MOST_BYTES;
@@ -40,6 +41,8 @@ pub struct Inquiry {
     pub asked: Asked,
     /// How long a wait of the script looks.
     pub patience: Patience,
+    /// What becomes of the cluster's frames.
+    pub chances: Chances,
 }
 
 /// Runs the script over a new cluster of those settings, whose nodes let in whom the words let in, writes what is asked
@@ -134,7 +137,7 @@ where
     ensures late { IfErr result (λ failure. FailsLate failure (W.contents writer.old) (W.contents writer.new)) }
     ensures word { result ≢ Err Failure.BadWord }
 {
-    match Cluster::<B, PassAll>::start(rt, alloc, settings, board, list, PassAll) {
+    match Cluster::<B, Chances>::start(rt, alloc, settings, board, list, inquiry.chances) {
         Err(_) => Err(Failure::from(Refusal::Memory)),
         Ok(cluster) => match explain_over(rt, alloc, inquiry, cluster, reader, writer) {
             Err(fault) => Err(Failure::from(fault)),
@@ -148,7 +151,7 @@ fn explain_over<B, H, R, W>(
     rt: H,
     alloc: Global,
     inquiry: &Inquiry,
-    cluster: Cluster<B, PassAll>,
+    cluster: Cluster<B, Chances>,
     reader: &mut R,
     writer: &mut W,
 ) -> Result<(), WhyFault>
@@ -176,7 +179,7 @@ fn explain<B, H, R, W>(
     inquiry: &Inquiry,
     reader: &mut R,
     writer: &mut W,
-    running: &Running<B, PassAll>,
+    running: &Running<B, Chances>,
 ) -> Result<(), WhyFault>
 where
     B: HistoryName,
@@ -204,7 +207,7 @@ fn explain_as<F, B, H, R, W>(
     inquiry: &Inquiry,
     reader: &mut R,
     writer: &mut W,
-    running: &Running<B, PassAll>,
+    running: &Running<B, Chances>,
 ) -> Result<(), WhyFault>
 where
     F: Tells,
@@ -221,7 +224,7 @@ where
 {
     let mut sessions = Sessions::none(alloc);
     let mut seat = running.auditor();
-    why_of_sessions::<F, B, PassAll, H, R, W>(
+    why_of_sessions::<F, B, Chances, H, R, W>(
         rt,
         alloc,
         reader,

@@ -10,6 +10,7 @@ ghost use Rattle.cpg_console.specs.Tracing.{WasKept, WasKeptOf};
 ghost use Rattle.cpg_console.specs.Words.{list_of_words};
 ghost use Rattle.cpg_world_laws.specs.Worlds.{new_world};
 
+use crate::chances::Chances;
 use crate::failures::Failure;
 use crate::founding::new_board;
 use crate::speaking::Spoken;
@@ -18,7 +19,7 @@ use crate::words::read_list;
 use cpg_board::Board;
 use cpg_cluster::{Manner, Sessions, run_sessions};
 use cpg_cred::{AcceptList, Refusal};
-use cpg_daemon::{Cluster, HistoryName, PassAll};
+use cpg_daemon::{Cluster, HistoryName};
 use cpg_ring::{Settings, are_settings};
 use std::alloc::Global;
 use std::io::{Read, Write};
@@ -36,6 +37,7 @@ pub fn run_cluster<H, R, W, K>(
     rt: H,
     alloc: Global,
     manner: &Manner<Spoken>,
+    chances: Chances,
     settings: Settings,
     words: &[&str],
     reader: &mut R,
@@ -59,7 +61,7 @@ where
     match read_list(alloc, words) {
         Err(refusal) => Err(Failure::from(refusal)),
         Ok(None) => Err(Failure::BadWord),
-        Ok(Some(list)) => { run_listed(rt, alloc, manner, settings, list, reader, writer, keeper) },
+        Ok(Some(list)) => { run_listed(rt, alloc, manner, chances, settings, list, reader, writer, keeper) },
     }
 }
 
@@ -69,6 +71,7 @@ fn run_listed<H, R, W, K>(
     rt: H,
     alloc: Global,
     manner: &Manner<Spoken>,
+    chances: Chances,
     settings: Settings,
     list: AcceptList,
     reader: &mut R,
@@ -95,7 +98,7 @@ where
     match new_board(alloc, settings, keeper.is_asked()) {
         Err(_) => Err(Failure::from(Refusal::Memory)),
         Ok(board) => run_on::<Brand, H, R, W, K>(
-            rt, alloc, manner, settings, board, &list, reader, writer, keeper,
+            rt, alloc, manner, chances, settings, board, &list, reader, writer, keeper,
         ),
     }
 }
@@ -106,6 +109,7 @@ fn run_on<B, H, R, W, K>(
     rt: H,
     alloc: Global,
     manner: &Manner<Spoken>,
+    chances: Chances,
     settings: Settings,
     board: Board,
     list: &AcceptList,
@@ -129,7 +133,7 @@ where
     ensures kept { OnOk result (WasKept K.keeps B.start keeper.old keeper.new) }
     ensures left { OnErr result ((keeper.new ≡ keeper.old) ⊎ WasKept K.keeps B.start keeper.old keeper.new) }
 {
-    match Cluster::<B, PassAll>::start(rt, alloc, settings, board, list, PassAll) {
+    match Cluster::<B, Chances>::start(rt, alloc, settings, board, list, chances) {
         Err(_) => Err(Failure::from(Refusal::Memory)),
         Ok(cluster) => run_over(rt, alloc, manner, cluster, reader, writer, keeper),
     }
@@ -141,7 +145,7 @@ fn run_over<B, H, R, W, K>(
     rt: H,
     alloc: Global,
     manner: &Manner<Spoken>,
-    cluster: Cluster<B, PassAll>,
+    cluster: Cluster<B, Chances>,
     reader: &mut R,
     writer: &mut W,
     keeper: &mut K,

@@ -8,6 +8,7 @@
 
 mod admitting;
 mod auditing;
+mod chances;
 mod clustering;
 mod drawing;
 mod failures;
@@ -26,6 +27,7 @@ mod words;
 
 pub use admitting::{Admission, NamedText, perform_admit, write_text};
 pub use auditing::Inquiry;
+pub use chances::Chances;
 pub use cpg_accept::accept_script;
 pub use cpg_cluster::{Known, Manner, Noted, PLAIN, Patience, Shown, cluster_script};
 pub use cpg_judge::filter::{Filter, Only};

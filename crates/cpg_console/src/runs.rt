@@ -14,6 +14,7 @@ ghost use Rattle.cpg_console.specs.Telling.{told_text};
 ghost use Rattle.cpg_console.specs.Tracing.{IsLeft};
 
 use crate::auditing::{Inquiry, explain_over_cluster};
+use crate::chances::Chances;
 use crate::clustering::run_cluster;
 use crate::drawing::draw_over_world;
 use crate::failures::Failure;
@@ -76,8 +77,8 @@ pub enum Run<'a> {
     /// `cpgring step --numbers`: the same as `Step`, with the numbers of the frames that each command sent.
     Number(Settings, &'a [&'a str]),
     /// `cpgring run`: a script of sessions is run over a new cluster of those settings, whose nodes let in
-    /// whom the words let in, and answers as the manner says.
-    Cluster(Manner<Spoken>, Settings, &'a [&'a str]),
+    /// whom the words let in, and answers as the manner says; of its frames becomes what the chances say.
+    Cluster(Manner<Spoken>, Chances, Settings, &'a [&'a str]),
     /// `cpgring run --why`: it is told why entries that stand on such a cluster's board after the script were answered
     /// as they were.
     ClusterWhy(Inquiry, Settings, &'a [&'a str]),
@@ -265,8 +266,10 @@ where
             let picture = Picture::Numbered;
             draw_over_world(alloc, picture, *settings, words, reader, writer)?;
         }
-        Run::Cluster(manner, settings, words) => {
-            run_cluster(rt, alloc, manner, *settings, words, reader, writer, keeper)?;
+        Run::Cluster(manner, chances, settings, words) => {
+            run_cluster(
+                rt, alloc, manner, *chances, *settings, words, reader, writer, keeper,
+            )?;
         }
         Run::ClusterWhy(inquiry, settings, words) => {
             explain_over_cluster(rt, alloc, inquiry, *settings, words, reader, writer)?;

@@ -13,6 +13,7 @@ ghost use Rattle.cpg_console.specs.Tracing.{WasKept, WasKeptOf};
 ghost use Rattle.cpg_console.specs.Words.{list_of_words};
 ghost use Rattle.cpg_world_laws.specs.Worlds.{new_world};
 
+use crate::chances::Chances;
 use crate::failures::Failure;
 use crate::founding::new_board;
 use crate::pipes::Piped;
@@ -25,7 +26,7 @@ use cpg_board::Board;
 use cpg_cluster::Manner;
 use cpg_cluster::shell::shell_lines;
 use cpg_cred::{AcceptList, Refusal};
-use cpg_daemon::{Cluster, HistoryName, PassAll};
+use cpg_daemon::{Cluster, HistoryName};
 use cpg_ring::{Settings, are_settings};
 use std::alloc::Global;
 use std::io::{BufWriter, Read, Write};
@@ -42,6 +43,7 @@ pub fn perform_shell<H, R, W, E, K>(
     rt: H,
     alloc: Global,
     manner: &Manner<Spoken>,
+    chances: Chances,
     settings: Settings,
     words: &[&str],
     reader: &mut R,
@@ -62,7 +64,7 @@ where
     ensures left { IfSome result.failure (λ _. (keeper.new ≡ keeper.old) ⊎ WasKeptOf K.keeps settings (list_of_words (map (λ word. word.now) words.now)) keeper.old keeper.new) }
 {
     let done = run_shell(
-        rt, alloc, manner, settings, words, reader, writer, errors, keeper,
+        rt, alloc, manner, chances, settings, words, reader, writer, errors, keeper,
     );
     let flushed = hand_on(writer);
     let failure = failure_after(done, flushed);
@@ -134,6 +136,7 @@ fn run_shell<H, R, W, E, K>(
     rt: H,
     alloc: Global,
     manner: &Manner<Spoken>,
+    chances: Chances,
     settings: Settings,
     words: &[&str],
     reader: &mut R,
@@ -158,7 +161,7 @@ where
         Err(refusal) => Err(Failure::from(refusal)),
         Ok(None) => Err(Failure::BadWord),
         Ok(Some(list)) => shell_listed(
-            rt, alloc, manner, settings, list, reader, writer, errors, keeper,
+            rt, alloc, manner, chances, settings, list, reader, writer, errors, keeper,
         ),
     }
 }
@@ -169,6 +172,7 @@ fn shell_listed<H, R, W, E, K>(
     rt: H,
     alloc: Global,
     manner: &Manner<Spoken>,
+    chances: Chances,
     settings: Settings,
     list: AcceptList,
     reader: &mut R,
@@ -195,7 +199,7 @@ where
     match new_board(alloc, settings, keeper.is_asked()) {
         Err(_) => Err(Failure::from(Refusal::Memory)),
         Ok(board) => shell_on::<Brand, H, R, W, E, K>(
-            rt, alloc, manner, settings, board, &list, reader, writer, errors, keeper,
+            rt, alloc, manner, chances, settings, board, &list, reader, writer, errors, keeper,
         ),
     }
 }
@@ -206,6 +210,7 @@ fn shell_on<B, H, R, W, E, K>(
     rt: H,
     alloc: Global,
     manner: &Manner<Spoken>,
+    chances: Chances,
     settings: Settings,
     board: Board,
     list: &AcceptList,
@@ -229,7 +234,7 @@ where
     ensures kept { OnOk result (WasKept K.keeps B.start keeper.old keeper.new) }
     ensures left { OnErr result ((keeper.new ≡ keeper.old) ⊎ WasKept K.keeps B.start keeper.old keeper.new) }
 {
-    match Cluster::<B, PassAll>::start(rt, alloc, settings, board, list, PassAll) {
+    match Cluster::<B, Chances>::start(rt, alloc, settings, board, list, chances) {
         Err(_) => Err(Failure::from(Refusal::Memory)),
         Ok(cluster) => { shell_over(rt, alloc, manner, cluster, reader, writer, errors, keeper) },
     }
@@ -240,7 +245,7 @@ fn shell_over<B, H, R, W, E, K>(
     rt: H,
     alloc: Global,
     manner: &Manner<Spoken>,
-    cluster: Cluster<B, PassAll>,
+    cluster: Cluster<B, Chances>,
     reader: &mut R,
     writer: &mut W,
     errors: &mut E,

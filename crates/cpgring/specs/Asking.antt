@@ -9,6 +9,7 @@ use Rattle.clap.specs.declared.error.kind.ErrorKind.{ErrorKind}
 use Rattle.clap.specs.declared.error.kind.ErrorKind.TheVariants.{DisplayHelp, DisplayVersion, OutOfMemory}
 use Rattle.cpg_ring.specs.declared.settings.Settings.{Settings}
 use Rattle.cpg_console.specs.declared.auditing.Inquiry.{Inquiry}
+use Rattle.cpg_console.specs.declared.chances.Chances.{Chances}
 use Rattle.cpg_console.specs.declared.runs.Run.{Run}
 use Rattle.cpg_cluster.specs.declared.forms.Manner.{Manner}
 use Rattle.cpg_cluster.specs.declared.forms.Patience.{Patience}
@@ -43,7 +44,7 @@ name_of (Step form settings words) = codes "step"
 name_of (StepWhy form asked settings words) = codes "step"
 name_of (Draw picture settings words) = codes "draw"
 name_of (Number settings words) = codes "step"
-name_of (Cluster manner settings words) = codes "run"
+name_of (Cluster manner chances settings words) = codes "run"
 name_of (ClusterWhy inquiry settings words) = codes "run"
 
 -- the number is what the option's text writes, in ten digits
@@ -56,6 +57,12 @@ pub record AreSettingsGiven (found : Found) (settings : Settings) : Type 0 where
   pub nodes : IsGiven found (codes "nodes") settings.nodes
   pub places : IsGiven found (codes "places") settings.places
   pub hops : IsGiven found (codes "hops") settings.hops
+
+-- the chances are those that the options give
+pub record AreChancesGiven (found : Found) (chances : Chances) : Type 0 where
+  pub lose : IsGiven found (codes "lose") chances.lose
+  pub repeat : IsGiven found (codes "repeat") chances.repeat
+  pub seed : IsGiven found (codes "seed") chances.seed
 
 -- the texts of an argument, if it was used
 abbrev pub texts_of : Option MatchedArg → List (List ℕ)
@@ -103,10 +110,10 @@ IsFormGiven found form = (IsUsed found (codes "json") → form ≡ Json) × (IsU
 abbrev pub IsPictureGiven : Found → Picture → Type 0
 IsPictureGiven found picture = (IsUsed found (codes "text") → picture ≡ Lines) × (IsUnused found (codes "text") → picture ≡ Svg)
 
--- the entry that is asked of is the one that the first word names
-abbrev pub IsEntryAsked : Form → List (List ℕ) → Run → Type 0
-IsEntryAsked form (word ∷ rest) (Why given asked) = (given ≡ form) × (entry_named word ≡ Some asked)
-IsEntryAsked form _ _ = ⊥
+-- the entry that is asked of is the one that the first word names, and whom it told, where a connection is named
+abbrev pub IsEntryAsked : Form → Option (List ℕ) → List (List ℕ) → Run → Type 0
+IsEntryAsked form to (word ∷ rest) (Why given asked) = (given ≡ form) × (entry_named to word ≡ Some asked)
+IsEntryAsked form to _ _ = ⊥
 
 -- that connection is asked for
 abbrev pub IsWayAsked : Form → List ℕ → Run → Type 0
@@ -116,7 +123,7 @@ IsWayAsked form word _ = ⊥
 -- what is asked where a connection is named, and where none is: all denials where that option is used, else the entry of the first word
 abbrev pub IsWhyAsked : Form → Found → Option (List ℕ) → Run → Type 0
 IsWhyAsked form found (Some word) run = IsWayAsked form word run
-IsWhyAsked form found None run = (IsUsed found (codes "all") → run ≡ Why form Denials) × (IsUnused found (codes "all") → IsEntryAsked form (why_words found) run)
+IsWhyAsked form found None run = (IsUsed found (codes "all") → run ≡ Why form Denials) × (IsUnused found (codes "all") → IsEntryAsked form (first_value found (codes "to")) (why_words found) run)
 
 -- the same of the connection that was given, in the form that the option asks for
 abbrev pub IsWhyGiven : Form → Found → Run → Type 0
@@ -126,10 +133,10 @@ IsWhyGiven form found run = IsFormGiven found form × IsWhyAsked form found (fir
 abbrev pub AreGiven : Found → Settings → List (List ℕ) → Type 0
 AreGiven found settings words = AreSettingsGiven found settings × (words ≡ words_given found)
 
--- what is asked why of, where a word is given
-abbrev pub question_asked : Option (List ℕ) → Option Question
-question_asked None = None
-question_asked (Some word) = question_named word
+-- what is asked why of, where a word is given, and of which connection, where one is named
+abbrev pub question_asked : Option (List ℕ) → Option (List ℕ) → Option Question
+question_asked to None = None
+question_asked to (Some word) = question_named to word
 
 -- how long a wait looks: so many milliseconds, where they are given
 abbrev pub patience_given : Option (List ℕ) → Option Patience
@@ -165,9 +172,10 @@ IsMannerGiven found settings manner =
 -- what is asked once a script of sessions was run is what the word asks, in the form that the option asks for, and a wait looks for as long as
 -- is given
 pub record IsInquiryGiven (found : Found) (inquiry : Inquiry) : Type 0 where
-  pub asked : question_asked (first_value found (codes "why")) ≡ Some inquiry.asked
+  pub asked : question_asked (first_value found (codes "to")) (first_value found (codes "why")) ≡ Some inquiry.asked
   pub form : IsFormGiven found inquiry.form
   pub patience : patience_given (first_value found (codes "wait")) ≡ Some inquiry.patience
+  pub chances : AreChancesGiven found inquiry.chances
 
 -- a run has the form, the settings and the words that were given
 abbrev pub IsGivenBy : Found → Run → Type 0
@@ -178,10 +186,11 @@ IsGivenBy found (Why form asked) = IsWhyGiven form found (Why form asked)
 IsGivenBy found (Step form settings words) = (first_value found (codes "why") ≡ None) × IsFormGiven found form × AreGiven found settings (map (λ word. word.now) words.now)
 IsGivenBy found (Draw picture settings words) = IsPictureGiven found picture × AreGiven found settings (map (λ word. word.now) words.now)
 IsGivenBy found (StepWhy form asked settings words) =
-    (question_asked (first_value found (codes "why")) ≡ Some asked) × IsFormGiven found form × AreGiven found settings (map (λ word. word.now) words.now)
+    (question_asked (first_value found (codes "to")) (first_value found (codes "why")) ≡ Some asked) × IsFormGiven found form × AreGiven found settings (map (λ word. word.now) words.now)
 IsGivenBy found (Number settings words) = (first_value found (codes "why") ≡ None) × AreGiven found settings (map (λ word. word.now) words.now)
-IsGivenBy found (Cluster manner settings words) =
-    (first_value found (codes "why") ≡ None) × IsMannerGiven found settings manner × AreGiven found settings (map (λ word. word.now) words.now)
+IsGivenBy found (Cluster manner chances settings words) =
+    (first_value found (codes "why") ≡ None) × IsMannerGiven found settings manner × AreChancesGiven found chances
+    × AreGiven found settings (map (λ word. word.now) words.now)
 IsGivenBy found (ClusterWhy inquiry settings words) = IsInquiryGiven found inquiry × AreGiven found settings (map (λ word. word.now) words.now)
 
 -- the numbers of frames are written, too
@@ -198,6 +207,7 @@ pub record IsAskedFor (found : Found) (called : List ℕ) (asked : Asked) : Type
 -- what `shell` is asked for is what was given; all its words let users and groups in
 pub record IsShellGiven (found : Found) (asked : AskedShell) : Type 0 where
   pub manner : IsMannerGiven found asked.settings asked.manner
+  pub chances : AreChancesGiven found asked.chances
   pub settings : AreSettingsGiven found asked.settings
   pub words : map (λ word. word.now) asked.words.now ≡ words_found found
 

@@ -10,13 +10,13 @@ ghost use Rattle.cpg_console.specs.Pipes.{stream_of};
 ghost use Rattle.cpg_console.specs.declared.runs.Run.TheVariants.{Why};
 ghost use Rattle.cpgring.specs.Filtering.{is_filtered, IsBadFilter};
 ghost use Rattle.cpgring.specs.Sources.{but_input, path_of};
-ghost use Rattle.cpgring.specs.Asking.{name_of, words_found, AreSettingsGiven, IsAskedFor, IsFormGiven, IsInquiryGiven, IsMannerGiven, IsPictureGiven, IsShellGiven, IsShownGiven, IsSpokenGiven, patience_given, IsEntryAsked, words_before, IsStatusOf, IsUnused, IsUsed, SaysByKind, is_numbered};
+ghost use Rattle.cpgring.specs.Asking.{name_of, words_found, AreChancesGiven, AreSettingsGiven, IsAskedFor, IsFormGiven, IsInquiryGiven, IsMannerGiven, IsPictureGiven, IsShellGiven, IsShownGiven, IsSpokenGiven, patience_given, IsEntryAsked, words_before, IsStatusOf, IsUnused, IsUsed, SaysByKind, is_numbered};
 
 use crate::commands::{build_command, command_for};
 use crate::filtering::{filter_of, is_filtered};
 use crate::options::{
-    ACCEPT, ALL, CONNECTION, ECHO, FILE, HOPS, JSON, NODES, NUMBERS, PLACE, PLACES, RING, TEXT,
-    VERBOSE, WAIT, WHY,
+    ACCEPT, ALL, CONNECTION, ECHO, FILE, HOPS, JSON, LOSE, NODES, NUMBERS, PLACE, PLACES, REPEAT,
+    RING, SEED, TEXT, TO, VERBOSE, WAIT, WHY,
 };
 use crate::questions::{read_conn, read_entry, read_question};
 use crate::sources::{Source, source_of, split_words};
@@ -24,7 +24,7 @@ use crate::versions::write_commit;
 use clap::error::ErrorKind;
 use clap::{ArgMatches, Command, Error};
 use cpg_console::{
-    Asked as Question, Form, Inquiry, Known, Manner, Noted, Patience, Picture, Piped, Run, Shown,
+    Asked as Question, Chances, Form, Inquiry, Known, Manner, Noted, Patience, Picture, Piped, Run, Shown,
     Spoken, tell_fault,
 };
 use cpg_cred::Refusal;
@@ -214,7 +214,7 @@ fn why_of<'a>(given: &'a ArgMatches<'_>) -> Option<Asked<'a>>
             words,
         ),
         None if all => why_other(form, Question::Denials, words),
-        None => why_entry(form, words),
+        None => why_entry(form, given.get_str(TO), words),
     }
 }
 
@@ -235,14 +235,14 @@ fn why_other<'a>(form: Form, question: Question, words: &'a [&'a str]) -> Option
 
 /// Why one entry was answered as it was: the first word is its place or an event that it told, and the other, if there is
 /// one, the path.
-fn why_entry<'a>(form: Form, words: &'a [&'a str]) -> Option<Asked<'a>>
-    ensures run { IfSome result (λ asked. IsEntryAsked form (map (λ word. word.now) words.now) asked.run) }
+fn why_entry<'a>(form: Form, to: Option<&str>, words: &'a [&'a str]) -> Option<Asked<'a>>
+    ensures run { IfSome result (λ asked. IsEntryAsked form (option_map (λ text. text.now) to.entry) (map (λ word. word.now) words.now) asked.run) }
     ensures source { IfSome result (λ asked. path_of asked.source ≡ but_input (slice_get (map (λ word. word.now) words.now) (words_before asked.run))) }
 {
     if words.len() > 2 {
         return None;
     }
-    let question = read_entry(words.first()?.as_bytes())?;
+    let question = read_entry(to, words.first()?.as_bytes())?;
     Some(Asked {
         run: Run::Why(form, question),
         source: source_behind(words),
@@ -266,7 +266,10 @@ fn step_of<'a>(given: &'a ArgMatches<'_>) -> Option<Asked<'a>>
     let (source, words) = split_words(words_of(given));
     let form = form_of(given);
     let run = match given.get_str(WHY) {
-        Some(word) => Run::StepWhy(form, read_question(word.as_bytes())?, settings, words),
+        Some(word) => {
+            let question = read_question(given.get_str(TO), word.as_bytes())?;
+            Run::StepWhy(form, question, settings, words)
+        }
         None => match form {
             Form::Text if given.get_flag(NUMBERS) => Run::Number(settings, words),
             form => Run::Step(form, settings, words),
@@ -296,7 +299,10 @@ fn cluster_of<'a>(given: &'a ArgMatches<'_>) -> Option<Asked<'a>>
     let (source, words) = split_words(words_of(given));
     let run = match given.get_str(WHY) {
         Some(_) => Run::ClusterWhy(inquiry_of(given)?, settings, words),
-        None => Run::Cluster(manner_of(given, settings)?, settings, words),
+        None => {
+            let manner = manner_of(given, settings)?;
+            Run::Cluster(manner, chances_of(given)?, settings, words)
+        }
     };
     Some(Asked { run, source })
 }
@@ -307,15 +313,18 @@ fn inquiry_of(given: &ArgMatches<'_>) -> Option<Inquiry>
 {
     Some(Inquiry {
         form: form_of(given),
-        asked: read_question(given.get_str(WHY)?.as_bytes())?,
+        asked: read_question(given.get_str(TO), given.get_str(WHY)?.as_bytes())?,
         patience: read_patience(given.get_str(WAIT))?,
+        chances: chances_of(given)?,
     })
 }
 
-/// What `shell` is asked for: how its lines are answered, over a cluster of which settings, and whom that lets in.
+/// What `shell` is asked for: how its lines are answered, over a cluster of which settings, what becomes of its frames, and
+/// whom it lets in.
 #[derive(Clone, Copy)]
 pub struct AskedShell<'a> {
     pub manner: Manner<Spoken>,
+    pub chances: Chances,
     pub settings: Settings,
     pub words: &'a [&'a str],
 }
@@ -340,6 +349,7 @@ fn shell_of<'a>(given: &'a ArgMatches<'_>) -> Option<AskedShell<'a>>
     let settings = settings_of(given)?;
     Some(AskedShell {
         manner: manner_of(given, settings)?,
+        chances: chances_of(given)?,
         settings,
         words: words_of(given),
     })
@@ -402,6 +412,17 @@ fn settings_of(given: &ArgMatches<'_>) -> Option<Settings>
         nodes: given.get_one::<u8>(NODES)?,
         places: given.get_one::<u32>(PLACES)?,
         hops: given.get_one::<u64>(HOPS)?,
+    })
+}
+
+/// What becomes of a cluster's frames, as the options say it.
+fn chances_of(given: &ArgMatches<'_>) -> Option<Chances>
+    ensures { IfSome result (AreChancesGiven (found_of given.now)) }
+{
+    Some(Chances {
+        lose: given.get_one::<u8>(LOSE)?,
+        repeat: given.get_one::<u8>(REPEAT)?,
+        seed: given.get_one::<u64>(SEED)?,
     })
 }
 

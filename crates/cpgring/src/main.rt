@@ -285,6 +285,7 @@ where
         threads,
         alloc,
         &asked.manner,
+        asked.chances,
         asked.settings,
         asked.words,
         &mut rt.stdin(),

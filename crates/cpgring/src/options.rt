@@ -49,11 +49,21 @@ pub const VERBOSE: &str = "verbose";
 /// The option that asks why, of what a script's commands made.
 pub const WHY: &str = "why";
 
+/// The option that asks why a connection was told of an entry, or was not.
+pub const TO: &str = "to";
+
 /// The option that asks for what happened, as a script that plays it again.
 pub const TRACE: &str = "trace";
 
 /// The option that says how long a wait looks.
 pub const WAIT: &str = "wait";
+
+/// The options that say what becomes of a cluster's frames.
+pub const LOSE: &str = "lose";
+
+pub const REPEAT: &str = "repeat";
+
+pub const SEED: &str = "seed";
 
 /// The option that asks for the line and the session before each printed line.
 pub const ECHO: &str = "echo";
@@ -77,6 +87,8 @@ enum Within {
     Nodes,
     Places,
     Hops,
+    Percent,
+    Seeds,
 }
 
 /// What an option, or a word of a subcommand, takes.
@@ -148,6 +160,8 @@ fn limited<'a>(arg: Arg<'a>, numbers: Within) -> Arg<'a> {
         Within::Nodes => { arg.value_parser(value_parser!(u8).range(1..=i64::from(MOST_NODES))) }
         Within::Places => { arg.value_parser(value_parser!(u32).range(1..=i64::from(MOST_PLACES))) }
         Within::Hops => arg.value_parser(value_parser!(u64).range(1..=MOST_HOPS as i64)),
+        Within::Percent => arg.value_parser(value_parser!(u8).range(0..=100)),
+        Within::Seeds => arg.value_parser(value_parser!(u64)),
     }
 }
 
@@ -216,8 +230,26 @@ pub const RING_OPTIONS: [Given; 4] = [
     ),
 ];
 
-/// The options that say how the commands of a cluster are answered.
-pub const CLUSTER_OPTIONS: [Given; 4] = [
+/// The options that say what becomes of a cluster's frames, and how its commands are answered.
+pub const CLUSTER_OPTIONS: [Given; 7] = [
+    Given(
+        LOSE,
+        Takes::Number(Within::Percent, "0"),
+        "How many of 100 frames between nodes are lost, 0 to 100",
+        &[],
+    ),
+    Given(
+        REPEAT,
+        Takes::Number(Within::Percent, "0"),
+        "How many of 100 frames that are not lost come twice, 0 to 100",
+        &[],
+    ),
+    Given(
+        SEED,
+        Takes::Number(Within::Seeds, "0"),
+        "Which frames these are, 0 to 18446744073709551615: the same for the same seed",
+        &[],
+    ),
     Given(
         WAIT,
         Takes::Word("MS"),
@@ -269,13 +301,19 @@ pub const JUDGE_OPTIONS: [Given; 7] = [
     SCRIPT,
 ];
 
-pub const WHY_OPTIONS: [Given; 5] = [
+pub const WHY_OPTIONS: [Given; 6] = [
     Given(ALL, Takes::Nothing, "Explain every denied entry", &[]),
     Given(
         CONNECTION,
         Takes::Word("NODE.CONN"),
         "Tell the way of that connection",
         &[],
+    ),
+    Given(
+        TO,
+        Takes::Word("NODE.CONN"),
+        "Explain of the entry at PLACE why that connection was told of it, or was not",
+        &[ALL, CONNECTION],
     ),
     AS_JSON,
     WITH_HINTS,
@@ -323,7 +361,7 @@ pub const ADMIT_OPTIONS: [Given; 6] = [
     ),
 ];
 
-pub const STEP_OPTIONS: [Given; 5] = [
+pub const STEP_OPTIONS: [Given; 6] = [
     AS_JSON,
     Given(
         NUMBERS,
@@ -335,6 +373,12 @@ pub const STEP_OPTIONS: [Given; 5] = [
         WHY,
         Takes::Word("PLACE"),
         "Explain in place of that the entry at the place; NODE.CONN:EVENT: the one that told it; all: each denial; NODE.CONN: a connection's way",
+        &[NUMBERS],
+    ),
+    Given(
+        TO,
+        Takes::Word("NODE.CONN"),
+        "With --why=PLACE: explain why that connection was told of the entry, or was not",
         &[NUMBERS],
     ),
     WITH_HINTS,
@@ -352,11 +396,17 @@ pub const DRAW_OPTIONS: [Given; 3] = [
     SCRIPT_AND_ACCEPT,
 ];
 
-pub const RUN_OPTIONS: [Given; 3] = [
+pub const RUN_OPTIONS: [Given; 4] = [
     Given(
         WHY,
         Takes::Word("PLACE"),
         "Explain in place of that, once all is done, the entry at the place; NODE.CONN:EVENT: the one that told it; all: each denial; NODE.CONN: a connection's way",
+        &[ECHO, TRACE],
+    ),
+    Given(
+        TO,
+        Takes::Word("NODE.CONN"),
+        "With --why=PLACE: explain why that connection was told of the entry, or was not",
         &[ECHO, TRACE],
     ),
     WITH_HINTS_AND_NOTES,

@@ -21,7 +21,7 @@ pub fn trace_of<'a>(given: &'a ArgMatches<'_>) -> Option<&'a str> {
 /// The settings and the words of a run that can be traced.
 pub fn traced_world<'a>(run: &Run<'a>) -> Option<(Settings, &'a [&'a str])> {
     match run {
-        Run::Cluster(_, settings, words) => Some((*settings, words)),
+        Run::Cluster(_, _, settings, words) => Some((*settings, words)),
         _ => None,
     }
 }
