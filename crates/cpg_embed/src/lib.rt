@@ -16,6 +16,7 @@ mod opening;
 mod processes;
 mod records;
 mod rules;
+mod seats;
 mod statuses;
 mod told;
 
