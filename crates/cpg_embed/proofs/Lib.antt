@@ -3,3 +3,4 @@ pub mod Faults
 pub mod Answering
 pub mod Seating
 pub mod Turning
+pub mod Standing
