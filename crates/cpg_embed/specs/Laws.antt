@@ -1,5 +1,5 @@
 -- What a node's answers are.
-use Rattle.std.specs.Prelude.{◌≡◌, ◌⊎◌, ℕ, List, [], ◌∷◌, ◌++◌, map, Option, Some, None}
+use Rattle.std.specs.Prelude.{◌≡◌, ◌⊎◌, List, [], ◌∷◌, ◌++◌, map, Option, Some, None}
 use Rattle.std.specs.List.{flat_map}
 use Rattle.cpg_entry.specs.declared.frames.Frame.TheVariants as frames
 use Rattle.cpg_record.specs.declared.records.Record.{Record}
