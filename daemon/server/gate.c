@@ -186,13 +186,17 @@ static void deliver(struct gate *gate, struct node *node) {
     note_fault(gate, status);
 }
 
+/* Whether the token is to go on. */
+static bool goes_on(const struct gate *gate) { return !gate->fault && !is_stopped(gate) && !gate_settled(gate); }
+
 bool gate_pump(struct gate *gate, unsigned visits) {
-    for (unsigned k = 0; k < visits; k++) {
-        if (gate_settled(gate) || is_stopped(gate) || gate->fault) return false;
+    bool more = goes_on(gate);
+    for (unsigned k = 0; k < visits && more; k++) {
         if (gate->count == 1) visit_alone(gate);
         else visit(gate);
         for (unsigned n = 0; n < gate->count; n++)
             if (!gate->held[n]) deliver(gate, &gate->nodes[n]);
+        more = goes_on(gate);
     }
-    return !gate_settled(gate) && !is_stopped(gate) && !gate->fault;
+    return more;
 }

@@ -102,20 +102,22 @@ static uint64_t cost_of(const cpgring_record *r) {
     return sizeof(struct head) + sizeof(struct tell_change) + sizeof(struct told_process) * (r->members + 1) + r->group_len;
 }
 
+/* The connection was told something, if it is one of this node. */
+static void note_connection(struct node *node, uint32_t of, uint32_t conn, uint64_t cost) {
+    struct client *c = of == node->setup.node ? node->by_conn[conn] : NULL;
+    if (c) note_told(node, c, cost);
+}
+
 void node_delivered(struct node *node, uint32_t place, const cpgring_record *r) {
-    bool allowed = r->verdict == CPGRING_ALLOWED;
-    size_t most = allowed ? r->members + 1 : 1; /* who made the entry, then the members */
-    uint64_t cost = sizeof(struct head) + sizeof(struct tell_denied);
     cpgring_process p;
     node->delivered = place;
     node->delivered_bytes += r->message_len;
     if (r->node == node->setup.node && r->call != CALL_GONE) user_call_placed(r->uid, r->node - 1);
-    if (allowed && (r->call == CALL_INSERT || r->call == CALL_REMOVE)) table_note(node, place, r);
-    for (size_t k = 0; k < most && cpgring_notified(&node->ring, place, k, &p) == CPGRING_OK; k++) {
-        struct client *c = p.node == node->setup.node ? node->by_conn[p.conn] : NULL;
-        if (c) note_told(node, c, cost);
-        if (k == 0) cost = cost_of(r);
-    }
+    note_connection(node, r->node, r->conn, sizeof(struct head) + sizeof(struct tell_denied)); /* the first whom it tells something */
+    if (r->verdict != CPGRING_ALLOWED) return;
+    if (r->call == CALL_INSERT || r->call == CALL_REMOVE) table_note(node, place, r);
+    for (size_t k = 1; k <= r->members && cpgring_notified(&node->ring, place, k, &p) == CPGRING_OK; k++)
+        note_connection(node, p.node, p.conn, cost_of(r));
 }
 
 void node_forget(struct node *node) {
