@@ -65,6 +65,16 @@ static size_t play(void) {
     DO(cpgring_take(&ring, conn, &event), CPGRING_NONE);
     DO(cpgring_list(&ring, conn, (const uint8_t *)"a-name-of-more-than-16-bytes", 28, &count), CPGRING_OK);
     DO(cpgring_groups(&ring, conn, &count), CPGRING_OK);
+    DO(cpgring_leave(&ring, conn), CPGRING_OK);
+    DO(cpgring_turn(&ring), CPGRING_OK);
+    DO(cpgring_deliver(&ring, &place), CPGRING_OK);
+    DO(cpgring_join(&ring, conn, (const uint8_t *)"a", 1), CPGRING_OK);
+    DO(cpgring_turn(&ring), CPGRING_OK);
+    DO(cpgring_deliver(&ring, &place), CPGRING_OK);
+    DO(cpgring_seats(&ring, &count), CPGRING_OK);
+    told += count;
+    DO(cpgring_seat(&ring, 0, &place), CPGRING_OK);
+    told += place;
     DO(cpgring_disconnect(&ring, conn), CPGRING_OK);
     DO(cpgring_close(&ring), CPGRING_OK);
     return told + count;

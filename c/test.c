@@ -1,5 +1,6 @@
 /* Makes every call of cpgring.h at least once, and compares what it answers with answers that were worked out by hand:
- * two nodes that agree on two joins and a message, a lost frame, a full queue, listings under rules, and refusals. */
+ * two nodes that agree on two joins and a message, a lost frame, a full queue, listings under rules, a ring that turns by
+ * itself, messages that are lent, members and their joins, and refusals. */
 #include "cpgring.h"
 
 #include <stdio.h>
@@ -418,6 +419,167 @@ static void rules(void) {
     end(1);
 }
 
+/* A ring of one node turns by itself: eight calls get a place in a turn, and no frame is handed over. */
+static void turns(void) {
+    uint64_t hops = 0;
+    uint32_t places = 0;
+    size_t count = 0;
+    cpgring_event event;
+    begin(1, 1000);
+    connect_as(1, 1, 7, 7);
+    IS(cpgring_turn(&ring[1]), CPGRING_OK);
+    IS(collect(1), 0);
+    deliver_none(1);
+    IS(cpgring_join(&ring[1], 1, BYTES("db")), CPGRING_OK);
+    for (unsigned k = 0; k < 11; k++) IS(cpgring_send(&ring[1], 1, BYTES("hi")), CPGRING_OK);
+    IS(cpgring_turn(&ring[1]), CPGRING_OK);
+    IS(collect(1), 0);
+    for (uint32_t k = 1; k <= 8; k++) deliver(1, k);
+    deliver_none(1);
+    IS(cpgring_waiting(&ring[1], &count), CPGRING_OK);
+    IS(count, 4);
+    IS(cpgring_turn(&ring[1]), CPGRING_OK);
+    for (uint32_t k = 9; k <= 12; k++) deliver(1, k);
+    IS(cpgring_reached(&ring[1], &places, &hops), CPGRING_OK);
+    IS(places, 12);
+    IS(hops, 3);
+    is_verdict(1, 1, 1, CPGRING_ALLOWED, CPGRING_ON_DEFAULT, 0);
+    is_join(1, 1, 1, 1, 1, 1);
+    for (uint32_t k = 2; k <= 12; k++) {
+        is_verdict(1, 1, k, CPGRING_ALLOWED, CPGRING_ON_DEFAULT, 0);
+        IS(cpgring_take(&ring[1], 1, &event), CPGRING_OK);
+        IS(event.kind, CPGRING_MESSAGE);
+        IS(event.place, k);
+    }
+    is_end(1, 1);
+    /* the token may be brought by hand at any time, as the same one */
+    IS(cpgring_timer(&ring[1]), CPGRING_OK);
+    IS(cpgring_turn(&ring[1]), CPGRING_BUSY);
+    IS(collect(1), 1);
+    IS(reach(1, sent), 1);
+    IS(cpgring_reached(&ring[1], &places, &hops), CPGRING_OK);
+    IS(hops, 4);
+    end(1);
+
+    begin(2, 100);
+    IS(cpgring_turn(&ring[1]), CPGRING_NONE);
+    IS(cpgring_turn(&ring[2]), CPGRING_NOT_MINE);
+    connect_as(1, 40, 7, 100);
+    IS(cpgring_join(&ring[1], 1, BYTES("db")), CPGRING_OK);
+    IS(reach(1, 1), 2);
+    IS(cpgring_turn(&ring[1]), CPGRING_NOT_MINE);
+    deliver(1, 1);
+    end(2);
+
+    cpgring_setup setup = {1, 1, 1, 100, 2};
+    const uint32_t none[1] = {0};
+    IS(cpgring_open(&ring[1], &setup, none, 0, none, 0), CPGRING_OK);
+    IS(cpgring_turn(&ring[1]), CPGRING_OK);
+    IS(cpgring_turn(&ring[1]), CPGRING_OK);
+    IS(cpgring_turn(&ring[1]), CPGRING_RING_END);
+    end(1);
+}
+
+static bool is_same(const uint8_t *found, const uint8_t *wanted, size_t len) {
+    return len == 0 ? found == NULL : memcmp(found, wanted, len) == 0;
+}
+
+/* Messages of 0, 3, 16, 17 and 8,192 bytes are lent where the node has them: a record's until the end, an event's until the
+ * next is taken. Those of records are looked at again after 300 places more. */
+static void lent(void) {
+    static const size_t sizes[] = {0, 3, 16, 17, 8192};
+    static uint8_t message[CPGRING_MOST_MESSAGE];
+    const uint8_t *at[5] = {0}, *of_event = NULL;
+    size_t len = 0;
+    cpgring_event event;
+    begin(1, 1000);
+    connect_as(1, 1, 7, 7);
+    for (unsigned k = 0; k < sizeof message; k++) message[k] = (uint8_t)(k * 7 + 1);
+    IS(cpgring_lent(&ring[1], &of_event, &len), CPGRING_NONE);
+    IS(cpgring_join(&ring[1], 1, BYTES("db")), CPGRING_OK);
+    for (unsigned k = 0; k < 5; k++) IS(cpgring_send(&ring[1], 1, message, sizes[k]), CPGRING_OK);
+    IS(cpgring_turn(&ring[1]), CPGRING_OK);
+    for (uint32_t k = 1; k <= 6; k++) deliver(1, k);
+    is_verdict(1, 1, 1, CPGRING_ALLOWED, CPGRING_ON_DEFAULT, 0);
+    IS(cpgring_lent(&ring[1], &of_event, &len), CPGRING_NONE);
+    is_join(1, 1, 1, 1, 1, 1);
+    IS(cpgring_audit_lent(&ring[1], 1, &of_event, &len), CPGRING_NONE);
+    IS(cpgring_audit_lent(&ring[1], 0, &of_event, &len), CPGRING_NONE);
+    IS(cpgring_audit_lent(&ring[1], 7, &of_event, &len), CPGRING_NONE);
+    for (unsigned k = 0; k < 5; k++) {
+        is_verdict(1, 1, k + 2, CPGRING_ALLOWED, CPGRING_ON_DEFAULT, 0);
+        IS(cpgring_take(&ring[1], 1, &event), CPGRING_OK);
+        IS(event.message_len, sizes[k]);
+        IS(cpgring_lent(&ring[1], &of_event, &len), CPGRING_OK);
+        IS(len, sizes[k]);
+        IS(is_same(of_event, message, len), true);
+        IS(cpgring_audit_lent(&ring[1], k + 2, &at[k], &len), CPGRING_OK);
+        IS(len, sizes[k]);
+        IS(is_same(at[k], message, len), true);
+    }
+    is_end(1, 1);
+    IS(is_same(of_event, message, len), true);
+    for (unsigned k = 0; k < 300; k++) {
+        uint32_t place = 0;
+        IS(cpgring_send(&ring[1], 1, BYTES("more")), CPGRING_OK);
+        IS(cpgring_turn(&ring[1]), CPGRING_OK);
+        IS(cpgring_deliver(&ring[1], &place), CPGRING_OK);
+    }
+    for (unsigned k = 0; k < 5; k++) IS(is_same(at[k], message, sizes[k]), true);
+    end(1);
+}
+
+static void is_seat(unsigned node, size_t index, uint32_t wanted) {
+    uint32_t place = 0;
+    IS(cpgring_seat(&ring[node], index, &place), CPGRING_OK);
+    IS(place, wanted);
+}
+
+/* Who are members, by the places of their joins, though a rule lets nobody list: after joins, a join that is denied, a leave, a
+ * join again, and an end. */
+static void seats(void) {
+    cpgring_rule rule = {0, CPGRING_DENY, CPGRING_RIGHT_LIST, false, false, false, 0, 0, 0};
+    cpgring_rule other = {0, CPGRING_DENY, CPGRING_RIGHT_JOIN, true, false, false, 8, 0, 0};
+    cpgring_record record;
+    size_t count = 9;
+    uint32_t place = 0;
+    begin(1, 100);
+    IS(cpgring_seats(&ring[1], &count), CPGRING_OK);
+    IS(count, 0);
+    IS(cpgring_seat(&ring[1], 0, &place), CPGRING_NONE);
+    uint16_t one = connect_as(1, 40, 7, 100), two = connect_as(1, 41, 7, 100), root = connect_as(1, 42, 0, 0);
+    uint16_t eight = connect_as(1, 43, 8, 100);
+    IS(cpgring_insert(&ring[1], root, BYTES("db"), 0, &rule), CPGRING_OK);  /* 1 */
+    IS(cpgring_insert(&ring[1], root, BYTES("db"), 0, &other), CPGRING_OK); /* 2 */
+    IS(cpgring_join(&ring[1], one, BYTES("db")), CPGRING_OK);               /* 3 */
+    IS(cpgring_join(&ring[1], two, BYTES("app")), CPGRING_OK);              /* 4 */
+    IS(cpgring_join(&ring[1], eight, BYTES("db")), CPGRING_OK);             /* 5: denied */
+    IS(cpgring_join(&ring[1], root, BYTES("db")), CPGRING_OK);              /* 6 */
+    IS(cpgring_turn(&ring[1]), CPGRING_OK);
+    for (uint32_t k = 1; k <= 6; k++) deliver(1, k);
+    IS(cpgring_list(&ring[1], one, BYTES("db"), &count), CPGRING_DENIED);
+    IS(cpgring_seats(&ring[1], &count), CPGRING_OK);
+    IS(count, 3);
+    is_seat(1, 0, 3), is_seat(1, 1, 4), is_seat(1, 2, 6);
+    IS(cpgring_seat(&ring[1], 3, &place), CPGRING_NONE);
+    IS(cpgring_audit(&ring[1], 4, &record), CPGRING_OK);
+    IS(record.conn, two);
+    IS(record.uid, 7);
+
+    IS(cpgring_leave(&ring[1], one), CPGRING_OK);              /* 7 */
+    IS(cpgring_leave(&ring[1], eight), CPGRING_OK);            /* 8: it is in no group */
+    IS(cpgring_join(&ring[1], one, BYTES("app")), CPGRING_OK); /* 9 */
+    IS(cpgring_disconnect(&ring[1], root), CPGRING_OK);        /* 10 */
+    IS(cpgring_turn(&ring[1]), CPGRING_OK);
+    for (uint32_t k = 7; k <= 10; k++) deliver(1, k);
+    is_seat(1, 2, 6); /* as it was found */
+    IS(cpgring_seats(&ring[1], &count), CPGRING_OK);
+    IS(count, 2);
+    is_seat(1, 0, 4), is_seat(1, 1, 9);
+    IS(cpgring_seat(&ring[1], 2, &place), CPGRING_NONE);
+    end(1);
+}
+
 /* Handles that are opened, opened again, closed, and used when they are not open. */
 static void handles(void) {
     cpgring handle = CPGRING_INIT;
@@ -428,6 +590,7 @@ static void handles(void) {
     uint16_t conn = 0;
     uint8_t byte = 0;
     size_t len = 0;
+    const uint8_t *at = NULL;
     uint32_t number = 0;
     uint64_t hops = 0;
     IS(cpgring_close(&handle), CPGRING_CLOSED);
@@ -462,6 +625,11 @@ static void handles(void) {
     IS(cpgring_next(&handle, &byte, 1, &len, &number), CPGRING_CLOSED);
     IS(cpgring_message(&handle, &byte, 1), CPGRING_CLOSED);
     IS(cpgring_safe(&handle, &number), CPGRING_CLOSED);
+    IS(cpgring_turn(&handle), CPGRING_CLOSED);
+    IS(cpgring_lent(&handle, &at, &len), CPGRING_CLOSED);
+    IS(cpgring_audit_lent(&handle, 1, &at, &len), CPGRING_CLOSED);
+    IS(cpgring_seats(&handle, &len), CPGRING_CLOSED);
+    IS(cpgring_seat(&handle, 0, &number), CPGRING_CLOSED);
     IS(cpgring_open(&handle, &setup, none, 0, none, 0), CPGRING_OK);
     IS(cpgring_close(&handle), CPGRING_OK);
     for (uint32_t status = 0; status < 80; status++) {
@@ -476,6 +644,9 @@ int main(void) {
     full_queue();
     listings();
     rules();
+    turns();
+    lent();
+    seats();
     handles();
     printf("%u answers compared, %u differ\n", compared, differing);
     return differing != 0;

@@ -10,13 +10,16 @@
  *                        the highest number makes the first token
  *     cpgring_deliver    until CPGRING_NONE, and then cpgring_take until CPGRING_NONE for each connection
  *
+ * In a ring of one node cpgring_turn is all that the first two do: no frame is handed over, and none is brought.
+ *
  * Statuses. Each call answers CPGRING_OK or one of the numbers below; cpgring_refusal_text names it. Unless a call says
  * otherwise, after any other status than CPGRING_OK nothing has changed, and what its out parameters point to has no
  * meaning. CPGRING_MEMORY may come from each call that allocates, and the call may be made again.
  *
  * Ownership. A node's memory belongs to its handle and is taken and given back by malloc, realloc and free of the
  * program; cpgring_close gives back all of it. A handle starts as CPGRING_INIT, is written by these calls alone, and is
- * never copied: two copies would be two owners. Buffers and texts belong to the caller; no call keeps a pointer.
+ * never copied: two copies would be two owners. Buffers and texts belong to the caller; no call keeps a pointer. What
+ * cpgring_lent and cpgring_audit_lent lend belongs to the node: it is read, never written or freed, for as long as they say.
  *
  * Pointers. Each must be valid for its length and aligned for its type, and none may be null, not even for 0 items. What
  * a call writes to may not overlap with anything else that is passed to it.
@@ -227,6 +230,12 @@ uint32_t cpgring_frame(cpgring *handle, const uint8_t *frame, size_t frame_len);
  * CPGRING_MEMORY. */
 uint32_t cpgring_timer(cpgring *handle);
 
+/* The token goes round once in a ring of one node: the node hears the last token that it sent, which gives places to what
+ * waits, up to eight, and makes the next token. No packet and no token is handed over, as there is nobody to send them to.
+ * It is what cpgring_timer, cpgring_next, cpgring_frame with that token, and cpgring_next until CPGRING_NONE come to there.
+ * CPGRING_NOT_MINE in a ring of more nodes; CPGRING_NONE, CPGRING_BUSY, as cpgring_timer; CPGRING_RING_END, CPGRING_MEMORY. */
+uint32_t cpgring_turn(cpgring *handle);
+
 /* Hands the next frame over, once, with its length, and CPGRING_TO_ALL or CPGRING_TO_NEXT. CPGRING_NONE where none
  * waits. CPGRING_SPACE where it is longer than the buffer: length and route are told, and it still waits. */
 uint32_t cpgring_next(cpgring *handle, uint8_t *frame, size_t capacity, size_t *frame_len, uint32_t *route);
@@ -244,6 +253,11 @@ uint32_t cpgring_take(cpgring *handle, uint16_t conn, cpgring_event *event);
  * has none, CPGRING_SPACE. */
 uint32_t cpgring_group(cpgring *handle, uint8_t *group, size_t capacity);
 uint32_t cpgring_message(cpgring *handle, uint8_t *message, size_t capacity);
+
+/* Lends the last event's message: tells where its bytes stand, in the node's own memory, and how many there are; they are not
+ * copied. They stay there until the next cpgring_take that answers CPGRING_OK, or cpgring_close, whatever other calls are made.
+ * NULL where there are 0 bytes. CPGRING_NONE where the event has no message. */
+uint32_t cpgring_lent(cpgring *handle, const uint8_t **message, size_t *message_len);
 
 /* Tells one of the last event's members, of those who left, or of those who joined, by its index from 0. CPGRING_NONE
  * past the last. */
@@ -267,6 +281,16 @@ uint32_t cpgring_groups(cpgring *handle, uint16_t conn, size_t *count);
  * CPGRING_NONE past the last; CPGRING_SPACE: the length is told. */
 uint32_t cpgring_named(cpgring *handle, size_t index, uint8_t *group, size_t capacity, size_t *group_len);
 
+/* Listings for the program itself, which no rule denies and which need no connection: finds all who are members of a group
+ * now, of whatever group, in the order of their joins, and tells how many there are. It goes over all records once.
+ * CPGRING_MEMORY. */
+uint32_t cpgring_seats(cpgring *handle, size_t *count);
+
+/* Tells the place of the join by which one of them is a member, by its index from 0, as the last cpgring_seats that answered
+ * CPGRING_OK found it: cpgring_audit tells its node, connection, process, user and group of users, cpgring_audit_group the
+ * group's name. CPGRING_NONE past the last. */
+uint32_t cpgring_seat(cpgring *handle, size_t index, uint32_t *place);
+
 /* Tells a rule of a group's table, by its index from 0. CPGRING_NONE past the last. */
 uint32_t cpgring_table(cpgring *handle, const uint8_t *group, size_t group_len, size_t index, cpgring_rule *rule);
 
@@ -281,6 +305,10 @@ uint32_t cpgring_notified(cpgring *handle, uint32_t place, size_t index, cpgring
 /* Hands over the group's name, and the message, of a record. CPGRING_NONE where it has none, CPGRING_SPACE. */
 uint32_t cpgring_audit_group(cpgring *handle, uint32_t place, uint8_t *group, size_t capacity);
 uint32_t cpgring_audit_message(cpgring *handle, uint32_t place, uint8_t *message, size_t capacity);
+
+/* Lends a record's message, as cpgring_lent does an event's. The bytes stay there until cpgring_close, whatever other calls are
+ * made: a record stays as long as its node. CPGRING_NONE where the record has no message. */
+uint32_t cpgring_audit_lent(cpgring *handle, uint32_t place, const uint8_t **message, size_t *message_len);
 
 /* Tells how many places the node delivered. */
 uint32_t cpgring_delivered(cpgring *handle, uint32_t *place);

@@ -11,7 +11,7 @@
 #include <sys/socket.h>
 #include <time.h>
 
-enum { STEP_MS = 100, TRY_NS = 200000, MORE_BEHIND = 16 << 10 /* bytes of a read behind which there is likely more */ };
+enum { STEP_MS = 100, TRY_NS = 200000, SHORT_ASK = 1024, MORE_BEHIND = 16 << 10 /* bytes of a read behind which there is likely more */ };
 
 uint64_t clock_ms(void) {
     struct timespec t;
@@ -184,11 +184,26 @@ static unsigned advance(struct iovec **parts, unsigned count, size_t sent) {
     return count;
 }
 
-/* One write. Whether the socket took some of it. */
+/* The parts in one piece, where they are short. How many bytes; 0: they are not. */
+static size_t gather(const struct iovec *parts, unsigned count, uint8_t *to, size_t most) {
+    size_t len = 0;
+    for (unsigned k = 0; k < count; k++) {
+        if (parts[k].iov_len > most - len) return 0;
+        if (parts[k].iov_len) memcpy(to + len, parts[k].iov_base, parts[k].iov_len);
+        len += parts[k].iov_len;
+    }
+    return len;
+}
+
+/* One write. Whether the socket took some of it. To copy a short ask into one piece takes less than to have the kernel read a
+ * list of parts. */
 static bool write_some(struct instance *i, struct iovec **parts, unsigned *count) {
+    uint8_t piece[SHORT_ASK];
     struct msghdr message = {.msg_iov = *parts, .msg_iovlen = *count};
+    size_t len = gather(*parts, *count, piece, sizeof piece);
     ssize_t put;
-    while ((put = sendmsg(i->fd, &message, MSG_NOSIGNAL | MSG_DONTWAIT)) < 0 && errno == EINTR) {}
+    do put = len > 0 ? send(i->fd, piece, len, MSG_NOSIGNAL | MSG_DONTWAIT) : sendmsg(i->fd, &message, MSG_NOSIGNAL | MSG_DONTWAIT);
+    while (put < 0 && errno == EINTR);
     if (put < 0 && errno != EAGAIN) i->broken = true;
     if (put > 0) *count = advance(parts, *count, (size_t)put);
     return put > 0;

@@ -31,20 +31,24 @@ static int by_place(const void *a, const void *b) {
 }
 
 static bool take_members(struct ring *ring, struct carried *carried) {
-    const struct node *first = &ring->nodes[0];
-    size_t count = 0;
-    for (unsigned b = 0; b < BUCKETS; b++)
-        for (const struct process_group *g = first->groups[b]; g; g = g->next) count += g->count;
+    size_t count, step;
+    struct seat *seats = seats_of(&ring->nodes[0], &count);
     carried->members = calloc(count + 1, sizeof *carried->members);
-    if (!carried->members) return false;
-    for (unsigned b = 0; b < BUCKETS; b++)
-        for (const struct process_group *g = first->groups[b]; g; g = g->next, carried->count_groups++)
-            for (const struct seat *seat = g->first; seat; seat = seat->next) {
-                struct node *node = &ring->nodes[seat->node - 1];
-                struct client *c = node->by_conn[seat->conn];
-                if (c) carried->members[carried->count_members++] =
-                           (struct carried_member){c, node, g->name, carried->count_groups, seat->place, false};
-            }
+    if (!seats || !carried->members) {
+        free(seats);
+        return false;
+    }
+    seats_by_group(seats, count);
+    for (size_t k = 0; k < count; k += step, carried->count_groups++) {
+        step = seats_in_group(seats + k, count - k);
+        for (const struct seat *seat = seats + k; seat < seats + k + step; seat++) {
+            struct node *node = &ring->nodes[seat->join.node - 1];
+            struct client *c = node->by_conn[seat->join.conn];
+            if (c) carried->members[carried->count_members++] =
+                       (struct carried_member){c, node, seat->name, carried->count_groups, seat->place, false};
+        }
+    }
+    free(seats);
     qsort(carried->members, carried->count_members, sizeof *carried->members, by_place);
     return true;
 }
@@ -137,18 +141,25 @@ static uint32_t ask_round(struct ring *ring, const struct carried *carried, stru
     return CPGRING_OK;
 }
 
-/* Whether each group has the members that were taken down, in their order. */
-static bool is_kept(const struct ring *ring, const struct carried *carried) {
-    const struct seat **next = calloc(carried->count_groups + 1, sizeof *next);
-    bool kept = next != NULL;
-    for (size_t k = 0; k < carried->count_members && kept; k++) {
-        const struct carried_member *m = &carried->members[k];
-        const struct process_group *g = next[m->group] ? NULL : group_find(&ring->nodes[0], &m->code);
-        const struct seat *seat = next[m->group] ? next[m->group]->next : g ? g->first : NULL;
-        kept = seat && seat->node == m->node->setup.node && seat->conn == m->client->conn;
-        next[m->group] = seat;
+static int by_group(const void *a, const void *b) {
+    const struct carried_member *x = a, *y = b;
+    return x->group == y->group ? by_place(a, b) : x->group < y->group ? -1 : 1;
+}
+
+/* Whether each group has the members that were taken down, in their order. They are put together by groups. */
+static bool is_kept(struct ring *ring, const struct carried *carried) {
+    size_t count;
+    struct seat *seats = seats_of(&ring->nodes[0], &count);
+    bool kept = seats && count == carried->count_members;
+    if (kept) {
+        seats_by_group(seats, count);
+        qsort(carried->members, count, sizeof *carried->members, by_group);
     }
-    free(next);
+    for (size_t k = 0; kept && k < count; k++) {
+        const struct carried_member *m = &carried->members[k];
+        kept = seats[k].join.node == m->node->setup.node && seats[k].join.conn == m->client->conn && name_same(&seats[k].name, &m->code);
+    }
+    free(seats);
     return kept;
 }
 

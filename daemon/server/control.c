@@ -84,6 +84,16 @@ static void tell_text(struct client *c, struct bytes *text) {
 
 /* ---- what is shown ---- */
 
+static unsigned count_groups(void) {
+    size_t count, step;
+    unsigned groups = 0;
+    struct seat *seats = seats_of(&ring->nodes[0], &count);
+    if (seats) seats_by_group(seats, count);
+    for (size_t k = 0; seats && k < count; k += step, groups++) step = seats_in_group(seats + k, count - k);
+    free(seats);
+    return groups;
+}
+
 static uint32_t show_status(struct client *c, const char *rest, struct bytes *to) {
     const struct gate *gate = &ring->gate;
     const struct node *first = &ring->nodes[0];
@@ -95,7 +105,7 @@ static uint32_t show_status(struct client *c, const char *rest, struct bytes *to
         (unsigned long long)ring->delivered_before);
     put(to, "renewals %llu pause_us mean %llu worst %llu\n", (unsigned long long)ring->renewals,
         (unsigned long long)(ring->renewals ? ring->all_pauses / ring->renewals : 0), (unsigned long long)ring->worst_pause);
-    put(to, "clients %u groups %u long_names %u\n", clients, first->count_groups, name_count());
+    put(to, "clients %u groups %u long_names %u\n", clients, count_groups(), name_count());
     put(to, "frames %llu lost %llu repeated %llu visits %llu lose %u repeat %u\n", (unsigned long long)gate->frames,
         (unsigned long long)gate->lost, (unsigned long long)gate->repeated, (unsigned long long)gate->visits, gate->lose, gate->repeat);
     for (unsigned k = 0; k < ring->count; k++)
@@ -107,24 +117,34 @@ static uint32_t show_status(struct client *c, const char *rest, struct bytes *to
 }
 
 static uint32_t show_groups(struct client *c, const char *rest, struct bytes *to) {
+    size_t count, step;
+    struct seat *seats = seats_of(&ring->nodes[0], &count);
     (void)c, (void)rest;
-    for (unsigned b = 0; b < BUCKETS; b++)
-        for (const struct process_group *g = ring->nodes[0].groups[b]; g; g = g->next) {
-            put(to, "group ");
-            put_name(to, &g->name);
-            put(to, " members %u\n", g->count);
-        }
+    if (!seats) return CS_ERR_NO_MEMORY;
+    seats_by_group(seats, count);
+    for (size_t k = 0; k < count; k += step) {
+        step = seats_in_group(seats + k, count - k);
+        put(to, "group ");
+        put_name(to, &seats[k].name);
+        put(to, " members %zu\n", step);
+    }
+    free(seats);
     return CS_OK;
 }
 
 static uint32_t show_members(struct client *c, const char *rest, struct bytes *to) {
     struct name code;
+    size_t count;
     uint32_t status = read_name(rest, &code);
     (void)c;
     if (status != CS_OK) return status;
-    const struct process_group *g = group_find(&ring->nodes[0], &code);
-    for (const struct seat *seat = g ? g->first : NULL; seat; seat = seat->next)
-        put(to, "member node %u pid %u uid %u gid %u since %u\n", seat->node, seat->pid, seat->uid, seat->gid, seat->place);
+    struct seat *seats = seats_of(&ring->nodes[0], &count);
+    if (!seats) return CS_ERR_NO_MEMORY;
+    for (const struct seat *seat = seats; seat < seats + count; seat++)
+        if (name_same(&seat->name, &code))
+            put(to, "member node %u pid %u uid %u gid %u since %u\n", seat->join.node, seat->join.pid, seat->join.uid, seat->join.gid,
+                seat->place);
+    free(seats);
     return CS_OK;
 }
 
@@ -146,18 +166,26 @@ static uint32_t show_rules(struct client *c, const char *rest, struct bytes *to)
     return CS_OK;
 }
 
+static void show_client(const struct client *it, const struct seat *seat, struct bytes *to) {
+    put(to, "client node %u connection %u pid %u uid %u gid %u asks %llu messages %llu unread %llu group ", it->node->setup.node, it->conn,
+        it->pid, it->uid, it->gid, (unsigned long long)it->heard_asks, (unsigned long long)it->told_messages,
+        (unsigned long long)it->counted);
+    if (seat) put_name(to, &seat->name);
+    else put(to, "-");
+    put(to, "\n");
+}
+
 static uint32_t show_clients(struct client *c, const char *rest, struct bytes *to) {
     (void)c, (void)rest;
-    for (unsigned k = 0; k < ring->count; k++)
-        for (const struct client *it = ring->nodes[k].clients; it; it = it->next) {
-            const struct seat *seat = it->conn ? ring->nodes[k].seats[k + 1][it->conn] : NULL;
-            put(to, "client node %u connection %u pid %u uid %u gid %u asks %llu messages %llu unread %llu group ", k + 1, it->conn,
-                it->pid, it->uid, it->gid, (unsigned long long)it->heard_asks, (unsigned long long)it->told_messages,
-                (unsigned long long)it->counted);
-            if (seat) put_name(to, &seat->group->name);
-            else put(to, "-");
-            put(to, "\n");
-        }
+    for (unsigned k = 0; k < ring->count; k++) {
+        size_t count;
+        struct seat *seats = seats_of(&ring->nodes[k], &count);
+        if (!seats) return CS_ERR_NO_MEMORY;
+        seats_by_connection(seats, count);
+        for (const struct client *it = ring->nodes[k].clients; it; it = it->next)
+            show_client(it, it->conn ? seat_of(seats, count, k + 1, it->conn) : NULL, to);
+        free(seats);
+    }
     return CS_OK;
 }
 

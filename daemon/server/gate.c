@@ -1,6 +1,7 @@
 /* The gate of fates; see gate.h.
  * A packet that is lost is asked for by the token and sent again by any node that has it, as the ring's rules say.
- * A token that can't come (its node is held, the pair is cut) rests: nothing is tried again and again meanwhile. */
+ * A token that can't come (its node is held, the pair is cut) rests: nothing is tried again and again meanwhile.
+ * In a ring of one node no frame is on its way, so none has a fate. */
 #include "gate.h"
 #include <stdlib.h>
 #include <string.h>
@@ -122,6 +123,12 @@ static bool is_stopped(const struct gate *gate) {
     return gate->held[to] || gate->held[from] || gate->cut[from][to];
 }
 
+/* A visit in a ring of one node, which sends nothing to anybody. */
+static void visit_alone(struct gate *gate) {
+    gate->visits++;
+    note_fault(gate, cpgring_turn(&gate->nodes[0].ring));
+}
+
 /* One visit: the node whose turn it is hears the token, or, where that was lost, its sender makes it again. */
 static void visit(struct gate *gate) {
     gate->visits++;
@@ -165,7 +172,6 @@ bool gate_settled(const struct gate *gate) {
     size_t count;
     for (unsigned k = 0; k < gate->count; k++)
         if (cpgring_waiting(&gate->nodes[k].ring, &count) == CPGRING_OK && count > 0) return false;
-    if (gate->count == 1) return true;
     uint32_t highest = highest_place(gate);
     for (unsigned k = 0; k < gate->count; k++)
         if (gate->nodes[k].delivered < highest) return false;
@@ -180,12 +186,17 @@ static void deliver(struct gate *gate, struct node *node) {
     note_fault(gate, status);
 }
 
+/* Whether the token is to go on. */
+static bool goes_on(const struct gate *gate) { return !gate->fault && !is_stopped(gate) && !gate_settled(gate); }
+
 bool gate_pump(struct gate *gate, unsigned visits) {
-    for (unsigned k = 0; k < visits; k++) {
-        if (gate_settled(gate) || is_stopped(gate) || gate->fault) return false;
-        visit(gate);
+    bool more = goes_on(gate);
+    for (unsigned k = 0; k < visits && more; k++) {
+        if (gate->count == 1) visit_alone(gate);
+        else visit(gate);
         for (unsigned n = 0; n < gate->count; n++)
             if (!gate->held[n]) deliver(gate, &gate->nodes[n]);
+        more = goes_on(gate);
     }
-    return !gate_settled(gate) && !is_stopped(gate) && !gate->fault;
+    return more;
 }

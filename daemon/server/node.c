@@ -8,19 +8,10 @@
 
 struct limits limits;
 
-static bool make_room(struct node *node) {
-    if (!node->by_conn) node->by_conn = calloc(MOST_CONNECTIONS, sizeof *node->by_conn);
-    for (unsigned k = 1; k <= node->setup.nodes; k++)
-        if (!node->seats[k]) node->seats[k] = calloc(MOST_CONNECTIONS, sizeof *node->seats[k]);
-    for (unsigned k = 1; k <= node->setup.nodes; k++)
-        if (!node->seats[k]) return false;
-    return node->by_conn != NULL;
-}
-
 uint32_t node_open(struct node *node, const cpgring_setup *setup, const char *conf, size_t conf_len, const char *names,
                    size_t names_len, cpgring_fault *fault) {
     node->setup = *setup;
-    if (!make_room(node)) return CPGRING_MEMORY;
+    if (!node->by_conn && !(node->by_conn = calloc(MOST_CONNECTIONS, sizeof *node->by_conn))) return CPGRING_MEMORY;
     uint32_t status = cpgring_open_conf(&node->ring, setup, (const uint8_t *)names, names_len, (const uint8_t *)conf, conf_len, fault);
     if (status != CPGRING_OK) return status;
     return cpgring_connect(&node->ring, 0, 0, 0, &node->own);
@@ -28,12 +19,9 @@ uint32_t node_open(struct node *node, const cpgring_setup *setup, const char *co
 
 void node_close(struct node *node) {
     while (node->clients) client_free(node->clients);
-    if (node->by_conn) node_forget(node);
-    recent_forget(&node->recent);
-    recent_forget(&node->old_recent);
+    node_forget(node);
     cpgring_close(&node->ring);
     cpgring_close(&node->old);
-    for (unsigned k = 1; k <= CPGRING_MOST_NODES; k++) free(node->seats[k]);
     free(node->by_conn);
     free(node->told);
     *node = (struct node){.ring = CPGRING_INIT, .old = CPGRING_INIT};

@@ -13,9 +13,7 @@
 enum {
     MOST_WAITING = 256,
     MOST_CONNECTIONS = 65536,
-    BUCKETS = 1024,
-    MOST_LISTINGS = 8, /* listings of all groups that a node hears in a turn of the loop */
-    RECENT = 2048      /* places whose messages are kept to be shared, while some members were not told them yet */
+    MOST_LISTINGS = 8 /* listings of all groups that a node hears in a turn of the loop */
 };
 
 /* What is limited, as the options say. */
@@ -39,18 +37,11 @@ struct user {
     uint64_t unread;
 };
 
-/* A member of a group, as the node's delivered places say. */
+/* A member of a group: the join by which it is one, as the node's record has it. */
 struct seat {
-    struct process_group *group;
-    struct seat *next, *previous; /* of its group, in the order of their joins */
-    uint32_t node, conn, pid, uid, gid, place;
-};
-
-struct process_group {
-    struct process_group *next; /* of its bucket */
-    struct name name;
-    struct seat *first, *last;
-    unsigned count;
+    uint32_t place;
+    cpgring_record join;
+    struct name name; /* of the group, as the node has it */
 };
 
 enum end { END_NOT, END_CLOSED, END_BROKEN, END_BEHIND, END_NO_MEMORY, END_REFUSED, END_SILENT, END_PUSHED };
@@ -89,14 +80,6 @@ struct table { /* a group whose rules were changed */
     struct name name;
 };
 
-struct recent { /* messages that were copied out of a ring, by their places */
-    struct {
-        uint32_t place;
-        struct shared *bytes;
-    } of[RECENT];
-    unsigned count;
-};
-
 struct node {
     cpgring ring;
     cpgring old;      /* the ring before, until it is closed */
@@ -107,13 +90,11 @@ struct node {
     unsigned hung;             /* clients whose other end is closed */
     unsigned count, connected; /* connected: connections that this ring gave out */
     struct client **by_conn;   /* MOST_CONNECTIONS */
-    struct seat **seats[CPGRING_MOST_NODES + 1]; /* MOST_CONNECTIONS each */
-    struct process_group *groups[BUCKETS];
-    unsigned count_groups;
     struct table *tables;
     struct client **told; /* clients that a place told something, each once */
     unsigned count_told, room_told;
-    struct recent recent, old_recent; /* of this ring, and of the one before */
+    struct lender lenders[2]; /* of messages: this ring's node and that of the one before */
+    unsigned lending;         /* which of them is this ring's */
     unsigned listings; /* of all groups, which may still be heard in this turn */
     struct client *first_active, *last_active;
     uint32_t delivered;
@@ -128,7 +109,7 @@ extern struct limits limits;
 /* Opens the node of that setup over a handle that is closed; its own connection is made. A status of cpgring.h. */
 uint32_t node_open(struct node *node, const cpgring_setup *setup, const char *conf, size_t conf_len, const char *names,
                    size_t names_len, cpgring_fault *fault);
-/* Forgets seats, tables and who was told, as a new ring begins. */
+/* Forgets which groups have rules, and what was counted, as a new ring begins. */
 void node_forget(struct node *node);
 void node_close(struct node *node);
 
@@ -166,20 +147,28 @@ void tell_denied(struct client *c, uint32_t status, uint32_t verdict, uint32_t r
 uint32_t status_of_refusal(uint32_t refusal);
 /* Takes what the node has to tell its clients, as far as there is room. */
 void node_tell(struct node *node);
-/* Gives back what is kept of a ring's messages. */
-void recent_forget(struct recent *recent);
-/* The ring becomes the one before: what is kept of its messages goes with it. */
+/* The ring becomes the one before, and what it lends is lent by that one. */
 void node_tell_later(struct node *node);
+/* Whether the ring before has nothing left for any client, and lends nothing. */
+bool node_told_old(const struct node *node);
 /* Takes what the ring before still has for its clients, without regard to room. */
 void node_tell_old(struct node *node);
 /* A new ring was made ready: what it tells of that is taken and dropped. */
 void node_tell_nothing(struct node *node);
 
-/* ---- seats.c: who is a member of what ---- */
+/* ---- seats.c: whom a place told something, and who is a member of what ---- */
 
 /* The client was told something, of about so many bytes. */
 void note_told(struct node *node, struct client *c, uint64_t cost);
-/* A place was delivered: keeps the seats, and notes whom it told something. */
+/* A place was delivered: notes whom it told something. */
 void node_delivered(struct node *node, uint32_t place, const cpgring_record *record);
-struct process_group *group_find(const struct node *node, const struct name *name);
+/* All who are members now, in the order of their joins, which the caller frees. NULL: no memory. */
+struct seat *seats_of(struct node *node, size_t *count);
+/* Puts those of a group together, in the order of their joins. */
+void seats_by_group(struct seat *seats, size_t count);
+/* How many of the first ones are of one group. */
+size_t seats_in_group(const struct seat *seats, size_t count);
+/* Puts them in the order of their connections, and finds that of one. NULL: it is in no group. */
+void seats_by_connection(struct seat *seats, size_t count);
+const struct seat *seat_of(const struct seat *seats, size_t count, uint32_t node, uint32_t conn);
 #endif

@@ -5,16 +5,6 @@
 #include <stdlib.h>
 #include <string.h>
 
-struct shared *shared_new(uint32_t len) {
-    struct shared *bytes = malloc(sizeof *bytes + len);
-    if (bytes) *bytes = (struct shared){1, len};
-    return bytes;
-}
-
-void shared_put(struct shared *bytes) {
-    if (--bytes->uses == 0) free(bytes);
-}
-
 uint8_t *out_add(struct out *o, size_t count) {
     uint8_t *at = bytes_room(&o->own, count);
     if (at) o->own.end += count;
@@ -38,11 +28,33 @@ static bool room_for_part(struct out *o) {
     return true;
 }
 
-bool out_share(struct out *o, struct shared *bytes) {
+bool out_lend(struct out *o, struct lender *from, const uint8_t *bytes, uint32_t len) {
     if (!room_for_part(o)) return false;
-    o->parts[o->last++] = (struct part){o->dropped + bytes_held(&o->own), bytes};
-    o->shared += bytes->len;
-    bytes->uses++;
+    o->parts[o->last++] = (struct part){o->dropped + bytes_held(&o->own), bytes, len, from};
+    o->lent += len;
+    from->parts++;
+    return true;
+}
+
+static void part_free(struct part *part) {
+    if (part->from) part->from->parts--;
+    else free((void *)(uintptr_t)part->bytes);
+}
+
+bool out_keep(struct out *o, const struct lender *from) {
+    for (unsigned k = o->first; k < o->last; k++) {
+        struct part *part = &o->parts[k];
+        if (part->from != from) continue;
+        uint8_t *copy = malloc(part->len);
+        if (!copy) {
+            out_drop(o, out_held(o));
+            return false;
+        }
+        memcpy(copy, part->bytes, part->len);
+        part_free(part);
+        part->bytes = copy;
+        part->from = NULL;
+    }
     return true;
 }
 
@@ -55,8 +67,8 @@ unsigned out_front(const struct out *o, struct iovec *pieces, unsigned most) {
         own = next;
         if (k == o->last) break;
         uint32_t gone = k == o->first ? o->begun : 0;
-        if (count < most && o->parts[k].bytes->len > gone)
-            pieces[count++] = (struct iovec){o->parts[k].bytes->at + gone, o->parts[k].bytes->len - gone};
+        if (count < most && o->parts[k].len > gone) /* iovec has no word for bytes that are read alone */
+            pieces[count++] = (struct iovec){(void *)(uintptr_t)(o->parts[k].bytes + gone), o->parts[k].len - gone};
     }
     return count;
 }
@@ -73,12 +85,12 @@ void out_drop(struct out *o, size_t count) {
         drop_own(o, own);
         count -= own;
         if (own < before) return;
-        size_t left = part->bytes->len - o->begun, step = count < left ? count : left;
+        size_t left = part->len - o->begun, step = count < left ? count : left;
         o->begun += (uint32_t)step;
-        o->shared -= step;
+        o->lent -= step;
         count -= step;
         if (step < left) return;
-        shared_put(part->bytes);
+        part_free(part);
         o->begun = 0;
         if (++o->first == o->last) o->first = o->last = 0;
     }

@@ -1,22 +1,22 @@
-/* What a client is told and did not take yet: bytes of its own, and messages that it shares with other members.
- * A message to many members is copied out of the node once; where it stands in a client's stream is a part of that stream.
- * The stream is told as pieces of memory, in order, for one write. */
+/* What a client is told and did not take yet: bytes of its own, and messages that a ring's node lends.
+ * A long message is not copied on its way from the node to the socket, whomever it is told; where it stands in a client's
+ * stream is a part of that stream. The stream is told as pieces of memory, in order, for one write. */
 #ifndef CPGRINGD_OUT_H
 #define CPGRINGD_OUT_H
 #include "bytes.h"
 #include <stdbool.h>
 #include <sys/uio.h>
 
-/* Bytes that several streams have; they go with the last of them. */
-struct shared {
-    unsigned uses;
-    uint32_t len;
-    uint8_t at[];
+/* Who lends bytes: a ring's node, which has to stay as long as streams have some of them. */
+struct lender {
+    size_t parts; /* of all streams */
 };
 
 struct part {
     uint64_t at; /* it stands behind so many of the stream's own bytes, as counted from the beginning */
-    struct shared *bytes;
+    const uint8_t *bytes;
+    uint32_t len;
+    struct lender *from; /* NULL: the bytes are the part's own */
 };
 
 struct out {
@@ -25,15 +25,17 @@ struct out {
     struct part *parts;                       /* those from `first` to `last` */
     unsigned first, last, room;
     uint32_t begun; /* bytes of the first part that are gone */
-    size_t shared;  /* bytes of parts that are left */
+    size_t lent;    /* bytes of parts that are left */
 };
 
-static inline size_t out_held(const struct out *o) { return bytes_held(&o->own) + o->shared; }
+static inline size_t out_held(const struct out *o) { return bytes_held(&o->own) + o->lent; }
 
 /* So many own bytes more, to be filled before the next call. NULL: no memory, and nothing has changed. */
 uint8_t *out_add(struct out *o, size_t count);
-/* Puts shared bytes behind what is there. false: no memory, and nothing has changed. */
-bool out_share(struct out *o, struct shared *bytes);
+/* Puts bytes that are lent behind what is there. false: no memory, and nothing has changed. */
+bool out_lend(struct out *o, struct lender *from, const uint8_t *bytes, uint32_t len);
+/* Copies what is left of the bytes of that lender, which is to go. false: no memory; nothing is left then of any of them. */
+bool out_keep(struct out *o, const struct lender *from);
 
 /* The front of the stream as up to `most` pieces of memory. How many they are. */
 unsigned out_front(const struct out *o, struct iovec *pieces, unsigned most);
@@ -42,8 +44,4 @@ void out_drop(struct out *o, size_t count);
 /* Gives memory back where nothing is held and more than `most` bytes of room are kept. */
 void out_shrink(struct out *o, size_t most);
 void out_free(struct out *o);
-
-/* New bytes with one use, that of who made them. NULL: no memory. */
-struct shared *shared_new(uint32_t len);
-void shared_put(struct shared *bytes);
 #endif

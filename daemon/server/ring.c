@@ -134,7 +134,7 @@ bool ring_step(struct ring *ring) {
     return true;
 }
 
-static bool can_close_old(const struct node *node) { return node->old.live && node->lagging == 0; }
+static bool can_close_old(const struct node *node) { return node->old.live && node_told_old(node); }
 
 bool ring_close_old(struct ring *ring) {
     unsigned k = 0, more = 0;

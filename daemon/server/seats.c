@@ -1,6 +1,7 @@
-/* Who is a member of what, as the node's delivered places say, and whom each place told something.
- * The node has no call that says whom a place told, so this follows its records; the work is that of those told.
- * The daemon's own listings, which no rule denies, and the next ring's members come from here. */
+/* Whom each place told something, and who is a member of what: both as the node's own records say.
+ * A listing is made where it is wanted, and is a picture of that moment; nothing is kept beside the node but the names of
+ * groups whose rules were changed, since the node's listings have groups with members alone.
+ * The work for a place is that of those whom it tells something. */
 #include "node.h"
 #include "log.h"
 #include "users.h"
@@ -9,67 +10,70 @@
 
 enum { CALL_JOIN = 1, CALL_LEAVE = 2, CALL_SEND = 3, CALL_INSERT = 4, CALL_REMOVE = 5, CALL_GONE = 6 };
 
-static struct process_group **bucket(struct node *node, const struct name *name) { return &node->groups[name_hash(name) % BUCKETS]; }
+/* ---- listings ---- */
 
-struct process_group *group_find(const struct node *node, const struct name *name) {
-    struct process_group *g = node->groups[name_hash(name) % BUCKETS];
-    while (g && !name_same(&g->name, name)) g = g->next;
-    return g;
+static bool seat_at(cpgring *ring, size_t index, struct seat *seat) {
+    uint32_t place;
+    if (cpgring_seat(ring, index, &place) != CPGRING_OK || cpgring_audit(ring, place, &seat->join) != CPGRING_OK) return false;
+    seat->place = place;
+    seat->name.len = (uint32_t)seat->join.group_len;
+    return cpgring_audit_group(ring, place, seat->name.at, sizeof seat->name.at) == CPGRING_OK;
 }
 
-static struct process_group *group_get(struct node *node, const struct name *name) {
-    struct process_group *g = group_find(node, name);
-    if (g) return g;
-    if (!(g = calloc(1, sizeof *g))) return NULL;
-    struct process_group **at = bucket(node, name);
-    g->name = *name;
-    g->next = *at;
-    *at = g;
-    node->count_groups++;
-    return g;
+struct seat *seats_of(struct node *node, size_t *count) {
+    *count = 0;
+    if (cpgring_seats(&node->ring, count) != CPGRING_OK) return NULL;
+    struct seat *seats = calloc(*count + 1, sizeof *seats);
+    for (size_t k = 0; seats && k < *count; k++)
+        if (!seat_at(&node->ring, k, &seats[k])) {
+            free(seats);
+            return NULL;
+        }
+    return seats;
 }
 
-static void group_drop(struct node *node, struct process_group *g) {
-    struct process_group **at = bucket(node, &g->name);
-    while (*at != g) at = &(*at)->next;
-    *at = g->next;
-    node->count_groups--;
-    free(g);
+static int by_name(const void *a, const void *b) {
+    const struct seat *x = a, *y = b;
+    uint32_t common = x->name.len < y->name.len ? x->name.len : y->name.len;
+    int order = memcmp(x->name.at, y->name.at, common);
+    if (order == 0) order = (x->name.len > y->name.len) - (x->name.len < y->name.len);
+    return order ? order : (x->place > y->place) - (x->place < y->place);
 }
 
-static void seat_drop(struct node *node, struct seat *seat) {
-    struct process_group *g = seat->group;
-    *(seat->previous ? &seat->previous->next : &g->first) = seat->next;
-    *(seat->next ? &seat->next->previous : &g->last) = seat->previous;
-    node->seats[seat->node][seat->conn] = NULL;
-    free(seat);
-    if (--g->count == 0) group_drop(node, g);
+void seats_by_group(struct seat *seats, size_t count) { qsort(seats, count, sizeof *seats, by_name); }
+
+size_t seats_in_group(const struct seat *seats, size_t count) {
+    size_t same = 0;
+    while (same < count && name_same(&seats[same].name, &seats[0].name)) same++;
+    return same;
 }
 
-static void seat_add(struct node *node, uint32_t place, const cpgring_record *r, const struct name *name) {
-    struct process_group *g = group_get(node, name);
-    struct seat *seat = g ? calloc(1, sizeof *seat) : NULL;
-    if (!seat) { /* this node's listings would be wrong from here on, and the next ring's members */
-        log_line(LOG_ERROR, "node %u: no memory for a member's seat", node->setup.node);
-        abort();
-    }
-    *seat = (struct seat){.group = g, .previous = g->last, .node = r->node, .conn = r->conn, .pid = r->pid, .uid = r->uid,
-                          .gid = r->gid, .place = place};
-    *(g->last ? &g->last->next : &g->first) = seat;
-    g->last = seat;
-    g->count++;
-    node->seats[r->node][r->conn] = seat;
+static int by_connection(const void *a, const void *b) {
+    const cpgring_record *x = &((const struct seat *)a)->join, *y = &((const struct seat *)b)->join;
+    if (x->node != y->node) return x->node < y->node ? -1 : 1;
+    return (x->conn > y->conn) - (x->conn < y->conn);
 }
 
-static void table_note(struct node *node, const struct name *name) {
+void seats_by_connection(struct seat *seats, size_t count) { qsort(seats, count, sizeof *seats, by_connection); }
+
+const struct seat *seat_of(const struct seat *seats, size_t count, uint32_t node, uint32_t conn) {
+    struct seat wanted = {.join = {.node = node, .conn = conn}};
+    return bsearch(&wanted, seats, count, sizeof *seats, by_connection);
+}
+
+/* ---- groups with rules ---- */
+
+static void table_note(struct node *node, uint32_t place, const cpgring_record *r) {
+    struct name name = {.len = (uint32_t)r->group_len};
+    if (cpgring_audit_group(&node->ring, place, name.at, sizeof name.at) != CPGRING_OK) return;
     struct table *t = node->tables;
-    while (t && !name_same(&t->name, name)) t = t->next;
+    while (t && !name_same(&t->name, &name)) t = t->next;
     if (t) return;
-    if (!(t = malloc(sizeof *t))) {
+    if (!(t = malloc(sizeof *t))) { /* the next ring would lack its rules */
         log_line(LOG_ERROR, "node %u: no memory for a table's name", node->setup.node);
         abort();
     }
-    *t = (struct table){node->tables, *name};
+    *t = (struct table){node->tables, name};
     node->tables = t;
 }
 
@@ -92,42 +96,31 @@ void note_told(struct node *node, struct client *c, uint64_t cost) {
     c->told = true;
 }
 
-static void note_group(struct node *node, const struct process_group *g, uint64_t cost) {
-    for (const struct seat *seat = g ? g->first : NULL; seat; seat = seat->next) {
-        struct client *c = seat->node == node->setup.node ? node->by_conn[seat->conn] : NULL;
-        if (c) note_told(node, c, cost);
-    }
-}
-
-/* About the bytes that telling a place takes in a client's buffer. */
+/* About the bytes that telling a place takes in a member's buffer. */
 static uint64_t cost_of(const cpgring_record *r) {
     if (r->call == CALL_SEND) return sizeof(struct head) + sizeof(struct tell_message) + fill8((uint32_t)r->message_len) + r->group_len;
     return sizeof(struct head) + sizeof(struct tell_change) + sizeof(struct told_process) * (r->members + 1) + r->group_len;
 }
 
+/* The connection was told something, if it is one of this node. */
+static void note_connection(struct node *node, uint32_t of, uint32_t conn, uint64_t cost) {
+    struct client *c = of == node->setup.node ? node->by_conn[conn] : NULL;
+    if (c) note_told(node, c, cost);
+}
+
 void node_delivered(struct node *node, uint32_t place, const cpgring_record *r) {
-    struct seat *seat = node->seats[r->node][r->conn];
-    struct client *asker = r->node == node->setup.node ? node->by_conn[r->conn] : NULL;
-    struct process_group *g = seat ? seat->group : NULL;
-    struct name name = {.len = (uint32_t)r->group_len};
+    cpgring_process p;
     node->delivered = place;
     node->delivered_bytes += r->message_len;
-    if (asker) note_told(node, asker, sizeof(struct head) + sizeof(struct tell_denied));
     if (r->node == node->setup.node && r->call != CALL_GONE) user_call_placed(r->uid, r->node - 1);
-    if (r->verdict != CPGRING_ALLOWED || r->group_len == 0) return;
-    if (r->call == CALL_JOIN || r->call == CALL_INSERT || r->call == CALL_REMOVE) {
-        if (cpgring_audit_group(&node->ring, place, name.at, sizeof name.at) != CPGRING_OK) return;
-        if (r->call == CALL_JOIN) seat_add(node, place, r, &name);
-        else table_note(node, &name);
-        g = group_find(node, &name);
-    }
-    note_group(node, g, cost_of(r));
-    if ((r->call == CALL_LEAVE || r->call == CALL_GONE) && seat) seat_drop(node, seat);
+    note_connection(node, r->node, r->conn, sizeof(struct head) + sizeof(struct tell_denied)); /* the first whom it tells something */
+    if (r->verdict != CPGRING_ALLOWED) return;
+    if (r->call == CALL_INSERT || r->call == CALL_REMOVE) table_note(node, place, r);
+    for (size_t k = 1; k <= r->members && cpgring_notified(&node->ring, place, k, &p) == CPGRING_OK; k++)
+        note_connection(node, p.node, p.conn, cost_of(r));
 }
 
 void node_forget(struct node *node) {
-    for (unsigned k = 0; k < BUCKETS; k++)
-        while (node->groups[k]) seat_drop(node, node->groups[k]->first);
     for (struct table *t = node->tables, *next; t; t = next) {
         next = t->next;
         free(t);

@@ -208,7 +208,8 @@ bool client_write(struct client *c) {
     while (out_held(&c->out) > 0) {
         struct iovec pieces[PIECES];
         struct msghdr message = {.msg_iov = pieces, .msg_iovlen = out_front(&c->out, pieces, PIECES)};
-        ssize_t put = sendmsg(c->fd, &message, MSG_NOSIGNAL | MSG_DONTWAIT);
+        ssize_t put = message.msg_iovlen == 1 ? send(c->fd, pieces[0].iov_base, pieces[0].iov_len, MSG_NOSIGNAL | MSG_DONTWAIT)
+                                              : sendmsg(c->fd, &message, MSG_NOSIGNAL | MSG_DONTWAIT);
         if (put < 0 && errno == EINTR) continue;
         if (put < 0 && errno == EAGAIN) return false;
         if (put < 0) {

@@ -1,11 +1,12 @@
 /* What clients are told: events and answers become frames, in the order in which the node gave them.
- * A message goes from the node into the client's buffer by one copy; a long one is copied once for all whom it is told.
+ * A short message is copied into the client's buffer, together with what else is told; a long one is lent by the node, and not
+ * copied at all.
  * A client with much unread is told nothing more until it reads: its events stay in the node, which keeps them anyway. */
 #include "node.h"
 #include <corosync/cpg.h>
 #include <string.h>
 
-enum { SHARED_FROM = 1024 }; /* bytes of a message from which it is shared, and not copied for each whom it is told */
+enum { LENT_FROM = 1024 }; /* bytes of a message from which it is lent: a piece more in a write costs more than a shorter copy */
 
 uint8_t *tell(struct client *c, uint16_t kind, uint16_t tag, size_t len) {
     size_t filled = (len + 7) & ~(size_t)7;
@@ -84,64 +85,43 @@ static void tell_verdict(struct client *c, const cpgring_event *event) {
     answer(c, asked, c->asked_tag, status);
 }
 
-/* Copies the message of the last event, filled up to a multiple of 8. */
-static void copy_message(cpgring *ring, uint8_t *to, uint32_t len) {
-    if (len == 0) return;
-    memset(to + fill8(len) - 8, 0, 8);
-    cpgring_message(ring, to, len);
-}
-
-/* The message of the last event, in memory that all have whom it is told. NULL: it is short, or none is to share it, or there
- * is no memory. */
-static struct shared *shared_message(struct client *c, cpgring *ring, const cpgring_event *event) {
-    struct node *node = c->node;
-    const struct seat *seat = node->seats[node->setup.node][c->conn];
-    struct recent *recent = c->old_conn ? &node->old_recent : &node->recent;
-    unsigned k = event->place % RECENT;
-    if (event->message_len < SHARED_FROM || !seat || seat->group->count == 1) return NULL;
-    if (recent->of[k].bytes && recent->of[k].place == event->place) return recent->of[k].bytes;
-    struct shared *bytes = shared_new(fill8((uint32_t)event->message_len));
-    if (!bytes) return NULL;
-    copy_message(ring, bytes->at, (uint32_t)event->message_len);
-    if (recent->of[k].bytes) shared_put(recent->of[k].bytes);
-    else recent->count++;
-    recent->of[k].place = event->place;
-    recent->of[k].bytes = bytes;
-    return bytes;
-}
+static struct lender *old_lender(struct node *node) { return &node->lenders[1 - node->lending]; }
 
 /* The same frame as tell would make; what a client at its end has of one does not matter. */
-static void tell_shared(struct client *c, const struct tell_message *told, struct shared *bytes) {
-    uint32_t name_len = fill8(told->name_len);
-    struct head head = {(uint32_t)sizeof *told + bytes->len + name_len, TELL_MESSAGE, 0};
+static void tell_lent(struct client *c, const struct tell_message *told, const uint8_t *message) {
+    struct lender *from = c->old_conn ? old_lender(c->node) : &c->node->lenders[c->node->lending];
+    uint32_t filled = fill8(told->message_len) - told->message_len, name_len = fill8(told->name_len);
+    struct head head = {(uint32_t)sizeof *told + fill8(told->message_len) + name_len, TELL_MESSAGE, 0};
     uint8_t *front = out_add(&c->out, sizeof head + sizeof *told);
     if (front) {
         memcpy(front, &head, sizeof head);
         memcpy(front + sizeof head, told, sizeof *told);
     }
-    uint8_t *name = front && out_share(&c->out, bytes) ? out_add(&c->out, name_len) : NULL;
-    if (!name) {
+    uint8_t *behind = front && out_lend(&c->out, from, message, told->message_len) ? out_add(&c->out, filled + name_len) : NULL;
+    if (!behind) {
         client_end(c, END_NO_MEMORY);
         return;
     }
-    if (name_len) memset(name + name_len - 8, 0, 8);
-    memcpy(name, c->group.at, told->name_len);
+    memset(behind, 0, filled + name_len);
+    memcpy(behind + filled, c->group.at, told->name_len);
     client_activate(c);
 }
 
 static void tell_message(struct client *c, cpgring *ring, const cpgring_event *event) {
     struct tell_message told = {event->node, event->pid, (uint32_t)event->message_len, c->group.len};
-    struct shared *bytes = shared_message(c, ring, event);
+    const uint8_t *message;
+    size_t len, at_name = sizeof told + fill8(told.message_len);
     c->told_messages++;
-    if (bytes) {
-        tell_shared(c, &told, bytes);
+    if (cpgring_audit_lent(ring, event->place, &message, &len) != CPGRING_OK || len != told.message_len) return;
+    if (len >= LENT_FROM) {
+        tell_lent(c, &told, message);
         return;
     }
-    size_t at_name = sizeof told + fill8(told.message_len);
     uint8_t *out = tell(c, TELL_MESSAGE, 0, at_name + told.name_len);
     if (!out) return;
+    memset(out + at_name - 8, 0, 8);
     memcpy(out, &told, sizeof told);
-    copy_message(ring, out + sizeof told, told.message_len);
+    if (len) memcpy(out + sizeof told, message, len);
     memcpy(out + at_name, c->group.at, told.name_len);
 }
 
@@ -197,20 +177,7 @@ static bool take_events(struct client *c) {
     return true;
 }
 
-void recent_forget(struct recent *recent) {
-    for (unsigned k = 0; k < RECENT && recent->count > 0; k++) {
-        if (!recent->of[k].bytes) continue;
-        shared_put(recent->of[k].bytes);
-        recent->of[k].bytes = NULL;
-        recent->count--;
-    }
-}
-
-void node_tell_later(struct node *node) {
-    recent_forget(&node->old_recent);
-    node->old_recent = node->recent;
-    memset(&node->recent, 0, sizeof node->recent);
-}
+void node_tell_later(struct node *node) { node->lending = 1 - node->lending; }
 
 void node_tell(struct node *node) {
     unsigned kept = 0;
@@ -221,9 +188,9 @@ void node_tell(struct node *node) {
         client_account(c);
     }
     node->count_told = kept;
-    if (kept == 0) recent_forget(&node->recent);
-    if (node->lagging == 0) recent_forget(&node->old_recent);
 }
+
+bool node_told_old(const struct node *node) { return node->lagging == 0 && node->lenders[1 - node->lending].parts == 0; }
 
 void node_tell_old(struct node *node) {
     for (struct client *c = node->clients; c && node->lagging > 0; c = c->next) {
@@ -233,6 +200,8 @@ void node_tell_old(struct node *node) {
         node->lagging--;
         client_account(c);
     }
+    for (struct client *c = node->clients; c && old_lender(node)->parts > 0; c = c->next)
+        if (!out_keep(&c->out, old_lender(node))) client_end(c, END_NO_MEMORY);
 }
 
 void node_tell_nothing(struct node *node) {

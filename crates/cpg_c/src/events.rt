@@ -5,12 +5,13 @@ ghost use Rattle.std.specs.List.{slice_get};
 ghost use Rattle.cpg_node.specs.Nodes.{open_client};
 ghost use Rattle.cpg_embed.specs.Events.{IsTaken, IsProcess};
 ghost use Rattle.cpg_embed.specs.Processes.{process_of, moved_of};
-ghost use Rattle.cpg_embed.specs.Statuses.{AreHanded};
+ghost use Rattle.cpg_embed.specs.Statuses.{AreHanded, AreLent};
 ghost use Rattle.cpg_embed.specs.Telling.{group_in, message_in, members_in, left_in, joined_in};
 ghost use Rattle.cpg_c.specs.Handles.{AtHandle, SeenAt};
 
 use crate::handles::Handle;
-use cpg_embed::{CLOSED, Process, Told};
+use crate::lending::lend;
+use cpg_embed::{CLOSED, NONE, Process, Told};
 use std::alloc::Global;
 
 /// Takes the connection's next event, and tells of it.
@@ -53,6 +54,27 @@ pub extern "C" fn cpgring_message(alloc: Global, handle: &mut Handle, buffer: &m
         return CLOSED;
     };
     let status = boxed.message(buffer);
+    *handle = Handle::of(boxed);
+    status
+}
+
+/// Lends the last event's message, by where it stands and how many bytes it has.
+#[unsafe(no_mangle)]
+pub extern "C" fn cpgring_lent(
+    alloc: Global,
+    handle: &mut Handle,
+    at: &mut *const u8,
+    len: &mut usize,
+) -> u32
+    ensures { SeenAt handle.old.slot.held result handle.new.slot.held (λ e. AreLent (message_in e.event) result len.new) }
+{
+    let Some(boxed) = handle.take(alloc) else {
+        return CLOSED;
+    };
+    let status = match boxed.lent() {
+        Some(message) => lend(message, at, len),
+        None => NONE,
+    };
     *handle = Handle::of(boxed);
     status
 }

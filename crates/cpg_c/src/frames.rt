@@ -3,7 +3,7 @@
 ghost use Rattle.std.specs.Prelude.{◌≡◌};
 ghost use Rattle.std.specs.List.{slice_get};
 ghost use Rattle.cpg_node.specs.Calls.{place_to_deliver};
-ghost use Rattle.cpg_embed.specs.Frames.{IsFrameStatus, IsTimerStatus, IsNextFrame, IsDelivered};
+ghost use Rattle.cpg_embed.specs.Frames.{IsFrameStatus, IsTimerStatus, IsTurnStatus, IsNextFrame, IsDelivered};
 ghost use Rattle.cpg_c.specs.Handles.{AtHandle};
 
 use crate::handles::Handle;
@@ -32,6 +32,19 @@ pub extern "C" fn cpgring_timer(alloc: Global, handle: &mut Handle) -> u32
         return CLOSED;
     };
     let status = boxed.timer();
+    *handle = Handle::of(boxed);
+    status
+}
+
+/// The node hears the last token that it sent, and what it answers is handed over to nobody.
+#[unsafe(no_mangle)]
+pub extern "C" fn cpgring_turn(alloc: Global, handle: &mut Handle) -> u32
+    ensures { AtHandle handle.old.slot.held result handle.new.slot.held (λ e new. IsTurnStatus e result new) }
+{
+    let Some(mut boxed) = handle.take(alloc) else {
+        return CLOSED;
+    };
+    let status = boxed.turn();
     *handle = Handle::of(boxed);
     status
 }

@@ -10,6 +10,7 @@ mod calls;
 mod events;
 mod frames;
 mod handles;
+mod lending;
 mod listings;
 mod opening;
 mod parts;

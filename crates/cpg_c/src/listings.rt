@@ -9,12 +9,14 @@ ghost use Rattle.cpg_node.specs.Nodes.{records_of, open_client};
 ghost use Rattle.cpg_embed.specs.Events.{IsProcess};
 ghost use Rattle.cpg_embed.specs.Listings.{IsListed, AreNamed, IsNamed, IsReached, IsRuleLine, process_at, name_at};
 ghost use Rattle.cpg_embed.specs.Records.{IsAudited, group_at, message_at, notified_at};
-ghost use Rattle.cpg_embed.specs.Statuses.{AreHanded};
+ghost use Rattle.cpg_embed.specs.Seats.{AreSeated, IsSeat, seats_of, seat_in};
+ghost use Rattle.cpg_embed.specs.Statuses.{AreHanded, AreLent};
 ghost use Rattle.cpg_embed.specs.declared.statuses.TheConstants.{OK as DONE};
 ghost use Rattle.cpg_c.specs.Handles.{AtHandle, SeenAt};
 
 use crate::handles::Handle;
-use cpg_embed::{Audited, CLOSED, OK, Process, RuleLine};
+use crate::lending::lend;
+use cpg_embed::{Audited, CLOSED, NONE, OK, Process, RuleLine};
 use std::alloc::Global;
 
 /// Lists the members of a group, and tells how many there are.
@@ -87,6 +89,37 @@ pub extern "C" fn cpgring_named(
         return CLOSED;
     };
     let status = boxed.named(index, buffer, len);
+    *handle = Handle::of(boxed);
+    status
+}
+
+/// Finds the places of the joins of all who are members, and tells how many there are.
+#[unsafe(no_mangle)]
+pub extern "C" fn cpgring_seats(alloc: Global, handle: &mut Handle, count: &mut usize) -> u32
+    ensures { AtHandle handle.old.slot.held result handle.new.slot.held (λ e new. AreSeated e (seats_of e) result count.new new) }
+{
+    let Some(mut boxed) = handle.take(alloc) else {
+        return CLOSED;
+    };
+    let status = boxed.seats(count);
+    *handle = Handle::of(boxed);
+    status
+}
+
+/// Tells one of the places that were found last, by its index from 0.
+#[unsafe(no_mangle)]
+pub extern "C" fn cpgring_seat(
+    alloc: Global,
+    handle: &mut Handle,
+    index: usize,
+    place: &mut u32,
+) -> u32
+    ensures { SeenAt handle.old.slot.held result handle.new.slot.held (λ e. IsSeat (seat_in e.seats index) result place.new) }
+{
+    let Some(boxed) = handle.take(alloc) else {
+        return CLOSED;
+    };
+    let status = boxed.seat(index, place);
     *handle = Handle::of(boxed);
     status
 }
@@ -179,6 +212,28 @@ pub extern "C" fn cpgring_audit_message(
         return CLOSED;
     };
     let status = boxed.audit_message(place, buffer);
+    *handle = Handle::of(boxed);
+    status
+}
+
+/// Lends the message of a record, by where it stands and how many bytes it has.
+#[unsafe(no_mangle)]
+pub extern "C" fn cpgring_audit_lent(
+    alloc: Global,
+    handle: &mut Handle,
+    place: u32,
+    at: &mut *const u8,
+    len: &mut usize,
+) -> u32
+    ensures { SeenAt handle.old.slot.held result handle.new.slot.held (λ e. AreLent (message_at (record_at (records_of e.node) place)) result len.new) }
+{
+    let Some(boxed) = handle.take(alloc) else {
+        return CLOSED;
+    };
+    let status = match boxed.audit_lent(place) {
+        Some(message) => lend(message, at, len),
+        None => NONE,
+    };
     *handle = Handle::of(boxed);
     status
 }

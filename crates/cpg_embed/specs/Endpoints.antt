@@ -14,10 +14,12 @@ pub record EndpointValue : Type 0 where
   -- the processes, by node and pid, and the names that were listed last
   pub processes : Option (List (ℕ × ℕ))
   pub names : Option (List (List ℕ))
+  -- the places of the members' joins, as they were told last
+  pub seats : Option (List ℕ)
 
 -- an endpoint of that node, which has nothing to hand over
 abbrev pub new_endpoint : NodeValue → EndpointValue
-new_endpoint node = record { node = node; made = []; given = 0; event = None; processes = None; names = None }
+new_endpoint node = record { node = node; made = []; given = 0; event = None; processes = None; names = None; seats = None }
 
 -- the endpoint with its node changed
 abbrev pub at_node : EndpointValue → NodeValue → EndpointValue

@@ -45,6 +45,26 @@ IsResent e (Some t) status new =
 abbrev pub IsTimerStatus : EndpointValue → ℕ → EndpointValue → Type 0
 IsTimerStatus e status new = UnlessBusy e status new (IsResent e e.node.ring.state.last_token status new)
 
+-- A frame is heard whose answer goes nowhere, or the first refusal that fits is answered.
+abbrev pub IsHeardAlone : EndpointValue → Frame → Option Refusal → ℕ → EndpointValue → Type 0
+IsHeardAlone e f (Some why) status new = (status ≡ number why) × (new ≡ e)
+IsHeardAlone e f None status new = (status ≡ OK) × (new ≡ with_frames (at_node e (after_frame e.node f)) [])
+
+-- The same of bytes, as they are read.
+abbrev pub IsReadAlone : EndpointValue → Option Frame → ℕ → EndpointValue → Type 0
+IsReadAlone e None status new = (status ≡ number refusal.Malformed) × (new ≡ e)
+IsReadAlone e (Some f) status new = ((status ≡ number refusal.Memory) × (new ≡ e)) ⊎ IsHeardAlone e f (frame_refusal e.node f) status new
+
+-- The last token is heard by the node that sent it, which is refused where the token is for another node; there is nothing to
+-- hear, where the node sent none.
+abbrev pub IsTurned : EndpointValue → Option Token → ℕ → EndpointValue → Type 0
+IsTurned e None status new = (status ≡ NONE) × (new ≡ e)
+IsTurned e (Some t) status new = IsReadAlone e (Some (frames.Token t)) status new
+
+-- Turn.
+abbrev pub IsTurnStatus : EndpointValue → ℕ → EndpointValue → Type 0
+IsTurnStatus e status new = UnlessBusy e status new (IsTurned e e.node.ring.state.last_token status new)
+
 -- To whom a frame goes: 2, the next node, for the last of an answer, which is its token; 1, all other nodes, for those before it.
 abbrev pub route_of : EndpointValue → ℕ
 route_of e = if nat_eq (suc e.given) (length e.made) then 2 else 1

@@ -7,6 +7,7 @@ pub mod Processes
 pub mod Events
 pub mod Rules
 pub mod Listings
+pub mod Seats
 pub mod Records
 pub mod Opening
 pub mod Laws

@@ -58,3 +58,8 @@ IsHanded bytes buffer status filled =
 abbrev pub AreHanded : Option (List ℕ) → List ℕ → ℕ → List ℕ → Type 0
 AreHanded None buffer status filled = (status ≡ NONE) × (filled ≡ buffer)
 AreHanded (Some bytes) buffer status filled = IsHanded bytes buffer status filled
+
+-- Bytes are lent: how many there are.
+abbrev pub AreLent : Option (List ℕ) → ℕ → ℕ → Type 0
+AreLent None status len = status ≡ NONE
+AreLent (Some bytes) status len = (status ≡ OK) × (len ≡ length bytes)

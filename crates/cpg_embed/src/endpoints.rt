@@ -7,6 +7,7 @@ ghost use Rattle.cpg_embed.specs.Endpoints.{new_endpoint};
 ghost use Rattle.cpg_embed.specs.Rules.{rule_of};
 
 use crate::rules::RuleLine;
+use crate::seats::Seats;
 use crate::statuses::{OK, number_of};
 use bytes::Bytes;
 use cpg_cred::{Cred, Refusal};
@@ -26,6 +27,7 @@ pub struct Endpoint {
     pub(crate) event: Option<Event>,
     pub(crate) processes: Option<Processes>,
     pub(crate) names: Option<Names>,
+    pub(crate) seats: Option<Seats>,
 }
 
 impl Model for Endpoint {
@@ -37,7 +39,7 @@ impl Model for Endpoint {
 
     ghost coded = { Prim.hlevel (codes, held_code) };
 
-    ghost view = { λ e. record { node = e.node; made = e.made.items; given = e.given; event = e.event; processes = e.processes; names = e.names } };
+    ghost view = { λ e. record { node = e.node; made = e.made.items; given = e.given; event = e.event; processes = e.processes; names = e.names; seats = e.seats } };
 }
 
 impl Endpoint {
@@ -53,6 +55,7 @@ impl Endpoint {
             event: None,
             processes: None,
             names: None,
+            seats: None,
         }
     }
 

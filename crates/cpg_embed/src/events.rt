@@ -2,6 +2,7 @@
 
 ghost use Rattle.std.specs.Prelude.{◌≡◌, option_map};
 ghost use Rattle.std.specs.List.{slice_get};
+ghost use Rattle.std.specs.Option.{option_copied};
 ghost use Rattle.cpg_node.specs.Nodes.{open_client};
 ghost use Rattle.cpg_embed.specs.Events.{IsTaken, IsProcess};
 ghost use Rattle.cpg_embed.specs.Processes.{process_of, moved_of};
@@ -50,6 +51,16 @@ impl Endpoint {
         match &self.event {
             Some(Event::Message { message, .. }) => hand(message.as_slice(), buffer),
             _ => NONE,
+        }
+    }
+
+    /// Lends the last event's message, which stays where it is until the next event is taken.
+    pub fn lent(&self) -> Option<&[u8]>
+        ensures { option_copied result ≡ message_in self.now.event }
+    {
+        match &self.event {
+            Some(Event::Message { message, .. }) => Some(message.as_slice()),
+            _ => None,
         }
     }
 

@@ -3,11 +3,13 @@
 ghost use Rattle.std.specs.Prelude.{◌≡◌};
 ghost use Rattle.std.specs.List.{slice_get};
 ghost use Rattle.cpg_node.specs.Calls.{place_to_deliver};
-ghost use Rattle.cpg_embed.specs.Frames.{IsFrameStatus, IsTimerStatus, IsNextFrame, IsDelivered};
+ghost use Rattle.cpg_wire.specs.Reading.{frame_of};
+ghost use Rattle.cpg_embed.specs.Frames.{IsFrameStatus, IsReadAlone, IsTimerStatus, IsTurnStatus, IsNextFrame, IsDelivered};
 
 use crate::endpoints::Endpoint;
 use crate::statuses::{BUSY, NONE, OK, hand, number_of};
 use cpg_cred::Refusal;
+use cpg_wire::reads_what_is_spelled;
 
 /// A frame that goes to all other nodes.
 const TO_ALL: u32 = 1;
@@ -53,6 +55,36 @@ impl Endpoint {
                     }
                     Err(_) => number_of(Refusal::Memory),
                 }
+            }
+            Err(refusal) => number_of(refusal),
+        }
+    }
+
+    /// The node hears the last token that it sent, and what it answers is handed over to nobody: so the token goes round in
+    /// a ring of one node. In any other ring that token is for another node, and is refused.
+    pub fn turn(&mut self) -> u32
+        ensures { IsTurnStatus self.old result self.new }
+    {
+        reads_what_is_spelled();
+        if self.given < self.made.len() {
+            return BUSY;
+        }
+        match self.node.timer() {
+            Ok(None) => NONE,
+            Ok(Some(token)) => self.hear_own(token.as_slice()),
+            Err(refusal) => number_of(refusal),
+        }
+    }
+
+    /// Hears a frame whose answer goes nowhere.
+    fn hear_own(&mut self, bytes: &[u8]) -> u32
+        ensures { IsReadAlone self.old (frame_of bytes.now) result self.new }
+    {
+        match self.node.frame(bytes) {
+            Ok(_) => {
+                self.made = Vec::new(self.alloc);
+                self.given = 0;
+                OK
             }
             Err(refusal) => number_of(refusal),
         }

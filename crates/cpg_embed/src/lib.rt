@@ -16,11 +16,12 @@ mod opening;
 mod processes;
 mod records;
 mod rules;
+mod seats;
 mod statuses;
 mod told;
 
 pub use endpoints::Endpoint;
-pub use laws::answers_end_with_their_token;
+pub use laws::{answers_end_with_their_token, seats_are_memberships};
 pub use opening::{Fault, Setup, open, open_conf};
 pub use processes::Process;
 pub use records::Audited;

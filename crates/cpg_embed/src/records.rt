@@ -153,6 +153,16 @@ impl Endpoint {
         }
     }
 
+    /// Lends the message of a record, which stays where it is as long as the node.
+    pub fn audit_lent(&self, place: u32) -> Option<&[u8]>
+        ensures { option_copied result ≡ message_at (record_at (records_of self.now.node) place) }
+    {
+        match self.record(place) {
+            Some(past) => sent_in(&past.entry().op),
+            None => None,
+        }
+    }
+
     /// Tells one of those, at any node, to whom a place that was delivered tells something, by an index from 0: first who
     /// made its entry, and then, where that was allowed, the members of its group after it, among whom the maker may be once
     /// more. It takes the same time for each.
