@@ -1,6 +1,5 @@
 -- commands drawn, one after the other
 use Rattle.std.proofs.Common.{◌≡◌, ℕ, ◌+◌, ◌<◌, ◌≤◌, List, [], ◌∷◌, ◌++◌, length, drop, get_or, codes, refl, sym, ap, subst, ◌∙◌, append_assoc, append-nil}
-use Rattle.std.specs.List.{flat_map}
 use Rattle.std.proofs.lemmas.List.{drop_more, drop_all}
 use Rattle.cpg_ring.specs.Worlds.{item}
 use Rattle.cpg_world.proofs.Running.{as_many_nodes}
@@ -11,7 +10,7 @@ use Rattle.cpg_step.specs.declared.commands.Command.{Command}
 use Rattle.cpg_step.specs.declared.commands.Command.TheVariants.{Act, Look}
 use Rattle.cpg_draw.specs.declared.arrows.Arrow.{Arrow}
 use Rattle.cpg_draw.specs.Rows.{brings, first_arrows, row_text, look_at, look_text, arrows_after}
-use Rattle.cpg_draw.specs.Words.{sent_text}
+use Rattle.cpg_draw.specs.Words.{sends_text}
 use Rattle.cpg_draw.specs.declared.misses.Miss.{Miss}
 use Rattle.cpg_draw.specs.Misses.{misses_in}
 use Rattle.cpg_draw.specs.Telling.{IsTold}
@@ -128,12 +127,12 @@ last_rows commands i arrows first w start old begun all known =
 -- the first row, the rows and what did not come are the picture
 pub picture_drawn : (w v : WorldValue) (commands : List Command) (arrows last : List Arrow) (misses : List Miss) (empty top sheet : Sheet) (text : List ℕ)
     → arrows ≡ first_arrows w → empty.under.items ≡ [] → empty.over.items ≡ []
-    → IsPut (row_with (length w.nodes) 0 [] [] [] (codes "0 start" ++ flat_map sent_text arrows)) empty top
+    → IsPut (row_with (length w.nodes) 0 [] [] [] (codes "0 start" ++ sends_text w arrows)) empty top
     → AreRows 1 arrows w commands top last v sheet → misses ≡ misses_in (length v.nodes) last
     → text ≡ picture_of (length commands) sheet.under.items sheet.over.items v misses → IsPicture w commands text
 picture_drawn w v commands arrows last misses empty top sheet text known none nothing put rows found drawn =
     let start : IsPut (start_row w) empty top
-    = subst (λ x. IsPut (row_with (length w.nodes) 0 [] [] [] (codes "0 start" ++ flat_map sent_text x)) empty top) known put in
+    = subst (λ x. IsPut (row_with (length w.nodes) 0 [] [] [] (codes "0 start" ++ sends_text w x)) empty top) known put in
     let there : AreRows 1 (first_arrows w) w commands top last v sheet = subst (λ x. AreRows 1 x w commands top last v sheet) known rows in
     let later : List Row = rows_of 1 (first_arrows w) w commands there.answers in
     let all : List Row = start_row w ∷ later in

@@ -10,7 +10,7 @@ use Rattle.cpg_step.specs.declared.commands.Command.TheVariants.{Act, Look}
 use Rattle.cpg_step.specs.declared.commands.Look.{Look as LookValue}
 use Rattle.cpg_draw.specs.declared.arrows.Arrow.{Arrow}
 use Rattle.cpg_draw.specs.Rows.{brings, arrows_after, first_arrows, row_text, act_text, look_at, look_text}
-use Rattle.cpg_draw.specs.Words.{sent_text}
+use Rattle.cpg_draw.specs.Words.{sends_text}
 use Rattle.cpg_draw.specs.declared.svg.layout.TheConstants.{HEADS, LETTERS}
 use Rattle.cpg_draw.specs.Layout.{x_of, y_of, words_x, words_y, number_y}
 use Rattle.cpg_draw.specs.Shapes.{escaped, point, text_at}
@@ -72,7 +72,7 @@ look_row row arrows w l = row_with (length w.nodes) row [] (dot_of 3 row (look_a
 
 -- the row before all commands: the frames that were sent before the script
 abbrev pub start_row : WorldValue → Row
-start_row w = row_with (length w.nodes) 0 [] [] [] (codes "0 start" ++ flat_map sent_text (first_arrows w))
+start_row w = row_with (length w.nodes) 0 [] [] [] (codes "0 start" ++ sends_text w (first_arrows w))
 
 -- The rows of commands from that row on, with the arrows so far, where that is what their events are answered.
 abbrev pub rows_of : ℕ → List Arrow → WorldValue → List Command → List Answer → List Row

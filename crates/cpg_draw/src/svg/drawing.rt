@@ -81,7 +81,7 @@ fn draw_commands(alloc: Global, mut world: World, commands: &[Command]) -> Resul
         over: Vec::new(alloc),
     };
     push_arrows(alloc, &mut arrows, &world, (0, 0, 0), 0)?;
-    draw_start(alloc, &mut sheet, world.nodes(), arrows.as_slice())?;
+    draw_start(alloc, &mut sheet, &world, arrows.as_slice())?;
     draw_rows(alloc, &mut sheet, &mut arrows, &mut world, commands)?;
     let misses = find_misses(alloc, world.nodes(), arrows.as_slice())?;
     finish(alloc, sheet, &world, commands.len(), misses.as_slice())

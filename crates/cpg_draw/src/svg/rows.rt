@@ -3,10 +3,9 @@
 //! Proved: what is put on the sheet is the definition of `specs/PictureRows.antt`.
 
 ghost use Rattle.std.specs.Prelude.{◌≡◌, ◌<◌, ◌≤◌, ◌++◌, [], codes, length, OnOk, IsOkUnless};
-ghost use Rattle.std.specs.List.{flat_map};
 ghost use Rattle.cpg_world_laws.specs.Worlds.{node_in};
 ghost use Rattle.cpg_step.specs.Commands.{IsWithin, LooksWithin};
-ghost use Rattle.cpg_draw.specs.Words.{sent_text};
+ghost use Rattle.cpg_draw.specs.Words.{sends_text};
 ghost use Rattle.cpg_draw.specs.PictureArrows.{arrow_shape, label_shape};
 ghost use Rattle.cpg_draw.specs.PictureRows.{line_of, middle_of, circle_of, dot_of, numbers_of, heads_of, words_of, row_with, look_row};
 ghost use Rattle.cpg_draw.specs.PictureSteps.{IsPut, IsActed, StandsBefore};
@@ -134,15 +133,16 @@ fn put_said(text: &mut Vec<u8>, nodes: u8, row: u64, words: &[u8]) -> Result<(),
 pub(crate) fn draw_start(
     alloc: Global,
     sheet: &mut Sheet,
-    nodes: u8,
+    world: &World,
     arrows: &[Arrow],
 ) -> Result<(), Refusal>
-    ensures ok { OnOk result (IsPut (row_with nodes 0 [] [] [] (codes "0 start" ++ flat_map sent_text arrows.now)) sheet.old sheet.new) }
+    ensures ok { OnOk result (IsPut (row_with (length world.now.nodes) 0 [] [] [] (codes "0 start" ++ sends_text world.now arrows.now)) sheet.old sheet.new) }
     ensures memory { IsOkUnless result Refusal.Memory }
 {
+    let nodes = world.nodes();
     let mut words = Vec::new(alloc);
     put(&mut words, "0 start")?;
-    put_sent(&mut words, arrows)?;
+    put_sent(alloc, &mut words, world, arrows)?;
     put_heads(&mut sheet.over, nodes, 0)?;
     put(&mut sheet.over, "\n")?;
     put(&mut sheet.under, "<g>")?;
@@ -237,7 +237,7 @@ fn draw_look(
     put(&mut sheet.under, "<g>")?;
     put_line(&mut sheet.under, world.nodes(), row)?;
     let mut words = Vec::new(alloc);
-    tell_look(&mut words, arrows, row, world, look)?;
+    tell_look(alloc, &mut words, arrows, row, world, look)?;
     put_said(&mut sheet.under, world.nodes(), row, words.as_slice())
 }
 
