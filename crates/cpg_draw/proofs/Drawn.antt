@@ -1,17 +1,16 @@
 -- commands drawn, one after the other
 use Rattle.std.proofs.Common.{◌≡◌, ℕ, ◌+◌, ◌<◌, ◌≤◌, List, [], ◌∷◌, ◌++◌, length, drop, get_or, codes, Some, Result, Ok, Err, sym, ap, subst, ◌∙◌, append-nil}
-use Rattle.std.specs.List.{concat, flat_map}
+use Rattle.std.specs.List.{concat}
 use Rattle.std.specs.Prelude.{OnOk}
 use Rattle.cpg_cred.specs.declared.refusals.Refusal.{Refusal}
 use Rattle.std.proofs.lemmas.List.{drop_more, drop_all}
 use Rattle.cpg_ring.specs.Worlds.{item}
 use Rattle.cpg_node.specs.Nodes.{NodeValue}
 use Rattle.cpg_world_laws.specs.Replies.{Answer, IsReply}
-use Rattle.cpg_step.specs.Lines.{answer_line}
 use Rattle.cpg_draw.proofs.Joined.{joined, columned, rows_joined}
 use Rattle.cpg_draw.specs.Arrows.{arrows_of, seq_brought, with_brought}
 use Rattle.cpg_draw.specs.Columns.{columns}
-use Rattle.cpg_draw.specs.Words.{brought_text, sent_text, misses_text}
+use Rattle.cpg_draw.specs.Words.{brought_text, sends_text, misses_text}
 use Rattle.cpg_world.proofs.Running.{as_many_nodes}
 use Rattle.cpg_world_laws.specs.declared.events.WorldEvent.{WorldEvent}
 use Rattle.cpg_world_laws.specs.Worlds.{WorldValue, node_in, happens}
@@ -19,29 +18,31 @@ use Rattle.cpg_step.specs.declared.commands.Look.{Look as LookValue}
 use Rattle.cpg_step.specs.declared.commands.Command.{Command}
 use Rattle.cpg_step.specs.declared.commands.Command.TheVariants.{Act, Look}
 use Rattle.cpg_draw.specs.declared.arrows.Arrow.{Arrow}
-use Rattle.cpg_draw.specs.Rows.{brings, sent_by, first_arrows, row_text, event_text, state_text, act_text, look_row, act_row, arrows_after, rows_of, head_of, IsPicture}
+use Rattle.cpg_draw.specs.Rows.{brings, sent_by, first_arrows, row_text, event_text, ended_text, act_text, look_row, act_row, arrows_after, rows_of, head_of, IsPicture}
 use Rattle.cpg_draw.specs.Steps.{IsActed, AreRows, StandsBefore}
 use Rattle.cpg_draw.specs.Telling.{IsTold}
 
 -- the parts of what an event's row says, put one after the other
-pub row_told : (row : ℕ) (arrows : List Arrow) (w v : WorldValue) (e : WorldEvent) (x : NodeValue) (answer : Answer) (old second new : List ℕ) (known sent later : List Arrow)
+pub row_told : (row : ℕ) (arrows : List Arrow) (w v : WorldValue) (e : WorldEvent) (x : NodeValue) (answer : Answer) (old first second new : List ℕ) (known sent later : List Arrow)
     → IsReply w e answer → v ≡ happens w e
     → known ≡ with_brought arrows (brings e) (node_in e)
     → sent ≡ arrows_of (length w.sent + 1) row (node_in e) (seq_brought (item w.sent (brings e))) (drop (length w.sent) v.sent)
     → item v.nodes (node_in e) ≡ Some x
-    → second ≡ old ++ (row_text row ++ event_text e ++ brought_text (item arrows (brings e)) ++ flat_map sent_text sent ++ state_text (Some x) ++ codes ": ")
-    → new ≡ second ++ answer_line answer → later ≡ known ++ sent → IsTold row arrows w e old later v new
-row_told row arrows w v e x answer old second new known sent later replied happened noted sends there said answered joint =
-    let begun : sent ≡ sent_by row w e = sends ∙ ap (λ (u : WorldValue). arrows_of (length w.sent + 1) row (node_in e) (seq_brought (item w.sent (brings e))) (drop (length w.sent) u.sent)) happened in
-    let state : state_text (Some x) ≡ state_text (item (happens w e).nodes (node_in e)) = ap state_text (sym there ∙ ap (λ (u : WorldValue). item u.nodes (node_in e)) happened) in
+    → first ≡ old ++ (row_text row ++ event_text e ++ brought_text w (item arrows (brings e)))
+    → second ≡ first ++ sends_text v sent → new ≡ second ++ ended_text (Some x) answer → later ≡ known ++ sent → IsTold row arrows w e old later v new
+row_told row arrows w v e x answer old first second new known sent later replied happened noted sends there begun said told joint =
+    let begins : sent ≡ sent_by row w e = sends ∙ ap (λ (u : WorldValue). arrows_of (length w.sent + 1) row (node_in e) (seq_brought (item w.sent (brings e))) (drop (length w.sent) u.sent)) happened in
+    let same : sends_text v sent ≡ sends_text (happens w e) (sent_by row w e) = ap (sends_text v) begins ∙ ap (λ u. sends_text u (sent_by row w e)) happened in
+    let ended : ended_text (Some x) answer ≡ ended_text (item (happens w e).nodes (node_in e)) answer
+    = ap (λ o. ended_text o answer) (sym there ∙ ap (λ (u : WorldValue). item u.nodes (node_in e)) happened) in
     record {
       answer = answer;
       replied = replied;
       happened = happened;
-      noted = joint ∙ (ap (λ x. x ++ sent) noted ∙ ap (λ x. with_brought arrows (brings e) (node_in e) ++ x) begun);
-      put = joined old (row_text row) (event_text e) (brought_text (item arrows (brings e)))
-          (flat_map sent_text sent) (flat_map sent_text (sent_by row w e)) (state_text (Some x)) (state_text (item (happens w e).nodes (node_in e)))
-          (codes ": ") (answer_line answer) second new (ap (flat_map sent_text) begun) state said answered;
+      noted = joint ∙ (ap (λ x. x ++ sent) noted ∙ ap (λ x. with_brought arrows (brings e) (node_in e) ++ x) begins);
+      put = joined old (row_text row) (event_text e) (brought_text w (item arrows (brings e)))
+          (sends_text v sent) (sends_text (happens w e) (sent_by row w e)) (ended_text (Some x) answer) (ended_text (item (happens w e).nodes (node_in e)) answer)
+          first second new same ended begun said told;
     }
 
 -- an event's row is its columns, and what it says
@@ -103,13 +104,13 @@ last_rows commands i arrows first w start old new begun all known lost =
 
 -- the head and the rows are the picture
 pub picture_drawn : (w : WorldValue) (commands : List Command) (arrows : List Arrow) (top text : List ℕ)
-    → arrows ≡ first_arrows w → top ≡ head_of (length w.nodes) arrows → AreRows 1 arrows w commands top text → IsPicture w commands text
+    → arrows ≡ first_arrows w → top ≡ head_of w arrows → AreRows 1 arrows w commands top text → IsPicture w commands text
 picture_drawn w commands arrows top text known headed rows =
     let there : AreRows 1 (first_arrows w) w commands top text = subst (λ x. AreRows 1 x w commands top text) known rows in
     record {
       answers = there.answers;
       replies = there.replies;
-      drawn = there.put ∙ ap (λ x. x ++ concat (rows_of 1 (first_arrows w) w commands there.answers)) (headed ∙ ap (head_of (length w.nodes)) known);
+      drawn = there.put ∙ ap (λ x. x ++ concat (rows_of 1 (first_arrows w) w commands there.answers)) (headed ∙ ap (head_of w) known);
     }
 
 -- what follows where the call went well

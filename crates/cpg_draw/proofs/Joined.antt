@@ -6,15 +6,15 @@ use Rattle.std.specs.List.{concat}
 pub rows_joined : (old now whole line : List ℕ) (rows : List (List ℕ)) → now ≡ old ++ line → whole ≡ now ++ concat rows → whole ≡ old ++ concat (line ∷ rows)
 rows_joined old now whole line rows put rest = rest ∙ (ap (λ text. text ++ concat rows) put ∙ append_assoc old line (concat rows))
 
-regrouped : (old r e b s t k a : List ℕ) → (old ++ (r ++ e ++ b ++ s ++ t ++ k)) ++ a ≡ old ++ (r ++ (e ++ b ++ s ++ t ++ k ++ a))
-regrouped old r e b s t k a = simp append_assoc
+regrouped : (old r e b s t : List ℕ) → ((old ++ (r ++ e ++ b)) ++ s) ++ t ≡ old ++ (r ++ (e ++ b ++ s ++ t))
+regrouped old r e b s t = simp append_assoc
 
 -- what a row says, two parts of which are told in other words
-pub joined : (old r e b s sends t state k a second new : List ℕ) → s ≡ sends → t ≡ state
-    → second ≡ old ++ (r ++ e ++ b ++ s ++ t ++ k) → new ≡ second ++ a → new ≡ old ++ (r ++ (e ++ b ++ sends ++ state ++ k ++ a))
-joined old r e b s sends t state k a second new same alike said answered =
-    answered ∙ (ap (λ x. x ++ a) (said ∙ (ap (λ x. old ++ (r ++ e ++ b ++ x ++ t ++ k)) same ∙ ap (λ x. old ++ (r ++ e ++ b ++ sends ++ x ++ k)) alike))
-    ∙ regrouped old r e b sends state k a)
+pub joined : (old r e b s sends t ended first second new : List ℕ) → s ≡ sends → t ≡ ended
+    → first ≡ old ++ (r ++ e ++ b) → second ≡ first ++ s → new ≡ second ++ t → new ≡ old ++ (r ++ (e ++ b ++ sends ++ ended))
+joined old r e b s sends t ended first second new same alike begun sent told =
+    told ∙ (ap (λ x. x ++ t) (sent ∙ (ap (λ x. x ++ s) begun ∙ ap (λ x. (old ++ (r ++ e ++ b)) ++ x) same))
+    ∙ (ap (λ x. ((old ++ (r ++ e ++ b)) ++ sends) ++ x) alike ∙ regrouped old r e b sends ended))
 
 -- a row's columns, and what it says
 pub columned : (old c r t first new : List ℕ) → first ≡ old ++ c → new ≡ first ++ (r ++ t) → new ≡ old ++ (c ++ r ++ t)

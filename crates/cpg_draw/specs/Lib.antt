@@ -1,6 +1,7 @@
 pub mod Arrows
 pub mod Columns
 pub mod Drawing
+pub mod Entries
 pub mod Layout
 pub mod Misses
 pub mod Passed

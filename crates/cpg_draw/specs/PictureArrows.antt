@@ -1,16 +1,13 @@
 -- arrows as they are drawn
-use Rattle.std.specs.Prelude.{ℕ, Bool, nat_lt, ◌+◌, ◌/◌, List, [], ◌∷◌, ◌++◌, ◌==◌, codes, Option, Some, None, if◌then◌else◌}
+use Rattle.std.specs.Prelude.{ℕ, Bool, nat_lt, ◌+◌, ◌/◌, List, [], ◌∷◌, ◌++◌, ◌==◌, min, codes, decimal, length, get_or, set, replicate, Option, Some, None, if◌then◌else◌}
 use Rattle.cpg_ring.specs.Worlds.{item}
 use Rattle.cpg_world_laws.specs.Worlds.{WorldValue}
 use Rattle.cpg_draw.specs.declared.arrows.Arrow.{Arrow}
 use Rattle.cpg_draw.specs.declared.misses.Miss.{Miss}
 use Rattle.cpg_draw.specs.Words.{kind_text, arrow_text, miss_text}
-use Rattle.cpg_draw.specs.Layout.{x_of, y_of, words_x, words_y, label_x, label_y, mark_right, mark_down}
+use Rattle.cpg_draw.specs.declared.svg.layout.TheConstants.{MARKS}
+use Rattle.cpg_draw.specs.Layout.{x_of, y_of, below, words_x, words_y, label_x, label_y, bend, mark_x, second_x}
 use Rattle.cpg_draw.specs.Shapes.{escaped, point, text_at, title_of}
-
--- how far an arrow bends to the right: only within one column
-abbrev pub bend : ℕ → ℕ → ℕ
-bend from to = if from == to then 60 else 0
 
 -- An arrow goes from the row that sent the frame, in its sender's column, to the row that brings it, in that node's column.
 unfoldable pub path_of : Arrow → ℕ → ℕ → List ℕ
@@ -27,45 +24,72 @@ label_of a row node = text_at (label_x a.node node) (label_y row) (arrow_text a)
 abbrev pub side_of : ℕ → ℕ → List ℕ
 side_of from to = if nat_lt from to then codes "right" else codes "left"
 
--- the arrow that ends in a row at a node, if there is one: its kind, its frame, its path and its label
+-- the arrow that ends in a row at a node, if there is one: its kind, its frame and its path
 abbrev pub arrow_shape : WorldValue → ℕ → ℕ → Option Arrow → List ℕ
 arrow_shape w row node None = []
-arrow_shape w row node (Some a) =
-    codes "<g class='" ++ kind_text a.kind ++ side_of a.node node ++ codes "'>" ++ title_of (item w.sent a.number) ++ path_of a row node ++ label_of a row node ++ codes "</g>"
+arrow_shape w row node (Some a) = codes "<g class='" ++ kind_text a.kind ++ codes "'>" ++ title_of (item w.sent a.number) ++ path_of a row node ++ codes "</g>"
 
--- a stub that ends in a cross, and one that ends in an open diamond
+-- and its label, with the frame
+abbrev pub label_shape : WorldValue → ℕ → ℕ → Option Arrow → List ℕ
+label_shape w row node None = []
+label_shape w row node (Some a) = codes "<g class='" ++ side_of a.node node ++ codes "'>" ++ title_of (item w.sent a.number) ++ label_of a row node ++ codes "</g>"
+
+-- a cross where a stub ends, and an open diamond behind one that comes from the left and from the right
 unfoldable pub cross : List ℕ
-cross = codes "v1m-3 0l6 5m0-5l-6 5'/>"
+cross = codes "m-6-6l12 12m0-12l-12 12'/>"
 
-unfoldable pub diamond : List ℕ
-diamond = codes "v1m0 0l3 3-3 3-3-3z'/>"
+unfoldable pub diamond_right : List ℕ
+diamond_right = codes "l6-6 6 6-6 6-6-6'/>"
+
+unfoldable pub diamond_left : List ℕ
+diamond_left = codes "l-6-6-6 6 6 6 6-6'/>"
 
 -- the cross of a frame that is lost, or the diamond of one that is under way
-abbrev pub stub_of : Bool → List ℕ
-stub_of lost = if lost then cross else diamond
+abbrev pub end_of : ℕ → ℕ → Bool → List ℕ
+end_of from to lost = if lost then cross else if nat_lt from to then diamond_right else diamond_left
 
 abbrev pub fate_class : Bool → List ℕ
 fate_class lost = if lost then codes "lost'>" else codes "way'>"
 
--- the mark of a frame that did not come, beside its sender's dot: its place, from 0 on, is among those that its row sent
+-- The stub of a frame that did not come, from its sender's dot towards the node: its place, from 0 on, is among those of its row that did
+-- not come to that node.
 unfoldable pub mark_of : Miss → ℕ → List ℕ
-mark_of m place = codes "<path d='M" ++ point (x_of m.arrow.node) (y_of m.arrow.row) ++ codes "m" ++ point (mark_right place) (mark_down place) ++ stub_of m.lost
+mark_of m place =
+    codes "<path d='M" ++ point (x_of m.arrow.node) (y_of m.arrow.row) ++ codes "H" ++ decimal (mark_x m.arrow.node m.node place) ++ end_of m.arrow.node m.node m.lost
 
--- what is said of it in a line below all rows
-unfoldable pub miss_line : ℕ → ℕ → Miss → List ℕ
-miss_line nodes line m = text_at (words_x nodes) (words_y line) (escaped (miss_text nodes m))
+-- its place or its hop, beyond the node's column; only of the first two
+unfoldable pub mark_label : Miss → ℕ → List ℕ
+mark_label m place =
+    if nat_lt 1 place then []
+    else codes "<g class='" ++ side_of m.arrow.node m.node ++ codes "'>"
+    ++ text_at (if place == 0 then label_x m.arrow.node m.node else second_x m.arrow.node m.node) (label_y m.arrow.row) (arrow_text m.arrow) ++ codes "</g>"
 
--- a frame that did not come: its kind, the frame, its mark and its line
-unfoldable pub miss_shape : WorldValue → ℕ → ℕ → ℕ → Miss → List ℕ
-miss_shape w nodes line place m =
-    codes "<g class='" ++ kind_text m.arrow.kind ++ fate_class m.lost ++ title_of (item w.sent m.arrow.number) ++ mark_of m place ++ miss_line nodes line m ++ codes "</g>\n"
+-- what is said of it in a line below so many rows
+unfoldable pub miss_line : ℕ → ℕ → ℕ → Miss → List ℕ
+miss_line nodes rows line m = text_at (words_x nodes) (words_y (below rows line)) (escaped (miss_text nodes m))
 
--- the place in its row, where the row before had that number, and that place next
-abbrev pub place_in : ℕ → ℕ → ℕ → ℕ
-place_in last next row = if row == last then next else 0
+-- a frame that did not come: its kind, the frame, its mark, its label and its line
+unfoldable pub miss_shape : WorldValue → ℕ → ℕ → ℕ → ℕ → Miss → List ℕ
+miss_shape w nodes rows line place m =
+    codes "<g class='" ++ kind_text m.arrow.kind ++ fate_class m.lost ++ title_of (item w.sent m.arrow.number) ++ mark_of m place ++ mark_label m place
+    ++ miss_line nodes rows line m ++ codes "</g>\n"
 
--- The marks of frames that did not come, and their lines from that one on; those of one row stand side by side.
-abbrev pub miss_shapes : WorldValue → ℕ → ℕ → ℕ → ℕ → List Miss → List ℕ
-miss_shapes w nodes line last next [] = []
-miss_shapes w nodes line last next (m ∷ later) =
-    miss_shape w nodes line (place_in last next m.arrow.row) m ++ miss_shapes w nodes (line + 1) m.arrow.row (place_in last next m.arrow.row + 1) later
+-- the place of a row's frame among those that did not come to a node, where the one before was of that row, and this place is next
+abbrev pub place_in : ℕ × ℕ → ℕ → ℕ
+place_in last row = if row == last.0 then last.1 else 0
+
+-- by node, the row and the place of its next frame, after one of that row and that place
+abbrev pub placed : List (ℕ × ℕ) → ℕ → ℕ → ℕ → List (ℕ × ℕ)
+placed table node row place = set table node (row, min place MARKS + 1)
+
+-- before all of them
+abbrev pub unplaced : List (ℕ × ℕ)
+unplaced = replicate 256 (0, 0)
+
+-- The marks of frames that did not come, and their lines from that one on, below so many rows; those of one row and one node stand side by
+-- side.
+abbrev pub miss_shapes : WorldValue → ℕ → ℕ → List (ℕ × ℕ) → List Miss → List ℕ
+miss_shapes w rows line table [] = []
+miss_shapes w rows line table (m ∷ later) =
+    let place = place_in (get_or table m.node (0, 0)) m.arrow.row in
+    miss_shape w (length w.nodes) rows line place m ++ miss_shapes w rows (line + 1) (placed table m.node m.arrow.row place) later

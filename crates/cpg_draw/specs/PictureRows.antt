@@ -1,5 +1,5 @@
 -- The rows of a picture: what each says, and its shapes.
-use Rattle.std.specs.Prelude.{ℕ, ◌+◌, List, [], ◌∷◌, ◌++◌, ◌==◌, max, codes, decimal, length, if◌then◌else◌}
+use Rattle.std.specs.Prelude.{ℕ, zero, suc, ◌+◌, ◌-◌, ◌%◌, List, [], ◌∷◌, ◌++◌, ◌==◌, nat_le, codes, decimal, length, take, if◌then◌else◌}
 use Rattle.std.specs.List.{flat_map}
 use Rattle.cpg_ring.specs.Worlds.{item}
 use Rattle.cpg_world_laws.specs.declared.events.WorldEvent.{WorldEvent}
@@ -10,16 +10,17 @@ use Rattle.cpg_step.specs.declared.commands.Command.TheVariants.{Act, Look}
 use Rattle.cpg_step.specs.declared.commands.Look.{Look as LookValue}
 use Rattle.cpg_draw.specs.declared.arrows.Arrow.{Arrow}
 use Rattle.cpg_draw.specs.Rows.{brings, arrows_after, first_arrows, row_text, act_text, look_at, look_text}
-use Rattle.cpg_draw.specs.Words.{sent_text}
-use Rattle.cpg_draw.specs.Layout.{x_of, y_of, words_x, words_y}
+use Rattle.cpg_draw.specs.Words.{sends_text}
+use Rattle.cpg_draw.specs.declared.svg.layout.TheConstants.{HEADS, LETTERS}
+use Rattle.cpg_draw.specs.Layout.{x_of, y_of, words_x, words_y, number_y}
 use Rattle.cpg_draw.specs.Shapes.{escaped, point, text_at}
-use Rattle.cpg_draw.specs.PictureArrows.{arrow_shape}
+use Rattle.cpg_draw.specs.PictureArrows.{arrow_shape, label_shape}
 
 pub record Row : Type 0 where
-  -- what it says
-  pub words : List ℕ
-  -- how it is drawn
-  pub shape : List ℕ
+  -- its line, the arrow that ends in it, and what it says
+  pub under : List ℕ
+  -- what stands over all lines and arrows: the numbers of nodes, its dot, and its arrow's label
+  pub over : List ℕ
 
 -- the line of a row across the columns of so many nodes
 unfoldable pub line_of : ℕ → ℕ → List ℕ
@@ -37,29 +38,41 @@ circle_of radius row node = codes "<circle " ++ middle_of row node ++ codes " r=
 abbrev pub dot_of : ℕ → ℕ → ℕ → List ℕ
 dot_of radius row node = if node == 0 then [] else circle_of radius row node
 
--- what a row says, right of all columns
-unfoldable pub words_of : ℕ → ℕ → List ℕ → List ℕ
-words_of nodes row words = text_at (words_x nodes) (words_y row) (escaped words)
+-- the numbers of so many nodes over their columns, above a row
+abbrev pub numbers_of : ℕ → ℕ → List ℕ
+numbers_of row zero = []
+numbers_of row (suc before) = numbers_of row before ++ text_at (x_of (suc before)) (number_y row) (decimal (suc before))
 
--- a row: its line, the arrow that ends in it, its dot, and what it says
-abbrev pub row_with : ℕ → ℕ → List ℕ → List ℕ → List ℕ → Row
-row_with nodes row arrow dot words = record {
-  words = words;
-  shape = codes "<g>" ++ line_of nodes row ++ arrow ++ dot ++ words_of nodes row words ++ codes "</g>\n";
+-- above row 0 and every so many rows
+abbrev pub heads_of : ℕ → ℕ → List ℕ
+heads_of nodes row = if row % HEADS == 0 then codes "<g class='head'>" ++ numbers_of row nodes ++ codes "</g>" else []
+
+-- what a row says, right of all columns: cut where there is no room, and then with all of it under the pointer
+unfoldable pub words_of : ℕ → ℕ → List ℕ → List ℕ
+words_of nodes row words =
+    if nat_le (length words) LETTERS then text_at (words_x nodes) (words_y (y_of row)) (escaped words)
+    else codes "<title>" ++ escaped words ++ codes "</title>" ++ text_at (words_x nodes) (words_y (y_of row)) (escaped (take (LETTERS - 3) words) ++ codes "...")
+
+-- a row: its line, the arrow that ends in it, its dot, that arrow's label, and what it says
+abbrev pub row_with : ℕ → ℕ → List ℕ → List ℕ → List ℕ → List ℕ → Row
+row_with nodes row arrow dot label words = record {
+  under = codes "<g>" ++ line_of nodes row ++ arrow ++ words_of nodes row words ++ codes "</g>\n";
+  over = heads_of nodes row ++ dot ++ label ++ codes "\n";
 }
 
 -- the row of an event
 abbrev pub act_row : ℕ → List Arrow → WorldValue → WorldEvent → Answer → Row
 act_row row arrows w e a =
-    row_with (length w.nodes) row (arrow_shape w row (node_in e) (item arrows (brings e))) (dot_of 5 row (node_in e)) (row_text row ++ act_text row arrows w e a)
+    row_with (length w.nodes) row (arrow_shape w row (node_in e) (item arrows (brings e))) (dot_of 5 row (node_in e))
+    (label_shape w row (node_in e) (item arrows (brings e))) (row_text row ++ act_text row arrows w e a)
 
 -- the row of a command that only looks, which no arrow ends in
 abbrev pub look_row : ℕ → List Arrow → WorldValue → LookValue → Row
-look_row row arrows w l = row_with (length w.nodes) row [] (dot_of 3 row (look_at l)) (row_text row ++ look_text arrows w l)
+look_row row arrows w l = row_with (length w.nodes) row [] (dot_of 3 row (look_at l)) [] (row_text row ++ look_text arrows w l)
 
 -- the row before all commands: the frames that were sent before the script
 abbrev pub start_row : WorldValue → Row
-start_row w = row_with (length w.nodes) 0 [] [] (codes "0 start" ++ flat_map sent_text (first_arrows w))
+start_row w = row_with (length w.nodes) 0 [] [] [] (codes "0 start" ++ sends_text w (first_arrows w))
 
 -- The rows of commands from that row on, with the arrows so far, where that is what their events are answered.
 abbrev pub rows_of : ℕ → List Arrow → WorldValue → List Command → List Answer → List Row
@@ -74,11 +87,10 @@ arrows_past row arrows w [] = arrows
 arrows_past row arrows w (Look l ∷ later) = arrows_past (row + 1) arrows w later
 arrows_past row arrows w (Act e ∷ later) = arrows_past (row + 1) (arrows_after row arrows w e) (happens w e) later
 
--- how many letters the row has that says most, or so many
-abbrev pub most_letters : ℕ → List Row → ℕ
-most_letters letters [] = letters
-most_letters letters (row ∷ later) = most_letters (max letters (length row.words)) later
+-- the rows' lines, arrows and words
+abbrev pub under_of : List Row → List ℕ
+under_of rows = flat_map (λ (row : Row). row.under) rows
 
--- how the rows are drawn
-abbrev pub shapes_of : List Row → List ℕ
-shapes_of rows = flat_map (λ (row : Row). row.shape) rows
+-- and what stands over them
+abbrev pub over_of : List Row → List ℕ
+over_of rows = flat_map (λ (row : Row). row.over) rows

@@ -1,5 +1,5 @@
 -- steps of the functions that draw, which no contract of a public function cites
-use Rattle.std.specs.Prelude.{ℕ, ◌≡◌, ◌+◌, List, ◌∷◌, ◌++◌, max, length}
+use Rattle.std.specs.Prelude.{ℕ, ◌≡◌, ◌+◌, List, ◌∷◌, ◌++◌}
 use Rattle.cpg_world_laws.specs.declared.events.WorldEvent.{WorldEvent}
 use Rattle.cpg_world_laws.specs.Worlds.{WorldValue, happens}
 use Rattle.cpg_world_laws.specs.Replies.{Answer, IsReply, AreReplies}
@@ -8,12 +8,12 @@ use Rattle.cpg_step.specs.Running.{events_in, after}
 use Rattle.cpg_draw.specs.declared.arrows.Arrow.{Arrow}
 use Rattle.cpg_draw.specs.Rows.{arrows_after}
 use Rattle.cpg_draw.specs.declared.svg.sheets.Sheet.{Sheet}
-use Rattle.cpg_draw.specs.PictureRows.{Row, act_row, rows_of, arrows_past, most_letters, shapes_of}
+use Rattle.cpg_draw.specs.PictureRows.{Row, act_row, rows_of, arrows_past, under_of, over_of}
 
 -- the row is put on the sheet
 pub record IsPut (row : Row) (old new : Sheet) : Type 0 where
-  pub put : new.text.items ≡ old.text.items ++ row.shape
-  pub letters : new.letters ≡ max old.letters (length row.words)
+  pub under : new.under.items ≡ old.under.items ++ row.under
+  pub over : new.over.items ≡ old.over.items ++ row.over
 
 -- the event happened, and its row is put
 pub record IsActed (row : ℕ) (arrows : List Arrow) (w : WorldValue) (e : WorldEvent) (old : Sheet) (later : List Arrow) (world : WorldValue) (new : Sheet) : Type 0 where
@@ -27,8 +27,8 @@ pub record IsActed (row : ℕ) (arrows : List Arrow) (w : WorldValue) (e : World
 pub record AreRows (row : ℕ) (arrows : List Arrow) (w : WorldValue) (commands : List Command) (old : Sheet) (last : List Arrow) (world : WorldValue) (new : Sheet) : Type 0 where
   pub answers : List Answer
   pub replies : AreReplies w (events_in commands) answers
-  pub put : new.text.items ≡ old.text.items ++ shapes_of (rows_of row arrows w commands answers)
-  pub letters : new.letters ≡ most_letters old.letters (rows_of row arrows w commands answers)
+  pub under : new.under.items ≡ old.under.items ++ under_of (rows_of row arrows w commands answers)
+  pub over : new.over.items ≡ old.over.items ++ over_of (rows_of row arrows w commands answers)
   pub ended : last ≡ arrows_past row arrows w commands
   pub world_after : world ≡ after w commands
 

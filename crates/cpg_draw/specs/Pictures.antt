@@ -8,18 +8,15 @@ use Rattle.cpg_draw.specs.declared.arrows.Arrow.{Arrow}
 use Rattle.cpg_draw.specs.declared.misses.Miss.{Miss}
 use Rattle.cpg_draw.specs.Misses.{misses_in}
 use Rattle.cpg_draw.specs.Rows.{first_arrows}
-use Rattle.cpg_draw.specs.declared.svg.layout.TheConstants.{LEAST_LETTERS}
 use Rattle.cpg_draw.specs.declared.svg.style.TheConstants.{STYLE}
-use Rattle.cpg_draw.specs.Layout.{x_of, y_of, width_of, number_x, number_y}
-use Rattle.cpg_draw.specs.Shapes.{point, text_at}
-use Rattle.cpg_draw.specs.PictureArrows.{miss_shapes}
-use Rattle.cpg_draw.specs.PictureRows.{Row, start_row, rows_of, arrows_past, most_letters, shapes_of}
+use Rattle.cpg_draw.specs.Layout.{x_of, y_of, below, width_of}
+use Rattle.cpg_draw.specs.Shapes.{point}
+use Rattle.cpg_draw.specs.PictureArrows.{unplaced, miss_shapes}
+use Rattle.cpg_draw.specs.PictureRows.{Row, start_row, rows_of, arrows_past, under_of, over_of}
 
--- the number of a node over its column, and the column down to a row
+-- the column of a node, down to a row
 unfoldable pub column_of : ℕ → ℕ → List ℕ
-column_of last node =
-    text_at (number_x node) number_y (decimal node)
-    ++ codes "<path d='M" ++ point (x_of node) (y_of 0) ++ codes "V" ++ decimal (y_of last) ++ codes "'/>\n"
+column_of last node = codes "<path d='M" ++ point (x_of node) (y_of 0) ++ codes "V" ++ decimal (y_of last) ++ codes "'/>\n"
 
 -- the columns of so many nodes
 abbrev pub columns_of : ℕ → ℕ → List ℕ
@@ -41,18 +38,19 @@ opening width height =
     ++ codes "' width='" ++ decimal width ++ codes "' height='" ++ decimal height ++ codes "'>\n"
 
 -- what stands before the rows: there are so many, and so many lines after them
-unfoldable pub head_of : ℕ → ℕ → ℕ → ℕ → List ℕ
-head_of nodes rows lines letters = opening (width_of nodes letters) (y_of (rows + lines + 1)) ++ style ++ columns_of rows nodes
+unfoldable pub head_of : ℕ → ℕ → ℕ → List ℕ
+head_of nodes rows lines = opening (width_of nodes) (below rows (lines + 1)) ++ style ++ columns_of rows nodes
 
--- the picture of so many rows after the first, which are drawn like this and say so many letters at most, of the world at their end
--- and of the frames that did not come
-abbrev pub picture_of : ℕ → ℕ → List ℕ → WorldValue → List Miss → List ℕ
-picture_of count letters shapes w misses =
-    head_of (length w.nodes) count (length misses) letters ++ shapes ++ miss_shapes w (length w.nodes) (count + 1) 0 0 misses ++ codes "</svg>\n"
+-- The picture of so many rows after the first, of the world at their end and of the frames that did not come. Lines and arrows are drawn first, then
+-- the marks of what did not come, and last what stands over them.
+abbrev pub picture_of : ℕ → List ℕ → List ℕ → WorldValue → List Miss → List ℕ
+picture_of count under over w misses =
+    head_of (length w.nodes) count (length misses) ++ under ++ miss_shapes w count 1 unplaced misses
+    ++ codes "<g>\n" ++ over ++ codes "</g>\n</svg>\n"
 
 -- the same of rows, and of the arrows after them
 abbrev pub picture_with : ℕ → List Row → WorldValue → List Arrow → List ℕ
-picture_with count rows w arrows = picture_of count (most_letters LEAST_LETTERS rows) (shapes_of rows) w (misses_in (length w.nodes) arrows)
+picture_with count rows w arrows = picture_of count (under_of rows) (over_of rows) w (misses_in (length w.nodes) arrows)
 
 -- the picture of commands, where that is what their events are answered
 abbrev pub picture : WorldValue → List Command → List Answer → List ℕ

@@ -1,6 +1,6 @@
 -- The picture of a run: a row for each command, from 1 on, and then a line for each frame that did not come to a node.
 use Rattle.std.specs.Prelude.{ℕ, ◌≡◌, ◌+◌, List, [], ◌∷◌, ◌++◌, drop, length, codes, decimal, Option, Some, None}
-use Rattle.std.specs.List.{concat, flat_map}
+use Rattle.std.specs.List.{concat}
 use Rattle.cpg_ring.specs.States.{safe_mark}
 use Rattle.cpg_ring.specs.Worlds.{item}
 use Rattle.cpg_node.specs.Nodes.{NodeValue}
@@ -12,12 +12,13 @@ use Rattle.cpg_step.specs.declared.commands.Command.{Command}
 use Rattle.cpg_step.specs.declared.commands.Command.TheVariants.{Act, Look}
 use Rattle.cpg_step.specs.declared.commands.Look.{Look as LookValue}
 use Rattle.cpg_step.specs.declared.commands.Look.TheVariants.{Show, Audit, Rules, Safe}
-use Rattle.cpg_step.specs.Lines.{answer_line}
+use Rattle.cpg_print.specs.Calls.{call_text}
 use Rattle.cpg_step.specs.Running.{events_in}
 use Rattle.cpg_draw.specs.declared.arrows.Arrow.{Arrow}
 use Rattle.cpg_draw.specs.Arrows.{arrows_of, seq_brought, with_brought}
 use Rattle.cpg_draw.specs.Columns.{columns, heads}
-use Rattle.cpg_draw.specs.Words.{brought_text, sent_text, misses_text}
+use Rattle.cpg_draw.specs.Entries.{told_text}
+use Rattle.cpg_draw.specs.Words.{brought_text, sends_text, misses_text}
 
 -- the number of the frame that an event brings; 0 is no frame's
 abbrev pub brings : WorldEvent → ℕ
@@ -43,7 +44,7 @@ numbered word number = word ++ codes " " ++ decimal number
 -- an event, as a row names it
 abbrev pub event_text : WorldEvent → List ℕ
 event_text (Connect n pid cred) = codes "connect"
-event_text (Submit n conn call) = numbered (codes "call") conn
+event_text (Submit n conn call) = numbered (codes "call") conn ++ codes " " ++ call_text call
 event_text (Disconnect n conn) = numbered (codes "disconnect") conn
 event_text (Arrival n k) = numbered (codes "frame") k
 event_text (Timer n) = codes "timer"
@@ -61,11 +62,15 @@ state_text (Some x) = codes ", waiting " ++ decimal (length x.ring.state.waiting
 abbrev pub row_text : ℕ → List ℕ
 row_text row = codes "  " ++ decimal row ++ codes " "
 
+-- a node after an event, and the event's answer
+abbrev pub ended_text : Option NodeValue → Answer → List ℕ
+ended_text x a = state_text x ++ codes ": " ++ told_text x a
+
 -- what a row says of an event: what it brings, what it sends, the node after it, and its answer
 abbrev pub act_text : ℕ → List Arrow → WorldValue → WorldEvent → Answer → List ℕ
 act_text row arrows w e a =
-    event_text e ++ brought_text (item arrows (brings e)) ++ flat_map sent_text (sent_by row w e)
-    ++ state_text (item (happens w e).nodes (node_in e)) ++ codes ": " ++ answer_line a
+    event_text e ++ brought_text w (item arrows (brings e)) ++ sends_text (happens w e) (sent_by row w e)
+    ++ ended_text (item (happens w e).nodes (node_in e)) a
 
 -- the row of an event: its node, and the arrow of the frame that it brings
 abbrev pub act_row : ℕ → List Arrow → WorldValue → WorldEvent → Answer → List ℕ
@@ -80,7 +85,7 @@ look_at (Safe n) = n
 
 -- what a row says of a command that only looks: the frame, or the node as it is
 abbrev pub look_text : List Arrow → WorldValue → LookValue → List ℕ
-look_text arrows w (Show k) = numbered (codes "show") k ++ brought_text (item arrows k)
+look_text arrows w (Show k) = numbered (codes "show") k ++ brought_text w (item arrows k)
 look_text arrows w (Audit n) = codes "audit" ++ state_text (item w.nodes n)
 look_text arrows w (Rules n g) = codes "rules" ++ state_text (item w.nodes n)
 look_text arrows w (Safe n) = codes "safe" ++ state_text (item w.nodes n)
@@ -97,13 +102,14 @@ rows_of row arrows w (Look l ∷ later) answers = look_row row arrows w l ∷ ro
 rows_of row arrows w (Act e ∷ later) [] = []
 rows_of row arrows w (Act e ∷ later) (a ∷ answers) = act_row row arrows w e a ∷ rows_of (row + 1) (arrows_after row arrows w e) (happens w e) later answers
 
--- the lines before the rows of so many nodes: their numbers, and the frames that were sent before the script
-abbrev pub head_of : ℕ → List Arrow → List ℕ
-head_of nodes arrows = heads nodes ++ codes "  row\n" ++ columns 0 None nodes ++ codes "  0 start" ++ flat_map sent_text arrows ++ codes "\n"
+-- the lines before the rows: the numbers of nodes, and the frames that were sent before the script
+abbrev pub head_of : WorldValue → List Arrow → List ℕ
+head_of w arrows =
+    heads (length w.nodes) ++ codes "  row\n" ++ columns 0 None (length w.nodes) ++ codes "  0 start" ++ sends_text w arrows ++ codes "\n"
 
 -- the picture of commands, where that is what their events are answered
 abbrev pub picture : WorldValue → List Command → List Answer → List ℕ
-picture w commands answers = head_of (length w.nodes) (first_arrows w) ++ concat (rows_of 1 (first_arrows w) w commands answers)
+picture w commands answers = head_of w (first_arrows w) ++ concat (rows_of 1 (first_arrows w) w commands answers)
 
 -- The text is the picture of the commands, as the world answers their events.
 pub record IsPicture (w : WorldValue) (commands : List Command) (text : List ℕ) : Type 0 where

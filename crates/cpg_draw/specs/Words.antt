@@ -1,10 +1,13 @@
 -- what is said of arrows
 use Rattle.std.specs.Prelude.{ℕ, Bool, ◌||◌, nat_le, List, [], ◌++◌, codes, decimal, Option, Some, None, if◌then◌else◌}
 use Rattle.std.specs.List.{flat_map}
+use Rattle.cpg_ring.specs.Worlds.{item}
+use Rattle.cpg_world_laws.specs.Worlds.{WorldValue}
 use Rattle.cpg_draw.specs.declared.arrows.Arrow.{Arrow}
 use Rattle.cpg_draw.specs.declared.arrows.Kind.{Kind}
 use Rattle.cpg_draw.specs.declared.arrows.Kind.TheVariants.{Data, Again, Token}
 use Rattle.cpg_draw.specs.declared.misses.Miss.{Miss}
+use Rattle.cpg_draw.specs.Entries.{carried_text}
 use Rattle.cpg_draw.specs.Misses.{is_token, misses_in}
 
 -- data, data that is served again, or the token
@@ -17,14 +20,18 @@ kind_text Token = codes "token "
 abbrev pub arrow_text : Arrow → List ℕ
 arrow_text a = kind_text a.kind ++ decimal a.mark
 
--- the frame that a row brings, and the row that sent it
-abbrev pub brought_text : Option Arrow → List ℕ
-brought_text None = []
-brought_text (Some a) = codes ", " ++ arrow_text a ++ codes " of row " ++ decimal a.row
+-- the frame that a row brings, the row that sent it, and the entry that it carries
+abbrev pub brought_text : WorldValue → Option Arrow → List ℕ
+brought_text w None = []
+brought_text w (Some a) = codes ", " ++ arrow_text a ++ codes " of row " ++ decimal a.row ++ carried_text (item w.sent a.number)
 
--- a frame that a row sends
-abbrev pub sent_text : Arrow → List ℕ
-sent_text a = codes ", sends " ++ decimal a.number ++ codes " " ++ arrow_text a
+-- a frame that a row sends, and the entry that it carries
+abbrev pub sent_text : WorldValue → Arrow → List ℕ
+sent_text w a = codes ", sends " ++ decimal a.number ++ codes " " ++ arrow_text a ++ carried_text (item w.sent a.number)
+
+-- and all of them
+abbrev pub sends_text : WorldValue → List Arrow → List ℕ
+sends_text w arrows = flat_map (sent_text w) arrows
 
 -- what is said of a frame that did not come
 unfoldable pub fate_text : Bool → List ℕ

@@ -76,21 +76,26 @@ fn draw_commands(alloc: Global, mut world: World, commands: &[Command]) -> Resul
     let mut text = Vec::new(alloc);
     let mut arrows = Vec::new(alloc);
     push_arrows(alloc, &mut arrows, &world, (0, 0, 0), 0)?;
-    put_head(&mut text, world.nodes(), arrows.as_slice())?;
+    put_head(alloc, &mut text, &world, arrows.as_slice())?;
     draw_rows(alloc, &mut text, &mut arrows, &mut world, commands)?;
     Ok(text)
 }
 
-/// Puts the lines before the rows, over so many nodes.
-fn put_head(text: &mut Vec<u8>, nodes: u8, arrows: &[Arrow]) -> Result<(), Refusal>
-    ensures ok { OnOk result (text.new.items ≡ text.old.items ++ head_of nodes arrows.now) }
+/// Puts the lines before the rows.
+fn put_head(
+    alloc: Global,
+    text: &mut Vec<u8>,
+    world: &World,
+    arrows: &[Arrow],
+) -> Result<(), Refusal>
+    ensures ok { OnOk result (text.new.items ≡ text.old.items ++ head_of world.now arrows.now) }
     ensures memory { IsOkUnless result Refusal.Memory }
 {
-    put_heads(text, nodes)?;
+    put_heads(text, world.nodes())?;
     put(text, "  row\n")?;
-    put_columns(text, nodes, 0, None)?;
+    put_columns(text, world.nodes(), 0, None)?;
     put(text, "  0 start")?;
-    put_sent(text, arrows)?;
+    put_sent(alloc, text, world, arrows)?;
     put(text, "\n")
 }
 

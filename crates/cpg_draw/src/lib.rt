@@ -8,6 +8,7 @@
 mod arrows;
 mod columns;
 mod drawing;
+mod entries;
 mod frames;
 mod misses;
 mod rows;

@@ -3,26 +3,26 @@
 //! Proved: what is put at the text's end is the definition of `specs/Rows.antt`.
 
 ghost use Rattle.std.specs.Prelude.{◌≡◌, ◌≤◌, ◌++◌, codes, decimal, length, None, Some, OnOk, IfOk, IfErr, IsOkUnless};
-ghost use Rattle.std.specs.List.{flat_map};
 ghost use Rattle.cpg_ring.specs.Worlds.{item};
 ghost use Rattle.cpg_world_laws.specs.Worlds.{node_in};
 ghost use Rattle.cpg_step.specs.Commands.{IsWithin, LooksWithin};
-ghost use Rattle.cpg_step.specs.Lines.{answer_line};
 ghost use Rattle.cpg_draw.specs.Arrows.{arrows_of};
 ghost use Rattle.cpg_draw.specs.Columns.{columns};
-ghost use Rattle.cpg_draw.specs.Rows.{brings, numbered, event_text, state_text, row_text, look_at, look_text, look_row};
+ghost use Rattle.cpg_draw.specs.Rows.{brings, numbered, event_text, state_text, ended_text, row_text, look_at, look_text, look_row};
 ghost use Rattle.cpg_draw.specs.Steps.{IsActed, StandsBefore};
 ghost use Rattle.cpg_draw.specs.Telling.{IsTold};
-ghost use Rattle.cpg_draw.specs.Words.{brought_text, sent_text};
+ghost use Rattle.cpg_draw.specs.Words.{brought_text, sends_text};
 
 use crate::arrows::{Arrow, find_arrow, note_brought};
 use crate::columns::put_columns;
+use crate::entries::put_told;
 use crate::frames::{push_arrows, seq_at};
 use crate::words::{put_brought, put_sent};
 use cpg_cred::Refusal;
 use cpg_node::Node;
+use cpg_print::put_call;
 use cpg_script::put;
-use cpg_step::{Command, Look, answer_to, put_answer};
+use cpg_step::{Command, Look, answer_to};
 use cpg_text::push_number;
 use cpg_world::{Reply, World, WorldEvent};
 use std::alloc::Global;
@@ -53,7 +53,10 @@ fn put_event(text: &mut Vec<u8>, event: &WorldEvent) -> Result<(), Refusal>
 {
     match event {
         WorldEvent::Connect(_, _, _) => put(text, "connect"),
-        WorldEvent::Submit(_, conn, _) => put_numbered(text, "call", u64::from(*conn)),
+        WorldEvent::Submit(_, conn, call) => {
+            put_numbered(text, "call", u64::from(*conn))?;
+            put_call(text, call)
+        }
         WorldEvent::Disconnect(_, conn) => put_numbered(text, "disconnect", u64::from(*conn)),
         WorldEvent::Frame(_, number) => put_numbered(text, "frame", *number as u64),
         WorldEvent::Timer(_) => put(text, "timer"),
@@ -84,24 +87,36 @@ fn put_row_number(text: &mut Vec<u8>, row: u64) -> Result<(), Refusal>
     put(text, " ")
 }
 
-/// Puts what a row says of an event: what it brings and sends, and the node after it.
-fn put_event_row(
+/// Puts what a row says of an event before it happens: its number, the event, and what it brings.
+fn put_begun(
+    alloc: Global,
     text: &mut Vec<u8>,
     row: u64,
+    world: &World,
     event: &WorldEvent,
     arrow: Option<Arrow>,
-    sent: &[Arrow],
-    node: &Node,
 ) -> Result<(), Refusal>
-    ensures ok { OnOk result (text.new.items ≡ text.old.items ++ (row_text row ++ event_text event.now ++ brought_text arrow ++ flat_map sent_text sent.now ++ state_text (Some node.now) ++ codes ": ")) }
+    ensures ok { OnOk result (text.new.items ≡ text.old.items ++ (row_text row ++ event_text event.now ++ brought_text world.now arrow)) }
     ensures memory { IsOkUnless result Refusal.Memory }
 {
     put_row_number(text, row)?;
     put_event(text, event)?;
-    put_brought(text, arrow)?;
-    put_sent(text, sent)?;
+    put_brought(alloc, text, world, arrow)
+}
+
+/// Puts the node after an event, and the event's answer.
+fn put_ended(
+    alloc: Global,
+    text: &mut Vec<u8>,
+    node: &Node,
+    answer: &Result<Reply, Refusal>,
+) -> Result<(), Refusal>
+    ensures ok { OnOk result (text.new.items ≡ text.old.items ++ ended_text (Some node.now) answer.now) }
+    ensures memory { IsOkUnless result Refusal.Memory }
+{
     put_state(text, node)?;
-    put(text, ": ")
+    put(text, ": ")?;
+    put_told(alloc, text, node, answer)
 }
 
 /// Does an event, and puts what its row says; the arrow that it brings ends there, and those that it sends begin.
@@ -123,14 +138,15 @@ pub fn tell_event(
     let number = brought_by(event);
     let node = event.node();
     let arrow = find_arrow(arrows.as_slice(), number);
+    put_begun(alloc, text, row, world, event, arrow)?;
     let seq = seq_at(alloc, world, number)?;
     let before = world.sent();
     let answer = answer_to(alloc, world, event)?;
     note_brought(arrows, number, node.get());
     let mut sent = Vec::new(alloc);
     push_arrows(alloc, &mut sent, world, (row, node.get(), seq), before)?;
-    put_event_row(text, row, event, arrow, sent.as_slice(), world.node(node))?;
-    put_answer(alloc, text, &answer)?;
+    put_sent(alloc, text, world, sent.as_slice())?;
+    put_ended(alloc, text, world.node(node), &answer)?;
     arrows.append(&mut sent)?;
     Ok(())
 }
@@ -155,7 +171,13 @@ fn draw_event(
 }
 
 /// Puts what a row says of a command that only looks.
-fn put_look(text: &mut Vec<u8>, arrows: &[Arrow], world: &World, look: &Look) -> Result<(), Refusal>
+fn put_look(
+    alloc: Global,
+    text: &mut Vec<u8>,
+    arrows: &[Arrow],
+    world: &World,
+    look: &Look,
+) -> Result<(), Refusal>
     requires { LooksWithin (length world.now.nodes) look.now }
     ensures ok { OnOk result (text.new.items ≡ text.old.items ++ look_text arrows.now world.now look.now) }
     ensures memory { IsOkUnless result Refusal.Memory }
@@ -163,7 +185,8 @@ fn put_look(text: &mut Vec<u8>, arrows: &[Arrow], world: &World, look: &Look) ->
     match look {
         Look::Show(number) => {
             put_numbered(text, "show", *number)?;
-            put_brought(text, find_arrow(arrows, *number as usize))
+            let arrow = find_arrow(arrows, *number as usize);
+            put_brought(alloc, text, world, arrow)
         }
         Look::Audit(node) => {
             put(text, "audit")?;
@@ -196,6 +219,7 @@ pub fn looked_at(look: &Look) -> u8
 ///
 /// The node that is looked at is one of the world's. `Memory` is the only error.
 pub fn tell_look(
+    alloc: Global,
     text: &mut Vec<u8>,
     arrows: &[Arrow],
     row: u64,
@@ -207,11 +231,12 @@ pub fn tell_look(
     ensures memory { IsOkUnless result Refusal.Memory }
 {
     put_row_number(text, row)?;
-    put_look(text, arrows, world, look)
+    put_look(alloc, text, arrows, world, look)
 }
 
 /// Puts the row of a command that only looks.
 fn draw_look(
+    alloc: Global,
     text: &mut Vec<u8>,
     arrows: &[Arrow],
     row: u64,
@@ -223,7 +248,7 @@ fn draw_look(
     ensures memory { IsOkUnless result Refusal.Memory }
 {
     put_columns(text, world.nodes(), looked_at(look), None)?;
-    tell_look(text, arrows, row, world, look)?;
+    tell_look(alloc, text, arrows, row, world, look)?;
     put(text, "\n")
 }
 
@@ -244,6 +269,6 @@ pub(crate) fn draw_command(
 {
     match command {
         Command::Act(event) => draw_event(alloc, text, arrows, row, world, event),
-        Command::Look(look) => draw_look(text, arrows.as_slice(), row, world, look),
+        Command::Look(look) => draw_look(alloc, text, arrows.as_slice(), row, world, look),
     }
 }

@@ -16,5 +16,5 @@ mod sheets;
 mod style;
 
 pub use drawing::draw_svg;
-pub use layout::{COLUMN, LEAST_LETTERS, LEFT, LETTER, MARKS, MOST, ROW, TOP, limits};
+pub use layout::{COLUMN, HEADS, LEFT, LETTER, LETTERS, MARKS, MOST, ROW, TOP, limits};
 pub use style::STYLE;

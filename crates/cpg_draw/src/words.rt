@@ -4,13 +4,15 @@
 
 ghost use Rattle.std.specs.Prelude.{◌≡◌, ◌++◌, codes, decimal, OnOk, IsOkUnless};
 ghost use Rattle.std.specs.List.{flat_map};
-ghost use Rattle.cpg_draw.specs.Words.{kind_text, arrow_text, brought_text, sent_text, fate_text, for_text, miss_text, misses_text};
+ghost use Rattle.cpg_draw.specs.Words.{kind_text, arrow_text, brought_text, sent_text, sends_text, fate_text, for_text, miss_text, misses_text};
 
 use crate::arrows::{Arrow, Kind};
+use crate::entries::put_carried;
 use crate::misses::{Miss, find_misses, holds_token};
 use cpg_cred::Refusal;
 use cpg_script::put;
 use cpg_text::push_number;
+use cpg_world::World;
 use std::alloc::Global;
 
 /// Puts what an arrow stands for. `Memory` is the only error.
@@ -34,9 +36,14 @@ pub fn put_arrow(line: &mut Vec<u8>, arrow: &Arrow) -> Result<(), Refusal>
     push_number(line, arrow.mark)
 }
 
-/// Puts what the frame is that a row brings, and the row that sent it.
-pub(crate) fn put_brought(line: &mut Vec<u8>, arrow: Option<Arrow>) -> Result<(), Refusal>
-    ensures ok { OnOk result (line.new.items ≡ line.old.items ++ brought_text arrow) }
+/// Puts what the frame is that a row brings, the row that sent it, and the entry that it carries.
+pub(crate) fn put_brought(
+    alloc: Global,
+    line: &mut Vec<u8>,
+    world: &World,
+    arrow: Option<Arrow>,
+) -> Result<(), Refusal>
+    ensures ok { OnOk result (line.new.items ≡ line.old.items ++ brought_text world.now arrow) }
     ensures memory { IsOkUnless result Refusal.Memory }
 {
     match arrow {
@@ -45,21 +52,41 @@ pub(crate) fn put_brought(line: &mut Vec<u8>, arrow: Option<Arrow>) -> Result<()
             put(line, ", ")?;
             put_arrow(line, &arrow)?;
             put(line, " of row ")?;
-            push_number(line, arrow.row)
+            push_number(line, arrow.row)?;
+            put_carried(alloc, line, world, arrow.number)
         }
     }
 }
 
-/// Puts the numbers of the frames that a row sent, with what they are. `Memory` is the only error.
-pub fn put_sent(line: &mut Vec<u8>, arrows: &[Arrow]) -> Result<(), Refusal>
-    ensures ok { OnOk result (line.new.items ≡ line.old.items ++ flat_map sent_text arrows.now) }
+/// Puts the number of a frame that a row sent, with what it is and the entry that it carries.
+fn put_one_sent(
+    alloc: Global,
+    line: &mut Vec<u8>,
+    world: &World,
+    arrow: &Arrow,
+) -> Result<(), Refusal>
+    ensures ok { OnOk result (line.new.items ≡ line.old.items ++ sent_text world.now arrow.now) }
+    ensures memory { IsOkUnless result Refusal.Memory }
+{
+    put(line, ", sends ")?;
+    push_number(line, arrow.number)?;
+    put(line, " ")?;
+    put_arrow(line, arrow)?;
+    put_carried(alloc, line, world, arrow.number)
+}
+
+/// Puts the frames that a row sent. `Memory` is the only error.
+pub fn put_sent(
+    alloc: Global,
+    line: &mut Vec<u8>,
+    world: &World,
+    arrows: &[Arrow],
+) -> Result<(), Refusal>
+    ensures ok { OnOk result (line.new.items ≡ line.old.items ++ sends_text world.now arrows.now) }
     ensures memory { IsOkUnless result Refusal.Memory }
 {
     for arrow in arrows {
-        put(line, ", sends ")?;
-        push_number(line, arrow.number)?;
-        put(line, " ")?;
-        put_arrow(line, arrow)?;
+        put_one_sent(alloc, line, world, arrow)?;
     }
     Ok(())
 }

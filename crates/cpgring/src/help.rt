@@ -336,21 +336,23 @@ are columns, and time goes down, a row for each command. Printed is one SVG, whi
 
 pub const DRAW_MORE: &str = "\
 In the SVG an arrow goes from the row that sent a frame to the row that brings it, with the frame's place or hop:
-solid is data, dashed data that is served again, dotted the token. Beside its sender a frame
-has a mark for each node that it went to and did not come to: a cross where it is lost, an open diamond where it
-is under way. The title of an arrow is the frame as `show` of `cpgring step` prints it. Right of the columns stands
-what a row of --text has.
+solid is data, dashed data that is served again, dotted the token. Towards each node that a frame went to and did
+not come to goes a stub, which ends in a cross where the frame is lost, and in an open diamond where it is under way;
+the first two of a row for a node have their place or hop beyond that node's column. The title of an arrow or a stub
+is the frame as `show` of `cpgring step` prints it. The nodes' numbers come again every 40 rows. Right of the columns
+stands what a row of --text has, cut after 112 letters; its title then has all of it.
 
 With --text, in a row `*` is the node that the command is at, and an arrow comes in from the node that sent the frame that
 the row brings, marked `o`: --> is data, ==> data that is sent again, ..> the token. The first token, which
 was sent before the script, comes from outside. After the columns stand the row's number and
 
-  COMMAND, WHAT of row ROW, sends K WHAT, waiting COUNT, safe PLACE: ANSWER
+  COMMAND, WHAT of row ROW: ENTRY, sends K WHAT: ENTRY, waiting COUNT, safe PLACE: ANSWER
 
-COMMAND is its first word, with the frame's or the connection's number; then what the frame is that it brings,
-and the row that sent it; each frame that the row sends, with its number; how many calls wait at the node, and
-its safe mark; and what `cpgring step` prints. WHAT is data PLACE, again PLACE or token HOP. A command that
-only looks has no answer: its row says what the frame is that is shown, or how the node stands.
+COMMAND is its first word, with the frame's or the connection's number, and the call that it hands in; then what the
+frame is that it brings, and the row that sent it; each frame that the row sends, with its number; how many calls wait
+at the node, and its safe mark; and what `cpgring step` prints, with the entry that was delivered and its verdict.
+WHAT is data PLACE, again PLACE or token HOP; data has an ENTRY, NODE/PID and its call. A command that only looks has
+no answer: its row says what the frame is that is shown, or how the node stands.
 
 Last come the frames that did not come to a node that they went to, data to every other node and the token to the
 next: `lost K WHAT of row ROW` where a later frame of the same sender came to that node, as links keep their order,
@@ -365,14 +367,15 @@ Example: frame 2, the data of place 1, never reaches node 2.
      1   2  row
      |   |  0 start, sends 1 token 0
      *   |  1 connect, waiting 0, safe 0: connected 1
-     *   |  2 call 1, waiting 1, safe 0: admitted
-     *   |  3 call 1, waiting 2, safe 0: admitted
-  ..>*   |  4 frame 1, token 0 of row 0, sends 2 data 1, sends 3 data 2, sends 4 token 1, waiting 0, safe 0: sent 3
-     o-->*  5 frame 3, data 2 of row 4, waiting 0, safe 0: sent 0
+     *   |  2 call 1 join db, waiting 1, safe 0: admitted
+     *   |  3 call 1 send hi, waiting 2, safe 0: admitted
+  ..>*   |  4 frame 1, token 0 of row 0, sends 2 data 1: 1/40 join db, sends 3 data 2: 1/40 send hi, sends 4 token 1, \
+waiting 0, safe 0: sent 3
+     o-->*  5 frame 3, data 2 of row 4: 1/40 send hi, waiting 0, safe 0: sent 0
      o..>*  6 frame 4, token 1 of row 4, sends 5 token 2, waiting 0, safe 0: sent 1
-     *<..o  7 frame 5, token 2 of row 6, sends 6 again 1, sends 7 token 3, waiting 0, safe 0: sent 2
-     o==>*  8 frame 6, again 1 of row 7, waiting 0, safe 0: sent 0
-     |   *  9 deliver, waiting 0, safe 0: delivered 1
+     *<..o  7 frame 5, token 2 of row 6, sends 6 again 1: 1/40 join db, sends 7 token 3, waiting 0, safe 0: sent 2
+     o==>*  8 frame 6, again 1 of row 7: 1/40 join db, waiting 0, safe 0: sent 0
+     |   *  9 deliver, waiting 0, safe 0: delivered 1: 1/40 join db -> allowed default
   lost 2 data 1 of row 4
   under way 7 token 3 of row 7
 

@@ -3,23 +3,16 @@
 //! Proved: what is put at the text's end is the definition of `specs/PictureArrows.antt`.
 
 ghost use Rattle.std.specs.Prelude.{◌≡◌, ◌++◌, Some, OnOk, IsOkUnless};
-ghost use Rattle.cpg_draw.specs.PictureArrows.{bend, path_of, label_of, side_of, arrow_shape};
+ghost use Rattle.cpg_draw.specs.PictureArrows.{path_of, label_of, side_of, arrow_shape, label_shape};
 
 use crate::arrows::Arrow;
-use crate::svg::layout::{column_at, label_across, label_down, row_at};
+use crate::svg::layout::{bend_between, column_at, label_across, label_down, row_at};
 use crate::svg::shapes::{put_place, put_point, put_title};
 use crate::words::{put_arrow, put_kind};
 use cpg_cred::Refusal;
 use cpg_script::put;
 use cpg_world::World;
 use std::alloc::Global;
-
-/// How far an arrow from a column to a column bends to the right.
-fn bend_between(from: u8, to: u8) -> u64
-    ensures { result ≡ bend from to }
-{
-    if from == to { 60 } else { 0 }
-}
 
 /// Puts the path of the arrow to a row and a node.
 #[tactic(auto, unfolding(crate::specs::PictureArrows::path_of))]
@@ -51,7 +44,7 @@ fn put_label(text: &mut Vec<u8>, arrow: &Arrow, row: u64, node: u8) -> Result<()
 }
 
 /// Puts the side of the arrow's end on which its label stands.
-fn put_side(text: &mut Vec<u8>, from: u8, to: u8) -> Result<(), Refusal>
+pub(crate) fn put_side(text: &mut Vec<u8>, from: u8, to: u8) -> Result<(), Refusal>
     ensures ok { OnOk result (text.new.items ≡ text.old.items ++ side_of from to) }
     ensures memory { IsOkUnless result Refusal.Memory }
 {
@@ -62,7 +55,7 @@ fn put_side(text: &mut Vec<u8>, from: u8, to: u8) -> Result<(), Refusal>
     }
 }
 
-/// Puts the arrow to a row and a node, with its frame.
+/// Puts the arrow to a row and a node, under its frame.
 fn put_ended(
     alloc: Global,
     text: &mut Vec<u8>,
@@ -76,11 +69,9 @@ fn put_ended(
 {
     put(text, "<g class='")?;
     put_kind(text, arrow.kind)?;
-    put_side(text, arrow.node, node)?;
     put(text, "'>")?;
     put_title(alloc, text, world, arrow.number)?;
     put_path(text, arrow, row, node)?;
-    put_label(text, arrow, row, node)?;
     put(text, "</g>")
 }
 
@@ -99,5 +90,43 @@ pub(crate) fn put_arrow_to(
     match arrow {
         None => Ok(()),
         Some(arrow) => put_ended(alloc, text, world, row, node, &arrow),
+    }
+}
+
+/// Puts the label of the arrow to a row and a node, under its frame.
+fn put_labelled(
+    alloc: Global,
+    text: &mut Vec<u8>,
+    world: &World,
+    row: u64,
+    node: u8,
+    arrow: &Arrow,
+) -> Result<(), Refusal>
+    ensures ok { OnOk result (text.new.items ≡ text.old.items ++ label_shape world.now row node (Some arrow.now)) }
+    ensures memory { IsOkUnless result Refusal.Memory }
+{
+    put(text, "<g class='")?;
+    put_side(text, arrow.node, node)?;
+    put(text, "'>")?;
+    put_title(alloc, text, world, arrow.number)?;
+    put_label(text, arrow, row, node)?;
+    put(text, "</g>")
+}
+
+/// Puts the label of the arrow that ends in a row at a node, if there is one.
+pub(crate) fn put_label_at(
+    alloc: Global,
+    text: &mut Vec<u8>,
+    world: &World,
+    row: u64,
+    node: u8,
+    arrow: Option<Arrow>,
+) -> Result<(), Refusal>
+    ensures ok { OnOk result (text.new.items ≡ text.old.items ++ label_shape world.now row node arrow) }
+    ensures memory { IsOkUnless result Refusal.Memory }
+{
+    match arrow {
+        None => Ok(()),
+        Some(arrow) => put_labelled(alloc, text, world, row, node, &arrow),
     }
 }

@@ -14,7 +14,6 @@ use crate::arrows::Arrow;
 use crate::frames::push_arrows;
 use crate::misses::{Miss, find_misses};
 use crate::svg::head::put_head;
-use crate::svg::layout::LEAST_LETTERS;
 use crate::svg::marks::draw_misses;
 use crate::svg::rows::{draw_command, draw_start};
 use crate::svg::sheets::Sheet;
@@ -78,11 +77,11 @@ fn draw_commands(alloc: Global, mut world: World, commands: &[Command]) -> Resul
 {
     let mut arrows = Vec::new(alloc);
     let mut sheet = Sheet {
-        text: Vec::new(alloc),
-        letters: LEAST_LETTERS,
+        under: Vec::new(alloc),
+        over: Vec::new(alloc),
     };
     push_arrows(alloc, &mut arrows, &world, (0, 0, 0), 0)?;
-    draw_start(alloc, &mut sheet, world.nodes(), arrows.as_slice())?;
+    draw_start(alloc, &mut sheet, &world, arrows.as_slice())?;
     draw_rows(alloc, &mut sheet, &mut arrows, &mut world, commands)?;
     let misses = find_misses(alloc, world.nodes(), arrows.as_slice())?;
     finish(alloc, sheet, &world, commands.len(), misses.as_slice())
@@ -116,21 +115,16 @@ fn finish(
     rows: usize,
     misses: &[Miss],
 ) -> Result<Vec<u8>, Refusal>
-    requires { rows < 2 ^ 63 }
-    ensures ok { IfOk result (λ picture. picture.items ≡ picture_of rows sheet.letters sheet.text.items world.now misses.now) }
+    ensures ok { IfOk result (λ picture. picture.items ≡ picture_of rows sheet.under.items sheet.over.items world.now misses.now) }
     ensures memory { IsOkUnless result Refusal.Memory }
 {
     let mut text = Vec::new(alloc);
-    let nodes = world.nodes();
-    put_head(
-        &mut text,
-        nodes,
-        rows as u64,
-        misses.len() as u64,
-        sheet.letters,
-    )?;
-    text.append(&mut sheet.text)?;
-    draw_misses(alloc, &mut text, world, rows as u64, misses)?;
-    put(&mut text, "</svg>\n")?;
+    let rows = rows as u64;
+    put_head(&mut text, world.nodes(), rows, misses.len() as u64)?;
+    text.append(&mut sheet.under)?;
+    draw_misses(alloc, &mut text, world, rows, misses)?;
+    put(&mut text, "<g>\n")?;
+    text.append(&mut sheet.over)?;
+    put(&mut text, "</g>\n</svg>\n")?;
     Ok(text)
 }

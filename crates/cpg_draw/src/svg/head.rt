@@ -5,22 +5,19 @@
 ghost use Rattle.std.specs.Prelude.{◌≡◌, ◌<◌, ◌+◌, ◌^◌, ◌++◌, OnOk, IsOkUnless};
 ghost use Rattle.cpg_draw.specs.Pictures.{column_of, columns_of, namespace, style, opening, head_of};
 
-use crate::svg::layout::{column_at, number_across, number_down, row_at, width};
-use crate::svg::shapes::{put_place, put_point};
+use crate::svg::layout::{column_at, line_at, row_at, width};
+use crate::svg::shapes::put_point;
 use crate::svg::style::STYLE;
 use cpg_cred::Refusal;
 use cpg_script::put;
 use cpg_text::push_number;
 
-/// Puts the number of a node over its column, and the column down to a row.
+/// Puts the column of a node, down to a row.
 #[tactic(auto, unfolding(crate::specs::Pictures::column_of))]
 fn put_column(text: &mut Vec<u8>, last: u64, node: u8) -> Result<(), Refusal>
     ensures ok { OnOk result (text.new.items ≡ text.old.items ++ column_of last node) }
     ensures memory { IsOkUnless result Refusal.Memory }
 {
-    put_place(text, number_across(node), number_down())?;
-    push_number(text, u64::from(node))?;
-    put(text, "</text>")?;
     put(text, "<path d='M")?;
     put_point(text, column_at(u16::from(node)), row_at(0))?;
     put(text, "V")?;
@@ -73,22 +70,14 @@ fn put_opening(text: &mut Vec<u8>, width: u64, height: u64) -> Result<(), Refusa
     put(text, "'>\n")
 }
 
-/// Puts what stands before so many rows, with so many lines after them, where a row says so many letters at most.
+/// Puts what stands before so many rows, with so many lines after them.
 #[tactic(auto, unfolding(crate::specs::Pictures::head_of))]
-pub(crate) fn put_head(
-    text: &mut Vec<u8>,
-    nodes: u8,
-    rows: u64,
-    lines: u64,
-    letters: u64,
-) -> Result<(), Refusal>
-    requires rows { rows < 2 ^ 63 }
-    requires lines { lines < 2 ^ 63 }
-    ensures ok { OnOk result (text.new.items ≡ text.old.items ++ head_of nodes rows lines letters) }
+pub(crate) fn put_head(text: &mut Vec<u8>, nodes: u8, rows: u64, lines: u64) -> Result<(), Refusal>
+    requires { lines < 2 ^ 63 }
+    ensures ok { OnOk result (text.new.items ≡ text.old.items ++ head_of nodes rows lines) }
     ensures memory { IsOkUnless result Refusal.Memory }
 {
-    let height = row_at(rows + lines + 1);
-    put_opening(text, width(nodes, letters), height)?;
+    put_opening(text, width(nodes), line_at(rows, lines + 1))?;
     put_style(text)?;
     put_columns(text, rows, nodes)
 }

@@ -2,8 +2,8 @@
 //!
 //! The layout is this project's own. Proved: the definitions of `specs/Layout.antt`.
 
-ghost use Rattle.std.specs.Prelude.{◌≡◌, ◌+◌, ◌*◌, min};
-ghost use Rattle.cpg_draw.specs.Layout.{x_of, y_of, width_of, words_x, words_y, label_x, label_y, number_x, number_y, mark_right, mark_down};
+ghost use Rattle.std.specs.Prelude.{◌≡◌, ◌≤◌, ◌+◌, ◌*◌, min};
+ghost use Rattle.cpg_draw.specs.Layout.{x_of, y_of, below, width_of, words_x, label_x, label_y, number_y, bend, reach, mark_x, second_x};
 
 /// Where column 0 stands, in which the arrows of frames from outside the ring begin.
 pub const LEFT: u64 = 24;
@@ -20,14 +20,17 @@ pub const ROW: u64 = 24;
 /// What a letter of what a row says takes at most.
 pub const LETTER: u64 = 8;
 
-/// For so many letters there is room at least.
-pub const LEAST_LETTERS: u64 = 96;
+/// What a row says is cut to so many letters.
+pub const LETTERS: u64 = 112;
 
-/// Rows after so many, and letters after so many, would be drawn over the last; no script has so many commands.
+/// Rows after so many, and lines after so many, would be drawn over the last; no script has so many commands.
 pub const MOST: u64 = 4_294_967_296;
 
-/// How many marks of frames that did not come stand side by side, before the next ones stand below them.
-pub const MARKS: u64 = 14;
+/// The numbers of nodes stand over the columns again after so many rows.
+pub const HEADS: u64 = 40;
+
+/// After so many marks of frames of a row that did not come to a node, the others stand over the next one.
+pub const MARKS: u64 = 6;
 
 /// The numbers of the layout.
 pub fn limits()
@@ -36,9 +39,10 @@ pub fn limits()
     ensures top { TOP ≡ 72 }
     ensures row { ROW ≡ 24 }
     ensures letter { LETTER ≡ 8 }
-    ensures letters { LEAST_LETTERS ≡ 96 }
+    ensures letters { LETTERS ≡ 112 }
     ensures most { MOST ≡ 4294967296 }
-    ensures marks { MARKS ≡ 14 }
+    ensures heads { HEADS ≡ 40 }
+    ensures marks { MARKS ≡ 6 }
 {}
 
 /// Where a column stands.
@@ -52,14 +56,22 @@ pub(crate) fn column_at(column: u16) -> u64
 pub(crate) fn row_at(row: u64) -> u64
     ensures { result ≡ y_of row }
 {
-    TOP + ROW * row.min(MOST)
+    let row = row.min(MOST);
+    TOP + ROW * (row + row / HEADS)
 }
 
-/// How wide the picture of so many nodes is, where a row says so many letters.
-pub(crate) fn width(nodes: u8, letters: u64) -> u64
-    ensures { result ≡ width_of nodes letters }
+/// Where a line below so many rows stands, from 1 on.
+pub(crate) fn line_at(rows: u64, line: u64) -> u64
+    ensures { result ≡ below rows line }
 {
-    column_at(u16::from(nodes) + 1) + LETTER * letters.min(MOST)
+    row_at(rows) + ROW * line.min(MOST)
+}
+
+/// How wide the picture of so many nodes is.
+pub(crate) fn width(nodes: u8) -> u64
+    ensures { result ≡ width_of nodes }
+{
+    column_at(u16::from(nodes) + 1) + LETTER * LETTERS
 }
 
 /// Where what a row of so many nodes says begins.
@@ -69,11 +81,18 @@ pub(crate) fn words_across(nodes: u8) -> u64
     column_at(u16::from(nodes) + 1) + 8
 }
 
-/// How far down its letters stand.
-pub(crate) fn words_down(row: u64) -> u64
-    ensures { result ≡ words_y row }
+/// How far down the label of an arrow to a row stands.
+pub(crate) fn label_down(row: u64) -> u64
+    ensures { result ≡ label_y row }
 {
-    row_at(row) + 4
+    row_at(row) - 8
+}
+
+/// How far down the numbers of nodes stand above a row.
+pub(crate) fn number_down(row: u64) -> u64
+    ensures { result ≡ number_y row }
+{
+    row_at(row) - 24
 }
 
 /// Where the label of an arrow from a node to a node begins, or ends where it stands on the left.
@@ -84,37 +103,42 @@ pub(crate) fn label_across(from: u8, to: u8) -> u64
     if from < to { x + 9 } else { x - 9 }
 }
 
-/// How far down the label of an arrow to a row stands.
-pub(crate) fn label_down(row: u64) -> u64
-    ensures { result ≡ label_y row }
+/// The same of the second label there.
+pub(crate) fn second_across(from: u8, to: u8) -> u64
+    ensures { result ≡ second_x from to }
 {
-    row_at(row) - 5
+    let x = label_across(from, to);
+    if from < to {
+        x + 66
+    } else {
+        x.saturating_sub(66)
+    }
 }
 
-/// Where the number of a node begins.
-pub(crate) fn number_across(node: u8) -> u64
-    ensures { result ≡ number_x node }
+/// How far an arrow from a column to a column bends to the right.
+pub(crate) fn bend_between(from: u8, to: u8) -> u64
+    ensures { result ≡ bend from to }
 {
-    column_at(u16::from(node)) - 4
+    if from == to { 60 } else { 0 }
 }
 
-/// How far down the numbers of nodes stand.
-pub(crate) fn number_down() -> u64
-    ensures { result ≡ number_y }
+/// How far before the node's column the stub of a frame ends that did not come there, counted from 0.
+fn reach_at(place: u64) -> u64
+    ensures value { result ≡ reach place }
+    ensures few { result ≤ 104 }
 {
-    TOP - 24
+    20 + 14 * place.min(MARKS)
 }
 
-/// How far right of its sender's column the mark of a row's frame that did not come stands, counted from 0.
-pub(crate) fn right_by(place: u64) -> u64
-    ensures { result ≡ mark_right place }
+/// Where that is, on its sender's side.
+pub(crate) fn mark_across(from: u8, to: u8, place: u64) -> u64
+    ensures { result ≡ mark_x from to place }
 {
-    11 + 8 * (place % MARKS)
-}
-
-/// How far below its row it stands.
-pub(crate) fn down_by(place: u64) -> u64
-    ensures { result ≡ mark_down place }
-{
-    1 + 8 * (place / MARKS)
+    let x = column_at(u16::from(to));
+    let reach = reach_at(place);
+    if from < to {
+        x - reach
+    } else {
+        x + bend_between(from, to) + reach
+    }
 }

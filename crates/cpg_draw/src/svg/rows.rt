@@ -2,20 +2,19 @@
 //!
 //! Proved: what is put on the sheet is the definition of `specs/PictureRows.antt`.
 
-ghost use Rattle.std.specs.Prelude.{◌≡◌, ◌≤◌, ◌++◌, [], codes, length, max, OnOk, IsOkUnless};
-ghost use Rattle.std.specs.List.{flat_map};
+ghost use Rattle.std.specs.Prelude.{◌≡◌, ◌<◌, ◌≤◌, ◌++◌, [], codes, length, OnOk, IsOkUnless};
 ghost use Rattle.cpg_world_laws.specs.Worlds.{node_in};
 ghost use Rattle.cpg_step.specs.Commands.{IsWithin, LooksWithin};
-ghost use Rattle.cpg_draw.specs.Words.{sent_text};
-ghost use Rattle.cpg_draw.specs.PictureArrows.{arrow_shape};
-ghost use Rattle.cpg_draw.specs.PictureRows.{line_of, middle_of, circle_of, dot_of, words_of, row_with, look_row};
+ghost use Rattle.cpg_draw.specs.Words.{sends_text};
+ghost use Rattle.cpg_draw.specs.PictureArrows.{arrow_shape, label_shape};
+ghost use Rattle.cpg_draw.specs.PictureRows.{line_of, middle_of, circle_of, dot_of, numbers_of, heads_of, words_of, row_with, look_row};
 ghost use Rattle.cpg_draw.specs.PictureSteps.{IsPut, IsActed, StandsBefore};
 
 use crate::arrows::{Arrow, find_arrow};
 use crate::rows::{brought_by, looked_at, tell_event, tell_look};
-use crate::svg::arrows::put_arrow_to;
-use crate::svg::layout::{column_at, row_at, words_across, words_down};
-use crate::svg::shapes::{put_point, put_words};
+use crate::svg::arrows::{put_arrow_to, put_label_at};
+use crate::svg::layout::{HEADS, LETTERS, column_at, number_down, row_at, words_across};
+use crate::svg::shapes::{put_escaped, put_place, put_point, put_words};
 use crate::svg::sheets::Sheet;
 use crate::words::put_sent;
 use cpg_cred::Refusal;
@@ -75,37 +74,83 @@ fn put_dot(text: &mut Vec<u8>, radius: u64, row: u64, node: u8) -> Result<(), Re
     put_circle(text, radius, row, node)
 }
 
-/// Puts what a row says, and counts its letters.
-#[tactic(auto, unfolding(crate::specs::PictureRows::words_of))]
-fn put_said(sheet: &mut Sheet, nodes: u8, row: u64, words: &[u8]) -> Result<(), Refusal>
-    ensures ok { OnOk result (sheet.new.text.items ≡ sheet.old.text.items ++ (words_of nodes row words.now ++ codes "</g>\n")) }
-    ensures letters { sheet.new.letters ≡ max sheet.old.letters (length words.now) }
+/// Puts the numbers of so many nodes above a row.
+fn put_numbers(text: &mut Vec<u8>, row: u64, nodes: u8) -> Result<(), Refusal>
+    ensures ok { OnOk result (text.new.items ≡ text.old.items ++ numbers_of row nodes) }
     ensures memory { IsOkUnless result Refusal.Memory }
 {
-    sheet.letters = sheet.letters.max(words.len() as u64);
-    put_words(&mut sheet.text, words_across(nodes), words_down(row), words)?;
-    put(&mut sheet.text, "</g>\n")
+    for before in 0..nodes {
+        put_place(text, column_at(u16::from(before + 1)), number_down(row))?;
+        push_number(text, u64::from(before + 1))?;
+        put(text, "</text>")?;
+    }
+    Ok(())
+}
+
+/// Puts the numbers of so many nodes above a row, where they stand there.
+fn put_heads(text: &mut Vec<u8>, nodes: u8, row: u64) -> Result<(), Refusal>
+    ensures ok { OnOk result (text.new.items ≡ text.old.items ++ heads_of nodes row) }
+    ensures memory { IsOkUnless result Refusal.Memory }
+{
+    if row % HEADS != 0 {
+        return Ok(());
+    }
+    put(text, "<g class='head'>")?;
+    put_numbers(text, row, nodes)?;
+    put(text, "</g>")
+}
+
+/// Puts what a row says that is longer than there is room for.
+#[tactic(auto, unfolding(crate::specs::PictureRows::words_of))]
+fn put_cut(text: &mut Vec<u8>, nodes: u8, row: u64, words: &[u8]) -> Result<(), Refusal>
+    requires { LETTERS < length words.now }
+    ensures ok { OnOk result (text.new.items ≡ text.old.items ++ words_of nodes row words.now) }
+    ensures memory { IsOkUnless result Refusal.Memory }
+{
+    put(text, "<title>")?;
+    put_escaped(text, words)?;
+    put(text, "</title>")?;
+    put_place(text, words_across(nodes), row_at(row) + 4)?;
+    put_escaped(text, &words[..LETTERS as usize - 3])?;
+    put(text, "...</text>")
+}
+
+/// Puts what a row says.
+#[tactic(auto, unfolding(crate::specs::PictureRows::words_of))]
+fn put_said(text: &mut Vec<u8>, nodes: u8, row: u64, words: &[u8]) -> Result<(), Refusal>
+    ensures ok { OnOk result (text.new.items ≡ text.old.items ++ (words_of nodes row words.now ++ codes "</g>\n")) }
+    ensures memory { IsOkUnless result Refusal.Memory }
+{
+    if words.len() > LETTERS as usize {
+        put_cut(text, nodes, row, words)?;
+    } else {
+        put_words(text, words_across(nodes), row_at(row) + 4, words)?;
+    }
+    put(text, "</g>\n")
 }
 
 /// Puts the row before all commands.
 pub(crate) fn draw_start(
     alloc: Global,
     sheet: &mut Sheet,
-    nodes: u8,
+    world: &World,
     arrows: &[Arrow],
 ) -> Result<(), Refusal>
-    ensures ok { OnOk result (IsPut (row_with nodes 0 [] [] (codes "0 start" ++ flat_map sent_text arrows.now)) sheet.old sheet.new) }
+    ensures ok { OnOk result (IsPut (row_with (length world.now.nodes) 0 [] [] [] (codes "0 start" ++ sends_text world.now arrows.now)) sheet.old sheet.new) }
     ensures memory { IsOkUnless result Refusal.Memory }
 {
+    let nodes = world.nodes();
     let mut words = Vec::new(alloc);
     put(&mut words, "0 start")?;
-    put_sent(&mut words, arrows)?;
-    put(&mut sheet.text, "<g>")?;
-    put_line(&mut sheet.text, nodes, 0)?;
-    put_said(sheet, nodes, 0, words.as_slice())
+    put_sent(alloc, &mut words, world, arrows)?;
+    put_heads(&mut sheet.over, nodes, 0)?;
+    put(&mut sheet.over, "\n")?;
+    put(&mut sheet.under, "<g>")?;
+    put_line(&mut sheet.under, nodes, 0)?;
+    put_said(&mut sheet.under, nodes, 0, words.as_slice())
 }
 
-/// Puts what the row of an event begins with: its line, the arrow that ends in it, and its dot.
+/// Puts what the row of an event begins with: its line, and the arrow that ends in it.
 fn put_event_shapes(
     alloc: Global,
     text: &mut Vec<u8>,
@@ -114,13 +159,30 @@ fn put_event_shapes(
     node: u8,
     arrow: Option<Arrow>,
 ) -> Result<(), Refusal>
-    ensures ok { OnOk result (text.new.items ≡ text.old.items ++ (codes "<g>" ++ line_of (length world.now.nodes) row ++ arrow_shape world.now row node arrow ++ dot_of 5 row node)) }
+    ensures ok { OnOk result (text.new.items ≡ text.old.items ++ (codes "<g>" ++ line_of (length world.now.nodes) row ++ arrow_shape world.now row node arrow)) }
     ensures memory { IsOkUnless result Refusal.Memory }
 {
     put(text, "<g>")?;
     put_line(text, world.nodes(), row)?;
-    put_arrow_to(alloc, text, world, row, node, arrow)?;
-    put_dot(text, 5, row, node)
+    put_arrow_to(alloc, text, world, row, node, arrow)
+}
+
+/// Puts what of the row of an event stands over lines and arrows: the numbers of nodes, its dot, and the arrow's label.
+fn put_event_over(
+    alloc: Global,
+    text: &mut Vec<u8>,
+    world: &World,
+    row: u64,
+    node: u8,
+    arrow: Option<Arrow>,
+) -> Result<(), Refusal>
+    ensures ok { OnOk result (text.new.items ≡ text.old.items ++ (heads_of (length world.now.nodes) row ++ dot_of 5 row node ++ label_shape world.now row node arrow ++ codes "\n")) }
+    ensures memory { IsOkUnless result Refusal.Memory }
+{
+    put_heads(text, world.nodes(), row)?;
+    put_dot(text, 5, row, node)?;
+    put_label_at(alloc, text, world, row, node, arrow)?;
+    put(text, "\n")
 }
 
 /// Does an event, and puts its row.
@@ -140,10 +202,21 @@ fn draw_event(
     let nodes = world.nodes();
     let node = event.node().get();
     let arrow = find_arrow(arrows.as_slice(), brought_by(event));
-    put_event_shapes(alloc, &mut sheet.text, world, row, node, arrow)?;
+    put_event_shapes(alloc, &mut sheet.under, world, row, node, arrow)?;
+    put_event_over(alloc, &mut sheet.over, world, row, node, arrow)?;
     let mut words = Vec::new(alloc);
     tell_event(alloc, &mut words, arrows, row, world, event)?;
-    put_said(sheet, nodes, row, words.as_slice())
+    put_said(&mut sheet.under, nodes, row, words.as_slice())
+}
+
+/// Puts what of the row of a command that only looks stands over lines and arrows.
+fn put_look_over(text: &mut Vec<u8>, nodes: u8, row: u64, node: u8) -> Result<(), Refusal>
+    ensures ok { OnOk result (text.new.items ≡ text.old.items ++ (heads_of nodes row ++ dot_of 3 row node ++ codes "\n")) }
+    ensures memory { IsOkUnless result Refusal.Memory }
+{
+    put_heads(text, nodes, row)?;
+    put_dot(text, 3, row, node)?;
+    put(text, "\n")
 }
 
 /// Puts the row of a command that only looks.
@@ -160,12 +233,12 @@ fn draw_look(
     ensures ok { OnOk result (IsPut (look_row row arrows.now world.now look.now) sheet.old sheet.new) }
     ensures memory { IsOkUnless result Refusal.Memory }
 {
-    put(&mut sheet.text, "<g>")?;
-    put_line(&mut sheet.text, world.nodes(), row)?;
-    put_dot(&mut sheet.text, 3, row, looked_at(look))?;
+    put_look_over(&mut sheet.over, world.nodes(), row, looked_at(look))?;
+    put(&mut sheet.under, "<g>")?;
+    put_line(&mut sheet.under, world.nodes(), row)?;
     let mut words = Vec::new(alloc);
-    tell_look(&mut words, arrows, row, world, look)?;
-    put_said(sheet, world.nodes(), row, words.as_slice())
+    tell_look(alloc, &mut words, arrows, row, world, look)?;
+    put_said(&mut sheet.under, world.nodes(), row, words.as_slice())
 }
 
 /// Does a command, and puts its row.

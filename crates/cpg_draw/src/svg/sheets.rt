@@ -1,10 +1,10 @@
 //! The sheet that rows are put on.
 
-/// Rows as they are drawn, and how many letters the row has that says most.
+/// The shapes of the rows, one row after the other, in two layers.
 #[derive(Debug, Drop)]
 pub struct Sheet {
-    /// The shapes of the rows, one after the other.
-    pub text: Vec<u8>,
-    /// The letters.
-    pub letters: u64,
+    /// Lines, arrows and words.
+    pub under: Vec<u8>,
+    /// What stands over them: the numbers of nodes, dots, and the labels of arrows.
+    pub over: Vec<u8>,
 }
