@@ -61,7 +61,11 @@ where
     match read_list(alloc, words) {
         Err(refusal) => Err(Failure::from(refusal)),
         Ok(None) => Err(Failure::BadWord),
-        Ok(Some(list)) => { run_listed(rt, alloc, manner, chances, settings, list, reader, writer, keeper) },
+        Ok(Some(list)) => {
+            run_listed(
+                rt, alloc, manner, chances, settings, list, reader, writer, keeper,
+            )
+        },
     }
 }
 

@@ -224,7 +224,6 @@ change_json conn _ = []
 abbrev pub way_json : List ℕ → List Record → ConnId → ℕ → List ℕ
 way_json numbers records conn place = own_by numbers conn place (record_at records place) ++ flat_map (change_json conn) (events records place conn)
 
-
 -- ---- how a connection stands to an entry
 
 abbrev pub standing_name : Standing → List ℕ

@@ -22,7 +22,7 @@ pub seen_one_more : (rs : List Record) (conn : ConnId) (index : ℕ) (r : Record
 seen_one_more rs conn index r last again within more moves tries =
     let count : 1 + length (take index rs) ≡ index + 1 = omega (arith, length-take-le index rs (omega (arith, within))) in (
       ap (λ (seen : Option ℕ). moved conn seen (index + 1, r)) moves ∙ ap (λ (n : ℕ). moved conn (last_move (take index rs) conn) (n, r)) (sym count)
-      ∙ (sym (last_move_push (take index rs) r conn) ∙ ap (λ (past : List Record). last_move past conn) (sym more)),
+          ∙ (sym (last_move_push (take index rs) r conn) ∙ ap (λ (past : List Record). last_move past conn) (sym more)),
       ap (λ (seen : Option ℕ). tried conn seen (index + 1, r)) tries ∙ ap (λ (n : ℕ). tried conn (last_tried (take index rs) conn) (n, r)) (sym count)
-      ∙ (sym (last_tried_push (take index rs) r conn) ∙ ap (λ (past : List Record). last_tried past conn) (sym more)),
+          ∙ (sym (last_tried_push (take index rs) r conn) ∙ ap (λ (past : List Record). last_tried past conn) (sym more)),
     )

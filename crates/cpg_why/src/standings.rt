@@ -269,8 +269,14 @@ fn put_standing(
     ensures memory { IsOkUnless result Refusal.Memory }
 {
     match standing {
-        Standing::Maker => put(line, "decided: maker: who makes an entry is told its verdict\n"),
-        Standing::Denied => put(line, "decided: denied: of a denied entry its maker alone is told\n"),
+        Standing::Maker => put(
+            line,
+            "decided: maker: who makes an entry is told its verdict\n",
+        ),
+        Standing::Denied => put(
+            line,
+            "decided: denied: of a denied entry its maker alone is told\n",
+        ),
         Standing::Groupless => put(line, "decided: groupless: its maker was in no group\n"),
         Standing::Member | Standing::Elsewhere | Standing::Outside => {
             let mine = group_before(policy, *conn, place);

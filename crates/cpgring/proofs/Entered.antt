@@ -57,10 +57,11 @@ module _ (form : Form) (found : Found) (words : List (List ℕ)) (is : words ≡
     name = refl;
     run = (
       subst (IsFormGiven found) (sym entry.0) given,
-      subst (λ (o : Option (List ℕ)). IsWhyAsked how found o (Why how q)) (sym conn)
-          ((λ used. absurd (unused used)),
-          (λ un. subst (λ (t : Option (List ℕ)). IsEntryAsked how t (why_words found) (Why how q)) named
-          (subst (λ (ws : List (List ℕ)). IsEntryAsked how to ws (Why how q)) (sym same ∙ is) (refl, entry.1)))),
+      subst (λ (o : Option (List ℕ)). IsWhyAsked how found o (Why how q)) (sym conn) (
+        (λ used. absurd (unused used)),
+        (λ un. subst (λ (t : Option (List ℕ)). IsEntryAsked how t (why_words found) (Why how q)) named
+            (subst (λ (ws : List (List ℕ)). IsEntryAsked how to ws (Why how q)) (sym same ∙ is) (refl, entry.1))),
+      ),
     );
     source = at ∙ ap (λ (ws : List (List ℕ)). but_input (slice_get ws (words_for q))) is;
   }

@@ -24,8 +24,8 @@ use crate::versions::write_commit;
 use clap::error::ErrorKind;
 use clap::{ArgMatches, Command, Error};
 use cpg_console::{
-    Asked as Question, Chances, Form, Inquiry, Known, Manner, Noted, Patience, Picture, Piped, Run, Shown,
-    Spoken, tell_fault,
+    Asked as Question, Chances, Form, Inquiry, Known, Manner, Noted, Patience, Picture, Piped, Run,
+    Shown, Spoken, tell_fault,
 };
 use cpg_cred::Refusal;
 use cpg_ring::Settings;
