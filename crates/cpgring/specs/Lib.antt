@@ -5,4 +5,5 @@ pub mod Filtering
 pub mod Loading
 pub mod Questions
 pub mod Sources
+pub mod Tracing
 pub mod Versions

@@ -2,6 +2,9 @@
 //!
 //! What is written is proved of `cpg_console`. That it is written into these files, and when, is tested.
 
+ghost use Rattle.std.specs.Prelude.{◌≡◌};
+ghost use Rattle.cpgring.specs.Tracing.{file_of};
+
 use crate::options::TRACE;
 use crate::sources::{Unread, tell_unread, why_unread};
 use clap::ArgMatches;
@@ -10,8 +13,8 @@ use cpg_cred::Refusal;
 use cpg_ring::Settings;
 use cpg_text::write_whole;
 use std::alloc::{AllocError, Global};
-use std::fs::{File, Files};
-use std::io::{BufWriter, Write};
+use std::fs::{Files, OpenFile, OpenOptions};
+use std::io::{self, BufWriter, ErrorKind, Write};
 
 /// The name of the file of a trace, where one is asked for.
 pub fn trace_of<'a>(given: &'a ArgMatches<'_>) -> Option<&'a str> {
@@ -55,35 +58,88 @@ fn why_unwritten(why: Unread) -> Unread {
     }
 }
 
-/// A new file of that path, or the old one without what was in it.
-fn create<F: Files>(files: &F, path: &str) -> Result<F::File, NoTrace> {
-    match File::create(files, path) {
+/// The file of that path, with what is in it, or a new one.
+fn open_kept<F: Files>(files: &F, path: &str) -> Result<F::File, NoTrace> {
+    let mut how = OpenOptions::new();
+    match how.write(true).create(true).open(files, path) {
         Ok(file) => Ok(file),
         Err(error) => Err(NoTrace::Unwritten(why_unwritten(why_unread(error.kind())))),
     }
 }
 
-/// The heading of a trace. The file of its words is written, and that of its commands is made.
+/// Takes out what is in the file. A device or a pipe holds nothing.
+fn empty<F: OpenFile>(file: &F) -> io::Result<()> {
+    if file.metadata()?.is_file() {
+        file.set_len(0)?;
+    }
+    Ok(())
+}
+
+/// The files of a trace: that of its commands, which is written to, and that of its words. What they held before stays until
+/// there is a trace to write in its place; then the words are written, too. Contracts see the first file.
+#[derive(Drop)]
+pub struct TraceFiles<F> {
+    file: F,
+    beside: F,
+    words: Vec<u8>,
+    begun: bool,
+}
+
+impl<F: Write + OpenFile> TraceFiles<F> {
+    /// Takes out what the files held before, and writes the words, where that is not done yet.
+    fn begin(&mut self) -> io::Result<()>
+        ensures { file_of self.new ≡ file_of self.old }
+    {
+        if self.begun {
+            return Ok(());
+        }
+        empty(&self.beside)?;
+        if write_whole(&mut self.beside, self.words.as_slice()).is_err() {
+            return Err(io::Error::from(ErrorKind::Other));
+        }
+        empty(&self.file)?;
+        self.begun = true;
+        Ok(())
+    }
+}
+
+impl<F: Write + OpenFile> Write for TraceFiles<F> {
+    ghost use Rattle.cpgring.specs.Tracing.{file_of};
+
+    ghost contents = { λ files. F.contents (file_of files) };
+
+    fn write(&mut self, buf: &[u8]) -> io::Result<usize> {
+        self.begin()?;
+        self.file.write(buf)
+    }
+
+    fn flush(&mut self) -> io::Result<()> {
+        self.file.flush()
+    }
+}
+
+/// The heading of a trace, and its files, which hold yet what they held before.
 pub fn open_trace<F: Files>(
     files: &F,
     alloc: Global,
     path: &str,
     settings: &Settings,
     words: &[&str],
-) -> Result<(Vec<u8>, BufWriter<F::File>), NoTrace>
+) -> Result<(Vec<u8>, BufWriter<TraceFiles<F::File>>), NoTrace>
 where
     F::File: Drop,
 {
     let mut beside = String::new(alloc);
     beside.push_str(path)?;
     beside.push_str(".words")?;
-    let text = trace_words(alloc, settings, words)?;
-    let mut file = create(files, beside.as_str())?;
-    if write_whole(&mut file, text.as_slice()).is_err() {
-        return Err(NoTrace::Unwritten(Unread::Unwritten));
-    }
+    let written = TraceFiles {
+        words: trace_words(alloc, settings, words)?,
+        beside: open_kept(files, beside.as_str())?,
+        file: open_kept(files, path)?,
+        begun: false,
+    };
     let heading = trace_heading(alloc, settings, words)?;
-    let writer = BufWriter::new(alloc, create(files, path)?).map_err(|_| AllocError)?;
+    let writer = BufWriter::new(alloc, written).map_err(|_| AllocError)?;
     Ok((heading, writer))
 }
 
