@@ -55,6 +55,27 @@ row_acted row arrows later w v e old new begun words put over told said =
           (row_put (length w.nodes) row arrow dot label words begun old new put said over);
     }
 
+-- a row that no arrow ends in
+row_bare : (nodes row : ℕ) (dot words begun : List ℕ) (old new : Sheet)
+    → begun ≡ old.under.items ++ (codes "<g>" ++ line_of nodes row)
+    → new.over.items ≡ old.over.items ++ (heads_of nodes row ++ dot ++ codes "\n")
+    → new.under.items ≡ begun ++ (words_of nodes row words ++ codes "</g>\n")
+    → IsPut (row_with nodes row [] dot [] words) old new
+row_bare nodes row dot words begun old new put over said =
+    row_put nodes row [] dot [] words begun old new
+    (put ∙ ap (λ x. old.under.items ++ x) (sym (append-nil (codes "<g>" ++ line_of nodes row))))
+    said (over ∙ ap (λ x. old.over.items ++ (x ++ codes "\n")) (sym (append-nil (heads_of nodes row ++ dot))))
+
+-- the row before all commands
+pub row_started : (nodes : ℕ) (words told begun : List ℕ) (old new : Sheet)
+    → begun ≡ old.under.items ++ (codes "<g>" ++ line_of nodes 0)
+    → new.over.items ≡ old.over.items ++ (heads_of nodes 0 ++ dot_of 3 0 0 ++ codes "\n")
+    → words ≡ told
+    → new.under.items ≡ begun ++ (words_of nodes 0 words ++ codes "</g>\n")
+    → IsPut (row_with nodes 0 [] [] [] told) old new
+row_started nodes words told begun old new put over same said =
+    subst (λ x. IsPut (row_with nodes 0 [] [] [] x) old new) same (row_bare nodes 0 [] words begun old new put over said)
+
 -- the row of a command that only looks
 pub row_looked : (row : ℕ) (arrows : List Arrow) (w : WorldValue) (l : LookValue) (old new : Sheet) (begun words : List ℕ)
     → begun ≡ old.under.items ++ (codes "<g>" ++ line_of (length w.nodes) row)
@@ -64,8 +85,7 @@ pub row_looked : (row : ℕ) (arrows : List Arrow) (w : WorldValue) (l : LookVal
     → IsPut (look_row row arrows w l) old new
 row_looked row arrows w l old new begun words put over told said =
     subst (λ x. IsPut (row_with (length w.nodes) row [] (dot_of 3 row (look_at l)) [] x) old new) told
-    (row_put (length w.nodes) row [] (dot_of 3 row (look_at l)) [] words begun old new
-    (put ∙ ap (λ x. old.under.items ++ (codes "<g>" ++ x)) (sym (append-nil (line_of (length w.nodes) row)))) said over)
+    (row_bare (length w.nodes) row (dot_of 3 row (look_at l)) words begun old new put over said)
 
 -- an event's row stands before those that follow it
 pub act_goes_on : (row : ℕ) (arrows : List Arrow) (w : WorldValue) (e : WorldEvent) (old : Sheet) (then : List Arrow) (v : WorldValue) (new : Sheet)

@@ -1,5 +1,5 @@
 -- The rows of a picture: what each says, and its shapes.
-use Rattle.std.specs.Prelude.{ℕ, zero, suc, ◌+◌, ◌-◌, ◌%◌, List, [], ◌∷◌, ◌++◌, ◌==◌, nat_le, codes, decimal, length, take, if◌then◌else◌}
+use Rattle.std.specs.Prelude.{ℕ, zero, suc, ◌+◌, ◌-◌, ◌%◌, Bool, List, [], ◌∷◌, ◌++◌, ◌==◌, nat_le, codes, decimal, length, take, if◌then◌else◌}
 use Rattle.std.specs.List.{flat_map}
 use Rattle.cpg_ring.specs.Worlds.{item}
 use Rattle.cpg_world_laws.specs.declared.events.WorldEvent.{WorldEvent}
@@ -38,14 +38,25 @@ circle_of radius row node = codes "<circle " ++ middle_of row node ++ codes " r=
 abbrev pub dot_of : ℕ → ℕ → ℕ → List ℕ
 dot_of radius row node = if node == 0 then [] else circle_of radius row node
 
--- the numbers of so many nodes over their columns, above a row
+-- the number of a node over its column, above a row
+unfoldable pub number_of : ℕ → ℕ → List ℕ
+number_of row node = text_at (x_of node) (number_y row) (decimal node)
+
+-- and those of so many nodes
 abbrev pub numbers_of : ℕ → ℕ → List ℕ
 numbers_of row zero = []
-numbers_of row (suc before) = numbers_of row before ++ text_at (x_of (suc before)) (number_y row) (decimal (suc before))
+numbers_of row (suc before) = numbers_of row before ++ number_of row (suc before)
 
--- above row 0 and every so many rows
+-- numbers begin
+unfoldable pub numbers_begin : List ℕ
+numbers_begin = codes "<g class='head'>"
+
+-- they stand above row 0 and every so many rows
+abbrev pub has_heads : ℕ → Bool
+has_heads row = row % HEADS == 0
+
 abbrev pub heads_of : ℕ → ℕ → List ℕ
-heads_of nodes row = if row % HEADS == 0 then codes "<g class='head'>" ++ numbers_of row nodes ++ codes "</g>" else []
+heads_of nodes row = if has_heads row then numbers_begin ++ numbers_of row nodes ++ codes "</g>" else []
 
 -- what a row says, right of all columns: cut where there is no room, and then with all of it under the pointer
 unfoldable pub words_of : ℕ → ℕ → List ℕ → List ℕ

@@ -2,7 +2,7 @@
 //!
 //! Proved: what is put at the text's end is the definition of `specs/PictureArrows.antt`.
 
-ghost use Rattle.std.specs.Prelude.{◌≡◌, ◌<◌, ◌++◌, min, length, get_or, set, OnOk, IfOk, IsOkUnless};
+ghost use Rattle.std.specs.Prelude.{◌≡◌, ◌<◌, ◌++◌, false, min, length, get_or, set, OnOk, IfOk, IsOkUnless};
 ghost use Rattle.cpg_draw.specs.PictureArrows.{cross, diamond_right, diamond_left, end_of, fate_class, mark_of, mark_label, miss_line, miss_shape, place_in, placed, unplaced, miss_shapes};
 
 use crate::misses::Miss;

@@ -7,7 +7,7 @@ ghost use Rattle.cpg_world_laws.specs.Worlds.{node_in};
 ghost use Rattle.cpg_step.specs.Commands.{IsWithin, LooksWithin};
 ghost use Rattle.cpg_draw.specs.Words.{sends_text};
 ghost use Rattle.cpg_draw.specs.PictureArrows.{arrow_shape, label_shape};
-ghost use Rattle.cpg_draw.specs.PictureRows.{line_of, middle_of, circle_of, dot_of, numbers_of, heads_of, words_of, row_with, look_row};
+ghost use Rattle.cpg_draw.specs.PictureRows.{line_of, middle_of, circle_of, dot_of, number_of, numbers_of, numbers_begin, has_heads, heads_of, words_of, row_with, look_row};
 ghost use Rattle.cpg_draw.specs.PictureSteps.{IsPut, IsActed, StandsBefore};
 
 use crate::arrows::{Arrow, find_arrow};
@@ -74,17 +74,51 @@ fn put_dot(text: &mut Vec<u8>, radius: u64, row: u64, node: u8) -> Result<(), Re
     put_circle(text, radius, row, node)
 }
 
+/// Puts the number of a node over its column, above a row.
+#[tactic(auto, unfolding(crate::specs::PictureRows::number_of))]
+fn put_one_number(text: &mut Vec<u8>, row: u64, node: u8) -> Result<(), Refusal>
+    ensures ok { OnOk result (text.new.items ≡ text.old.items ++ number_of row node) }
+    ensures memory { IsOkUnless result Refusal.Memory }
+{
+    put_place(text, column_at(u16::from(node)), number_down(row))?;
+    push_number(text, u64::from(node))?;
+    put(text, "</text>")
+}
+
 /// Puts the numbers of so many nodes above a row.
 fn put_numbers(text: &mut Vec<u8>, row: u64, nodes: u8) -> Result<(), Refusal>
     ensures ok { OnOk result (text.new.items ≡ text.old.items ++ numbers_of row nodes) }
     ensures memory { IsOkUnless result Refusal.Memory }
 {
     for before in 0..nodes {
-        put_place(text, column_at(u16::from(before + 1)), number_down(row))?;
-        push_number(text, u64::from(before + 1))?;
-        put(text, "</text>")?;
+        put_one_number(text, row, before + 1)?;
     }
     Ok(())
+}
+
+/// Whether the numbers of nodes stand above a row.
+fn has_heads(row: u64) -> bool
+    ensures { result ≡ has_heads row }
+{
+    row % HEADS == 0
+}
+
+#[tactic(auto, unfolding(crate::specs::PictureRows::numbers_begin))]
+fn put_numbers_begin(text: &mut Vec<u8>) -> Result<(), Refusal>
+    ensures ok { OnOk result (text.new.items ≡ text.old.items ++ numbers_begin) }
+    ensures memory { IsOkUnless result Refusal.Memory }
+{
+    put(text, "<g class='head'>")
+}
+
+/// Puts the numbers of so many nodes above a row, as they look.
+fn put_bold(text: &mut Vec<u8>, nodes: u8, row: u64) -> Result<(), Refusal>
+    ensures ok { OnOk result (text.new.items ≡ text.old.items ++ (numbers_begin ++ numbers_of row nodes ++ codes "</g>")) }
+    ensures memory { IsOkUnless result Refusal.Memory }
+{
+    put_numbers_begin(text)?;
+    put_numbers(text, row, nodes)?;
+    put(text, "</g>")
 }
 
 /// Puts the numbers of so many nodes above a row, where they stand there.
@@ -92,16 +126,15 @@ fn put_heads(text: &mut Vec<u8>, nodes: u8, row: u64) -> Result<(), Refusal>
     ensures ok { OnOk result (text.new.items ≡ text.old.items ++ heads_of nodes row) }
     ensures memory { IsOkUnless result Refusal.Memory }
 {
-    if row % HEADS != 0 {
-        return Ok(());
+    if has_heads(row) {
+        put_bold(text, nodes, row)
+    } else {
+        Ok(())
     }
-    put(text, "<g class='head'>")?;
-    put_numbers(text, row, nodes)?;
-    put(text, "</g>")
 }
 
 /// Puts what a row says that is longer than there is room for.
-#[tactic(auto, unfolding(crate::specs::PictureRows::words_of))]
+#[tactic(auto, using(crate::proofs::Cut::front_fits), unfolding(crate::specs::PictureRows::words_of))]
 fn put_cut(text: &mut Vec<u8>, nodes: u8, row: u64, words: &[u8]) -> Result<(), Refusal>
     requires { LETTERS < length words.now }
     ensures ok { OnOk result (text.new.items ≡ text.old.items ++ words_of nodes row words.now) }
@@ -130,6 +163,7 @@ fn put_said(text: &mut Vec<u8>, nodes: u8, row: u64, words: &[u8]) -> Result<(),
 }
 
 /// Puts the row before all commands.
+#[tactic(auto, using(crate::proofs::PictureDrawn::row_started))]
 pub(crate) fn draw_start(
     alloc: Global,
     sheet: &mut Sheet,
@@ -143,8 +177,7 @@ pub(crate) fn draw_start(
     let mut words = Vec::new(alloc);
     put(&mut words, "0 start")?;
     put_sent(alloc, &mut words, world, arrows)?;
-    put_heads(&mut sheet.over, nodes, 0)?;
-    put(&mut sheet.over, "\n")?;
+    put_look_over(&mut sheet.over, nodes, 0, 0)?;
     put(&mut sheet.under, "<g>")?;
     put_line(&mut sheet.under, nodes, 0)?;
     put_said(&mut sheet.under, nodes, 0, words.as_slice())
