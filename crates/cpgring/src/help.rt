@@ -114,9 +114,10 @@ pub const WHY_HELP: &str = "\
 Judges the agreed entries of a script as `cpgring judge` does, and explains the answer to the entry at PLACE, or to
 the one that told a connection its event of a number, by NODE.CONN:EVENT, or with --all each denial: the rule that
 decides, or the state that does, and which entry made it. With --connection it tells the way of one connection
-instead: its entries with their verdicts, and the changes of its group's members that it was told. The help of
-`cpgring judge` has the script and the words of a verdict; a connection's events are numbered from 1 in the order in
-which it was told them, as `cpgring judge --connection=NODE.CONN` prints them.";
+instead: its entries with their verdicts, and the changes of its group's members that it was told. With --to it tells
+why that connection was told of the entry at PLACE, or was not. The help of `cpgring judge` has the script and the
+words of a verdict; a connection's events are numbered from 1 in the order in which it was told them, as `cpgring
+judge --connection=NODE.CONN` prints them.";
 
 pub const WHY_MORE: &str = "\
 Printed are lines that each begin with what they tell; between the entries of --all stands an empty line:
@@ -134,6 +135,17 @@ Printed are lines that each begin with what they tell; between the entries of --
   decided: root, free, closed, joined, twice, full, position, tablefull, absent
                                              the state that decides, as a rule for that, with the entry that
                                              made it so: the last join, leave or end of the connection
+
+With --to=NODE.CONN the entry and its verdict are followed by
+
+  to NODE.CONN: told, not told               whether the entry tells that connection anything
+  decided: maker, member                     told: it made the entry, or is in its group since ...
+  decided: denied, groupless, elsewhere, outside
+                                             not told: of a denied entry its maker alone is; the entry is of no
+                                             group; it is in another since ..., or in none
+  tried: entry PLACE line LINE: ... -> VERDICT
+                                             its last denied join since then
+  event PLACE ...                            what it is told, as `cpgring judge` prints it
 
 Example:
   $ printf '1.1 40 0 0 insert db 0 deny join uid:7\\n1.2 41 7 100 join db\\n' | cpgring why 2
@@ -386,9 +398,9 @@ Read`, also where the input is too long; `cpgring: 43 Write`; and `cpgring: 1 Me
 pub const RUN_ABOUT: &str = "Runs the commands of a script over a running cluster";
 
 pub const RUN_HELP: &str = "\
-Starts a cluster in this process, a thread for each node and links between them that lose nothing but what
-finds them full, and runs the commands of a script over it, one after the other. The nodes pass the token
-round and deliver by themselves, so a script says only what processes do at their nodes. Each line is one
+Starts a cluster in this process, a thread for each node and links between them that lose nothing but what finds them
+full and what --lose asks for, and runs the commands of a script over it, one after the other. The nodes pass the
+token round and deliver by themselves, so a script says only what processes do at their nodes. Each line is one
 command:
 
   connect NODE PID UID GID                   a process asks the node to be let in, and gets a session
@@ -411,20 +423,23 @@ Space, tab and CR at both ends of a line are trimmed. Empty lines and lines that
 but count as lines. The input has at most 16777216 bytes (16 MiB).";
 
 pub const RUN_MORE: &str = "\
-Printed is for each command, after it is done: session S, admitted, closed, the event as `cpgring judge`
-prints it, or none where after 1000000 looks there still was none (with -v, a line that begins with # says what
-is known then: how many of the ring's places the session has seen, and after how many hops the ring ends),
-members MEMBERS, groups and their names, for audit the lines of `cpgring judge` and records COUNT, and safe
-PLACE. What was printed is handed on before a wait begins. With --wait=MS a wait looks for so many milliseconds,
-and at least once; with --echo each line stands behind the number of its script line and its session, `7 s2 `, or
-`7 - ` where it has none. With --why=PLACE none of this is printed, but, once all commands are done, why the entry
-at that place was answered as it was, as `cpgring why` tells it; --why=NODE.CONN:EVENT tells it of the entry that
-told the connection that event, --why=all of each denied entry, --why=NODE.CONN the way of a connection: a session
-is named by its connection, which its audit shows. All entries that the nodes have judged by then are told of, so
-wait for a call's verdict before the script ends. With --trace=FILE all that happened in the nodes, each frame,
-delivery and answer in the order in which it came, is written to FILE once the nodes have stopped, as a script that
-`cpgring step $(cat FILE.words) < FILE` plays again and `cpgring draw` draws; FILE.words has the words for that. A
-command that is refused prints the refusal, and the script goes on:
+Printed is for each command, after it is done: session S, admitted, closed, the event as `cpgring judge` prints it,
+or none where after 1000000 looks there still was none (with -v, a line that begins with # says what is known then:
+how many of the ring's places the session has seen, and after how many hops the ring ends), members MEMBERS, groups
+and their names, for audit the lines of `cpgring judge` and records COUNT, and safe PLACE. What was printed is handed
+on before a wait begins. With --wait=MS a wait looks for so many milliseconds, and at least once; with --echo each
+line stands behind the number of its script line and its session, `7 s2 `, or `7 - ` where it has none. With --lose=N
+so many of 100 frames are lost on their way, and with --repeat=N so many of 100 of the others come twice; --seed=N
+chooses which: the frame of a number between two nodes meets the same fate in each run. What sessions are told stays the
+same, and takes longer. With --why=PLACE none of this is printed, but, once all commands are done, why the entry at
+that place was answered as it was, as `cpgring why` tells it; --why=NODE.CONN:EVENT tells it of the entry that told
+the connection that event, --why=all of each denied entry, --why=NODE.CONN the way of a connection, and --why=PLACE
+with --to=NODE.CONN why that connection was told of the entry, or was not: a session is named by its connection,
+which its audit shows. All entries that the nodes have judged by then are told of, so wait for a call's verdict
+before the script ends. With --trace=FILE all that happened in the nodes, each frame, delivery and answer in the
+order in which it came, is written to FILE once the nodes have stopped, as a script that `cpgring step $(cat
+FILE.words) < FILE` plays again and `cpgring draw` draws; FILE.words has the words for that. A command that is
+refused prints the refusal, and the script goes on:
 
   2 Access           nobody lets the credentials in
   3 NoConnection     no open session has the number
