@@ -260,7 +260,7 @@ pub const STEP_ABOUT: &str = "Runs the commands of a script over a ring of nodes
 pub const STEP_HELP: &str = "\
 Sets up a ring of nodes that has sent its first token and nothing else, and runs the commands of a script
 over it, one after the other. Nothing happens but by a command, so any loss, repeat and order of
-frames can be played: a frame that no command brings is lost, and one may be brought any number of times.
+frames can be played: a frame that no command brings stays under way, and one may be brought any number of times.
 Each line is one command. These act:
 
   connect NODE PID UID GID                   a process asks the node to be let in
@@ -354,9 +354,9 @@ the first two of a row for a node have their place or hop beyond that node's col
 is the frame as `show` of `cpgring step` prints it. The nodes' numbers come again every 40 rows. Right of the columns
 stands what a row of --text has, cut after 112 letters; its title then has all of it.
 
-With --text, in a row `*` is the node that the command is at, and an arrow comes in from the node that sent the frame that
-the row brings, marked `o`: --> is data, ==> data that is sent again, ..> the token. The first token, which
-was sent before the script, comes from outside. After the columns stand the row's number and
+With --text, in a row `*` is the node that the command is at, and an arrow comes in from the node that sent the frame
+that the row brings, marked `o`: --> is data, ==> data that is sent again, ..> the token. The first token, which was
+sent before the script, comes from outside. After the columns stand the row's number and
 
   COMMAND, WHAT of row ROW: ENTRY, sends K WHAT: ENTRY, waiting COUNT, safe PLACE: ANSWER
 
