@@ -24,9 +24,10 @@ mod telling;
 mod tracing;
 mod words;
 
-pub use admitting::{Admission, NamedText, perform_admit, write_text};
+pub use admitting::{Admission, AdmitManner, perform_admit, write_text};
 pub use auditing::Inquiry;
 pub use cpg_accept::accept_script;
+pub use cpg_accept::admit::NamedText;
 pub use cpg_cluster::{Known, Manner, Noted, PLAIN, Patience, Shown, cluster_script};
 pub use cpg_judge::filter::{Filter, Only};
 pub use cpg_judge::judge_script;

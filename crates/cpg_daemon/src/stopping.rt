@@ -1,6 +1,6 @@
 //! What a cluster leaves once its threads have ended.
 
-ghost use Rattle.std.specs.Prelude.{◌≡◌, ◌≤◌, ◌+◌, ◌*◌, ◌<◌, All, IfOk, IfSome, MatchOption, vec_len, vec_capacity};
+ghost use Rattle.std.specs.Prelude.{◌≡◌, ◌≤◌, ◌+◌, ◌*◌, ◌<◌, All, IfOk, IfSome, MatchOption, map, vec_len, vec_capacity};
 ghost use mathlib.Core.List.{IsPrefix};
 ghost use Rattle.cpg_history.specs.Members.{Began, HaveSeen};
 ghost use Rattle.cpg_daemon.specs.Links.{links_of, peers_of};
@@ -177,7 +177,7 @@ pub(crate) fn stations_of<B: HistoryName>(
     mut stations: Vec<Station<B>>,
 ) -> Vec<Station<B>>
     requires { (vec_len stations ≡ 0) × (vec_len members ≤ vec_capacity stations) }
-    ensures { vec_len result ≡ vec_len members }
+    ensures { result.items ≡ map (λ member. member.station) members.items }
 {
     for _ in 0..members.len() {
         if let Some(member) = members.pop() {

@@ -13,6 +13,7 @@ ghost use Rattle.cpgring.specs.Sources.{but_input, path_of};
 ghost use Rattle.cpgring.specs.Asking.{name_of, words_found, AreSettingsGiven, IsAskedFor, IsFormGiven, IsInquiryGiven, IsMannerGiven, IsPictureGiven, IsShellGiven, IsShownGiven, IsSpokenGiven, patience_given, IsEntryAsked, words_before, IsStatusOf, IsUnused, IsUsed, SaysByKind, is_numbered};
 
 use crate::commands::{build_command, command_for};
+use crate::faults::{fault_of, fault_of_shell};
 use crate::filtering::{filter_of, is_filtered};
 use crate::options::{
     ACCEPT, ALL, CONNECTION, ECHO, FILE, HOPS, JSON, NODES, NUMBERS, PLACE, PLACES, RING, TEXT,
@@ -80,37 +81,7 @@ pub struct Asked<'a> {
 pub fn read_asked<'a>(alloc: Global, matches: &'a ArgMatches<'_>) -> Result<Asked<'a>, Error> {
     match asked_of(matches) {
         Some(asked) => Ok(asked),
-        None => {
-            let (kind, why) = why_none(matches);
-            Err(build_command(alloc)?.error(kind, why)?)
-        }
-    }
-}
-
-/// Why the command line asks for nothing that can be run: it has no subcommand, or a
-/// word of `judge`, `why`, `step` or `run` says nothing.
-fn why_none(matches: &ArgMatches<'_>) -> (ErrorKind, &'static str) {
-    match matches.subcommand_name() {
-        Some("judge") => (
-            ErrorKind::InvalidValue,
-            "'judge' takes KIND as denied, verdicts, messages, changes or rules, GROUP as 1 to 128 printing ASCII characters, NODE.CONN as 1.1, and places as A..B, A.., ..B or A, from 1",
-        ),
-        Some("step") => (
-            ErrorKind::InvalidValue,
-            "'step' takes --why=PLACE, a number from 1, or NODE.CONN, NODE.CONN:EVENT, or all",
-        ),
-        Some("run") => (
-            ErrorKind::InvalidValue,
-            "'run' takes --wait=MS, milliseconds from 0 to 4294967295, and --why=PLACE, a number from 1, or NODE.CONN, NODE.CONN:EVENT, or all",
-        ),
-        Some("why") => (
-            ErrorKind::InvalidValue,
-            "'why' takes one of PLACE (a number from 1), NODE.CONN:EVENT, --all and --connection=NODE.CONN, and then FILE, if any",
-        ),
-        _ => (
-            ErrorKind::MissingSubcommand,
-            "a subcommand is required but one was not provided",
-        ),
+        None => Err(fault_of(alloc, matches)?),
     }
 }
 
@@ -326,10 +297,7 @@ pub fn read_shell<'a>(alloc: Global, given: &'a ArgMatches<'_>) -> Result<AskedS
 {
     match shell_of(given) {
         Some(asked) => Ok(asked),
-        None => {
-            let why = "'shell' takes --wait=MS, milliseconds from 0 to 4294967295";
-            Err(build_command(alloc)?.error(ErrorKind::InvalidValue, why)?)
-        }
+        None => Err(fault_of_shell(alloc, given)?),
     }
 }
 
@@ -356,7 +324,7 @@ fn manner_of(given: &ArgMatches<'_>, settings: Settings) -> Option<Manner<Spoken
 }
 
 /// How long a wait looks.
-fn read_patience(word: Option<&str>) -> Option<Patience>
+pub(crate) fn read_patience(word: Option<&str>) -> Option<Patience>
     ensures { result ≡ patience_given (option_map (λ text. text.now) word.entry) }
 {
     match word {

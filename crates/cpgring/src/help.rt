@@ -147,20 +147,21 @@ Exit status: 0 done; 1 a fault, told on standard error; 2 a fault of the command
 and an EVENT that was not told among them: `cpgring: there is no entry 3: the script has 2`, `cpgring: there is no
 event 4: 1.2 was told 3`. The faults are those of `cpgring judge`; nothing is printed before all is known.";
 
-pub const ADMIT_ABOUT: &str = "Tells whom a conf file lets in";
+pub const ADMIT_ABOUT: &str = "Tells whom conf files let in";
 
 pub const ADMIT_HELP: &str = "\
-Tells whom a conf file lets in, as it stands on a machine: for each UID:GID what `cpgring accept` prints of it;
-where none are given, the users and then the groups of the file, in the order of its lines, as the words that
-let them in for step, draw and run:
+Tells whom conf files let in, as they stand on a machine: for each UID:GID, each a number or a name, what
+`cpgring accept` prints of it; where none are given, the users and then the groups of the files, in the order of
+their lines, as the words that let them in for step, draw and run:
 
-  $ cpgring admit --conf=/etc/corosync/corosync.conf 1000:100 7:7
+  $ cpgring admit --conf=/etc/corosync/corosync.conf --conf=/etc/corosync/uidgid.d 1000:100 7:7
   accepted user
   refused 2 Access
 
-Of the file the sections `uidgid` at the outermost level are read alone, whose keys are uid and gid, each with a
-number of at most 4294967295 or a name; `cpgring accept --help` has the form. Names are looked up in a names text,
-or in accounts:
+The conf files are taken in their order, and of a directory its files in the order of their names. A FILE that is -
+is standard input. Of a conf file the sections `uidgid` at the outermost level are read alone, whose keys are uid
+and gid, each with a number of at most 4294967295 or a name; `cpgring accept --help` has the form. Names are looked
+up in a names text, or in accounts:
 
   user NAME N                                of --names: the number of a user's name
   group NAME N                               and of a group's
@@ -180,14 +181,18 @@ Printed for each UID:GID, the first that holds:
   accepted group                             the group is listed
   refused 2 Access                           nothing lets them in
 
-With --json each line is an object (docs/CLI.md).
+With --echo each stands behind its UID:GID in numbers: `1000:100 accepted user`. With --json each line is an object
+(docs/CLI.md).
 
-A fault of a file is told with the file, the line and what stands there, the names' before the conf file's:
+A fault of a file is told with the file, the line and what stands there, the names' before the conf files'. With -v
+the line follows, and what is wanted there:
 
-  corosync.conf:6: 36 UnknownName, uid: nosuch
+  cpgring: corosync.conf:6: 36 UnknownName, uid: nosuch
+  line 6: uid: nosuch
+               ^ VALUE: a number, or a NAME that the file of --names or --passwd has
 
 Exit status: 0 done; 1 a fault of a file, or one of writing; 2 a fault of the command line, a FILE that can't be
-read among them.";
+read and a UID:GID with a name that no file has among them.";
 
 pub const ACCEPT_ABOUT: &str = "Answers which credentials the conf texts of a script let in";
 

@@ -55,7 +55,7 @@ pub const TRACE: &str = "trace";
 /// The option that says how long a wait looks.
 pub const WAIT: &str = "wait";
 
-/// The option that asks for the line and the session before each printed line.
+/// The option that asks for what an answer is to before each printed line.
 pub const ECHO: &str = "echo";
 
 /// The files of `admit`, and its words.
@@ -88,7 +88,7 @@ enum Takes {
     Letter(char),
     /// An option that takes a word of that name.
     Word(&'static str),
-    /// An option that takes a word of that name, and has to be there.
+    /// An option that takes a word of that name, and has to be there, once or more.
     Needed(&'static str),
     /// An option that takes a number: the usual one where it is left out.
     Number(Within, &'static str),
@@ -126,7 +126,7 @@ fn taking<'a>(arg: Arg<'a>, name: &'static str, takes: Takes) -> Arg<'a> {
         Takes::Needed(word) => arg
             .long(name)
             .value_name(word)
-            .action(ArgAction::Set)
+            .action(ArgAction::Append)
             .required(true),
         Takes::Number(numbers, usual) => limited(
             arg.long(name)
@@ -270,7 +270,12 @@ pub const JUDGE_OPTIONS: [Given; 7] = [
 ];
 
 pub const WHY_OPTIONS: [Given; 5] = [
-    Given(ALL, Takes::Nothing, "Explain every denied entry", &[]),
+    Given(
+        ALL,
+        Takes::Nothing,
+        "Explain every denied entry",
+        &[CONNECTION],
+    ),
     Given(
         CONNECTION,
         Takes::Word("NODE.CONN"),
@@ -289,11 +294,11 @@ pub const WHY_OPTIONS: [Given; 5] = [
 
 pub const ACCEPT_OPTIONS: [Given; 3] = [AS_JSON, WITH_HINTS, SCRIPT];
 
-pub const ADMIT_OPTIONS: [Given; 6] = [
+pub const ADMIT_OPTIONS: [Given; 8] = [
     Given(
         CONF,
         Takes::Needed("FILE"),
-        "The conf file, as /etc/corosync/corosync.conf",
+        "A conf file, as /etc/corosync/corosync.conf, or a directory of such; once or more",
         &[],
     ),
     Given(
@@ -316,9 +321,21 @@ pub const ADMIT_OPTIONS: [Given; 6] = [
     ),
     AS_JSON,
     Given(
+        ECHO,
+        Takes::Nothing,
+        "Print before each answer the UID:GID that it is to, in numbers",
+        &[],
+    ),
+    Given(
+        VERBOSE,
+        Takes::Letter('v'),
+        "Behind a file's fault, show its line, what does not fit and what is wanted there",
+        &[],
+    ),
+    Given(
         ASKS,
         Takes::Rest("UID:GID"),
-        "Whether these are let in; none: the list itself is printed",
+        "Whether these are let in, each a number or a name; none: the list itself is printed",
         &[],
     ),
 ];
