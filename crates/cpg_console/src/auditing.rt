@@ -11,7 +11,7 @@ ghost use Rattle.cpg_console.specs.Runs.{why_as, FailsLate, TellsSessions};
 ghost use Rattle.cpg_console.specs.Words.{list_of_words};
 ghost use Rattle.cpg_world_laws.specs.Worlds.{new_world};
 
-use crate::failures::Failure;
+use crate::failures::{Failure, undelivered};
 use crate::founding::new_board;
 use crate::runs::Form;
 use crate::words::read_list;
@@ -137,7 +137,7 @@ where
     match Cluster::<B, PassAll>::start(rt, alloc, settings, board, list, PassAll) {
         Err(_) => Err(Failure::from(Refusal::Memory)),
         Ok(cluster) => match explain_over(rt, alloc, inquiry, cluster, reader, writer) {
-            Err(fault) => Err(Failure::from(fault)),
+            Err(fault) => Err(undelivered(fault)),
             Ok(()) => Ok(()),
         },
     }

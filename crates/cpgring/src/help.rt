@@ -143,9 +143,10 @@ Example:
   put in: entry 1 line 1: 1.1 40 0 0 insert db 0 deny join uid:7
   without it: allowed default
 
-Exit status: 0 done; 1 a fault, told on standard error; 2 a fault of the command line, a PLACE that has no entry
-and an EVENT that was not told among them: `cpgring: there is no entry 3: the script has 2`, `cpgring: there is no
-event 4: 1.2 was told 3`. The faults are those of `cpgring judge`; nothing is printed before all is known.";
+Exit status: 0 done; 1 a fault, told on standard error; 2 a fault of the command line, a PLACE that has no entry, a
+connection that made none and an EVENT that was not told among them: `cpgring: there is no entry 3: the script has
+2`, `cpgring: there is no connection 2.9: the script has 3`, `cpgring: there is no event 4: 1.2 was told 3`. The
+faults are those of `cpgring judge`; nothing is printed before all is known.";
 
 pub const ADMIT_ABOUT: &str = "Tells whom conf files let in";
 
@@ -328,9 +329,10 @@ for place 1 in rtr, node 1 sends it again (frame 6), and node 2 delivers both pl
   records 2
 
 Exit status: 0 done; 1 a fault, told on standard error; 2 a fault of the command line, `cpgring: bad accept
-word` among them. The faults are `cpgring: 41 BadCommand LINE`, the first line that is no command, before
-which nothing is done or printed; `cpgring: 42 Read`, also where the input is too long; `cpgring: 43 Write`;
-and `cpgring: 1 Memory`, which ends the script at the command that met it.";
+word` among them, and with --why a PLACE that has no entry, a connection that made none and an EVENT that was not
+told: `cpgring: there is no entry 9: 2 were delivered`. The faults are `cpgring: 41 BadCommand LINE`, the first line
+that is no command, before which nothing is done or printed; `cpgring: 42 Read`, also where the input is too long;
+`cpgring: 43 Write`; and `cpgring: 1 Memory`, which ends the script at the command that met it.";
 
 pub const DRAW_ABOUT: &str = "Draws the run of a `step` script";
 
@@ -468,8 +470,8 @@ What a rule decided, explained:
   without it: allowed default
 
 Exit status: 0 done; 1 a fault, told on standard error; 2 a fault of the command line, `cpgring: bad accept
-word` among them, and with --why a PLACE that has no entry or an EVENT that was not told: `cpgring: there is no entry
-9: the script has 2`, `cpgring: there is no event 4: 1.2 was told 3`. The faults are `cpgring: 41 BadCommand LINE`, the
+word` among them, and with --why a PLACE that has no entry, a connection that made none and an EVENT that was not told:
+`cpgring: there is no entry 9: 2 were delivered`. The faults are `cpgring: 41 BadCommand LINE`, the
 first line that is no command, before which nothing is done or printed; `cpgring: 42 Read`, also where the input is too
 long; `cpgring: 43 Write`; and `cpgring: 1 Memory`, which ends the script at the command that met it, also where a
 thread is not given.";
