@@ -34,6 +34,7 @@ use Rattle.cpg_why.specs.declared.asking.WhyFault.TheVariants as why_fault
 use Rattle.cpg_cluster.specs.Lines.{Printed}
 use Rattle.cpg_cluster.specs.Running as cluster
 use Rattle.cpg_cluster.specs.Scripts as clustered
+use Rattle.cpg_console.specs.Echoing as echo
 use Rattle.cpg_console.specs.Speaking.{spoken_as}
 use Rattle.cpg_console.specs.Words.{list_of_words}
 use Rattle.cpg_console.specs.declared.failures.Among.TheVariants.{Script, Delivered}
@@ -44,7 +45,7 @@ use Rattle.cpg_console.specs.declared.runs.Form.TheVariants.{Text, Json}
 use Rattle.cpg_console.specs.declared.runs.Picture.{Picture}
 use Rattle.cpg_console.specs.declared.runs.Picture.TheVariants as picture
 use Rattle.cpg_console.specs.declared.runs.Run.{Run}
-use Rattle.cpg_console.specs.declared.runs.Run.TheVariants.{Judge, JudgeOnly, Why, Accept, Step, StepWhy, Draw, Number, Cluster, ClusterWhy}
+use Rattle.cpg_console.specs.declared.runs.Run.TheVariants.{Judge, JudgeOnly, Why, Accept, Step, StepWhy, Draw, Number, Echo, Cluster, ClusterWhy}
 
 -- the exit status: 0, after a fault 1, after a fault of the command line 2: a wrong word, or a question of what is not there
 abbrev pub status_after : Option Failure → ℕ
@@ -124,6 +125,19 @@ Draws kind s None script failure old new = (failure ≡ Some BadWord) × Keeps o
 Draws kind s (Some list) script None old new = (length script ≤ MOST_BYTES) × IsDrawn kind (commands_of_script s.nodes script) (new_world s list) old new
 Draws kind s (Some list) script (Some (Fault fault)) old new = (fault.part ≡ None) × DrawsUpTo kind s list script fault.refusal old new
 Draws kind s (Some list) script _ old new = ⊥
+
+-- What a refusal leaves written of a script whose lines are echoed; Range tells that there is no world of those settings.
+abbrev pub EchoesUpTo : Settings → Listed → List ℕ → Refusal → Option (List ℕ) → Option (List ℕ) → Type 0
+EchoesUpTo s list script Range old new = (¬ IsSettings s) × Keeps old new
+EchoesUpTo s list script refused old new = echo.Leaves (commands_of_script s.nodes script) (why.numbers_of script) refused (new_world s list) old new
+
+-- what `step --echo` writes of a script, by the list that its words give: what its run over a new world prints, each line behind its echo
+abbrev pub Echoes : Settings → Option Listed → List ℕ → Option Failure → Option (List ℕ) → Option (List ℕ) → Type 0
+Echoes s None script failure old new = (failure ≡ Some BadWord) × Keeps old new
+Echoes s (Some list) script None old new =
+    (length script ≤ MOST_BYTES) × echo.IsWritten (commands_of_script s.nodes script) (why.numbers_of script) (new_world s list) old new
+Echoes s (Some list) script (Some (Fault fault)) old new = (fault.part ≡ None) × EchoesUpTo s list script fault.refusal old new
+Echoes s (Some list) script _ old new = ⊥
 
 -- the judgement of a script, as text or as JSON, is written
 abbrev pub IsJudged : Form → List ℕ → Option (List ℕ) → Option (List ℕ) → Type 0
@@ -210,6 +224,7 @@ HasWrongWord (Step form settings words) = list_of_words (map (λ word. word.now)
 HasWrongWord (StepWhy form asked settings words) = list_of_words (map (λ word. word.now) words.now) ≡ None
 HasWrongWord (Draw picture settings words) = list_of_words (map (λ word. word.now) words.now) ≡ None
 HasWrongWord (Number settings words) = list_of_words (map (λ word. word.now) words.now) ≡ None
+HasWrongWord (Echo settings words) = list_of_words (map (λ word. word.now) words.now) ≡ None
 HasWrongWord (Cluster manner settings words) = list_of_words (map (λ word. word.now) words.now) ≡ None
 HasWrongWord (ClusterWhy inquiry settings words) = list_of_words (map (λ word. word.now) words.now) ≡ None
 
@@ -226,6 +241,7 @@ Prints (Step form settings words) script failure old new = Steps form settings (
 Prints (StepWhy form asked settings words) script failure old new = TellsSteps form asked settings (list_of_words (map (λ word. word.now) words.now)) script failure old new
 Prints (Draw kind settings words) script failure old new = Draws kind settings (list_of_words (map (λ word. word.now) words.now)) script failure old new
 Prints (Number settings words) script failure old new = Draws picture.Numbered settings (list_of_words (map (λ word. word.now) words.now)) script failure old new
+Prints (Echo settings words) script failure old new = Echoes settings (list_of_words (map (λ word. word.now) words.now)) script failure old new
 Prints (Cluster manner settings words) script failure old new = Clusters (spoken_as manner.form) settings (list_of_words (map (λ word. word.now) words.now)) script failure old new
 Prints (ClusterWhy inquiry settings words) script failure old new =
     TellsSessions inquiry.form inquiry.asked settings (list_of_words (map (λ word. word.now) words.now)) script failure old new

@@ -10,6 +10,7 @@ mod admitting;
 mod auditing;
 mod clustering;
 mod drawing;
+mod echoing;
 mod failures;
 mod founding;
 mod hinting;

@@ -31,7 +31,7 @@ pub use forms::{AsText, Tells};
 pub use laws::{
     named_decides, passed_do_not_match, removal_tells_what_decides, tells_verdicts_without,
 };
-pub use numbers::{find_record, line_of};
+pub use numbers::{find_record, line_of, read_numbers};
 pub use reasons::{count_rules, find_holder, find_right};
 pub use tables::find_first;
 pub use telling::{why_in_form, why_script};

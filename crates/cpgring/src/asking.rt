@@ -10,7 +10,7 @@ ghost use Rattle.cpg_console.specs.Pipes.{stream_of};
 ghost use Rattle.cpg_console.specs.declared.runs.Run.TheVariants.{Why};
 ghost use Rattle.cpgring.specs.Filtering.{is_filtered, IsBadFilter};
 ghost use Rattle.cpgring.specs.Sources.{but_input, path_of};
-ghost use Rattle.cpgring.specs.Asking.{name_of, words_found, AreSettingsGiven, IsAskedFor, IsFormGiven, IsInquiryGiven, IsMannerGiven, IsPictureGiven, IsShellGiven, IsShownGiven, IsSpokenGiven, patience_given, IsEntryAsked, words_before, IsStatusOf, IsUnused, IsUsed, SaysByKind, is_numbered};
+ghost use Rattle.cpgring.specs.Asking.{name_of, words_found, AreSettingsGiven, IsAskedFor, IsFormGiven, IsInquiryGiven, IsMannerGiven, IsPictureGiven, IsShellGiven, IsShownGiven, IsSpokenGiven, patience_given, IsEntryAsked, words_before, IsStatusOf, IsUnused, IsUsed, SaysByKind, is_echoed, is_numbered};
 
 use crate::commands::{build_command, command_for};
 use crate::faults::{fault_of, fault_of_shell};
@@ -232,6 +232,8 @@ fn step_of<'a>(given: &'a ArgMatches<'_>) -> Option<Asked<'a>>
     ensures asked { IfSome result (IsAskedFor (found_of given.now) (codes "step")) }
     ensures numbers { first_value (found_of given.now) (codes "why") ≡ None → IfSome result (λ asked. IsUnused (found_of given.now) (codes "json") → IsUsed (found_of given.now) (codes "numbers") → is_numbered asked.run ≡ true) }
     ensures none { IfSome result (λ asked. IsUnused (found_of given.now) (codes "numbers") → is_numbered asked.run ≡ false) }
+    ensures echo { first_value (found_of given.now) (codes "why") ≡ None → IfSome result (λ asked. IsUnused (found_of given.now) (codes "json") → IsUnused (found_of given.now) (codes "numbers") → IsUsed (found_of given.now) (codes "echo") → is_echoed asked.run ≡ true) }
+    ensures alone { IfSome result (λ asked. IsUnused (found_of given.now) (codes "echo") → is_echoed asked.run ≡ false) }
 {
     let settings = settings_of(given)?;
     let (source, words) = split_words(words_of(given));
@@ -240,6 +242,7 @@ fn step_of<'a>(given: &'a ArgMatches<'_>) -> Option<Asked<'a>>
         Some(word) => Run::StepWhy(form, read_question(word.as_bytes())?, settings, words),
         None => match form {
             Form::Text if given.get_flag(NUMBERS) => Run::Number(settings, words),
+            Form::Text if given.get_flag(ECHO) => Run::Echo(settings, words),
             form => Run::Step(form, settings, words),
         },
     };

@@ -18,7 +18,7 @@ _cpgring() {
             why) words='--all --connection --json -v --verbose' ;;
             accept) words='--json -v --verbose' ;;
             admit) words='--conf --names --passwd --group --json --echo -v --verbose' ;;
-            step) words="$ring --json --numbers --why -v --verbose" ;;
+            step) words="$ring --json --numbers --echo --why -v --verbose" ;;
             draw) words="$ring --text -v --verbose" ;;
             run) words="$ring --json --wait --echo --trace --why -v --verbose" ;;
             shell) words="$ring --json --wait --echo --trace -v --verbose" ;;
@@ -59,7 +59,7 @@ _cpgring() {
         accept) _arguments '--json' $more ;;
         admit) _arguments '--conf=:file:_files' '--names=:file:_files' '--passwd=:file:_files' '--group=:file:_files' \
             '--json' '--echo' '-v' '--verbose' '--help' ;;
-        step) _arguments $ring '--json' '--numbers' '--why=:place' $more ;;
+        step) _arguments $ring '--json' '--numbers' '--echo' '--why=:place' $more ;;
         draw) _arguments $ring '--text' $more ;;
         run) _arguments $ring '--json' '--wait=:milliseconds' '--echo' '--trace=:file:_files' '--why=:place' $more ;;
         shell) _arguments $ring '--json' '--wait=:milliseconds' '--echo' '--trace=:file:_files' '-v' '--verbose' '--help' ;;
@@ -92,7 +92,7 @@ complete -c cpgring -n '__fish_seen_subcommand_from step' -l numbers
 complete -c cpgring -n '__fish_seen_subcommand_from draw' -l text
 complete -c cpgring -n '__fish_seen_subcommand_from step run' -l why -x
 complete -c cpgring -n '__fish_seen_subcommand_from run shell' -l wait -x
-complete -c cpgring -n '__fish_seen_subcommand_from admit run shell' -l echo
+complete -c cpgring -n '__fish_seen_subcommand_from admit step run shell' -l echo
 complete -c cpgring -n '__fish_seen_subcommand_from run shell' -l trace -r
 complete -c cpgring -n '__fish_seen_subcommand_from completions' -f -a 'bash zsh fish'
 "#;

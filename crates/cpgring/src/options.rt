@@ -340,8 +340,14 @@ pub const ADMIT_OPTIONS: [Given; 8] = [
     ),
 ];
 
-pub const STEP_OPTIONS: [Given; 5] = [
+pub const STEP_OPTIONS: [Given; 6] = [
     AS_JSON,
+    Given(
+        ECHO,
+        Takes::Nothing,
+        "Print before each line the number of its script line and the node or connection that its command is of",
+        &[JSON, NUMBERS, WHY],
+    ),
     Given(
         NUMBERS,
         Takes::Nothing,
