@@ -1,18 +1,21 @@
--- whom the files let in
-use Rattle.std.specs.Prelude.{◌≡◌, ◌⊎◌, ℕ, List, map, Option, Result, Ok, Err}
-use Rattle.cpg_cred.specs.Listed.{Listed, with_listed}
-use Rattle.cpg_cred.specs.Admission.{via_of}
-use Rattle.cpg_cred.specs.declared.admission.Via.{Via}
+-- whom the files let in, and of whom it is asked
+use Rattle.std.specs.Borrow.{Bor}
+use Rattle.std.specs.Prelude.{◌≡◌, ◌⊎◌, ℕ, ◌+◌, List, [], ◌∷◌, position, is_none, option_to_list, if◌then◌else◌, Option, Some, Result, Ok, Err}
+use Rattle.std.specs.List.{flat_map}
+use Rattle.cpg_cred.specs.Listed.{Listed}
 use Rattle.cpg_cred.specs.declared.credentials.Cred.{Cred}
 use Rattle.cpg_cred.specs.declared.refusals.Refusal.{Refusal}
 use Rattle.cpg_cred.specs.declared.refusals.Refusal.TheVariants.{Memory}
-use Rattle.cpg_conf.specs.Listed.{listed, nothing}
-use Rattle.cpg_conf.specs.Names.{Known, no_names, known_of}
+use Rattle.cpg_text.specs.Numbers.{is_number}
+use Rattle.cpg_script.specs.Words.{◌>>=◌, cut_at, u32_of}
+use Rattle.cpg_conf.specs.Listed.{joined, listed}
+use Rattle.cpg_conf.specs.Names.{Known, no_names, known_of, number_of}
 use Rattle.cpg_accept.specs.Accounts.{known_with}
 use Rattle.cpg_accept.specs.declared.admit.accounts.Book.TheVariants.{Users, Groups}
 use Rattle.cpg_accept.specs.declared.admit.texts.AdmitFault.{AdmitFault}
 use Rattle.cpg_accept.specs.declared.admit.texts.File.{File}
 use Rattle.cpg_accept.specs.declared.admit.texts.File.TheVariants.{Conf, Names, Passwd, Group}
+use Rattle.cpg_accept.specs.declared.admit.texts.NamedText.{NamedText}
 use Rattle.cpg_accept.specs.declared.admit.texts.NamesFrom.{NamesFrom}
 use Rattle.cpg_accept.specs.declared.admit.texts.NamesFrom.TheVariants.{Nowhere, Text, Accounts}
 
@@ -36,14 +39,36 @@ known_by Nowhere = Ok no_names
 known_by (Text text) = read_in Names (known_of text.now)
 known_by (Accounts passwd group) = known_in passwd.now group.now
 
--- the users and groups that a conf text lists by the names that are told
-abbrev pub list_by : NamesFrom → List ℕ → Result Listed AdmitFault
-list_by from conf = and_then (known_by from) (λ names. read_in Conf (listed names conf))
+-- a list, and behind it what a file lists, unless that has a fault
+abbrev pub with_listed_by : Listed → Result Listed AdmitFault → Result Listed AdmitFault
+with_listed_by list more = and_then more (λ read. Ok (joined list read))
+
+-- a list, and behind it what conf files list by those names, the first of which has that index: the first fault counts
+abbrev pub listed_onto : Known → ℕ → List NamedText → Listed → Result Listed AdmitFault
+listed_onto names index [] list = Ok list
+listed_onto names index (conf ∷ later) list =
+    and_then (with_listed_by list (read_in (Conf index) (listed names conf.text.now))) (listed_onto names (index + 1) later)
 
 -- why nothing is read: the first fault, or want of memory
 abbrev pub Fails : {A : Type 0} → Result A AdmitFault → AdmitFault → Type 0
 Fails read fault = (read ≡ Err fault) ⊎ (fault.refusal ≡ Memory)
 
--- what lets each of the credentials in
-abbrev pub answers_of : Listed → List Cred → List (Option Via)
-answers_of list asks = map (via_of (with_listed nothing list)) asks
+-- the number that a word says: its digits' own, or that of the name
+abbrev pub number_said : List (List ℕ × ℕ) → List ℕ → Option ℕ
+number_said table word = if is_number word then u32_of word else number_of table word
+
+-- the credentials of UID:GID, each a number or a name
+abbrev pub cred_named : Known → List ℕ → Option Cred
+cred_named names word = do
+  parts ← cut_at 58 word
+  uid ← number_said names.users parts.0
+  gid ← number_said names.groups parts.1
+  Some (record { uid = uid; gid = gid })
+
+-- where the first word stands that asks of nobody, from 0
+abbrev pub first_wrong_ask : Known → List (Bor (List ℕ)) → Option ℕ
+first_wrong_ask names words = position (λ word. is_none (cred_named names word.now)) words
+
+-- the credentials of the words that ask of somebody
+abbrev pub asks_in : Known → List (Bor (List ℕ)) → List Cred
+asks_in names words = flat_map (λ word. option_to_list (cred_named names word.now)) words

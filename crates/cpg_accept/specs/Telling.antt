@@ -47,7 +47,7 @@ abbrev pub shown_at : List ℕ → Option ℕ → List ℕ
 shown_at text None = []
 shown_at text (Some number) = shown_text (slice_get (lines_of text) (number - 1))
 
--- PATH:LINE: REFUSAL, and what stands there; PATH: REFUSAL, where the refusal names no line
+-- cpgring: PATH:LINE: REFUSAL, and what stands there; cpgring: PATH: REFUSAL, where the refusal names no line
 abbrev pub fault_text : List ℕ → List ℕ → Refusal → List ℕ
 fault_text path text refusal =
-    path ++ codes ":" ++ place_text (line_in refusal) ++ codes " " ++ cause_text refusal ++ shown_at text (line_in refusal) ++ codes "\n"
+    codes "cpgring: " ++ path ++ codes ":" ++ place_text (line_in refusal) ++ codes " " ++ cause_text refusal ++ shown_at text (line_in refusal) ++ codes "\n"

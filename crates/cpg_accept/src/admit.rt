@@ -5,13 +5,15 @@
 
 mod accounts;
 mod admitting;
+mod asking;
 mod forms;
 mod printing;
 mod telling;
 mod texts;
 
-pub use admitting::read_list;
-pub use forms::{AsText, TellsAdmitted};
-pub use printing::{print, print_in_form};
+pub use admitting::{list_confs, read_names};
+pub use asking::{find_wrong_ask, read_asks};
+pub use forms::{AsEcho, AsText, TellsAdmitted};
+pub use printing::{print, print_echo, print_in_form};
 pub use telling::fault_line;
-pub use texts::{AdmitFault, File, NamesFrom};
+pub use texts::{AdmitFault, File, NamedText, NamesFrom};

@@ -27,7 +27,7 @@ use Rattle.cpg_why.specs.Sessions.{RunsUnprinted, StopsUnprinted, LeavesSeated, 
 use Rattle.cpg_console.specs.declared.failures.Failure.{Failure}
 use Rattle.cpg_console.specs.declared.failures.Failure.TheVariants.{BadWord, Fault}
 use Rattle.cpg_console.specs.declared.runs.Form.{Form}
-use Rattle.cpg_console.specs.Runs.{failure_of_why, why_as, AuditedUpTo, TellsSessions}
+use Rattle.cpg_console.specs.Runs.{failure_of_delivered, why_as, AuditedUpTo, TellsSessions}
 
 -- nothing is written after a wrong word
 pub none_of_words : (known : Option (List ℕ)) (form : Form) (asked : Asked) (s : Settings) (list : Option Listed) (a : Option (List ℕ)) → list ≡ None
@@ -83,13 +83,13 @@ up_to refusal.Range form asked s list lines fault board a b ends h = absurd ends
 up_to _ form asked s list lines fault board a b ends h = (board, h)
 
 part : (form : Form) (asked : Asked) (s : Settings) (list : Listed) (lines : List ℕ) (fault : WhyFault) (board : List ℕ) (a b : Option (List ℕ)) → EndsWhy asked fault a b
-    → Leaves (why_as form) board (new_world s list) (commands_of_script s.nodes lines) asked fault a b → TellsSessions form asked s (Some list) lines (Some (failure_of_why fault)) a b
+    → Leaves (why_as form) board (new_world s list) (commands_of_script s.nodes lines) asked fault a b → TellsSessions form asked s (Some list) lines (Some (failure_of_delivered fault)) a b
 part form asked s list lines (why.Script fault) board a b ends h = (ends.0, up_to fault.refusal form asked s list lines fault board a b ends.1 h)
-part form asked s list lines (why.Missing what) board a b ends h = (board, h)
+part form asked s list lines (why.Missing what) board a b ends h = (refl, (board, h))
 
 -- a fault ended it
 pub part_told : (known : Option (List ℕ)) (form : Form) (asked : Asked) (s : Settings) (list : Listed) (cluster : ClusterValue) (start : WorldValue) (board : List ℕ) (fault : WhyFault) (failure : Failure) (a b : Option (List ℕ))
-    → cluster ≡ record { nodes = s.nodes; list = list } → new_world s list ≡ start → failure ≡ failure_of_why fault → EndsWhy asked fault a b
+    → cluster ≡ record { nodes = s.nodes; list = list } → new_world s list ≡ start → failure ≡ failure_of_delivered fault → EndsWhy asked fault a b
     → IfSome known (λ lines. Leaves (why_as form) board start (commands_of_script cluster.nodes lines) asked fault a b)
     → IfSome known (λ lines. TellsSessions form asked s (Some list) lines (Some failure) a b)
 part_told None form asked s list cluster start board fault failure a b started named is ends h = tt

@@ -19,7 +19,7 @@ use Rattle.cpg_why.specs.Scripts.{EndsBy, EndsWhy}
 use Rattle.cpg_why.specs.Explaining.{IsExplained, Leaves, LeavesBy}
 use Rattle.cpg_console.specs.declared.failures.Failure.{Failure}
 use Rattle.cpg_console.specs.declared.runs.Form.{Form}
-use Rattle.cpg_console.specs.Runs.{failure_of_why, why_as, FailsLate, TellsSteps, ToldUpTo}
+use Rattle.cpg_console.specs.Runs.{failure_of_delivered, why_as, FailsLate, TellsSteps, ToldUpTo}
 use Rattle.cpg_console.specs.Starting.{IsStarted, IsNotStarted}
 
 no_memory : (form : told.Form) (commands : Result (List Command) ℕ) (asked : Asked) (w : WorldValue) (a : Option (List ℕ)) → LeavesBy form commands asked refusal.Memory w a a w
@@ -61,13 +61,13 @@ up_to form asked s list lines refusal.Range world a b h = absurd (no_range (why_
 up_to form asked s list lines refused world a b h = (world, h)
 
 part : (form : Form) (asked : Asked) (s : Settings) (list : Listed) (lines : List ℕ) (fault : WhyFault) (world : WorldValue) (a b : Option (List ℕ))
-    → Leaves (why_as form) (commands_of_script s.nodes lines) asked fault (new_world s list) a b world → TellsSteps form asked s (Some list) lines (Some (failure_of_why fault)) a b
+    → Leaves (why_as form) (commands_of_script s.nodes lines) asked fault (new_world s list) a b world → TellsSteps form asked s (Some list) lines (Some (failure_of_delivered fault)) a b
 part form asked s list lines (why.Script fault) world a b h = (h.0, up_to form asked s list lines fault.refusal world a b h.1)
-part form asked s list lines (why.Missing what) world a b h = (world, h)
+part form asked s list lines (why.Missing what) world a b h = (refl, (world, h))
 
 -- a fault ended it
 pub part_told : (known : Option (List ℕ)) (form : Form) (asked : Asked) (s : Settings) (list : Option Listed) (w world : WorldValue) (fault : WhyFault) (failure : Failure) (a b : Option (List ℕ)) → IsStarted s list w
-    → failure ≡ failure_of_why fault
+    → failure ≡ failure_of_delivered fault
     → IfSome known (λ lines. Leaves (why_as form) (commands_of_script w.settings.nodes lines) asked fault w a b world)
     → IfSome known (λ lines. TellsSteps form asked s list lines (Some failure) a b)
 part_told known form asked s None w world fault failure a b e is h = absurd e
@@ -83,10 +83,10 @@ late_by refusal.Memory a b h = tt
 late_by refusal.Write a b h = tt
 late_by _ a b h = absurd h
 
-late_of : (asked : Asked) (fault : WhyFault) (a b : Option (List ℕ)) → EndsWhy asked fault a b → FailsLate (failure_of_why fault) a b
+late_of : (asked : Asked) (fault : WhyFault) (a b : Option (List ℕ)) → EndsWhy asked fault a b → FailsLate (failure_of_delivered fault) a b
 late_of asked (why.Script fault) a b h = late_by fault.refusal a b h.1
 late_of asked (why.Missing what) a b h = h.1
 
 -- nothing was written before what is told was whole
-pub part_late : (asked : Asked) (fault : WhyFault) (failure : Failure) (a b : Option (List ℕ)) → failure ≡ failure_of_why fault → EndsWhy asked fault a b → FailsLate failure a b
+pub part_late : (asked : Asked) (fault : WhyFault) (failure : Failure) (a b : Option (List ℕ)) → failure ≡ failure_of_delivered fault → EndsWhy asked fault a b → FailsLate failure a b
 part_late asked fault failure a b is h = subst (λ (f : Failure). FailsLate f a b) (sym is) (late_of asked fault a b h)

@@ -8,5 +8,7 @@ pub mod Pictured
 pub mod Started
 pub mod Worded
 pub mod Shelled
+pub mod EchoedRuns
+pub mod EchoedWorlds
 pub mod Explained
 pub mod Traced

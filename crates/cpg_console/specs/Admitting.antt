@@ -1,23 +1,28 @@
 -- what `cpgring admit` prints, and what it tells of a file's fault
-use Rattle.std.specs.Prelude.{ℕ, ◌≡◌, ◌⊎◌, zero, List, [], Option, Some, None, Result, Ok, Err}
+use Rattle.std.specs.Borrow.{Bor}
+use Rattle.std.specs.Prelude.{ℕ, ◌≡◌, ◌⊎◌, zero, Bool, true, false, if◌then◌else◌, List, [], ◌++◌, slice_get, Option, Some, None, Result, Ok, Err}
 use Rattle.std.specs.Io.KnownBytes.{Appends, Keeps}
 use Rattle.cpg_cred.specs.Listed.{Listed}
 use Rattle.cpg_cred.specs.declared.credentials.Cred.{Cred}
 use Rattle.cpg_cred.specs.declared.refusals.Refusal.TheVariants as refusal
 use Rattle.cpg_text.specs.Streams.{AppendsFront}
 use Rattle.cpg_accept.specs.Accepting.{whole_fault}
-use Rattle.cpg_conf.specs.Listed.{listed}
+use Rattle.cpg_conf.specs.Listed.{nothing}
 use Rattle.cpg_conf.specs.Names.{Known, known_of}
-use Rattle.cpg_accept.specs.Admitting.{and_then, known_in, read_in}
-use Rattle.cpg_accept.specs.Forms.{admitted_text}
+use Rattle.cpg_accept.specs.Admitting.{asks_in, first_wrong_ask, known_in, listed_onto, read_in}
+use Rattle.cpg_accept.specs.Forms.{admitted_echo, admitted_text}
 use Rattle.cpg_accept.specs.Telling.{fault_text}
 use Rattle.cpg_accept.specs.declared.admit.texts.AdmitFault.{AdmitFault}
-use Rattle.cpg_accept.specs.declared.admit.texts.File.{File}
+use Rattle.cpg_accept.specs.declared.admit.texts.File.{File as AdmitFile}
 use Rattle.cpg_accept.specs.declared.admit.texts.File.TheVariants as file
-use Rattle.cpg_json.specs.Admitted.{admitted_json}
+use Rattle.cpg_accept.specs.declared.admit.texts.NamedText.{NamedText}
+use Rattle.cpg_hint.specs.Files.{file_hint}
+use Rattle.cpg_json.specs.Admitted.{admitted_json, admitted_json_echo}
 use Rattle.cpg_console.specs.Telling.{error_line}
 use Rattle.cpg_console.specs.declared.admitting.Admission.{Admission}
-use Rattle.cpg_console.specs.declared.admitting.NamedText.{NamedText}
+use Rattle.cpg_console.specs.declared.admitting.AdmitManner.{AdmitManner}
+use Rattle.cpg_console.specs.declared.admitting.Unadmitted.{Unadmitted}
+use Rattle.cpg_console.specs.declared.admitting.Unadmitted.TheVariants.{File, Word}
 use Rattle.cpg_console.specs.declared.runs.Form.{Form}
 use Rattle.cpg_console.specs.declared.runs.Form.TheVariants as forms
 
@@ -32,14 +37,14 @@ path_or_none None = []
 path_or_none (Some named) = named.path.now
 
 -- the text of one of the files, and its path
-abbrev pub text_in : Admission → File → List ℕ
-text_in a file.Conf = a.conf.text.now
+abbrev pub text_in : Admission → AdmitFile → List ℕ
+text_in a (file.Conf index) = text_or_none (slice_get a.confs.now index)
 text_in a file.Names = text_or_none a.names
 text_in a file.Passwd = text_or_none a.passwd
 text_in a file.Group = text_or_none a.group
 
-abbrev pub path_in : Admission → File → List ℕ
-path_in a file.Conf = a.conf.path.now
+abbrev pub path_in : Admission → AdmitFile → List ℕ
+path_in a (file.Conf index) = path_or_none (slice_get a.confs.now index)
 path_in a file.Names = path_or_none a.names
 path_in a file.Passwd = path_or_none a.passwd
 path_in a file.Group = path_or_none a.group
@@ -52,31 +57,68 @@ names_of None passwd group = known_in passwd group
 abbrev pub names_told : Admission → Result Known AdmitFault
 names_told a = names_of a.names (text_or_none a.passwd) (text_or_none a.group)
 
--- whom a list lets in, or the list, in a form
-abbrev pub admitted_as : Form → Listed → List Cred → List ℕ
-admitted_as forms.Text list asks = admitted_text list asks
-admitted_as forms.Json list asks = admitted_json list asks
+-- whom a list lets in, or the list, in a form; with the UID and the GID of each answer, where that is asked for
+abbrev pub admitted_by_form : Form → Bool → Listed → List Cred → List ℕ
+admitted_by_form forms.Text false list asks = admitted_text list asks
+admitted_by_form forms.Text true list asks = admitted_echo list asks
+admitted_by_form forms.Json false list asks = admitted_json list asks
+admitted_by_form forms.Json true list asks = admitted_json_echo list asks
 
--- what is printed in a form, or the first fault: the names' before the conf file's
-abbrev pub printed_by : Form → Admission → List Cred → Result (List ℕ) AdmitFault
-printed_by form a asks = and_then (names_told a) (λ names. and_then (read_in file.Conf (listed names a.conf.text.now)) (λ list. Ok (admitted_as form list asks)))
+abbrev pub admitted_as : AdmitManner → Listed → List Cred → List ℕ
+admitted_as manner list asks = admitted_by_form manner.form manner.echo list asks
+
+-- and then, unless a file has a fault
+abbrev pub and_then : {A B : Type 0} → Result A AdmitFault → (A → Result B Unadmitted) → Result B Unadmitted
+and_then (Ok read) more = more read
+and_then (Err fault) more = Err (File fault)
+
+-- what is printed where no word asks of nobody
+abbrev pub unless_wrong : {B : Type 0} → Option ℕ → Result B Unadmitted → Result B Unadmitted
+unless_wrong None more = more
+unless_wrong (Some index) more = Err (Word index)
+
+-- what is printed by those names of whom words ask of that are right, or the first fault of a conf file
+abbrev pub printed_asked : AdmitManner → Known → List NamedText → List (Bor (List ℕ)) → Result (List ℕ) Unadmitted
+printed_asked manner names confs words = and_then (listed_onto names 0 confs nothing) (λ list. Ok (admitted_as manner list (asks_in names words)))
+
+-- what is printed, or why nothing is: the first fault of the names, then the first wrong word, then the first fault of a conf file
+abbrev pub printed_by : AdmitManner → Admission → List (Bor (List ℕ)) → Result (List ℕ) Unadmitted
+printed_by manner a words =
+    and_then (names_told a) (λ names. unless_wrong (first_wrong_ask names words) (printed_asked manner names a.confs.now words))
+
+-- why nothing is printed: that, or want of memory
+abbrev pub IsUnprinted : Result (List ℕ) Unadmitted → Unadmitted → Type 0
+IsUnprinted printed (File fault) = (printed ≡ Err (File fault)) ⊎ (fault.refusal ≡ refusal.Memory)
+IsUnprinted printed (Word index) = printed ≡ Err (Word index)
 
 -- the text is written, and nothing is told; or a front of it is, with the status of a fault, of which a front is told
 abbrev pub WritesText : List ℕ → ℕ → Option (List ℕ) → Option (List ℕ) → Option (List ℕ) → Option (List ℕ) → Type 0
 WritesText text zero old new told said = Appends old new text × Keeps told said
 WritesText text status old new told said = (status ≡ 1) × AppendsFront old new text × AppendsFront told said (error_line (whole_fault refusal.Write))
 
--- the line of the fault is told, or that memory was refused to it, as far as the stream allows
-abbrev pub TellsOf : Admission → AdmitFault → Option (List ℕ) → Option (List ℕ) → Type 0
-TellsOf a fault told said =
-    AppendsFront told said (fault_text (path_in a fault.file) (text_in a fault.file) fault.refusal) ⊎ AppendsFront told said (error_line (whole_fault refusal.Memory))
+-- the line of a fault, and behind it a hint where that is asked for
+abbrev pub told_of : Bool → Admission → AdmitFault → List ℕ
+told_of hints a fault =
+    fault_text (path_in a fault.file) (text_in a fault.file) fault.refusal ++ (if hints then file_hint fault.file (text_in a fault.file) fault.refusal else [])
+
+-- these are told, or that memory was refused to them, as far as the stream allows
+abbrev pub TellsOf : Bool → Admission → AdmitFault → Option (List ℕ) → Option (List ℕ) → Type 0
+TellsOf hints a fault told said = AppendsFront told said (told_of hints a fault) ⊎ AppendsFront told said (error_line (whole_fault refusal.Memory))
 
 -- a fault ends it, or want of memory: nothing is printed, and that is told
-abbrev pub EndsTold : Admission → Result (List ℕ) AdmitFault → ℕ → Option (List ℕ) → Option (List ℕ) → Option (List ℕ) → Option (List ℕ) → Type 0
-EndsTold a printed status old new told said =
-    (status ≡ 1) × Keeps old new × ((fault : AdmitFault) × ((printed ≡ Err fault) ⊎ (fault.refusal ≡ refusal.Memory)) × TellsOf a fault told said)
+abbrev pub EndsTold : Bool → Admission → Result (List ℕ) Unadmitted → ℕ → Option (List ℕ) → Option (List ℕ) → Option (List ℕ) → Option (List ℕ) → Type 0
+EndsTold hints a printed status old new told said =
+    (status ≡ 1) × Keeps old new × ((fault : AdmitFault) × ((printed ≡ Err (File fault)) ⊎ (fault.refusal ≡ refusal.Memory)) × TellsOf hints a fault told said)
 
 -- what is printed is written, or nothing is and why is told
-abbrev pub Admits : Admission → Result (List ℕ) AdmitFault → ℕ → Option (List ℕ) → Option (List ℕ) → Option (List ℕ) → Option (List ℕ) → Type 0
-Admits a (Ok text) status old new told said = WritesText text status old new told said ⊎ EndsTold a (Ok text) status old new told said
-Admits a (Err fault) status old new told said = EndsTold a (Err fault) status old new told said
+abbrev pub EndsBy : Bool → Admission → Result (List ℕ) Unadmitted → ℕ → Option (List ℕ) → Option (List ℕ) → Option (List ℕ) → Option (List ℕ) → Type 0
+EndsBy hints a (Ok text) status old new told said = WritesText text status old new told said ⊎ EndsTold hints a (Ok text) status old new told said
+EndsBy hints a (Err why) status old new told said = EndsTold hints a (Err why) status old new told said
+
+-- it ends so, with a status; or with the index of a wrong word, and then nothing is printed or told
+abbrev pub AdmitsBy : Bool → Admission → Result (List ℕ) Unadmitted → Result ℕ ℕ → Option (List ℕ) → Option (List ℕ) → Option (List ℕ) → Option (List ℕ) → Type 0
+AdmitsBy hints a printed (Ok status) old new told said = EndsBy hints a printed status old new told said
+AdmitsBy hints a printed (Err index) old new told said = (printed ≡ Err (Word index)) × Keeps old new × Keeps told said
+
+abbrev pub Admits : AdmitManner → Admission → List (Bor (List ℕ)) → Result ℕ ℕ → Option (List ℕ) → Option (List ℕ) → Option (List ℕ) → Option (List ℕ) → Type 0
+Admits manner a words ended old new told said = AdmitsBy manner.hints a (printed_by manner a words) ended old new told said

@@ -11,7 +11,7 @@ use Rattle.cpg_console.specs.declared.failures.Failure.{Failure}
 use Rattle.cpg_console.specs.declared.failures.Failure.TheVariants.{BadWord, Fault, Missing}
 use Rattle.cpg_console.specs.Words.{wrong_hint}
 use Rattle.cpg_console.specs.declared.runs.Run.{Run}
-use Rattle.cpg_console.specs.declared.runs.Run.TheVariants.{Judge, JudgeOnly, Why, Accept, Step, StepWhy, Draw, Number, Cluster, ClusterWhy}
+use Rattle.cpg_console.specs.declared.runs.Run.TheVariants.{Judge, JudgeOnly, Why, Accept, Step, StepWhy, Draw, Number, Echo, Cluster, ClusterWhy}
 
 -- the kind of script that a run reads
 abbrev pub kind_of : Run → Kind
@@ -23,6 +23,7 @@ kind_of (Step form settings words) = kind.Step settings.nodes
 kind_of (StepWhy form asked settings words) = kind.Step settings.nodes
 kind_of (Draw picture settings words) = kind.Step settings.nodes
 kind_of (Number settings words) = kind.Step settings.nodes
+kind_of (Echo settings words) = kind.Step settings.nodes
 kind_of (Cluster manner chances settings words) = kind.Cluster settings.nodes
 kind_of (ClusterWhy inquiry settings words) = kind.Cluster settings.nodes
 
@@ -36,6 +37,7 @@ words_of (Step form settings words) = words.now
 words_of (StepWhy form asked settings words) = words.now
 words_of (Draw picture settings words) = words.now
 words_of (Number settings words) = words.now
+words_of (Echo settings words) = words.now
 words_of (Cluster manner chances settings words) = words.now
 words_of (ClusterWhy inquiry settings words) = words.now
 

@@ -1,4 +1,6 @@
 pub mod Admitting
+pub mod EchoSteps
+pub mod Echoing
 pub mod Hinting
 pub mod Pipes
 pub mod Progress

@@ -34,8 +34,10 @@ use Rattle.cpg_why.specs.declared.asking.WhyFault.TheVariants as why_fault
 use Rattle.cpg_cluster.specs.Lines.{Printed}
 use Rattle.cpg_cluster.specs.Running as cluster
 use Rattle.cpg_cluster.specs.Scripts as clustered
+use Rattle.cpg_console.specs.Echoing as echo
 use Rattle.cpg_console.specs.Speaking.{spoken_as}
 use Rattle.cpg_console.specs.Words.{list_of_words}
+use Rattle.cpg_console.specs.declared.failures.Among.TheVariants.{Script, Delivered}
 use Rattle.cpg_console.specs.declared.failures.Failure.{Failure}
 use Rattle.cpg_console.specs.declared.failures.Failure.TheVariants.{BadWord, Fault, Missing}
 use Rattle.cpg_console.specs.declared.runs.Form.{Form}
@@ -43,14 +45,14 @@ use Rattle.cpg_console.specs.declared.runs.Form.TheVariants.{Text, Json}
 use Rattle.cpg_console.specs.declared.runs.Picture.{Picture}
 use Rattle.cpg_console.specs.declared.runs.Picture.TheVariants as picture
 use Rattle.cpg_console.specs.declared.runs.Run.{Run}
-use Rattle.cpg_console.specs.declared.runs.Run.TheVariants.{Judge, JudgeOnly, Why, Accept, Step, StepWhy, Draw, Number, Cluster, ClusterWhy}
+use Rattle.cpg_console.specs.declared.runs.Run.TheVariants.{Judge, JudgeOnly, Why, Accept, Step, StepWhy, Draw, Number, Echo, Cluster, ClusterWhy}
 
 -- the exit status: 0, after a fault 1, after a fault of the command line 2: a wrong word, or a question of what is not there
 abbrev pub status_after : Option Failure → ℕ
 status_after None = 0
 status_after (Some (Fault fault)) = 1
 status_after (Some BadWord) = 2
-status_after (Some (Missing what)) = 2
+status_after (Some (Missing absent)) = 2
 
 -- how `why` tells what it tells
 abbrev pub why_as : Form → told.Form
@@ -95,8 +97,9 @@ TellsSteps form asked s None script failure old new = (failure ≡ Some BadWord)
 TellsSteps form asked s (Some list) script None old new =
     (length script ≤ MOST_BYTES) × ((world : WorldValue) × told_steps.IsExplained (why_as form) (commands_of_script s.nodes script) asked (new_world s list) old new world)
 TellsSteps form asked s (Some list) script (Some (Fault fault)) old new = (fault.part ≡ None) × ToldUpTo form asked s list script fault.refusal old new
-TellsSteps form asked s (Some list) script (Some (Missing what)) old new =
-    (world : WorldValue) × told_steps.Leaves (why_as form) (commands_of_script s.nodes script) asked (why_fault.Missing what) (new_world s list) old new world
+TellsSteps form asked s (Some list) script (Some (Missing absent)) old new =
+    (absent.among ≡ Delivered)
+    × ((world : WorldValue) × told_steps.Leaves (why_as form) (commands_of_script s.nodes script) asked (why_fault.Missing absent.what) (new_world s list) old new world)
 TellsSteps form asked s (Some list) script (Some BadWord) old new = ⊥
 
 -- the picture of a script's run, as one SVG or as lines for a terminal, is written, or its lines with the numbers of frames
@@ -123,6 +126,19 @@ Draws kind s (Some list) script None old new = (length script ≤ MOST_BYTES) ×
 Draws kind s (Some list) script (Some (Fault fault)) old new = (fault.part ≡ None) × DrawsUpTo kind s list script fault.refusal old new
 Draws kind s (Some list) script _ old new = ⊥
 
+-- What a refusal leaves written of a script whose lines are echoed; Range tells that there is no world of those settings.
+abbrev pub EchoesUpTo : Settings → Listed → List ℕ → Refusal → Option (List ℕ) → Option (List ℕ) → Type 0
+EchoesUpTo s list script Range old new = (¬ IsSettings s) × Keeps old new
+EchoesUpTo s list script refused old new = echo.Leaves (commands_of_script s.nodes script) (why.numbers_of script) refused (new_world s list) old new
+
+-- what `step --echo` writes of a script, by the list that its words give: what its run over a new world prints, each line behind its echo
+abbrev pub Echoes : Settings → Option Listed → List ℕ → Option Failure → Option (List ℕ) → Option (List ℕ) → Type 0
+Echoes s None script failure old new = (failure ≡ Some BadWord) × Keeps old new
+Echoes s (Some list) script None old new =
+    (length script ≤ MOST_BYTES) × echo.IsWritten (commands_of_script s.nodes script) (why.numbers_of script) (new_world s list) old new
+Echoes s (Some list) script (Some (Fault fault)) old new = (fault.part ≡ None) × EchoesUpTo s list script fault.refusal old new
+Echoes s (Some list) script _ old new = ⊥
+
 -- the judgement of a script, as text or as JSON, is written
 abbrev pub IsJudged : Form → List ℕ → Option (List ℕ) → Option (List ℕ) → Type 0
 IsJudged Text script old new = judge.IsWritten (entries_of_script script) old new
@@ -143,16 +159,21 @@ abbrev pub LeavesAnswered : Form → List ℕ → script_faults.Fault → Option
 LeavesAnswered Text script fault old new = accept.Ends script fault old new
 LeavesAnswered Json script fault old new = json_accept.Ends script fault old new
 
--- why nothing is explained, as a failure
+-- why nothing is explained, as a failure: of the entries of a script, or of those that nodes delivered
 abbrev pub failure_of_why : why_faults.WhyFault → Failure
 failure_of_why (why_fault.Script fault) = Fault fault
-failure_of_why (why_fault.Missing what) = Missing what
+failure_of_why (why_fault.Missing what) = Missing (record { what = what; among = Script })
+
+abbrev pub failure_of_delivered : why_faults.WhyFault → Failure
+failure_of_delivered (why_fault.Script fault) = Fault fault
+failure_of_delivered (why_fault.Missing what) = Missing (record { what = what; among = Delivered })
 
 -- what `why` writes of a script: what it tells of what is asked, or after a fault what that fault leaves
 abbrev pub Explains : Form → Asked → List ℕ → Option Failure → Option (List ℕ) → Option (List ℕ) → Type 0
 Explains form asked script None old new = (length script ≤ MOST_BYTES) × why.IsWritten (why_as form) (entries_of_script script) (why.numbers_of script) asked old new
 Explains form asked script (Some (Fault fault)) old new = why.Leaves (why_as form) (entries_of_script script) (why.numbers_of script) asked (why_fault.Script fault) old new
-Explains form asked script (Some (Missing what)) old new = why.Leaves (why_as form) (entries_of_script script) (why.numbers_of script) asked (why_fault.Missing what) old new
+Explains form asked script (Some (Missing absent)) old new =
+    (absent.among ≡ Script) × why.Leaves (why_as form) (entries_of_script script) (why.numbers_of script) asked (why_fault.Missing absent.what) old new
 Explains form asked script (Some BadWord) old new = ⊥
 
 -- The script was run over a cluster of so many nodes whose history starts so, and all its text is written.
@@ -188,8 +209,9 @@ TellsSessions form asked s (Some list) script None old new =
     (length script ≤ MOST_BYTES) × audit.AreRun (new_world s list) (clustered.commands_of_script s.nodes script) × IsAudited form asked s.places old new
 TellsSessions form asked s (Some list) script (Some (Fault fault)) old new =
     (fault.part ≡ None) × AuditedUpTo fault.refusal form asked s list script fault old new
-TellsSessions form asked s (Some list) script (Some (Missing what)) old new =
-    (board : List ℕ) × audit.Leaves (why_as form) board (new_world s list) (clustered.commands_of_script s.nodes script) asked (why_fault.Missing what) old new
+TellsSessions form asked s (Some list) script (Some (Missing absent)) old new =
+    (absent.among ≡ Delivered)
+    × ((board : List ℕ) × audit.Leaves (why_as form) board (new_world s list) (clustered.commands_of_script s.nodes script) asked (why_fault.Missing absent.what) old new)
 TellsSessions form asked s (Some list) script (Some BadWord) old new = ⊥
 
 -- a word of the run's command line lets nobody in
@@ -202,6 +224,7 @@ HasWrongWord (Step form settings words) = list_of_words (map (λ word. word.now)
 HasWrongWord (StepWhy form asked settings words) = list_of_words (map (λ word. word.now) words.now) ≡ None
 HasWrongWord (Draw picture settings words) = list_of_words (map (λ word. word.now) words.now) ≡ None
 HasWrongWord (Number settings words) = list_of_words (map (λ word. word.now) words.now) ≡ None
+HasWrongWord (Echo settings words) = list_of_words (map (λ word. word.now) words.now) ≡ None
 HasWrongWord (Cluster manner chances settings words) = list_of_words (map (λ word. word.now) words.now) ≡ None
 HasWrongWord (ClusterWhy inquiry settings words) = list_of_words (map (λ word. word.now) words.now) ≡ None
 
@@ -218,6 +241,7 @@ Prints (Step form settings words) script failure old new = Steps form settings (
 Prints (StepWhy form asked settings words) script failure old new = TellsSteps form asked settings (list_of_words (map (λ word. word.now) words.now)) script failure old new
 Prints (Draw kind settings words) script failure old new = Draws kind settings (list_of_words (map (λ word. word.now) words.now)) script failure old new
 Prints (Number settings words) script failure old new = Draws picture.Numbered settings (list_of_words (map (λ word. word.now) words.now)) script failure old new
+Prints (Echo settings words) script failure old new = Echoes settings (list_of_words (map (λ word. word.now) words.now)) script failure old new
 Prints (Cluster manner chances settings words) script failure old new = Clusters (spoken_as manner.form) settings (list_of_words (map (λ word. word.now) words.now)) script failure old new
 Prints (ClusterWhy inquiry settings words) script failure old new =
     TellsSessions inquiry.form inquiry.asked settings (list_of_words (map (λ word. word.now) words.now)) script failure old new
@@ -226,7 +250,7 @@ Prints _ script _ old new = ⊥
 -- nothing is written before the words were found right, and the script read and checked
 abbrev pub FailsLate : Failure → Option (List ℕ) → Option (List ℕ) → Type 0
 FailsLate BadWord old new = Keeps old new
-FailsLate (Missing what) old new = Keeps old new
+FailsLate (Missing absent) old new = Keeps old new
 FailsLate (Fault fault) old new = WritesLate fault.refusal old new
 
 -- the failure is a fault of the command line
@@ -243,7 +267,7 @@ failure_of (Ok done) = None
 -- written, stays
 abbrev pub failure_told : Bool → Option Failure → Option Failure
 failure_told flushed (Some BadWord) = Some BadWord
-failure_told flushed (Some (Missing what)) = Some (Missing what)
+failure_told flushed (Some (Missing absent)) = Some (Missing absent)
 failure_told true first = first
 failure_told false first = Some (Fault (accept.whole_fault Write))
 

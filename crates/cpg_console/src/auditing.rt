@@ -12,7 +12,7 @@ ghost use Rattle.cpg_console.specs.Words.{list_of_words};
 ghost use Rattle.cpg_world_laws.specs.Worlds.{new_world};
 
 use crate::chances::Chances;
-use crate::failures::Failure;
+use crate::failures::{Failure, undelivered};
 use crate::founding::new_board;
 use crate::runs::Form;
 use crate::words::read_list;
@@ -140,7 +140,7 @@ where
     match Cluster::<B, Chances>::start(rt, alloc, settings, board, list, inquiry.chances) {
         Err(_) => Err(Failure::from(Refusal::Memory)),
         Ok(cluster) => match explain_over(rt, alloc, inquiry, cluster, reader, writer) {
-            Err(fault) => Err(Failure::from(fault)),
+            Err(fault) => Err(undelivered(fault)),
             Ok(()) => Ok(()),
         },
     }

@@ -2,12 +2,28 @@
 
 ghost use Rattle.std.specs.Prelude.{◌≡◌, None, Some};
 ghost use Rattle.cpg_console.specs.Telling.{failed_to_write};
-ghost use Rattle.cpg_console.specs.Runs.{failure_of_why};
+ghost use Rattle.cpg_console.specs.Runs.{failure_of_delivered, failure_of_why};
 ghost use Rattle.cpg_console.specs.declared.failures.Failure.TheVariants as failure;
 
 use cpg_cred::Refusal;
 use cpg_script::Fault;
 use cpg_why::{Missing, WhyFault};
+
+/// Among which entries something is asked of.
+#[derive(Debug, Clone, Copy, PartialEq, Eq)]
+pub enum Among {
+    /// Those of a script.
+    Script,
+    /// Those that nodes delivered.
+    Delivered,
+}
+
+/// What is asked of and is not there.
+#[derive(Debug, Clone, Copy)]
+pub struct Absent {
+    pub what: Missing,
+    pub among: Among,
+}
 
 /// Why a run ended before it did all that it was asked for.
 #[derive(Debug, Drop)]
@@ -16,8 +32,8 @@ pub enum Failure {
     BadWord,
     /// A fault of the script, or a refusal when the list or the world is made.
     Fault(Fault),
-    /// The command line asks of what is not there: an entry, or an event that a connection was told.
-    Missing(Missing),
+    /// The command line asks of what is not there: an entry, a connection, or an event that a connection was told.
+    Missing(Absent),
 }
 
 impl Failure {
@@ -49,8 +65,24 @@ impl From<WhyFault> for Failure {
     fn from(fault: WhyFault) -> Failure {
         match fault {
             WhyFault::Script(fault) => Failure::Fault(fault),
-            WhyFault::Missing(what) => Failure::Missing(what),
+            WhyFault::Missing(what) => Failure::Missing(Absent {
+                what,
+                among: Among::Script,
+            }),
         }
+    }
+}
+
+/// Why nothing is explained of what nodes delivered.
+pub(crate) fn undelivered(fault: WhyFault) -> Failure
+    ensures { result ≡ failure_of_delivered fault }
+{
+    match fault {
+        WhyFault::Script(fault) => Failure::Fault(fault),
+        WhyFault::Missing(what) => Failure::Missing(Absent {
+            what,
+            among: Among::Delivered,
+        }),
     }
 }
 

@@ -40,7 +40,8 @@ fn kind_of(run: &Run<'_>) -> Kind
         Run::Step(_, settings, _)
         | Run::StepWhy(_, _, settings, _)
         | Run::Draw(_, settings, _)
-        | Run::Number(settings, _) => { Kind::Step(settings.nodes) }
+        | Run::Number(settings, _)
+        | Run::Echo(settings, _) => Kind::Step(settings.nodes),
         Run::Cluster(_, _, settings, _) | Run::ClusterWhy(_, settings, _) => {
             Kind::Cluster(settings.nodes)
         }
@@ -57,6 +58,7 @@ fn has_wrong_word(run: &Run<'_>) -> bool
         | Run::StepWhy(_, _, _, words)
         | Run::Draw(_, _, words)
         | Run::Number(_, words)
+        | Run::Echo(_, words)
         | Run::Cluster(_, _, _, words)
         | Run::ClusterWhy(_, _, words) => has_wrong(words),
     }
@@ -73,6 +75,7 @@ fn hint_words(alloc: Global, run: &Run<'_>) -> Result<Vec<u8>, Refusal>
         | Run::StepWhy(_, _, _, words)
         | Run::Draw(_, _, words)
         | Run::Number(_, words)
+        | Run::Echo(_, words)
         | Run::Cluster(_, _, _, words)
         | Run::ClusterWhy(_, _, words) => hint_wrong(alloc, words),
     }

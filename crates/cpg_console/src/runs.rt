@@ -17,6 +17,7 @@ use crate::auditing::{Inquiry, explain_over_cluster};
 use crate::chances::Chances;
 use crate::clustering::run_cluster;
 use crate::drawing::draw_over_world;
+use crate::echoing::echo_over_world;
 use crate::failures::Failure;
 use crate::judging::{accept, explain, judge};
 use crate::pipes::Piped;
@@ -76,6 +77,8 @@ pub enum Run<'a> {
     Draw(Picture, Settings, &'a [&'a str]),
     /// `cpgring step --numbers`: the same as `Step`, with the numbers of the frames that each command sent.
     Number(Settings, &'a [&'a str]),
+    /// `cpgring step --echo`: the same as `Step`, each line behind the number of its script line and what its command is of.
+    Echo(Settings, &'a [&'a str]),
     /// `cpgring run`: a script of sessions is run over a new cluster of those settings, whose nodes let in
     /// whom the words let in, and answers as the manner says; of its frames becomes what the chances say.
     Cluster(Manner<Spoken>, Chances, Settings, &'a [&'a str]),
@@ -265,6 +268,9 @@ where
         Run::Number(settings, words) => {
             let picture = Picture::Numbered;
             draw_over_world(alloc, picture, *settings, words, reader, writer)?;
+        }
+        Run::Echo(settings, words) => {
+            echo_over_world(alloc, *settings, words, reader, writer)?;
         }
         Run::Cluster(manner, chances, settings, words) => {
             run_cluster(

@@ -12,7 +12,7 @@ ghost use Rattle.cpg_console.specs.Runs.{why_as, FailsLate, IsRun, LeavesRun, St
 ghost use Rattle.cpg_console.specs.Starting.{IsStarted, IsNotStarted};
 ghost use Rattle.cpg_console.specs.Words.{list_of_words};
 
-use crate::failures::Failure;
+use crate::failures::{Failure, undelivered};
 use crate::runs::Form;
 use crate::words::read_list;
 use cpg_cred::AcceptList;
@@ -116,7 +116,7 @@ pub fn explain_over_world<R: Read, W: Write>(
     match world_by(alloc, settings, words) {
         Err(failure) => Err(failure),
         Ok(mut world) => match explain(alloc, form, asked, reader, writer, &mut world) {
-            Err(fault) => Err(Failure::from(fault)),
+            Err(fault) => Err(undelivered(fault)),
             Ok(()) => Ok(()),
         },
     }

@@ -8,9 +8,9 @@ ghost use Rattle.std.specs.Io.KnownBytes.{Appends};
 ghost use Rattle.cpg_text.specs.Streams.{AppendsFront};
 ghost use Rattle.cpg_script.specs.Faults.{part_text};
 ghost use Rattle.cpg_accept.specs.Accepting.{whole_fault};
-ghost use Rattle.cpg_console.specs.Telling.{error_line, failure_line, missing_line};
+ghost use Rattle.cpg_console.specs.Telling.{conn_line, conn_text, entry_line, error_line, event_line, failure_line, missing_line};
 
-use crate::failures::Failure;
+use crate::failures::{Among, Failure};
 use arrayvec::ArrayString;
 use cpg_cred::Refusal;
 use cpg_record::ConnId;
@@ -75,8 +75,8 @@ pub(crate) fn tell_unwritten<E: Write>(errors: &mut E, left: bool)
 }
 
 /// Writes the failure as it is told: a fault as `tell_fault` does, and a wrong word of the command line as
-/// `cpgring: bad accept word` on a line; or `cpgring: there is no entry 9: the script has 8`, or
-/// `cpgring: there is no event 9: 1.2 was told 8`.
+/// `cpgring: bad accept word` on a line; or `cpgring: there is no entry 9: the script has 8`,
+/// `cpgring: there is no connection 2.9: the script has 3` or `cpgring: there is no event 9: 1.2 was told 8`.
 #[tactic(auto, using(crate::proofs::Fronts::none_of))]
 pub fn tell_failure<E: Write>(errors: &mut E, failure: &Failure) -> Result<(), Refusal>
     ensures ok { OnOk result (Appends (E.contents errors.old) (E.contents errors.new) (failure_line failure.now)) }
@@ -86,7 +86,7 @@ pub fn tell_failure<E: Write>(errors: &mut E, failure: &Failure) -> Result<(), R
     match failure {
         Failure::BadWord => write_whole(errors, b"cpgring: bad accept word\n"),
         Failure::Fault(fault) => tell_fault(errors, fault),
-        Failure::Missing(what) => match missing_line(what) {
+        Failure::Missing(absent) => match missing_line(absent.among, &absent.what) {
             Ok(line) => write_whole(errors, line.as_bytes()),
             Err(_) => Err(Refusal::Memory),
         },
@@ -106,11 +106,12 @@ fn line_of(fault: &Fault) -> Result<ArrayString<ROOM>, fmt::Error>
 }
 
 /// The line of what is asked of and is not there.
-fn missing_line(what: &Missing) -> Result<ArrayString<ROOM>, fmt::Error>
-    ensures { IfOk result (λ line. line.bytes ≡ missing_line what.now) }
+fn missing_line(among: Among, what: &Missing) -> Result<ArrayString<ROOM>, fmt::Error>
+    ensures { IfOk result (λ line. line.bytes ≡ missing_line among what.now) }
 {
     match what {
-        Missing::Entry { place, entries } => entry_line(*place, *entries),
+        Missing::Entry { place, entries } => entry_line(among, *place, *entries),
+        Missing::Connection { conn, conns } => conn_line(among, conn, *conns),
         Missing::Event {
             conn,
             event,
@@ -121,15 +122,13 @@ fn missing_line(what: &Missing) -> Result<ArrayString<ROOM>, fmt::Error>
 
 /// The line of an event that is none of the so many that a connection was told.
 fn event_line(conn: &ConnId, event: u32, events: u32) -> Result<ArrayString<ROOM>, fmt::Error>
-    ensures { IfOk result (λ line. line.bytes ≡ missing_line (Missing.Event conn.now event events)) }
+    ensures { IfOk result (λ line. line.bytes ≡ event_line conn.now event events) }
 {
     let mut line = ArrayString::new();
     line.write_str("cpgring: there is no event ")?;
     put_number(&mut line, event)?;
     line.write_str(": ")?;
-    put_number(&mut line, u32::from(conn.node.get()))?;
-    line.write_str(".")?;
-    put_number(&mut line, u32::from(conn.conn))?;
+    put_conn(&mut line, conn)?;
     line.write_str(" was told ")?;
     put_number(&mut line, events)?;
     line.write_str("\n")?;
@@ -137,8 +136,17 @@ fn event_line(conn: &ConnId, event: u32, events: u32) -> Result<ArrayString<ROOM
 }
 
 /// The line of a place at which none of so many entries stands.
-fn entry_line(place: u32, entries: u32) -> Result<ArrayString<ROOM>, fmt::Error>
-    ensures { IfOk result (λ line. line.bytes ≡ missing_line (Missing.Entry place entries)) }
+fn entry_line(among: Among, place: u32, entries: u32) -> Result<ArrayString<ROOM>, fmt::Error>
+    ensures { IfOk result (λ line. line.bytes ≡ entry_line among place entries) }
+{
+    match among {
+        Among::Script => entry_of_script(place, entries),
+        Among::Delivered => entry_of_delivered(place, entries),
+    }
+}
+
+fn entry_of_script(place: u32, entries: u32) -> Result<ArrayString<ROOM>, fmt::Error>
+    ensures { IfOk result (λ line. line.bytes ≡ entry_line Among.Script place entries) }
 {
     let mut line = ArrayString::new();
     line.write_str("cpgring: there is no entry ")?;
@@ -147,6 +155,69 @@ fn entry_line(place: u32, entries: u32) -> Result<ArrayString<ROOM>, fmt::Error>
     put_number(&mut line, entries)?;
     line.write_str("\n")?;
     Ok(line)
+}
+
+fn entry_of_delivered(place: u32, entries: u32) -> Result<ArrayString<ROOM>, fmt::Error>
+    ensures { IfOk result (λ line. line.bytes ≡ entry_line Among.Delivered place entries) }
+{
+    let mut line = ArrayString::new();
+    line.write_str("cpgring: there is no entry ")?;
+    put_number(&mut line, place)?;
+    line.write_str(": ")?;
+    put_number(&mut line, entries)?;
+    line.write_str(if entries == 1 {
+        " was delivered\n"
+    } else {
+        " were delivered\n"
+    })?;
+    Ok(line)
+}
+
+/// The line of a connection that is none of the so many that made an entry.
+fn conn_line(among: Among, conn: &ConnId, conns: u32) -> Result<ArrayString<ROOM>, fmt::Error>
+    ensures { IfOk result (λ line. line.bytes ≡ conn_line among conn.now conns) }
+{
+    match among {
+        Among::Script => conn_of_script(conn, conns),
+        Among::Delivered => conn_of_delivered(conn, conns),
+    }
+}
+
+fn conn_of_script(conn: &ConnId, conns: u32) -> Result<ArrayString<ROOM>, fmt::Error>
+    ensures { IfOk result (λ line. line.bytes ≡ conn_line Among.Script conn.now conns) }
+{
+    let mut line = ArrayString::new();
+    line.write_str("cpgring: there is no connection ")?;
+    put_conn(&mut line, conn)?;
+    line.write_str(": the script has ")?;
+    put_number(&mut line, conns)?;
+    line.write_str("\n")?;
+    Ok(line)
+}
+
+fn conn_of_delivered(conn: &ConnId, conns: u32) -> Result<ArrayString<ROOM>, fmt::Error>
+    ensures { IfOk result (λ line. line.bytes ≡ conn_line Among.Delivered conn.now conns) }
+{
+    let mut line = ArrayString::new();
+    line.write_str("cpgring: there is no entry of ")?;
+    put_conn(&mut line, conn)?;
+    line.write_str(": ")?;
+    put_number(&mut line, conns)?;
+    line.write_str(if conns == 1 {
+        " connection has one\n"
+    } else {
+        " connections have one\n"
+    })?;
+    Ok(line)
+}
+
+/// Puts NODE.CONN at the line's end.
+fn put_conn(line: &mut ArrayString<ROOM>, conn: &ConnId) -> Result<(), fmt::Error>
+    ensures { OnOk result (line.new.bytes ≡ line.old.bytes ++ conn_text conn.now) }
+{
+    put_number(line, u32::from(conn.node.get()))?;
+    line.write_str(".")?;
+    put_number(line, u32::from(conn.conn))
 }
 
 /// Puts which part the fault is of at the line's end, where it is a part's.

@@ -1,4 +1,5 @@
 pub mod Accepts
+pub mod Files
 pub mod Hints
 pub mod Marks
 pub mod Parts

@@ -1,10 +1,11 @@
-//! What a person needs to mend a script: the line of its fault, a mark under the first word that does not fit, and
+//! What a person needs to mend a script or a file: the line of its fault, a mark under what does not fit, and
 //! what was wanted there.
 //!
 //! The forms are this project's own.
 #![tactic(auto)]
 
 mod accepts;
+mod files;
 mod fits;
 mod hints;
 mod kinds;
@@ -18,6 +19,7 @@ mod wants;
 mod words;
 
 pub use accepts::accept_hint;
+pub use files::file_hint;
 pub use hints::hint_of;
 pub use kinds::Kind;
 pub use laws::{

@@ -84,7 +84,7 @@ fn put_flaw_line(
 }
 
 /// Puts what is told of a line of a names part, or of a conf part, at the text's end.
-fn put_flaw_text(
+pub fn put_flaw_text(
     alloc: Global,
     text: &mut Vec<u8>,
     names: bool,
@@ -147,7 +147,7 @@ pub fn is_head(line: &[u8]) -> bool
 }
 
 /// The line of the part that a fault is told of.
-fn flaw_line(refusal: Refusal, after: Option<&[u8]>) -> Option<u32>
+pub fn flaw_line(refusal: Refusal, after: Option<&[u8]>) -> Option<u32>
     ensures { result ≡ flaw_line refusal (lines_left (option_map (λ rest. rest.now) after.entry)) }
 {
     match refusal {
@@ -245,7 +245,7 @@ fn opened_by(turn: Turn, depth: u32, number: u32, last: Option<u32>) -> Option<u
 }
 
 /// The end of a trimmed conf line that a fault is of.
-fn flaw_end(refusal: Refusal, line: &[u8]) -> &[u8]
+pub fn flaw_end(refusal: Refusal, line: &[u8]) -> &[u8]
     ensures { result.now ≡ flaw_end refusal line.now }
 {
     match refusal {
@@ -265,7 +265,7 @@ fn value_of(line: &[u8]) -> &[u8]
 }
 
 /// Whether the key before the first colon is `uid`.
-fn is_uid(line: &[u8]) -> bool
+pub fn is_uid(line: &[u8]) -> bool
     ensures { result ≡ is_uid (colon_of line.now) line.now }
 {
     match colon_of(line) {
@@ -281,7 +281,7 @@ fn colon_of(line: &[u8]) -> Option<usize>
 }
 
 /// What was wanted where a fault is.
-fn flaw_phrase(refusal: Refusal, line: &[u8]) -> &'static str
+pub fn flaw_phrase(refusal: Refusal, line: &[u8]) -> &'static str
     ensures { result.now ≡ flaw_phrase refusal line.now }
 {
     match refusal {

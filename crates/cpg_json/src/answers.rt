@@ -101,7 +101,7 @@ pub(crate) fn put_refused(line: &mut Vec<u8>, refusal: Refusal) -> Result<(), Re
     put_end(line)
 }
 
-fn via_name(via: Via) -> &'static str
+pub(crate) fn via_name(via: Via) -> &'static str
     ensures { result.now ≡ via_name via }
 {
     match via {

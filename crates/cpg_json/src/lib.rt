@@ -25,7 +25,7 @@ mod tails;
 pub mod why;
 
 pub use accepting::accept_json;
-pub use admitting::print_json;
+pub use admitting::{print_json, print_json_echo};
 pub use cpg_script::Fault;
 pub use judging::judge_json;
 pub use laws::{strings_are_printable, strings_read_back};

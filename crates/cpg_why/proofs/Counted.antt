@@ -160,3 +160,4 @@ stands_told records conn event count told here within before counts stands =
 pub asked_of : (entries : List Entry) (asked : Asked) (what : Missing) → IsMissing entries asked what → IsAskedOf asked what
 asked_of entries asked (missing.Entry place count) is = is.0
 asked_of entries asked (missing.Event conn event count) is = is.0
+asked_of entries asked (missing.Connection conn count) is = is.0

@@ -3,6 +3,7 @@ pub mod Before
 pub mod Chained
 pub mod Chosen
 pub mod Conditions
+pub mod Conns
 pub mod Counted
 pub mod Deciding
 pub mod Denied

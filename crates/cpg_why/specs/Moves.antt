@@ -1,5 +1,5 @@
 -- at which place each connection last joined, left or ended
-use Rattle.std.specs.Prelude.{ℕ, ◌≡◌, Bool, true, false, ◌&&◌, List, Option, Some, None, if◌then◌else◌}
+use Rattle.std.specs.Prelude.{ℕ, ◌≡◌, Bool, ◌&&◌, List, Option, Some, None, if◌then◌else◌}
 use Rattle.std.specs.List.{fold, enumerate_from}
 use Rattle.std.specs.Map.{lookup}
 use Rattle.cpg_entry.specs.Entries.{is_move}

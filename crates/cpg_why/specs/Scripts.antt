@@ -1,10 +1,12 @@
 -- what is asked of a script, and what is written
-use Rattle.std.specs.Prelude.{ℕ, ◌≡◌, ◌≤◌, ⊤, List, length, map, Option, Some, None, Result, Ok, Err}
+use Rattle.std.specs.Prelude.{ℕ, ◌≡◌, ◌≤◌, ⊤, Bool, false, IsTrue, List, length, map, Option, Some, None, Result, Ok, Err}
+use Rattle.std.specs.List.{list_any}
 use Rattle.std.specs.Io.KnownBytes.{Appends, Keeps}
 use Rattle.cpg_cred.specs.declared.refusals.Refusal.{Refusal}
 use Rattle.cpg_cred.specs.declared.refusals.Refusal.TheVariants as refusal
 use Rattle.cpg_entry.specs.declared.entries.Entry.{Entry}
 use Rattle.cpg_record.specs.declared.connections.ConnId.{ConnId}
+use Rattle.cpg_record.specs.Connections.{conns_of, is_conn}
 use Rattle.cpg_record.specs.Events.{inbox}
 use Rattle.cpg_record.specs.Judging.{judged}
 use Rattle.cpg_text.specs.Streams.{AppendsFront}
@@ -30,12 +32,17 @@ Stands number count = (1 ≤ number) × (number ≤ count)
 abbrev pub events_told : List Entry → ConnId → ℕ
 events_told entries conn = length (inbox (judged entries) conn)
 
--- what is asked of can be told: a place must have an entry, and an event must have been told
+-- the connection made an entry
+abbrev pub has_entry : List Entry → ConnId → Bool
+has_entry entries conn = list_any (is_conn conn) (conns_of entries)
+
+-- what is asked of can be told: a place must have an entry, an event must have been told, and a connection must have made an entry
 abbrev pub CanTell : Asked → List Entry → Type 0
 CanTell (Place place) entries = Stands place (length entries)
 CanTell (To place conn) entries = Stands place (length entries)
 CanTell (Told conn event) entries = Stands event (events_told entries conn)
-CanTell _ entries = ⊤
+CanTell (Connection conn) entries = IsTrue (has_entry entries conn)
+CanTell Denials entries = ⊤
 
 -- what is told in a form of entries whose lines have those numbers
 abbrev pub asked_told : Form → List ℕ → List Entry → Asked → List ℕ
@@ -56,10 +63,12 @@ place_asked (Place place) = Some place
 place_asked (To place conn) = Some place
 place_asked _ = None
 
--- what is asked of is not there: no entry stands at the place, of so many, or the connection was told so many events and none of that number
+-- what is asked of is not there: no entry stands at the place, of so many; the connection was told so many events and none of that number; or it
+-- made no entry, and so many connections made one
 abbrev pub IsMissing : List Entry → Asked → absent.Missing → Type 0
 IsMissing entries asked (missing.Entry place count) = (place_asked asked ≡ Some place) × (count ≡ length entries) × (¬ Stands place count)
 IsMissing entries asked (missing.Event conn event count) = (asked ≡ Told conn event) × (count ≡ events_told entries conn) × (¬ Stands event count)
+IsMissing entries asked (missing.Connection conn count) = (asked ≡ Connection conn) × (count ≡ length (conns_of entries)) × (has_entry entries conn ≡ false)
 
 -- the same of the entries of a script that has a meaning
 abbrev pub IsMissingIn : Result (List Entry) ℕ → Asked → absent.Missing → Type 0
@@ -97,10 +106,11 @@ EndsBy refusal.Memory old new = Keeps old new
 EndsBy refusal.Write old new = ⊤
 EndsBy _ old new = ⊥
 
--- what can be missing of what is asked: a place's entry, or an event that a connection was told
+-- what can be missing of what is asked: a place's entry, an event that a connection was told, or an entry that one made
 abbrev pub IsAskedOf : Asked → absent.Missing → Type 0
 IsAskedOf asked (missing.Entry place count) = place_asked asked ≡ Some place
 IsAskedOf asked (missing.Event conn event count) = asked ≡ Told conn event
+IsAskedOf asked (missing.Connection conn count) = asked ≡ Connection conn
 
 -- the same of a fault
 abbrev pub EndsWhy : Asked → WhyFault → Option (List ℕ) → Option (List ℕ) → Type 0

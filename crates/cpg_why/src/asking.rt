@@ -16,7 +16,7 @@ pub enum Asked {
     /// The same of each denied entry, in order, with a blank line between them.
     Denials,
     /// The way of that connection: each of its entries with its verdict, and each change of its group's members that
-    /// it was told, in order. A connection that made no entry has none.
+    /// it was told, in order. A connection that made no entry has none, and is missing.
     Connection(ConnId),
     /// Why the entry at that place told the connection something, or did not, and what.
     To(u32, ConnId),
@@ -33,6 +33,12 @@ pub enum Missing {
     Entry {
         place: u32,
         entries: u32,
+    },
+    /// The connection made no entry; so many connections made one.
+    #[error("no entry of {}.{}: {conns} connections have one", .conn.node.get(), .conn.conn)]
+    Connection {
+        conn: ConnId,
+        conns: u32,
     },
     /// The connection was told no event of that number, as it was told so many.
     #[error("no event {event} of {}.{}: it was told {events}", .conn.node.get(), .conn.conn)]

@@ -33,7 +33,7 @@ pub use laws::{
     named_decides, passed_do_not_match, removal_tells_what_decides, tells_verdicts_without,
     told_by_standing,
 };
-pub use numbers::{find_record, line_of};
+pub use numbers::{find_record, line_of, read_numbers};
 pub use reasons::{count_rules, find_holder, find_right};
 pub use standings::{Standing, find_last, find_standing, group_before, is_told};
 pub use tables::find_first;

@@ -3,6 +3,8 @@
 //! Proved: the bytes, after success and after each fault.
 
 ghost use Rattle.std.specs.Prelude.{◌≡◌, ◌≤◌, Ok, Some, length, OnOk, IfOk, IfErr, IfSome};
+ghost use Rattle.std.specs.List.{list_any};
+ghost use Rattle.cpg_record.specs.Connections.{is_conn};
 ghost use Rattle.cpg_record.specs.Judging.{judged, most_places};
 ghost use Rattle.cpg_judge.specs.Scripts.{entries_of_script};
 ghost use Rattle.cpg_why.specs.Forms.{as_text, event_place};
@@ -15,8 +17,9 @@ use crate::numbers::read_numbers;
 use crate::scripts::read_entries;
 use crate::standings::put_stand_in;
 use crate::walk::{pass_all, put_denials, put_why_of};
-use crate::way::put_way_of;
+use crate::way::put_way;
 use cpg_entry::Entry;
+use cpg_group::Policy;
 use cpg_record::ConnId;
 use cpg_text::{MOST_BYTES, read_whole, write_whole};
 use std::alloc::Global;
@@ -144,14 +147,42 @@ fn tell_way<F: Tells>(
     conn: &ConnId,
 ) -> Result<Vec<u8>, WhyFault>
     requires { length entries.now ≤ most_places }
-    ensures ok { IfOk result (λ text. text.items ≡ asked_told F.form numbers.now entries.now (Asked.Connection conn.now)) }
+    ensures ok { IfOk result (λ text. CanTell (Asked.Connection conn.now) entries.now × (text.items ≡ asked_told F.form numbers.now entries.now (Asked.Connection conn.now))) }
     ensures err { IfErr result (TellsNot (Ok entries.now) (Asked.Connection conn.now)) }
 {
+    let walk = pass_all(alloc, entries)?;
+    match find_conn(&walk.policy, conn) {
+        Ok(()) => {}
+        Err(fault) => return Err(fault),
+    }
     let mut text = Vec::new(alloc);
-    match put_way_of::<F>(&mut text, numbers, entries, conn) {
+    match put_way::<F>(&mut text, numbers, &walk.policy, conn) {
         Ok(()) => Ok(text),
         Err(refusal) => Err(WhyFault::from(refusal)),
     }
+}
+
+/// That the connection made one of the judged entries; else how many connections made one.
+fn find_conn(policy: &Policy, conn: &ConnId) -> Result<(), WhyFault>
+    requires { length policy.now ≤ most_places }
+    ensures ok { OnOk result (CanTell (Asked.Connection conn.now) policy.now) }
+    ensures err { IfErr result (TellsNot (Ok policy.now) (Asked.Connection conn.now)) }
+{
+    let conns = policy.connections();
+    if has_conn(conns, conn) {
+        return Ok(());
+    }
+    Err(WhyFault::Missing(Missing::Connection {
+        conn: *conn,
+        conns: conns.len() as u32,
+    }))
+}
+
+/// Whether the connection is among them.
+fn has_conn(conns: &[ConnId], conn: &ConnId) -> bool
+    ensures { result ≡ list_any (is_conn conn.now) conns.now }
+{
+    conns.iter().any(|other| conn.is(other))
 }
 
 /// Why the connection is told of the entry of a place, or is not.

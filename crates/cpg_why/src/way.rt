@@ -12,9 +12,7 @@ ghost use Rattle.cpg_why.specs.Texts.{change_text, own_by, own_line, way_at};
 
 use crate::forms::Tells;
 use crate::numbers::{find_record, put_entry_cited};
-use crate::walk::pass_all;
 use cpg_cred::Refusal;
-use cpg_entry::Entry;
 use cpg_group::Policy;
 use cpg_print::{put_event, put_verdict};
 use cpg_record::{ConnId, Event, Record};
@@ -113,7 +111,7 @@ pub(crate) fn put_way_at(
 }
 
 /// Puts the way of a connection through the judged entries.
-fn put_way<F: Tells>(
+pub(crate) fn put_way<F: Tells>(
     line: &mut Vec<u8>,
     numbers: &[u32],
     policy: &Policy,
@@ -126,19 +124,4 @@ fn put_way<F: Tells>(
         F::put_way_at(line, numbers, policy, conn, index as u32 + 1)?;
     }
     Ok(())
-}
-
-/// Puts the way of a connection through the entries.
-pub(crate) fn put_way_of<F: Tells>(
-    line: &mut Vec<u8>,
-    numbers: &[u32],
-    entries: &[Entry],
-    conn: &ConnId,
-) -> Result<(), Refusal>
-    requires { length entries.now ≤ most_places }
-    ensures ok { OnOk result (line.new.items ≡ line.old.items ++ way_told F.form numbers.now (judged entries.now) conn.now) }
-    ensures memory { IsOkUnless result Refusal.Memory }
-{
-    let walk = pass_all(*line.allocator(), entries)?;
-    put_way::<F>(line, numbers, &walk.policy, conn)
 }

@@ -24,7 +24,7 @@ use Rattle.cpgring.specs.declared.asking.AskedShell.{AskedShell}
 use Rattle.cpgring.specs.Filtering.{is_filtered, IsFilterGiven}
 use Rattle.cpgring.specs.Questions.{entry_named, question_named, words_for}
 use Rattle.cpgring.specs.Sources.{but_input, first_file, path_of, words_after}
-use Rattle.cpg_console.specs.declared.runs.Run.TheVariants.{Judge, JudgeOnly, Accept, Why, Step, StepWhy, Draw, Number, Cluster, ClusterWhy}
+use Rattle.cpg_console.specs.declared.runs.Run.TheVariants.{Judge, JudgeOnly, Accept, Why, Step, StepWhy, Draw, Number, Echo, Cluster, ClusterWhy}
 use Rattle.cpg_console.specs.declared.runs.Form.{Form}
 use Rattle.cpg_console.specs.declared.runs.Form.TheVariants.{Text, Json}
 use Rattle.cpg_console.specs.declared.runs.Picture.{Picture}
@@ -44,6 +44,7 @@ name_of (Step form settings words) = codes "step"
 name_of (StepWhy form asked settings words) = codes "step"
 name_of (Draw picture settings words) = codes "draw"
 name_of (Number settings words) = codes "step"
+name_of (Echo settings words) = codes "step"
 name_of (Cluster manner chances settings words) = codes "run"
 name_of (ClusterWhy inquiry settings words) = codes "run"
 
@@ -188,6 +189,7 @@ IsGivenBy found (Draw picture settings words) = IsPictureGiven found picture × 
 IsGivenBy found (StepWhy form asked settings words) =
     (question_asked (first_value found (codes "to")) (first_value found (codes "why")) ≡ Some asked) × IsFormGiven found form × AreGiven found settings (map (λ word. word.now) words.now)
 IsGivenBy found (Number settings words) = (first_value found (codes "why") ≡ None) × AreGiven found settings (map (λ word. word.now) words.now)
+IsGivenBy found (Echo settings words) = (first_value found (codes "why") ≡ None) × AreGiven found settings (map (λ word. word.now) words.now)
 IsGivenBy found (Cluster manner chances settings words) =
     (first_value found (codes "why") ≡ None) × IsMannerGiven found settings manner × AreChancesGiven found chances
     × AreGiven found settings (map (λ word. word.now) words.now)
@@ -197,6 +199,11 @@ IsGivenBy found (ClusterWhy inquiry settings words) = IsInquiryGiven found inqui
 abbrev pub is_numbered : Run → Bool
 is_numbered (Number settings words) = true
 is_numbered _ = false
+
+-- each line is written behind the number of its script line
+abbrev pub is_echoed : Run → Bool
+is_echoed (Echo settings words) = true
+is_echoed _ = false
 
 -- what is asked for is the run of that name, with what was given, of the script that was given
 pub record IsAskedFor (found : Found) (called : List ℕ) (asked : Asked) : Type 0 where

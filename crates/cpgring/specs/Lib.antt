@@ -2,6 +2,7 @@ pub mod Admitting
 pub mod Asking
 pub mod Completions
 pub mod Filtering
+pub mod Folders
 pub mod Loading
 pub mod Questions
 pub mod Sources

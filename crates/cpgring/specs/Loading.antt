@@ -1,7 +1,7 @@
 -- the files of `cpgring admit`, with their paths
-use Rattle.std.specs.Prelude.{◌≡◌, ℕ, List, Option, option_map}
+use Rattle.std.specs.Prelude.{◌≡◌, ℕ, List, map, Option, option_map}
+use Rattle.cpg_accept.specs.declared.admit.texts.NamedText.{NamedText}
 use Rattle.cpg_console.specs.declared.admitting.Admission.{Admission}
-use Rattle.cpg_console.specs.declared.admitting.NamedText.{NamedText}
 use Rattle.cpgring.specs.declared.admitting.Files.{Files}
 use Rattle.cpgring.specs.declared.loading.Loaded.{Loaded}
 use Rattle.cpgring.specs.declared.loading.LoadedText.{LoadedText}
@@ -15,14 +15,14 @@ loaded_at loaded = (loaded.path.now, loaded.text.items)
 
 -- the files are handed on as they were read, each in its place
 pub record IsMadeOf (loaded : Loaded) (admission : Admission) : Type 0 where
-  pub conf : named_at admission.conf ≡ loaded_at loaded.conf
+  pub confs : map named_at admission.confs.now ≡ map loaded_at loaded.confs.items
   pub names : option_map named_at admission.names ≡ option_map loaded_at loaded.names
   pub passwd : option_map named_at admission.passwd ≡ option_map loaded_at loaded.passwd
   pub group : option_map named_at admission.group ≡ option_map loaded_at loaded.group
 
 -- each was read by its path
-pub record IsReadBy (files : Files) (loaded : Loaded) : Type 0 where
-  pub conf : loaded.conf.path.now ≡ files.conf.now
+pub record IsReadBy (confs : List (List ℕ)) (files : Files) (loaded : Loaded) : Type 0 where
+  pub conf : map (λ text. text.path.now) loaded.confs.items ≡ confs
   pub names : option_map (λ text. text.path.now) loaded.names ≡ option_map (λ path. path.now) files.names
   pub passwd : option_map (λ text. text.path.now) loaded.passwd ≡ option_map (λ path. path.now) files.passwd
   pub group : option_map (λ text. text.path.now) loaded.group ≡ option_map (λ path. path.now) files.group

@@ -10,9 +10,10 @@ ghost use Rattle.cpg_console.specs.Pipes.{stream_of};
 ghost use Rattle.cpg_console.specs.declared.runs.Run.TheVariants.{Why};
 ghost use Rattle.cpgring.specs.Filtering.{is_filtered, IsBadFilter};
 ghost use Rattle.cpgring.specs.Sources.{but_input, path_of};
-ghost use Rattle.cpgring.specs.Asking.{name_of, words_found, AreChancesGiven, AreSettingsGiven, IsAskedFor, IsFormGiven, IsInquiryGiven, IsMannerGiven, IsPictureGiven, IsShellGiven, IsShownGiven, IsSpokenGiven, patience_given, IsEntryAsked, words_before, IsStatusOf, IsUnused, IsUsed, SaysByKind, is_numbered};
+ghost use Rattle.cpgring.specs.Asking.{name_of, words_found, AreChancesGiven, AreSettingsGiven, IsAskedFor, IsFormGiven, IsInquiryGiven, IsMannerGiven, IsPictureGiven, IsShellGiven, IsShownGiven, IsSpokenGiven, patience_given, IsEntryAsked, words_before, IsStatusOf, IsUnused, IsUsed, SaysByKind, is_echoed, is_numbered};
 
 use crate::commands::{build_command, command_for};
+use crate::faults::{fault_of, fault_of_shell};
 use crate::filtering::{filter_of, is_filtered};
 use crate::options::{
     ACCEPT, ALL, CONNECTION, ECHO, FILE, HOPS, JSON, LOSE, NODES, NUMBERS, PLACE, PLACES, REPEAT,
@@ -80,37 +81,7 @@ pub struct Asked<'a> {
 pub fn read_asked<'a>(alloc: Global, matches: &'a ArgMatches<'_>) -> Result<Asked<'a>, Error> {
     match asked_of(matches) {
         Some(asked) => Ok(asked),
-        None => {
-            let (kind, why) = why_none(matches);
-            Err(build_command(alloc)?.error(kind, why)?)
-        }
-    }
-}
-
-/// Why the command line asks for nothing that can be run: it has no subcommand, or a
-/// word of `judge`, `why`, `step` or `run` says nothing.
-fn why_none(matches: &ArgMatches<'_>) -> (ErrorKind, &'static str) {
-    match matches.subcommand_name() {
-        Some("judge") => (
-            ErrorKind::InvalidValue,
-            "'judge' takes KIND as denied, verdicts, messages, changes or rules, GROUP as 1 to 128 printing ASCII characters, NODE.CONN as 1.1, and places as A..B, A.., ..B or A, from 1",
-        ),
-        Some("step") => (
-            ErrorKind::InvalidValue,
-            "'step' takes --why=PLACE, a number from 1, or NODE.CONN, NODE.CONN:EVENT, or all",
-        ),
-        Some("run") => (
-            ErrorKind::InvalidValue,
-            "'run' takes --wait=MS, milliseconds from 0 to 4294967295, and --why=PLACE, a number from 1, or NODE.CONN, NODE.CONN:EVENT, or all",
-        ),
-        Some("why") => (
-            ErrorKind::InvalidValue,
-            "'why' takes one of PLACE (a number from 1), NODE.CONN:EVENT, --all and --connection=NODE.CONN, and then FILE, if any",
-        ),
-        _ => (
-            ErrorKind::MissingSubcommand,
-            "a subcommand is required but one was not provided",
-        ),
+        None => Err(fault_of(alloc, matches)?),
     }
 }
 
@@ -261,6 +232,8 @@ fn step_of<'a>(given: &'a ArgMatches<'_>) -> Option<Asked<'a>>
     ensures asked { IfSome result (IsAskedFor (found_of given.now) (codes "step")) }
     ensures numbers { first_value (found_of given.now) (codes "why") ≡ None → IfSome result (λ asked. IsUnused (found_of given.now) (codes "json") → IsUsed (found_of given.now) (codes "numbers") → is_numbered asked.run ≡ true) }
     ensures none { IfSome result (λ asked. IsUnused (found_of given.now) (codes "numbers") → is_numbered asked.run ≡ false) }
+    ensures echo { first_value (found_of given.now) (codes "why") ≡ None → IfSome result (λ asked. IsUnused (found_of given.now) (codes "json") → IsUnused (found_of given.now) (codes "numbers") → IsUsed (found_of given.now) (codes "echo") → is_echoed asked.run ≡ true) }
+    ensures alone { IfSome result (λ asked. IsUnused (found_of given.now) (codes "echo") → is_echoed asked.run ≡ false) }
 {
     let settings = settings_of(given)?;
     let (source, words) = split_words(words_of(given));
@@ -272,6 +245,7 @@ fn step_of<'a>(given: &'a ArgMatches<'_>) -> Option<Asked<'a>>
         }
         None => match form {
             Form::Text if given.get_flag(NUMBERS) => Run::Number(settings, words),
+            Form::Text if given.get_flag(ECHO) => Run::Echo(settings, words),
             form => Run::Step(form, settings, words),
         },
     };
@@ -335,10 +309,7 @@ pub fn read_shell<'a>(alloc: Global, given: &'a ArgMatches<'_>) -> Result<AskedS
 {
     match shell_of(given) {
         Some(asked) => Ok(asked),
-        None => {
-            let why = "'shell' takes --wait=MS, milliseconds from 0 to 4294967295";
-            Err(build_command(alloc)?.error(ErrorKind::InvalidValue, why)?)
-        }
+        None => Err(fault_of_shell(alloc, given)?),
     }
 }
 
@@ -366,7 +337,7 @@ fn manner_of(given: &ArgMatches<'_>, settings: Settings) -> Option<Manner<Spoken
 }
 
 /// How long a wait looks.
-fn read_patience(word: Option<&str>) -> Option<Patience>
+pub(crate) fn read_patience(word: Option<&str>) -> Option<Patience>
     ensures { result ≡ patience_given (option_map (λ text. text.now) word.entry) }
 {
     match word {

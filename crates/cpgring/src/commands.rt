@@ -19,7 +19,7 @@ const VERSION: &str = "0.1.0 (rattle-kit-13f logic dac8208d650f15bf)";
 
 /// The subcommands, in the order in which they are told of.
 #[derive(Clone, Copy)]
-enum Subcommand {
+pub enum Subcommand {
     Judge,
     Why,
     Accept,
@@ -58,6 +58,21 @@ fn named<'a>(
 }
 
 impl Subcommand {
+    /// How it is called.
+    fn call(self) -> &'static str {
+        match self {
+            Subcommand::Judge => "cpgring judge",
+            Subcommand::Why => "cpgring why",
+            Subcommand::Accept => "cpgring accept",
+            Subcommand::Admit => "cpgring admit",
+            Subcommand::Step => "cpgring step",
+            Subcommand::Draw => "cpgring draw",
+            Subcommand::Run => "cpgring run",
+            Subcommand::Shell => "cpgring shell",
+            Subcommand::Completions => "cpgring completions",
+        }
+    }
+
     /// It without its options.
     fn bare_command<'a>(self, alloc: Global) -> Command<'a> {
         match self {
@@ -142,6 +157,11 @@ pub fn build_command<'a>(alloc: Global) -> Result<Command<'a>, AllocError> {
         command = with_subcommand(alloc, command, one)?;
     }
     Ok(command)
+}
+
+/// The subcommand alone: its faults show how it is used.
+pub fn command_alone<'a>(alloc: Global, one: Subcommand) -> Result<Command<'a>, AllocError> {
+    one.command(alloc)?.bin_name(one.call())
 }
 
 /// The command line for words of which this is the first. Where it names a subcommand of scripts, no other is asked for

@@ -17,8 +17,8 @@ _cpgring() {
             judge) words='--json --only --group --connection --places -v --verbose' ;;
             why) words='--all --connection --json -v --verbose' ;;
             accept) words='--json -v --verbose' ;;
-            admit) words='--conf --names --passwd --group --json' ;;
-            step) words="$ring --json --numbers --why -v --verbose" ;;
+            admit) words='--conf --names --passwd --group --json --echo -v --verbose' ;;
+            step) words="$ring --json --numbers --echo --why -v --verbose" ;;
             draw) words="$ring --text -v --verbose" ;;
             run) words="$ring --json --wait --echo --trace --why -v --verbose" ;;
             shell) words="$ring --json --wait --echo --trace -v --verbose" ;;
@@ -58,8 +58,8 @@ _cpgring() {
         why) _arguments '--all' '--connection=:connection' '--json' $more ;;
         accept) _arguments '--json' $more ;;
         admit) _arguments '--conf=:file:_files' '--names=:file:_files' '--passwd=:file:_files' '--group=:file:_files' \
-            '--json' '--help' ;;
-        step) _arguments $ring '--json' '--numbers' '--why=:place' $more ;;
+            '--json' '--echo' '-v' '--verbose' '--help' ;;
+        step) _arguments $ring '--json' '--numbers' '--echo' '--why=:place' $more ;;
         draw) _arguments $ring '--text' $more ;;
         run) _arguments $ring '--json' '--wait=:milliseconds' '--echo' '--trace=:file:_files' '--why=:place' $more ;;
         shell) _arguments $ring '--json' '--wait=:milliseconds' '--echo' '--trace=:file:_files' '-v' '--verbose' '--help' ;;
@@ -75,7 +75,7 @@ complete -c cpgring -n __fish_use_subcommand -f -a 'judge why accept admit step 
 complete -c cpgring -l help
 complete -c cpgring -n __fish_use_subcommand -l version
 complete -c cpgring -n '__fish_seen_subcommand_from judge why accept admit step run shell' -l json
-complete -c cpgring -n '__fish_seen_subcommand_from judge why accept step draw run shell' -s v -l verbose
+complete -c cpgring -n '__fish_seen_subcommand_from judge why accept admit step draw run shell' -s v -l verbose
 complete -c cpgring -n '__fish_seen_subcommand_from judge' -l only -x -a 'denied verdicts messages changes rules'
 complete -c cpgring -n '__fish_seen_subcommand_from judge' -l group -x
 complete -c cpgring -n '__fish_seen_subcommand_from judge step draw run shell' -l places -x
@@ -92,7 +92,7 @@ complete -c cpgring -n '__fish_seen_subcommand_from step' -l numbers
 complete -c cpgring -n '__fish_seen_subcommand_from draw' -l text
 complete -c cpgring -n '__fish_seen_subcommand_from step run' -l why -x
 complete -c cpgring -n '__fish_seen_subcommand_from run shell' -l wait -x
-complete -c cpgring -n '__fish_seen_subcommand_from run shell' -l echo
+complete -c cpgring -n '__fish_seen_subcommand_from admit step run shell' -l echo
 complete -c cpgring -n '__fish_seen_subcommand_from run shell' -l trace -r
 complete -c cpgring -n '__fish_seen_subcommand_from completions' -f -a 'bash zsh fish'
 "#;

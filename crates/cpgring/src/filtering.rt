@@ -62,7 +62,7 @@ fn read_only(word: Option<&str>) -> Option<Option<Only>>
 }
 
 /// The kind of that name.
-fn kind_of(word: &[u8]) -> Option<Only>
+pub(crate) fn kind_of(word: &[u8]) -> Option<Only>
     ensures { result ≡ kind_named word.now }
 {
     if is(word, b"denied") {
@@ -101,7 +101,7 @@ fn read_places(word: Option<&str>) -> Option<(u32, u32)>
 }
 
 /// The first and the last of the places `A..B`, `A..`, `..B` or `A`.
-fn places_of(word: &[u8]) -> Option<(u32, u32)>
+pub(crate) fn places_of(word: &[u8]) -> Option<(u32, u32)>
     ensures { result ≡ places_named word.now }
 {
     match cut(b'.', word) {

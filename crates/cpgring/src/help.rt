@@ -155,24 +155,26 @@ Example:
   put in: entry 1 line 1: 1.1 40 0 0 insert db 0 deny join uid:7
   without it: allowed default
 
-Exit status: 0 done; 1 a fault, told on standard error; 2 a fault of the command line, a PLACE that has no entry
-and an EVENT that was not told among them: `cpgring: there is no entry 3: the script has 2`, `cpgring: there is no
-event 4: 1.2 was told 3`. The faults are those of `cpgring judge`; nothing is printed before all is known.";
+Exit status: 0 done; 1 a fault, told on standard error; 2 a fault of the command line, a PLACE that has no entry, a
+connection that made none and an EVENT that was not told among them: `cpgring: there is no entry 3: the script has
+2`, `cpgring: there is no connection 2.9: the script has 3`, `cpgring: there is no event 4: 1.2 was told 3`. The
+faults are those of `cpgring judge`; nothing is printed before all is known.";
 
-pub const ADMIT_ABOUT: &str = "Tells whom a conf file lets in";
+pub const ADMIT_ABOUT: &str = "Tells whom conf files let in";
 
 pub const ADMIT_HELP: &str = "\
-Tells whom a conf file lets in, as it stands on a machine: for each UID:GID what `cpgring accept` prints of it;
-where none are given, the users and then the groups of the file, in the order of its lines, as the words that
-let them in for step, draw and run:
+Tells whom conf files let in, as they stand on a machine: for each UID:GID, each a number or a name, what
+`cpgring accept` prints of it; where none are given, the users and then the groups of the files, in the order of
+their lines, as the words that let them in for step, draw and run:
 
-  $ cpgring admit --conf=/etc/corosync/corosync.conf 1000:100 7:7
+  $ cpgring admit --conf=/etc/corosync/corosync.conf --conf=/etc/corosync/uidgid.d 1000:100 7:7
   accepted user
   refused 2 Access
 
-Of the file the sections `uidgid` at the outermost level are read alone, whose keys are uid and gid, each with a
-number of at most 4294967295 or a name; `cpgring accept --help` has the form. Names are looked up in a names text,
-or in accounts:
+The conf files are taken in their order, and of a directory its files in the order of their names. A FILE that is -
+is standard input. Of a conf file the sections `uidgid` at the outermost level are read alone, whose keys are uid
+and gid, each with a number of at most 4294967295 or a name; `cpgring accept --help` has the form. Names are looked
+up in a names text, or in accounts:
 
   user NAME N                                of --names: the number of a user's name
   group NAME N                               and of a group's
@@ -192,14 +194,18 @@ Printed for each UID:GID, the first that holds:
   accepted group                             the group is listed
   refused 2 Access                           nothing lets them in
 
-With --json each line is an object (docs/CLI.md).
+With --echo each stands behind its UID:GID in numbers: `1000:100 accepted user`. With --json each line is an object
+(docs/CLI.md).
 
-A fault of a file is told with the file, the line and what stands there, the names' before the conf file's:
+A fault of a file is told with the file, the line and what stands there, the names' before the conf files'. With -v
+the line follows, and what is wanted there:
 
-  corosync.conf:6: 36 UnknownName, uid: nosuch
+  cpgring: corosync.conf:6: 36 UnknownName, uid: nosuch
+  line 6: uid: nosuch
+               ^ VALUE: a number, or a NAME that the file of --names or --passwd has
 
 Exit status: 0 done; 1 a fault of a file, or one of writing; 2 a fault of the command line, a FILE that can't be
-read among them.";
+read and a UID:GID with a name that no file has among them.";
 
 pub const ACCEPT_ABOUT: &str = "Answers which credentials the conf texts of a script let in";
 
@@ -293,11 +299,13 @@ frame that was brought or a timer), delivered PLACE or delivered none, the event
 it or none, members MEMBERS, groups and their names; for show a frame, as in the example, or data PLACE
 NODE.CONN PID UID GID CALL; for audit the lines of `cpgring judge` and records COUNT; for rules ID EFFECT
 RIGHT WHO of each and rules COUNT; and safe PLACE. With --numbers, frames K K ... stand behind `sent COUNT`,
-the numbers by which later commands bring them, and all is printed once the script is done; with --json each line
-is an object (docs/CLI.md). With --why=PLACE none of this is printed, but why the entry at that place was answered
-as it was, as `cpgring why` tells it, by what the node that delivered most delivered; --why=NODE.CONN:EVENT tells it
-of the entry that told the connection that event, --why=all of each denied entry, --why=NODE.CONN the way of a
-connection. A command that is refused prints the refusal, as in `refused 10 Stale`, and the script goes on:
+the numbers by which later commands bring them; with --echo each line stands behind the number of its script line
+and what its command is of, a connection `7 1.2 `, a node `7 n1 ` or nothing `7 - `; by either all is printed once
+the script is done. With --json each line is an object (docs/CLI.md). With --why=PLACE none of this is printed, but
+why the entry at that place was answered as it was, as `cpgring why` tells it, by what the node that delivered most
+delivered; --why=NODE.CONN:EVENT tells it of the entry that told the connection that event, --why=all of each denied
+entry, --why=NODE.CONN the way of a connection. A command that is refused prints the refusal, as in `refused 10
+Stale`, and the script goes on:
 
   2 Access           nobody lets the credentials in
   3 NoConnection     the node has no open connection of that number
@@ -335,9 +343,10 @@ for place 1 in rtr, node 1 sends it again (frame 6), and node 2 delivers both pl
   records 2
 
 Exit status: 0 done; 1 a fault, told on standard error; 2 a fault of the command line, `cpgring: bad accept
-word` among them. The faults are `cpgring: 41 BadCommand LINE`, the first line that is no command, before
-which nothing is done or printed; `cpgring: 42 Read`, also where the input is too long; `cpgring: 43 Write`;
-and `cpgring: 1 Memory`, which ends the script at the command that met it.";
+word` among them, and with --why a PLACE that has no entry, a connection that made none and an EVENT that was not
+told: `cpgring: there is no entry 9: 2 were delivered`. The faults are `cpgring: 41 BadCommand LINE`, the first line
+that is no command, before which nothing is done or printed; `cpgring: 42 Read`, also where the input is too long;
+`cpgring: 43 Write`; and `cpgring: 1 Memory`, which ends the script at the command that met it.";
 
 pub const DRAW_ABOUT: &str = "Draws the run of a `step` script";
 
@@ -481,8 +490,8 @@ What a rule decided, explained:
   without it: allowed default
 
 Exit status: 0 done; 1 a fault, told on standard error; 2 a fault of the command line, `cpgring: bad accept
-word` among them, and with --why a PLACE that has no entry or an EVENT that was not told: `cpgring: there is no entry
-9: the script has 2`, `cpgring: there is no event 4: 1.2 was told 3`. The faults are `cpgring: 41 BadCommand LINE`, the
+word` among them, and with --why a PLACE that has no entry, a connection that made none and an EVENT that was not told:
+`cpgring: there is no entry 9: 2 were delivered`. The faults are `cpgring: 41 BadCommand LINE`, the
 first line that is no command, before which nothing is done or printed; `cpgring: 42 Read`, also where the input is too
 long; `cpgring: 43 Write`; and `cpgring: 1 Memory`, which ends the script at the command that met it, also where a
 thread is not given.";

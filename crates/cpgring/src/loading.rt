@@ -1,34 +1,22 @@
 //! The files of `cpgring admit`, read whole.
 //!
-//! Proved: each file is read by the path of its option, and its text goes with that path. What a file has no contract
-//! tells.
+//! Proved: each file is read by its path, and its text goes with that path. What a file has no contract tells.
 
-ghost use Rattle.std.specs.Prelude.{◌≡◌, IfOk, option_map};
+ghost use Rattle.std.specs.Prelude.{◌≡◌, ◌++◌, ◌∷◌, [], map, option_map, IfOk, OnOk, string_bytes};
 ghost use Rattle.cpgring.specs.Loading.{loaded_at, named_at, IsMadeOf, IsReadBy};
 
 use crate::admitting::Files;
-use crate::commands::build_command;
+use crate::folders::{NotLoaded, unread};
 use crate::sources::{Unread, open_file};
-use clap::Error;
-use clap::error::ErrorKind;
 use cpg_console::{Admission, NamedText};
 use cpg_cred::Refusal;
 use cpg_text::read_whole;
 use std::alloc::{AllocError, Global};
-use std::fs::Files as FileSystem;
-
-/// Why the files are not read.
-#[derive(Clone, Copy)]
-pub enum NotLoaded<'a> {
-    /// Memory was refused.
-    Memory,
-    /// The file of that path can't be read.
-    Unread(&'a str, Unread),
-}
+use std::io::Read;
 
 /// A file that was read.
 #[derive(Drop)]
-struct LoadedText<'a> {
+pub struct LoadedText<'a> {
     path: &'a str,
     text: Vec<u8>,
 }
@@ -36,34 +24,47 @@ struct LoadedText<'a> {
 /// The files of `admit`, as they were read.
 #[derive(Drop)]
 pub struct Loaded<'a> {
-    conf: LoadedText<'a>,
+    confs: Vec<LoadedText<'a>>,
     names: Option<LoadedText<'a>>,
     passwd: Option<LoadedText<'a>>,
     group: Option<LoadedText<'a>>,
 }
 
 impl<'a> Loaded<'a> {
-    /// The files of those paths, or why the first that can't be read is not.
-    pub fn read<F: FileSystem + Alloc<A = Global>>(
-        files: &F,
-        paths: &Files<'a>,
-    ) -> Result<Loaded<'a>, NotLoaded<'a>>
-        ensures { IfOk result (IsReadBy paths.now) }
+    /// The conf files of those paths and the other files, or why the first that can't be read is not.
+    pub fn read(
+        rt: &HostRuntime,
+        confs: &'a [String],
+        files: &Files<'a>,
+    ) -> Result<Loaded<'a>, NotLoaded>
+        ensures { IfOk result (IsReadBy (map string_bytes confs.now) files.now) }
     {
         Ok(Loaded {
-            conf: read_text(files, paths.conf)?,
-            names: read_maybe(files, paths.names)?,
-            passwd: read_maybe(files, paths.passwd)?,
-            group: read_maybe(files, paths.group)?,
+            confs: read_all(rt, confs)?,
+            names: read_maybe(rt, files.names)?,
+            passwd: read_maybe(rt, files.passwd)?,
+            group: read_maybe(rt, files.group)?,
         })
     }
 
-    /// What was read.
-    pub fn admission(&self) -> Admission<'_>
+    /// The conf files that were read.
+    pub fn confs(&self, alloc: Global) -> Result<Vec<NamedText<'_>>, AllocError>
+        ensures { IfOk result (λ confs. map named_at confs.items ≡ map loaded_at self.now.confs.items) }
+    {
+        let mut confs = Vec::new(alloc);
+        for conf in &self.confs {
+            confs.push(conf.named())?;
+        }
+        Ok(confs)
+    }
+
+    /// What was read, the conf files among it being those.
+    pub fn admission<'b>(&'b self, confs: &'b [NamedText<'b>]) -> Admission<'b>
+        requires { map named_at confs.now ≡ map loaded_at self.now.confs.items }
         ensures { IsMadeOf self.now result }
     {
         Admission {
-            conf: self.conf.named(),
+            confs,
             names: named_in(&self.names),
             passwd: named_in(&self.passwd),
             group: named_in(&self.group),
@@ -91,39 +92,59 @@ fn named_in<'b>(loaded: &'b Option<LoadedText<'_>>) -> Option<NamedText<'b>>
     }
 }
 
-fn read_maybe<'a, F: FileSystem + Alloc<A = Global>>(
-    files: &F,
+/// The files of those paths.
+fn read_all<'a>(rt: &HostRuntime, paths: &'a [String]) -> Result<Vec<LoadedText<'a>>, NotLoaded>
+    ensures { IfOk result (λ loaded. map (λ text. text.path.now) loaded.items ≡ map string_bytes paths.now) }
+{
+    let mut loaded = Vec::new(rt.alloc());
+    for path in paths {
+        put_text(&mut loaded, read_text(rt, path.as_str())?)?;
+    }
+    Ok(loaded)
+}
+
+/// Puts the file last.
+fn put_text<'a>(loaded: &mut Vec<LoadedText<'a>>, text: LoadedText<'a>) -> Result<(), NotLoaded>
+    ensures { OnOk result (loaded.new.items ≡ loaded.old.items ++ text.entry ∷ []) }
+{
+    match loaded.push(text) {
+        Ok(()) => Ok(()),
+        Err(_) => Err(NotLoaded::Memory),
+    }
+}
+
+fn read_maybe<'a>(
+    rt: &HostRuntime,
     path: Option<&'a str>,
-) -> Result<Option<LoadedText<'a>>, NotLoaded<'a>>
+) -> Result<Option<LoadedText<'a>>, NotLoaded>
     ensures { IfOk result (λ loaded. option_map (λ text. text.path.now) loaded ≡ option_map (λ text. text.now) path.entry) }
 {
     match path {
         None => Ok(None),
-        Some(path) => Ok(Some(read_text(files, path)?)),
+        Some(path) => Ok(Some(read_text(rt, path)?)),
     }
 }
 
-/// The file of that path.
-fn read_text<'a, F: FileSystem + Alloc<A = Global>>(
-    files: &F,
-    path: &'a str,
-) -> Result<LoadedText<'a>, NotLoaded<'a>>
+/// The file of that path; standard input where that is `-`.
+fn read_text<'a>(rt: &HostRuntime, path: &'a str) -> Result<LoadedText<'a>, NotLoaded>
     ensures { IfOk result (λ loaded. loaded.path.now ≡ path.now) }
 {
-    match open_file(files, path) {
-        Err(why) => Err(NotLoaded::Unread(path, why)),
-        Ok(mut file) => match read_whole(files.alloc(), &mut file) {
-            Ok(text) => Ok(LoadedText { path, text }),
-            Err(Refusal::Memory) => Err(NotLoaded::Memory),
-            Err(_) => Err(NotLoaded::Unread(path, Unread::Other)),
-        },
-    }
+    let text = if path == "-" {
+        read_bytes(rt, path, &mut rt.stdin())?
+    } else {
+        match open_file(rt, path) {
+            Err(why) => return Err(unread(rt.alloc(), path, why)),
+            Ok(mut file) => read_bytes(rt, path, &mut file)?,
+        }
+    };
+    Ok(LoadedText { path, text })
 }
 
-/// What is said of a word that asks of no credentials.
-pub fn wrong_ask(alloc: Global) -> Result<Error, AllocError> {
-    build_command(alloc)?.error(
-        ErrorKind::InvalidValue,
-        "'admit' takes UID:GID, two numbers from 0 to 4294967295",
-    )
+/// What the file of that path has.
+fn read_bytes<R: Read>(rt: &HostRuntime, path: &str, file: &mut R) -> Result<Vec<u8>, NotLoaded> {
+    match read_whole(rt.alloc(), file) {
+        Ok(text) => Ok(text),
+        Err(Refusal::Memory) => Err(NotLoaded::Memory),
+        Err(_) => Err(unread(rt.alloc(), path, Unread::Other)),
+    }
 }

@@ -8,7 +8,9 @@ mod admitting;
 mod asking;
 mod commands;
 mod completions;
+mod faults;
 mod filtering;
+mod folders;
 mod help;
 mod loading;
 mod options;
@@ -17,21 +19,20 @@ mod sources;
 mod tracing;
 mod versions;
 
-use admitting::{files_of, read_asks};
+use admitting::{admit_manner_of, asks_of, files_of};
 use asking::{
     AskedShell, explain, form_of, is_verbose, match_words, read_asked, read_shell, read_words,
 };
-use clap::error::ErrorKind;
 use clap::{ArgMatches, Error};
-use commands::build_command;
 use completions::completion_of;
 use cpg_console::{
     Counted, Ended, Failure, KeepsEnds, Piped, Run, Tracer, Untraced, hint_wrong, perform,
     perform_admit, perform_shell, perform_with_hint, tell_failure, write_text,
 };
-use cpg_cred::Cred;
 use cpg_text::write_whole;
-use loading::{Loaded, NotLoaded, wrong_ask};
+use faults::{fault_of_ask, fault_of_completions};
+use folders::{NotLoaded, conf_paths};
+use loading::Loaded;
 use options::SHELL;
 use sources::{Source, Unread, greet, greet_shell, open_file, tell_unread};
 use std::alloc::{AllocError, Global};
@@ -222,27 +223,46 @@ fn progress_of(rt: &HostRuntime, run: &Run<'_>) -> Option<Stderr> {
 
 /// The exit status of `admit`: its files are read, and whom they let in is printed.
 fn admit(rt: &HostRuntime, given: &ArgMatches<'_>) -> Result<u8, Error> {
-    match read_asks(rt.alloc(), given)? {
-        Some(asks) => admit_asks(rt, given, asks.as_slice()),
-        None => Err(wrong_ask(rt.alloc())?),
+    let files = files_of(given);
+    match conf_paths(rt, files.confs) {
+        Ok(paths) => match Loaded::read(rt, paths.as_slice(), &files) {
+            Ok(loaded) => admit_loaded(rt, given, &loaded),
+            Err(why) => end_unloaded(rt, why),
+        },
+        Err(why) => end_unloaded(rt, why),
     }
 }
 
-/// The exit status of `admit`, which is asked for those.
-fn admit_asks(rt: &HostRuntime, given: &ArgMatches<'_>, asks: &[Cred]) -> Result<u8, Error> {
-    match Loaded::read(rt, &files_of(given)) {
-        Ok(loaded) => Ok(perform_admit(
-            rt.alloc(),
-            form_of(given),
-            &loaded.admission(),
-            asks,
-            &mut Piped::new(rt.stdout()),
-            &mut rt.stderr(),
-        )),
-        Err(NotLoaded::Memory) => Err(Error::from(AllocError)),
-        Err(NotLoaded::Unread(path, why)) => {
-            Ok(tell_unread(rt.alloc(), &mut rt.stderr(), path, why))
+/// The exit status of `admit` whose files are not read, which is told.
+fn end_unloaded(rt: &HostRuntime, why: NotLoaded) -> Result<u8, Error> {
+    match why {
+        NotLoaded::Memory => Err(Error::from(AllocError)),
+        NotLoaded::Unread(path, why) => {
+            Ok(tell_unread(rt.alloc(), &mut rt.stderr(), path.as_str(), why))
         }
+    }
+}
+
+/// The exit status of `admit` over the files that were read.
+fn admit_loaded(
+    rt: &HostRuntime,
+    given: &ArgMatches<'_>,
+    loaded: &Loaded<'_>,
+) -> Result<u8, Error> {
+    let alloc = rt.alloc();
+    let confs = loaded.confs(alloc)?;
+    let words = asks_of(given);
+    let ended = perform_admit(
+        alloc,
+        &admit_manner_of(given),
+        &loaded.admission(confs.as_slice()),
+        words,
+        &mut Piped::new(rt.stdout()),
+        &mut rt.stderr(),
+    );
+    match ended {
+        Ok(status) => Ok(status),
+        Err(index) => Err(fault_of_ask(alloc, words.get(index).copied().unwrap_or(""))?),
     }
 }
 
@@ -303,9 +323,9 @@ fn complete(rt: &HostRuntime, given: &ArgMatches<'_>) -> Result<u8, Error> {
             &mut rt.stderr(),
             text.as_bytes(),
         )),
-        None => Err(build_command(rt.alloc())?.error(
-            ErrorKind::InvalidValue,
-            "'completions' takes bash, zsh or fish",
-        )?),
+        None => {
+            let word = given.get_str(SHELL).unwrap_or("");
+            Err(fault_of_completions(rt.alloc(), word)?)
+        }
     }
 }

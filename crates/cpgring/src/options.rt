@@ -65,7 +65,7 @@ pub const REPEAT: &str = "repeat";
 
 pub const SEED: &str = "seed";
 
-/// The option that asks for the line and the session before each printed line.
+/// The option that asks for what an answer is to before each printed line.
 pub const ECHO: &str = "echo";
 
 /// The files of `admit`, and its words.
@@ -100,7 +100,9 @@ enum Takes {
     Letter(char),
     /// An option that takes a word of that name.
     Word(&'static str),
-    /// An option that takes a word of that name, and has to be there.
+    /// An option that takes a word of that name, and goes with that other one.
+    Beside(&'static str, &'static str),
+    /// An option that takes a word of that name, and has to be there, once or more.
     Needed(&'static str),
     /// An option that takes a number: the usual one where it is left out.
     Number(Within, &'static str),
@@ -125,6 +127,9 @@ impl Given {
         for other in apart {
             arg = arg.conflicts_with(other)?;
         }
+        if let Takes::Beside(_, other) = takes {
+            arg = arg.requires_arg(other)?;
+        }
         Ok(arg)
     }
 }
@@ -134,11 +139,13 @@ fn taking<'a>(arg: Arg<'a>, name: &'static str, takes: Takes) -> Arg<'a> {
     match takes {
         Takes::Nothing => arg.long(name).action(ArgAction::SetTrue),
         Takes::Letter(letter) => arg.short(letter).long(name).action(ArgAction::SetTrue),
-        Takes::Word(word) => arg.long(name).value_name(word).action(ArgAction::Set),
+        Takes::Word(word) | Takes::Beside(word, _) => {
+            arg.long(name).value_name(word).action(ArgAction::Set)
+        }
         Takes::Needed(word) => arg
             .long(name)
             .value_name(word)
-            .action(ArgAction::Set)
+            .action(ArgAction::Append)
             .required(true),
         Takes::Number(numbers, usual) => limited(
             arg.long(name)
@@ -302,7 +309,12 @@ pub const JUDGE_OPTIONS: [Given; 7] = [
 ];
 
 pub const WHY_OPTIONS: [Given; 6] = [
-    Given(ALL, Takes::Nothing, "Explain every denied entry", &[]),
+    Given(
+        ALL,
+        Takes::Nothing,
+        "Explain every denied entry",
+        &[CONNECTION],
+    ),
     Given(
         CONNECTION,
         Takes::Word("NODE.CONN"),
@@ -327,11 +339,11 @@ pub const WHY_OPTIONS: [Given; 6] = [
 
 pub const ACCEPT_OPTIONS: [Given; 3] = [AS_JSON, WITH_HINTS, SCRIPT];
 
-pub const ADMIT_OPTIONS: [Given; 6] = [
+pub const ADMIT_OPTIONS: [Given; 8] = [
     Given(
         CONF,
         Takes::Needed("FILE"),
-        "The conf file, as /etc/corosync/corosync.conf",
+        "A conf file, as /etc/corosync/corosync.conf, or a directory of such; once or more",
         &[],
     ),
     Given(
@@ -354,15 +366,33 @@ pub const ADMIT_OPTIONS: [Given; 6] = [
     ),
     AS_JSON,
     Given(
+        ECHO,
+        Takes::Nothing,
+        "Print before each answer the UID:GID that it is to, in numbers",
+        &[],
+    ),
+    Given(
+        VERBOSE,
+        Takes::Letter('v'),
+        "Behind a file's fault, show its line, what does not fit and what is wanted there",
+        &[],
+    ),
+    Given(
         ASKS,
         Takes::Rest("UID:GID"),
-        "Whether these are let in; none: the list itself is printed",
+        "Whether these are let in, each a number or a name; none: the list itself is printed",
         &[],
     ),
 ];
 
-pub const STEP_OPTIONS: [Given; 6] = [
+pub const STEP_OPTIONS: [Given; 7] = [
     AS_JSON,
+    Given(
+        ECHO,
+        Takes::Nothing,
+        "Print before each line the number of its script line and the node or connection that its command is of",
+        &[JSON, NUMBERS, WHY],
+    ),
     Given(
         NUMBERS,
         Takes::Nothing,
@@ -377,7 +407,7 @@ pub const STEP_OPTIONS: [Given; 6] = [
     ),
     Given(
         TO,
-        Takes::Word("NODE.CONN"),
+        Takes::Beside("NODE.CONN", WHY),
         "With --why=PLACE: explain why that connection was told of the entry, or was not",
         &[NUMBERS],
     ),
@@ -405,7 +435,7 @@ pub const RUN_OPTIONS: [Given; 4] = [
     ),
     Given(
         TO,
-        Takes::Word("NODE.CONN"),
+        Takes::Beside("NODE.CONN", WHY),
         "With --why=PLACE: explain why that connection was told of the entry, or was not",
         &[ECHO, TRACE],
     ),

@@ -1,45 +1,78 @@
 //! Whom the files let in.
 //!
-//! Proved: the users and groups are those that the conf file lists by the names that are told, or the first fault is
-//! told, the names' before the conf file's.
+//! Proved: the names are those that are told, and the users and groups those that the conf files list by them, or the
+//! first fault is told.
 
-ghost use Rattle.std.specs.Prelude.{◌≡◌, ◌⊎◌, Ok, Err, map, IfOk, IfErr, IsOkUnless};
-ghost use Rattle.cpg_cred.specs.Admission.{via_of};
-ghost use Rattle.cpg_conf.specs.Listed.{listed, numbers_listed};
+ghost use Rattle.std.specs.Prelude.{◌≡◌, ◌⊎◌, Ok, Err, IfOk, IfErr, OnOk, IsOkUnless};
+ghost use Rattle.cpg_cred.specs.Listed.{with_listed};
+ghost use Rattle.cpg_conf.specs.Listed.{joined, listed, nothing, numbers_listed};
 ghost use Rattle.cpg_conf.specs.Names.{known_of};
-ghost use Rattle.cpg_accept.specs.Admitting.{answers_of, known_by, known_in, list_by, read_in, Fails};
+ghost use Rattle.cpg_accept.specs.Admitting.{known_by, known_in, listed_onto, read_in, with_listed_by, Fails};
 
 use crate::admit::accounts::{Book, add_accounts};
-use crate::admit::texts::{AdmitFault, File, NamesFrom};
+use crate::admit::texts::{AdmitFault, File, NamedText, NamesFrom};
 use cpg_conf::{Names, Numbers, list_conf};
-use cpg_cred::{AcceptList, Cred, Refusal, Via};
+use cpg_cred::{AcceptList, Refusal};
 use std::alloc::Global;
 
-/// The users and groups that the conf text lists, by the names that are told.
+/// The users and groups that the conf files list by those names: those of each behind those of the files before it.
 ///
-/// The faults of the names come first, of accounts those of the users; then those of the conf text, as `read_conf` of
-/// cpg_conf has them.
-pub fn read_list(alloc: Global, from: &NamesFrom<'_>, conf: &[u8]) -> Result<Numbers, AdmitFault>
-    ensures ok { IfOk result (λ numbers. list_by from.now conf.now ≡ Ok (numbers_listed numbers)) }
-    ensures err { IfErr result (Fails (list_by from.now conf.now)) }
+/// The first file that has a fault is told, with its index; its faults are those of `read_conf` of cpg_conf.
+pub fn list_confs(
+    alloc: Global,
+    names: &Names,
+    confs: &[NamedText<'_>],
+) -> Result<Numbers, AdmitFault>
+    ensures ok { IfOk result (λ numbers. listed_onto names.now 0 confs.now nothing ≡ Ok (numbers_listed numbers)) }
+    ensures err { IfErr result (Fails (listed_onto names.now 0 confs.now nothing)) }
 {
-    let names = read_names(alloc, from)?;
-    list_with(alloc, conf, &names)
+    let mut numbers = Numbers {
+        users: Vec::new(alloc),
+        groups: Vec::new(alloc),
+    };
+    for (index, conf) in confs.iter().enumerate() {
+        match add_conf(alloc, &mut numbers, names, index, conf.text) {
+            Ok(()) => {}
+            Err(fault) => return Err(fault),
+        }
+    }
+    Ok(numbers)
 }
 
-/// The users and groups that the conf text lists by those names.
-fn list_with(alloc: Global, conf: &[u8], names: &Names) -> Result<Numbers, AdmitFault>
-    ensures ok { IfOk result (λ numbers. read_in File.Conf (listed names.now conf.now) ≡ Ok (numbers_listed numbers)) }
-    ensures err { IfErr result (Fails (read_in File.Conf (listed names.now conf.now))) }
+/// Puts what the conf file of that index lists last.
+fn add_conf(
+    alloc: Global,
+    numbers: &mut Numbers,
+    names: &Names,
+    index: usize,
+    text: &[u8],
+) -> Result<(), AdmitFault>
+    ensures ok { OnOk result (with_listed_by (numbers_listed numbers.old) (read_in (File.Conf index) (listed names.now text.now)) ≡ Ok (numbers_listed numbers.new)) }
+    ensures err { IfErr result (Fails (read_in (File.Conf index) (listed names.now text.now))) }
 {
-    match list_conf(alloc, conf, names) {
-        Ok(numbers) => Ok(numbers),
-        Err(refusal) => Err(fault_of(File::Conf, refusal)),
+    match list_conf(alloc, text, names) {
+        Ok(more) => match join(numbers, &more) {
+            Ok(()) => Ok(()),
+            Err(refusal) => Err(fault_of(File::Conf(index), refusal)),
+        },
+        Err(refusal) => Err(fault_of(File::Conf(index), refusal)),
     }
 }
 
+/// Puts more last, users and groups apart.
+fn join(numbers: &mut Numbers, more: &Numbers) -> Result<(), Refusal>
+    ensures ok { OnOk result (numbers_listed numbers.new ≡ joined (numbers_listed numbers.old) (numbers_listed more.now)) }
+    ensures memory { IsOkUnless result Refusal.Memory }
+{
+    numbers.users.extend_from_slice(more.users.as_slice())?;
+    numbers.groups.extend_from_slice(more.groups.as_slice())?;
+    Ok(())
+}
+
 /// The names that are told.
-fn read_names(alloc: Global, from: &NamesFrom<'_>) -> Result<Names, AdmitFault>
+///
+/// The faults of accounts are first those of the users.
+pub fn read_names(alloc: Global, from: &NamesFrom<'_>) -> Result<Names, AdmitFault>
     ensures ok { IfOk result (λ names. known_by from.now ≡ Ok names) }
     ensures err { IfErr result (Fails (known_by from.now)) }
 {
@@ -82,23 +115,12 @@ fn fault_of(file: File, refusal: Refusal) -> AdmitFault
     AdmitFault { file, refusal }
 }
 
-/// What lets each of the credentials in, or nothing where the listed users and groups do not.
-pub fn answer(alloc: Global, numbers: &Numbers, asks: &[Cred]) -> Result<Vec<Option<Via>>, Refusal>
-    ensures ok { IfOk result (λ answers. answers.items ≡ answers_of (numbers_listed numbers.now) asks.now) }
+/// The list of those users and groups.
+pub fn list_of(alloc: Global, numbers: &Numbers) -> Result<AcceptList, Refusal>
+    ensures ok { IfOk result (λ list. list ≡ with_listed nothing (numbers_listed numbers.now)) }
     ensures memory { IsOkUnless result Refusal.Memory }
 {
     let mut list = AcceptList::new(alloc);
     list.add_all(numbers.users.as_slice(), numbers.groups.as_slice())?;
-    answer_all(alloc, &list, asks)
-}
-
-fn answer_all(alloc: Global, list: &AcceptList, asks: &[Cred]) -> Result<Vec<Option<Via>>, Refusal>
-    ensures ok { IfOk result (λ answers. answers.items ≡ map (via_of list.now) asks.now) }
-    ensures memory { IsOkUnless result Refusal.Memory }
-{
-    let mut answers = Vec::new(alloc);
-    for cred in asks {
-        answers.push(list.accepts(*cred).ok())?;
-    }
-    Ok(answers)
+    Ok(list)
 }

@@ -2,10 +2,10 @@
 //!
 //! Proved: what each puts is the line that its definition gives.
 
-use crate::admit::printing::{put_group_word, put_user_word};
+use crate::admit::printing::{put_cred, put_group_word, put_user_word};
 use crate::asks::answer_text;
-use cpg_cred::{Refusal, Via};
-use cpg_script::put_bytes;
+use cpg_cred::{Cred, Refusal, Via};
+use cpg_script::{put, put_bytes};
 
 /// What tells whom the files let in.
 pub trait TellsAdmitted {
@@ -15,9 +15,9 @@ pub trait TellsAdmitted {
     // The form.
     ghost form: { Form };
 
-    /// Puts the line of what lets credentials in, or of their refusal, at the text's end.
-    fn put_answer(text: &mut Vec<u8>, answer: Option<Via>) -> Result<(), Refusal>
-        ensures ok { OnOk result (text.new.items ≡ text.old.items ++ answer_by form answer) }
+    /// Puts the line of what lets those credentials in, or of their refusal, at the text's end.
+    fn put_answer(text: &mut Vec<u8>, cred: Cred, answer: Option<Via>) -> Result<(), Refusal>
+        ensures ok { OnOk result (text.new.items ≡ text.old.items ++ answer_by form cred answer) }
         ensures memory { IsOkUnless result Refusal.Memory };
 
     /// Puts the line of a listed user at the text's end.
@@ -40,7 +40,31 @@ impl TellsAdmitted for AsText {
 
     ghost form = { as_text };
 
-    fn put_answer(text: &mut Vec<u8>, answer: Option<Via>) -> Result<(), Refusal> {
+    fn put_answer(text: &mut Vec<u8>, _cred: Cred, answer: Option<Via>) -> Result<(), Refusal> {
+        put_bytes(text, answer_text(answer))
+    }
+
+    fn put_user(text: &mut Vec<u8>, uid: u32) -> Result<(), Refusal> {
+        put_user_word(text, uid)
+    }
+
+    fn put_group(text: &mut Vec<u8>, gid: u32) -> Result<(), Refusal> {
+        put_group_word(text, gid)
+    }
+}
+
+/// The same lines, each answer behind its UID:GID in numbers.
+#[derive(Debug, Clone, Copy)]
+pub struct AsEcho;
+
+impl TellsAdmitted for AsEcho {
+    ghost use Rattle.cpg_accept.specs.Forms.{as_echo};
+
+    ghost form = { as_echo };
+
+    fn put_answer(text: &mut Vec<u8>, cred: Cred, answer: Option<Via>) -> Result<(), Refusal> {
+        put_cred(text, cred)?;
+        put(text, " ")?;
         put_bytes(text, answer_text(answer))
     }
 

@@ -3,12 +3,12 @@
 ghost use Rattle.std.specs.Prelude.{◌≡◌, ◌++◌, ◌∷◌, [], codes, decimal, IfOk, OnOk, IsOkUnless};
 ghost use Rattle.std.specs.List.{flat_map};
 ghost use Rattle.cpg_conf.specs.Listed.{numbers_listed};
-ghost use Rattle.cpg_accept.specs.Forms.{admitted_text, admitted_told, answer_by, group_by, group_line, list_told, user_by, user_line};
+ghost use Rattle.cpg_accept.specs.Forms.{admitted_echo, admitted_text, admitted_told, cred_answered, cred_text, group_by, group_line, list_told, user_by, user_line};
 
-use crate::admit::admitting::answer;
-use crate::admit::forms::{AsText, TellsAdmitted};
+use crate::admit::admitting::list_of;
+use crate::admit::forms::{AsEcho, AsText, TellsAdmitted};
 use cpg_conf::Numbers;
-use cpg_cred::{Cred, Refusal, Via};
+use cpg_cred::{AcceptList, Cred, Refusal};
 use cpg_script::put;
 use cpg_text::push_number;
 use std::alloc::Global;
@@ -20,6 +20,14 @@ pub fn print(alloc: Global, numbers: &Numbers, asks: &[Cred]) -> Result<Vec<u8>,
     ensures memory { IsOkUnless result Refusal.Memory }
 {
     print_in_form::<AsText>(alloc, numbers, asks)
+}
+
+/// The same lines, each answer behind its UID:GID in numbers.
+pub fn print_echo(alloc: Global, numbers: &Numbers, asks: &[Cred]) -> Result<Vec<u8>, Refusal>
+    ensures ok { IfOk result (λ text. text.items ≡ admitted_echo (numbers_listed numbers.now) asks.now) }
+    ensures memory { IsOkUnless result Refusal.Memory }
+{
+    print_in_form::<AsEcho>(alloc, numbers, asks)
 }
 
 /// What is told in the form: for each of the credentials whether they are let in; where none are asked for, the list,
@@ -36,19 +44,23 @@ pub fn print_in_form<F: TellsAdmitted>(
     match asks {
         [] => put_list::<F>(&mut text, numbers)?,
         _ => {
-            let answers = answer(alloc, numbers, asks)?;
-            put_answers::<F>(&mut text, answers.as_slice())?;
+            let list = list_of(alloc, numbers)?;
+            put_answers::<F>(&mut text, &list, asks)?;
         }
     }
     Ok(text)
 }
 
-fn put_answers<F: TellsAdmitted>(text: &mut Vec<u8>, answers: &[Option<Via>]) -> Result<(), Refusal>
-    ensures ok { OnOk result (text.new.items ≡ text.old.items ++ flat_map (answer_by F.form) answers.now) }
+fn put_answers<F: TellsAdmitted>(
+    text: &mut Vec<u8>,
+    list: &AcceptList,
+    asks: &[Cred],
+) -> Result<(), Refusal>
+    ensures ok { OnOk result (text.new.items ≡ text.old.items ++ flat_map (cred_answered F.form list.now) asks.now) }
     ensures memory { IsOkUnless result Refusal.Memory }
 {
-    for answer in answers {
-        F::put_answer(text, *answer)?;
+    for cred in asks {
+        F::put_answer(text, *cred, list.accepts(*cred).ok())?;
     }
     Ok(())
 }
@@ -79,6 +91,16 @@ fn put_groups<F: TellsAdmitted>(text: &mut Vec<u8>, groups: &[u32]) -> Result<()
         F::put_group(text, *gid)?;
     }
     Ok(())
+}
+
+/// Puts UID:GID at the text's end.
+pub(crate) fn put_cred(text: &mut Vec<u8>, cred: Cred) -> Result<(), Refusal>
+    ensures ok { OnOk result (text.new.items ≡ text.old.items ++ cred_text cred) }
+    ensures memory { IsOkUnless result Refusal.Memory }
+{
+    push_number(text, u64::from(cred.uid))?;
+    put(text, ":")?;
+    push_number(text, u64::from(cred.gid))
 }
 
 /// Puts the word that lets a user in, a line, at the text's end.

@@ -12,9 +12,9 @@ use cpg_script::{put, put_byte, put_bytes};
 use cpg_text::{Lines, push_number, trim};
 use std::alloc::Global;
 
-/// What is told of a refusal that a file at that path meets, which has that text: `PATH:LINE: 36 UnknownName, uid: ann`
-/// with the line as it stands, trimmed, its first 120 bytes, `?` for each byte that is no printable ASCII; where the
-/// refusal names no line, `PATH: 33 Unclosed`.
+/// What is told of a refusal that a file at that path meets, which has that text: `cpgring: PATH:LINE: 36 UnknownName,
+/// uid: ann` with the line as it stands, trimmed, its first 120 bytes, `?` for each byte that is no printable ASCII;
+/// where the refusal names no line, `cpgring: PATH: 33 Unclosed`.
 pub fn fault_line(
     alloc: Global,
     path: &str,
@@ -25,6 +25,7 @@ pub fn fault_line(
     ensures memory { IsOkUnless result Refusal.Memory }
 {
     let mut line = Vec::new(alloc);
+    put(&mut line, "cpgring: ")?;
     put(&mut line, path)?;
     put(&mut line, ":")?;
     put_place(&mut line, number_of(refusal))?;

@@ -2,11 +2,18 @@
 
 use cpg_cred::Refusal;
 
+/// A file that was read.
+#[derive(Debug, Clone, Copy)]
+pub struct NamedText<'a> {
+    pub path: &'a str,
+    pub text: &'a [u8],
+}
+
 /// One of the files.
 #[derive(Debug, Clone, Copy, PartialEq, Eq)]
 pub enum File {
-    /// The conf file.
-    Conf,
+    /// The conf file of that index, from 0.
+    Conf(usize),
     /// The names text.
     Names,
     /// The accounts of users, as in passwd(5).
