@@ -15,13 +15,13 @@ _cpgring() {
     else
         case ${COMP_WORDS[1]} in
             judge) words='--json --only --group --connection --places -v --verbose' ;;
-            why) words='--all --connection --json -v --verbose' ;;
+            why) words='--all --connection --to --json -v --verbose' ;;
             accept) words='--json -v --verbose' ;;
             admit) words='--conf --names --passwd --group --json --echo -v --verbose' ;;
-            step) words="$ring --json --numbers --echo --why -v --verbose" ;;
+            step) words="$ring --json --numbers --echo --why --to -v --verbose" ;;
             draw) words="$ring --text -v --verbose" ;;
-            run) words="$ring --json --wait --echo --trace --why -v --verbose" ;;
-            shell) words="$ring --json --wait --echo --trace -v --verbose" ;;
+            run) words="$ring --lose --repeat --seed --json --wait --echo --trace --why --to -v --verbose" ;;
+            shell) words="$ring --lose --repeat --seed --json --wait --echo --trace -v --verbose" ;;
             completions) words='bash zsh fish' ;;
         esac
         words="$words --help"
@@ -44,6 +44,7 @@ pub const ZSH: &str = r#"#compdef cpgring
 # cpgring completions zsh > "${fpath[1]}/_cpgring"
 _cpgring() {
     local -a ring=('--ring=:number' '--nodes=:number' '--places=:number' '--hops=:number')
+    local -a loss=('--lose=:number' '--repeat=:number' '--seed=:number')
     local -a more=('-v' '--verbose' '--help' '*:file:_files')
     if ((CURRENT == 2)); then
         compadd judge why accept admit step draw run shell completions --help --version
@@ -55,14 +56,16 @@ _cpgring() {
     case $kind in
         judge) _arguments '--json' '--only=:kind:(denied verdicts messages changes rules)' '--group=:group' \
             '--connection=:connection' '--places=:places' $more ;;
-        why) _arguments '--all' '--connection=:connection' '--json' $more ;;
+        why) _arguments '--all' '--connection=:connection' '--to=:connection' '--json' $more ;;
         accept) _arguments '--json' $more ;;
         admit) _arguments '--conf=:file:_files' '--names=:file:_files' '--passwd=:file:_files' '--group=:file:_files' \
             '--json' '--echo' '-v' '--verbose' '--help' ;;
-        step) _arguments $ring '--json' '--numbers' '--echo' '--why=:place' $more ;;
+        step) _arguments $ring '--json' '--numbers' '--echo' '--why=:place' '--to=:connection' $more ;;
         draw) _arguments $ring '--text' $more ;;
-        run) _arguments $ring '--json' '--wait=:milliseconds' '--echo' '--trace=:file:_files' '--why=:place' $more ;;
-        shell) _arguments $ring '--json' '--wait=:milliseconds' '--echo' '--trace=:file:_files' '-v' '--verbose' '--help' ;;
+        run) _arguments $ring $loss '--json' '--wait=:milliseconds' '--echo' '--trace=:file:_files' '--why=:place' \
+            '--to=:connection' $more ;;
+        shell) _arguments $ring $loss '--json' '--wait=:milliseconds' '--echo' '--trace=:file:_files' '-v' '--verbose' \
+            '--help' ;;
         completions) compadd bash zsh fish ;;
     esac
 }
@@ -91,6 +94,10 @@ complete -c cpgring -n '__fish_seen_subcommand_from step draw run shell' -l hops
 complete -c cpgring -n '__fish_seen_subcommand_from step' -l numbers
 complete -c cpgring -n '__fish_seen_subcommand_from draw' -l text
 complete -c cpgring -n '__fish_seen_subcommand_from step run' -l why -x
+complete -c cpgring -n '__fish_seen_subcommand_from why step run' -l to -x
+complete -c cpgring -n '__fish_seen_subcommand_from run shell' -l lose -x
+complete -c cpgring -n '__fish_seen_subcommand_from run shell' -l repeat -x
+complete -c cpgring -n '__fish_seen_subcommand_from run shell' -l seed -x
 complete -c cpgring -n '__fish_seen_subcommand_from run shell' -l wait -x
 complete -c cpgring -n '__fish_seen_subcommand_from admit step run shell' -l echo
 complete -c cpgring -n '__fish_seen_subcommand_from run shell' -l trace -r
