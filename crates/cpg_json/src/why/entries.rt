@@ -3,6 +3,7 @@
 ghost use Rattle.std.specs.Prelude.{◌≡◌, ◌≤◌, ◌++◌, codes, OnOk, IsOkUnless};
 ghost use Rattle.std.specs.Option.{option_copied};
 ghost use Rattle.cpg_record.specs.Places.{record_at};
+ghost use Rattle.cpg_json.specs.Calls.{verdict_fields};
 ghost use Rattle.cpg_json.specs.Objects.{after_comma, field, more, object};
 ghost use Rattle.cpg_json.specs.Whys.{after_place, entry_at, entry_fields, judged_by, judged_fields, line_fields, since_value};
 
@@ -44,6 +45,22 @@ fn put_after_place(
     put_whole_call(line, &entry.op)
 }
 
+/// Puts what follows the place of an entry, and its verdict, at the line's end.
+#[tactic(auto, using(crate::proofs::Fields::more_append))]
+fn put_judged_after_place(
+    line: &mut Vec<u8>,
+    numbers: &[u32],
+    place: u32,
+    past: &Record,
+) -> Result<(), Refusal>
+    requires { 1 ≤ place }
+    ensures ok { OnOk result (line.new.items ≡ line.old.items ++ more (after_place numbers.now place past.now.entry ++ verdict_fields past.now.verdict)) }
+    ensures memory { IsOkUnless result Refusal.Memory }
+{
+    put_after_place(line, numbers, place, past.entry())?;
+    put_verdict(line, past.verdict)
+}
+
 /// Puts the entry of a record at its place, and its verdict, at the line's end.
 #[tactic(auto, using(crate::proofs::Fields::more_append))]
 pub(crate) fn put_judged(
@@ -57,8 +74,7 @@ pub(crate) fn put_judged(
     ensures memory { IsOkUnless result Refusal.Memory }
 {
     put_number(line, "place", u64::from(place))?;
-    put_after_place(line, numbers, place, past.entry())?;
-    put_verdict(line, past.verdict)
+    put_judged_after_place(line, numbers, place, past)
 }
 
 /// Puts an entry at its place in braces at the line's end.
@@ -75,7 +91,7 @@ fn put_object(line: &mut Vec<u8>, numbers: &[u32], place: u32, entry: &Entry) ->
 }
 
 /// Puts the entry of a record at its place, and its verdict, in braces at the line's end.
-#[tactic(auto, using(crate::proofs::Fields::more_append), unfolding(crate::specs::Objects::field))]
+#[tactic(auto, unfolding(crate::specs::Objects::field))]
 fn put_judged_object(
     line: &mut Vec<u8>,
     numbers: &[u32],
@@ -88,8 +104,7 @@ fn put_judged_object(
 {
     put(line, "{\"place\":")?;
     push_number(line, u64::from(place))?;
-    put_after_place(line, numbers, place, past.entry())?;
-    put_verdict(line, past.verdict)?;
+    put_judged_after_place(line, numbers, place, past)?;
     put(line, "}")
 }
 
