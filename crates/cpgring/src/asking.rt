@@ -176,6 +176,7 @@ fn why_of<'a>(given: &'a ArgMatches<'_>) -> Option<Asked<'a>>
 {
     let words = given.get_strs(PLACE).unwrap_or(&[]);
     let all = given.get_flag(ALL);
+    let to = given.get_str(TO);
     let form = form_of(given);
     match given.get_str(CONNECTION) {
         Some(_) if all => None,
@@ -185,7 +186,7 @@ fn why_of<'a>(given: &'a ArgMatches<'_>) -> Option<Asked<'a>>
             words,
         ),
         None if all => why_other(form, Question::Denials, words),
-        None => why_entry(form, given.get_str(TO), words),
+        None => why_entry(form, to, words),
     }
 }
 

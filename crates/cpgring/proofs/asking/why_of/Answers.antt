@@ -11,5 +11,5 @@ returns-in-None-2 c =
     let is : words ≡ why_words found = search rules in
     let conn : first_value found (codes "connection") ≡ None = search rules in
     let unused : IsUsed found (codes "all") → ⊥ = λ used. absurd (cc (c.get_flag-all.ensures.value used, c.if-all-2.false)) in
-    let to : option_map (λ text. text.now) c.get_str.result ≡ first_value found (codes "to") = search rules in
+    let to : option_map (λ text. text.now) c.get_str-to.result ≡ first_value found (codes "to") = search rules in
     entry_asked c.form_of-form.result found words is c.form_of-form.ensures conn unused _ to c.why_entry.result c.why_entry.ensures.run c.why_entry.ensures.source
