@@ -1,4 +1,5 @@
 pub mod Admitting
+pub mod Chances
 pub mod EchoSteps
 pub mod Echoing
 pub mod Hinting
@@ -9,5 +10,5 @@ pub mod Shelling
 pub mod Speaking
 pub mod Starting
 pub mod Telling
-pub mod Words
 pub mod Tracing
+pub mod Words
