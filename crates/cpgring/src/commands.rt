@@ -90,33 +90,65 @@ impl Subcommand {
         }
     }
 
-    /// It as clap's, with its options and words in the order in which they are told of.
-    fn command<'a>(self, alloc: Global) -> Result<Command<'a>, AllocError> {
-        let command = self.bare_command(alloc);
+    /// The command with the subcommand's own options and words, in the order in which they are told of.
+    fn with_own<'a>(self, alloc: Global, command: Command<'a>) -> Result<Command<'a>, AllocError> {
         match self {
             Subcommand::Judge => with_options(alloc, command, &JUDGE_OPTIONS),
             Subcommand::Why => with_options(alloc, command, &WHY_OPTIONS),
             Subcommand::Accept => with_options(alloc, command, &ACCEPT_OPTIONS),
             Subcommand::Admit => with_options(alloc, command, &ADMIT_OPTIONS),
-            Subcommand::Step => with_options(alloc, with_ring(alloc, command)?, &STEP_OPTIONS),
-            Subcommand::Draw => with_options(alloc, with_ring(alloc, command)?, &DRAW_OPTIONS),
-            Subcommand::Run => {
-                let command = with_options(alloc, with_ring(alloc, command)?, &CLUSTER_OPTIONS)?;
-                with_options(alloc, command, &RUN_OPTIONS)
-            }
-            Subcommand::Shell => {
-                let command = with_options(alloc, with_ring(alloc, command)?, &SHELL_OPTIONS)?;
-                let command = with_options(alloc, command, &CLUSTER_OPTIONS)?;
-                with_options(alloc, command, &SHELL_WORDS)
-            }
             Subcommand::Completions => with_options(alloc, command, &COMPLETIONS_OPTIONS),
+            _ => self.with_own_behind(alloc, command),
         }
+    }
+
+    /// The same of the subcommands over a ring, behind whose options these stand.
+    fn with_own_behind<'a>(
+        self,
+        alloc: Global,
+        command: Command<'a>,
+    ) -> Result<Command<'a>, AllocError> {
+        match self {
+            Subcommand::Step => with_options(alloc, command, &STEP_OPTIONS),
+            Subcommand::Draw => with_options(alloc, command, &DRAW_OPTIONS),
+            Subcommand::Run => with_options(alloc, command, &RUN_OPTIONS),
+            _ => with_options(alloc, command, &SHELL_WORDS),
+        }
+    }
+
+    /// It with the options of the ring or the cluster that it is over.
+    fn command_over<'a>(self, alloc: Global) -> Result<Command<'a>, AllocError> {
+        let command = self.bare_command(alloc);
+        match self {
+            Subcommand::Step | Subcommand::Draw => with_ring(alloc, command),
+            Subcommand::Run => with_cluster(alloc, with_ring(alloc, command)?),
+            Subcommand::Shell => with_cluster(
+                alloc,
+                with_notes(alloc, with_ring(alloc, command)?)?,
+            ),
+            _ => Ok(command),
+        }
+    }
+
+    /// It as clap's, with all its options and words.
+    fn command<'a>(self, alloc: Global) -> Result<Command<'a>, AllocError> {
+        self.with_own(alloc, self.command_over(alloc)?)
     }
 }
 
 /// The command with the options that set a ring up.
 fn with_ring<'a>(alloc: Global, command: Command<'a>) -> Result<Command<'a>, AllocError> {
     with_options(alloc, command, &RING_OPTIONS)
+}
+
+/// The command with the options of a cluster.
+fn with_cluster<'a>(alloc: Global, command: Command<'a>) -> Result<Command<'a>, AllocError> {
+    with_options(alloc, command, &CLUSTER_OPTIONS)
+}
+
+/// The command with the first option of `shell`.
+fn with_notes<'a>(alloc: Global, command: Command<'a>) -> Result<Command<'a>, AllocError> {
+    with_options(alloc, command, &SHELL_OPTIONS)
 }
 
 /// The command with these options as well.
