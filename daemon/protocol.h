@@ -26,7 +26,7 @@ struct head {
 
 /* Kinds of a client's frames, and what stands behind the head. */
 enum {
-    ASK_HELLO = 1,   /* u32 version. Answer: struct hello */
+    ASK_HELLO = 1,   /* u32 version, and where it is there a u32 of HELLO bits. Answer: struct hello */
     ASK_JOIN = 2,    /* the group's name: 0 to 128 bytes of any value */
     ASK_LEAVE = 3,   /* nothing */
     ASK_SEND = 4,    /* the message */
@@ -47,6 +47,11 @@ enum {
     TELL_DENIED = 0x203,  /* struct tell_denied */
     TELL_TEXT = 0x204     /* u32 length, text */
 };
+
+/* The client would have lanes (lane.h). Where the daemon gives them, descriptors come with the answer's first byte: of their
+ * memory, and of the pipe by which the client is rung. All frames behind the answer then go through the lanes, and a byte in
+ * the socket rings the daemon. */
+enum { HELLO_LANES = 1 };
 
 struct hello {
     uint32_t status, node, nodes, most;

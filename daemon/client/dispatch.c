@@ -60,7 +60,7 @@ static bool swap(struct instance *i) {
 static bool refill(struct instance *i) {
     if (i->now.begin < i->now.end) return true;
     pthread_mutex_lock(&i->in);
-    if (i->read.begin == i->parsed && !i->drained) stream_fetch(i);
+    if (i->read.begin == i->parsed && (!i->drained || lanes_hold(i))) stream_fetch(i);
     bool there = i->read.begin < i->parsed && swap(i);
     i->now_left = there;
     pthread_mutex_unlock(&i->in);
@@ -137,28 +137,45 @@ static bool dispatch_one(struct instance *i) {
 /* ---- the call ---- */
 
 /* Has the next refill read the socket; a dispatch that found it empty does not ask again by itself. */
-static void look_again(struct instance *i) {
+static void look_again(struct instance *i, bool in_vain) {
     pthread_mutex_lock(&i->in);
     i->drained = false;
+    lanes_settle(i, in_vain);
     stream_mark(i);
     pthread_mutex_unlock(&i->in);
+}
+
+/* Whether something came while the bell was silenced, where there are lanes. */
+static bool settle(struct instance *i, bool in_vain) {
+    if (!i->memory) return false;
+    pthread_mutex_lock(&i->in);
+    bool came = lanes_settle(i, in_vain);
+    pthread_mutex_unlock(&i->in);
+    return came;
 }
 
 /* What another thread reads of the socket is told by the descriptor, too. */
 static void wait_for_events(struct instance *i) {
     struct pollfd p = {i->poll_fd, POLLIN, 0};
-    look_again(i);
-    poll(&p, 1, STEP_MS);
+    uint64_t began = clock_ns();
+    if (!lanes_look(i, began + i->dispatch_spin.now)) {
+        look_again(i, true);
+        poll(&p, 1, STEP_MS);
+    }
+    spin_learn(&i->dispatch_spin, clock_ns() - began);
     if (i->rest_left) stream_flush_any(i);
 }
 
 static cs_error_t dispatch_all(struct instance *i, bool one, bool blocks, bool *called) {
+    bool in_vain = true;
     while (!i->closed && !(one && *called)) {
         if (refill(i)) {
+            in_vain = false;
             if (dispatch_one(i)) *called = true;
         } else if (i->broken) return CS_ERR_LIBRARY;
         else if (blocks) wait_for_events(i);
-        else break;
+        else if (!settle(i, in_vain)) break;
+        else in_vain = false;
     }
     return CS_OK;
 }
@@ -177,8 +194,9 @@ PUBLIC cs_error_t cpg_dispatch(cpg_handle_t handle, cs_dispatch_flags_t flags) {
     i->depth++;
     cs_error_t result = dispatch_all(i, one, blocks, &called);
     if (--i->depth == 0) unpin(i);
-    look_again(i);
+    look_again(i, false);
     pthread_mutex_unlock(&i->dispatch);
+    if (i->rest_left && i->memory) stream_flush_any(i); /* the bell may have rung for it, and was silenced */
     if (flags == CS_DISPATCH_ONE_NONBLOCKING && !called && result == CS_OK) result = CS_ERR_TRY_AGAIN;
     instance_put(i);
     return result;

@@ -41,6 +41,8 @@ static void instance_free(struct instance *i) {
     close_one(i->poll_fd);
     close_one(i->ready);
     close_one(i->noted);
+    close_one(i->bell);
+    lanes_close(i);
     pieces_free(i);
     dispatch_free(i);
     pthread_mutex_destroy(&i->sync);
@@ -101,9 +103,20 @@ static cs_error_t open_descriptors(struct instance *i) {
     return CS_OK;
 }
 
-static cs_error_t greet(struct instance *i) {
+/* Takes the lanes that were given. false: some were, and can't be had. */
+static bool take_lanes(struct instance *i) {
+    bool given = i->given[0] >= 0 && i->given[1] >= 0;
+    i->greeting = false;
+    i->bell = i->given[1];
+    bool good = given ? lanes_open(i, i->given[0], i->bell) : i->given[0] < 0 && !i->cut_off;
+    close_one(i->given[0]);
+    i->given[0] = i->given[1] = -1;
+    return good;
+}
+
+static cs_error_t greet(struct instance *i, bool wants_lanes) {
     struct sockaddr_un at = {.sun_family = AF_UNIX};
-    uint32_t version = PROTOCOL_VERSION, len = 0;
+    uint32_t hello[2] = {PROTOCOL_VERSION, wants_lanes ? HELLO_LANES : 0}, len = 0;
     uint8_t *answer = NULL;
     cs_error_t status = open_descriptors(i);
     if (status != CS_OK) return status;
@@ -114,16 +127,20 @@ static cs_error_t greet(struct instance *i) {
         if (errno == EACCES || errno == EPERM) return CS_ERR_ACCESS;
         return errno == EAGAIN ? CS_ERR_TRY_AGAIN : CS_ERR_LIBRARY;
     }
-    status = stream_ask(i, ASK_HELLO, &version, sizeof version, &answer, &len);
+    i->greeting = wants_lanes;
+    status = stream_ask(i, ASK_HELLO, hello, sizeof hello, &answer, &len);
+    if (!take_lanes(i)) status = CS_ERR_NO_RESOURCES;
     if (status == CS_OK && len >= sizeof i->hello) memcpy(&i->hello, answer, sizeof i->hello);
     free(answer);
     return status;
 }
 
-static unsigned wait_limit(void) {
-    const char *word = getenv("CPGRING_WAIT");
-    long ms = word ? strtol(word, NULL, 10) : 0;
-    return ms > 0 && ms <= 86400000 ? (unsigned)ms : WAIT_MS;
+/* A number of the environment within these bounds; else its default. */
+static unsigned number_of(const char *name, long least, long most, unsigned otherwise) {
+    const char *word = getenv(name);
+    char *end = NULL;
+    long number = word ? strtol(word, &end, 10) : 0;
+    return word && end != word && number >= least && number <= most ? (unsigned)number : otherwise;
 }
 
 static struct instance *instance_new(const cpg_model_v1_data_t *model, void *context) {
@@ -132,8 +149,9 @@ static struct instance *instance_new(const cpg_model_v1_data_t *model, void *con
     pthread_mutexattr_t recursive;
     if (!i) return NULL;
     i->uses = 1;
-    i->fd = i->poll_fd = i->ready = i->noted = -1;
-    i->wait_ms = wait_limit();
+    i->fd = i->poll_fd = i->ready = i->noted = i->bell = i->given[0] = i->given[1] = -1;
+    i->wait_ms = number_of("CPGRING_WAIT", 1, 86400000, WAIT_MS);
+    i->dispatch_spin = spin_up_to(number_of("CPGRING_SPIN", 0, 1000, SPIN_US));
     i->like_corosync = like && !strcmp(like, "1");
     if (model) i->model = *model;
     atomic_init(&i->context, context);
@@ -154,8 +172,13 @@ PUBLIC cs_error_t cpg_model_initialize(cpg_handle_t *handle, cpg_model_t model, 
     if (model != CPG_MODEL_V1 || !handle) return CS_ERR_INVALID_PARAM;
     if (given && given->flags & ~(unsigned)CPG_MODEL_V1_DELIVER_INITIAL_TOTEM_CONF) return CS_ERR_INVALID_PARAM;
     struct instance *i = instance_new(given, context);
+    cs_error_t status = i ? greet(i, true) : CS_ERR_NO_MEMORY;
+    if (i && status == CS_ERR_NO_RESOURCES) { /* without lanes it takes fewer descriptors */
+        instance_free(i);
+        i = instance_new(given, context);
+        status = i ? greet(i, false) : CS_ERR_NO_MEMORY;
+    }
     if (!i) return CS_ERR_NO_MEMORY;
-    cs_error_t status = greet(i);
     if (status == CS_OK && !enter(i)) status = CS_ERR_NO_RESOURCES;
     if (status == CS_OK) *handle = i->handle;
     else instance_free(i);
@@ -181,8 +204,8 @@ static void finish_rest(struct instance *i) {
         bool mine = pthread_mutex_trylock(&i->out) == 0; /* else another thread sends, and may wait for long */
         if (mine) stream_flush(i);
         if (mine) pthread_mutex_unlock(&i->out);
-        if (mine && i->rest_left) poll(&p, 1, FLUSH_MS / 10);
-        if (!mine) nanosleep(&step, NULL);
+        if (mine && i->rest_left && !i->memory) poll(&p, 1, FLUSH_MS / 10);
+        if (!mine || i->memory) nanosleep(&step, NULL);
     }
 }
 

@@ -1,9 +1,11 @@
-/* A handle's state, and the parts of libcpg: handles.c, stream.c, dispatch.c, pieces.c, calls.c and iterations.c.
- * A handle is one Unix socket. Asks go out as they are made; answers and events come in one stream, so that an answer
+/* A handle's state, and the parts of libcpg: handles.c, stream.c, lanes.c, dispatch.c, pieces.c, calls.c and iterations.c.
+ * A handle is one Unix socket, and lanes where the daemon gives some. Asks go out as they are made; answers and events come in one stream, so that an answer
  * stands among the events where the node gave it. A call that waits for its answer keeps the events before it. */
 #ifndef CPGRING_INSTANCE_H
 #define CPGRING_INSTANCE_H
+#include "../lane.h"
 #include "../protocol.h"
+#include "../spin.h"
 #include <corosync/cpg.h>
 #include <pthread.h>
 #include <stdatomic.h>
@@ -17,7 +19,8 @@ enum {
     MOST_MESSAGE = 16 << 20,
     MOST_PARTS = 1024,     /* of a message, as the program gives it */
     MOST_KEPT = 256 << 20, /* bytes of events that wait for a dispatch: with more, nothing is sent until there is one */
-    WAIT_MS = 30000        /* the most that a call waits for its answer; CPGRING_WAIT has another number */
+    WAIT_MS = 30000,       /* the most that a call waits for its answer; CPGRING_WAIT has another number */
+    SPIN_US = 20           /* the most that a wait looks before it sleeps; CPGRING_SPIN has another number */
 };
 
 struct buffer {
@@ -59,14 +62,23 @@ struct instance {
     cpg_model_v1_data_t model;
     _Atomic(void *) context;
 
+    void *memory; /* of the lanes; NULL: there are none */
+    int bell;
+    atomic_bool asked_room; /* the bell may ring without an event */
+    bool greeting;          /* descriptors may come; with some, `given` has them */
+    bool cut_off;           /* they came, and there was no room for them */
+    int given[2];
+
     pthread_mutex_t sync; /* one call that waits for an answer at a time */
     uint16_t tag;         /* of its ask */
 
-    pthread_mutex_t out; /* the socket's writing end */
+    pthread_mutex_t out; /* the writing end of the socket, or of the lane */
+    struct lane up;
     struct buffer rest;  /* what the socket did not take of an ask that it had begun to take */
     atomic_bool rest_left; /* some of it is left */
 
-    pthread_mutex_t in; /* the socket's reading end */
+    pthread_mutex_t in; /* the reading end of the socket, or of the lane */
+    struct lane down;
     struct buffer read; /* whole frames up to `parsed`, then what is left */
     size_t parsed;
     bool ready_set;
@@ -76,6 +88,7 @@ struct instance {
     uint32_t answer_len;
 
     pthread_mutex_t dispatch; /* one dispatch at a time; recursive, for calls of callbacks */
+    struct spin dispatch_spin;
     unsigned depth;
     struct buffer now; /* whole frames that are being dispatched */
     atomic_bool now_left; /* some of them are left */
@@ -114,6 +127,24 @@ enum way { SEND_NOW, SEND_BEGUN, SEND_SURELY };
 cs_error_t stream_send(struct instance *i, struct iovec *parts, unsigned count, enum way way);
 /* Asks and waits for the answer, which the caller frees: its length is told where it is wanted. */
 cs_error_t stream_ask(struct instance *i, uint16_t kind, const void *body, uint32_t len, uint8_t **answer, uint32_t *answer_len);
+
+/* ---- lanes.c ---- */
+
+/* Lanes from these descriptors on, which stay the caller's. false: there are none. */
+bool lanes_open(struct instance *i, int memory, int bell);
+void lanes_close(struct instance *i);
+/* Whether the daemon put something that was not read. The lock `in` is held. */
+bool lanes_hold(const struct instance *i);
+/* As recv, with the lock `in` held, and as sendmsg, with the lock `out`; what is short is sent whole or not at all. */
+ssize_t lanes_receive(struct instance *i, uint8_t *at, size_t most);
+ssize_t lanes_send(struct instance *i, const struct iovec *parts, unsigned count);
+/* Where nothing is left to be read: silences the bell, which rings for what comes from now on. `in_vain`: it may have rung for
+ * nothing. The lock `in` is held. Whether something came meanwhile, and was read. */
+bool lanes_settle(struct instance *i, bool in_vain);
+/* Looks for events until then. Whether there are some. No lock of the stream is held. */
+bool lanes_look(struct instance *i, uint64_t end);
+/* Whether a short ask would be taken. The lock `out` is held. */
+bool lanes_have_room(const struct instance *i);
 
 /* ---- pieces.c ---- */
 

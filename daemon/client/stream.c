@@ -11,7 +11,7 @@
 #include <sys/socket.h>
 #include <time.h>
 
-enum { STEP_MS = 100, TRY_NS = 200000, SHORT_ASK = 1024, MORE_BEHIND = 16 << 10 /* bytes of a read behind which there is likely more */ };
+enum { STEP_MS = 100, TRY_NS = 200000, LANE_NS = 1000000, SHORT_ASK = 1024, MORE_BEHIND = 16 << 10 /* bytes of a read behind which there is likely more */ };
 
 uint64_t clock_ms(void) {
     struct timespec t;
@@ -72,6 +72,29 @@ static void parse(struct instance *i) {
     }
 }
 
+/* The read of a greeting's answer: descriptors may come with it. */
+static ssize_t receive_given(struct instance *i, uint8_t *at, size_t most) {
+    union {
+        struct cmsghdr head;
+        char room[CMSG_SPACE(sizeof i->given)];
+    } control;
+    struct iovec part = {at, most};
+    struct msghdr message = {.msg_iov = &part, .msg_iovlen = 1, .msg_control = control.room, .msg_controllen = sizeof control.room};
+    ssize_t got = recvmsg(i->fd, &message, MSG_DONTWAIT | MSG_CMSG_CLOEXEC);
+    struct cmsghdr *head = got > 0 ? CMSG_FIRSTHDR(&message) : NULL;
+    if (got > 0 && message.msg_flags & MSG_CTRUNC) i->cut_off = true;
+    if (!head || head->cmsg_level != SOL_SOCKET || head->cmsg_type != SCM_RIGHTS) return got;
+    size_t count = (head->cmsg_len - CMSG_LEN(0)) / sizeof(int);
+    memcpy(i->given, CMSG_DATA(head), (count < 2 ? count : 2) * sizeof(int));
+    return got;
+}
+
+/* As recv. */
+static ssize_t receive(struct instance *i, uint8_t *at, size_t most) {
+    if (i->memory) return lanes_receive(i, at, most);
+    return i->greeting ? receive_given(i, at, most) : recv(i->fd, at, most, MSG_DONTWAIT);
+}
+
 bool stream_fetch(struct instance *i) {
     if (i->broken) return false;
     if (i->read.begin == i->read.end) i->read.begin = i->read.end = i->parsed = 0;
@@ -80,8 +103,8 @@ bool stream_fetch(struct instance *i) {
         i->broken = true;
         return false;
     }
-    ssize_t got = recv(i->fd, at, READ_AT_ONCE, MSG_DONTWAIT);
-    i->drained = got < MORE_BEHIND;
+    ssize_t got = receive(i, at, READ_AT_ONCE);
+    i->drained = got < MORE_BEHIND || i->memory;
     if (got > 0) {
         i->read.end += (size_t)got;
         parse(i);
@@ -108,6 +131,7 @@ void stream_mark(struct instance *i) {
 static void drain(struct instance *i) {
     pthread_mutex_lock(&i->in);
     if (i->read.end - i->read.begin < MOST_KEPT) stream_fetch(i);
+    lanes_settle(i, true);
     stream_mark(i);
     pthread_mutex_unlock(&i->in);
 }
@@ -119,12 +143,13 @@ static void set_rest_left(struct instance *i, bool left) {
     struct epoll_event e = {.events = left ? EPOLLIN | EPOLLOUT : EPOLLIN};
     if (i->rest_left == left) return;
     i->rest_left = left;
-    epoll_ctl(i->poll_fd, EPOLL_CTL_MOD, i->fd, &e);
+    if (!i->memory) epoll_ctl(i->poll_fd, EPOLL_CTL_MOD, i->fd, &e);
 }
 
 bool stream_flush(struct instance *i) {
     while (i->rest.begin < i->rest.end && !i->broken) {
-        ssize_t put = send(i->fd, i->rest.at + i->rest.begin, i->rest.end - i->rest.begin, MSG_NOSIGNAL | MSG_DONTWAIT);
+        struct iovec part = {i->rest.at + i->rest.begin, i->rest.end - i->rest.begin};
+        ssize_t put = i->memory ? lanes_send(i, &part, 1) : send(i->fd, part.iov_base, part.iov_len, MSG_NOSIGNAL | MSG_DONTWAIT);
         if (put < 0 && errno == EINTR) continue;
         if (put < 0) {
             if (errno != EAGAIN) i->broken = true;
@@ -157,6 +182,7 @@ static void keep_rest(struct instance *i, const struct iovec *parts, unsigned co
         i->rest.end += parts[k].iov_len;
     }
     set_rest_left(i, true);
+    if (i->memory) stream_flush(i); /* has the bell ring for more room */
 }
 
 static bool has_room(struct instance *i) {
@@ -166,8 +192,22 @@ static bool has_room(struct instance *i) {
     return room;
 }
 
+/* The same of a lane: what there is is taken out of it, since the daemon may wait for that, and the bell rings for room. Another
+ * thread may have taken the ring for events, so the wait is short. */
+static void wait_for_room(struct instance *i, bool waits) {
+    bool reads = has_room(i);
+    struct pollfd p[2] = {{i->fd, POLLIN, 0}, {i->bell, POLLIN, 0}};
+    struct timespec bound = {0, waits ? LANE_NS : TRY_NS};
+    drain(i);
+    if (!lanes_have_room(i) && !i->broken && ppoll(p, reads ? 2 : 1, &bound, NULL) > 0) drain(i);
+}
+
 /* Waits until the socket may take more. The lock `out` is held. */
 static void wait_to_send(struct instance *i, bool waits) {
+    if (i->memory) {
+        wait_for_room(i, waits);
+        return;
+    }
     struct pollfd p = {i->fd, POLLOUT | (has_room(i) ? POLLIN : 0), 0};
     struct timespec bound = {0, waits ? STEP_MS * 1000000L : TRY_NS};
     if (ppoll(&p, 1, &bound, NULL) > 0 && p.revents & (POLLIN | POLLHUP | POLLERR)) drain(i);
@@ -200,9 +240,9 @@ static size_t gather(const struct iovec *parts, unsigned count, uint8_t *to, siz
 static bool write_some(struct instance *i, struct iovec **parts, unsigned *count) {
     uint8_t piece[SHORT_ASK];
     struct msghdr message = {.msg_iov = *parts, .msg_iovlen = *count};
-    size_t len = gather(*parts, *count, piece, sizeof piece);
+    size_t len = i->memory ? 0 : gather(*parts, *count, piece, sizeof piece);
     ssize_t put;
-    do put = len > 0 ? send(i->fd, piece, len, MSG_NOSIGNAL | MSG_DONTWAIT) : sendmsg(i->fd, &message, MSG_NOSIGNAL | MSG_DONTWAIT);
+    do put = i->memory ? lanes_send(i, *parts, *count) : len > 0 ? send(i->fd, piece, len, MSG_NOSIGNAL | MSG_DONTWAIT) : sendmsg(i->fd, &message, MSG_NOSIGNAL | MSG_DONTWAIT);
     while (put < 0 && errno == EINTR);
     if (put < 0 && errno != EAGAIN) i->broken = true;
     if (put > 0) *count = advance(parts, *count, (size_t)put);
@@ -233,11 +273,11 @@ cs_error_t stream_send(struct instance *i, struct iovec *parts, unsigned count, 
 /* ---- asking ---- */
 
 static void wait_for_answer(struct instance *i, uint64_t end) {
-    short events = stream_flush_any(i) ? POLLIN : POLLIN | POLLOUT;
-    struct pollfd p[2] = {{i->fd, events, 0}, {i->noted, POLLIN, 0}};
+    short events = stream_flush_any(i) || i->memory ? POLLIN : POLLIN | POLLOUT;
+    struct pollfd p[3] = {{i->fd, events, 0}, {i->noted, POLLIN, 0}, {i->bell, POLLIN, 0}};
     uint64_t now = clock_ms();
     eventfd_t value;
-    poll(p, 2, end > now ? (int)(end - now) : 0);
+    poll(p, i->memory ? 3 : 2, end > now ? (int)(end - now) : 0);
     if (p[1].revents) eventfd_read(i->noted, &value);
 }
 
@@ -248,13 +288,14 @@ static cs_error_t await(struct instance *i, uint64_t end) {
         while (i->wanted != 0 && i->read.end - i->read.begin < 2 * (size_t)MOST_KEPT && stream_fetch(i)) {}
         bool there = i->wanted == 0, late = clock_ms() >= end, full = i->read.end - i->read.begin >= 2 * (size_t)MOST_KEPT;
         if (!there && (late || full || i->broken)) i->wanted = 0;
+        bool came = !there && lanes_settle(i, true);
         stream_mark(i);
         pthread_mutex_unlock(&i->in);
         if (there) return CS_OK;
         if (i->broken) return CS_ERR_LIBRARY;
         if (full) return CS_ERR_NO_MEMORY; /* so many events wait for a dispatch */
         if (late) return CS_ERR_TIMEOUT;
-        wait_for_answer(i, end);
+        if (!came) wait_for_answer(i, end);
     }
 }
 

@@ -34,8 +34,9 @@ bool client_hearable(const struct client *c) {
 static void hear_hello(struct client *c, const struct head *head, const uint8_t *body) {
     struct node *node = c->node;
     struct hello hello = {CS_OK, node->setup.node, node->setup.nodes, MOST_PAYLOAD, node->setup.ring};
-    uint32_t version = 0;
+    uint32_t version = 0, wants = 0;
     if (head->len >= sizeof version) memcpy(&version, body, sizeof version);
+    if (head->len >= sizeof version + sizeof wants) memcpy(&wants, body + sizeof version, sizeof wants);
     if (version != PROTOCOL_VERSION) hello.status = CS_ERR_VERSION;
     else hello.status = status_of_refusal(cpgring_connect(&node->ring, c->pid, c->uid, c->gid, &c->conn));
     uint8_t *out = tell(c, ASK_HELLO | ANSWER, head->tag, sizeof hello);
@@ -48,6 +49,7 @@ static void hear_hello(struct client *c, const struct head *head, const uint8_t 
     node->by_conn[c->conn] = c;
     node->connected++;
     c->greeted = true;
+    c->wants_lanes = wants & HELLO_LANES;
     user_ungreeted_drop(c);
 }
 

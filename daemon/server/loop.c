@@ -4,9 +4,12 @@
 #include "loop.h"
 #include "audit.h"
 #include "control.h"
+#include "lanes.h"
 #include "log.h"
+#include "../spin.h"
 #include "users.h"
 #include <errno.h>
+#include <sched.h>
 #include <signal.h>
 #include <string.h>
 #include <sys/epoll.h>
@@ -14,6 +17,7 @@
 #include <unistd.h>
 
 enum { EVENTS = 256, VISITS = 16, ACCEPT_AT_ONCE = 64, AGAIN_MS = 50, PAUSE_MS = 1000, SIGNALS = CPGRING_MOST_NODES };
+enum { LOOKS = 16 /* at lanes, for one at the sockets */, TURNS_WITHOUT_SOCKETS = 8 };
 
 static struct {
     int epoll, signals;
@@ -23,6 +27,8 @@ static struct {
     bool stopping;
     uint64_t stop_by; /* in milliseconds */
     uint64_t paused_until, again_at;
+    struct spin spin;
+    unsigned turns_without_sockets;
 } loop;
 
 static uint64_t now_ms(void) { return now_us() / 1000; }
@@ -56,6 +62,10 @@ static bool watch_listeners(void) {
 }
 
 static void watch_client(struct client *c) {
+    if (c->lanes) { /* its socket tells of rings and of its end alone */
+        if (c->full || lanes_have_work(c)) lanes_heat(c);
+        return;
+    }
     uint32_t interest = (bytes_held(&c->in) < READ_BELOW ? (uint32_t)EPOLLIN : 0) | (c->full ? (uint32_t)EPOLLOUT : 0);
     struct epoll_event e = {.events = interest, .data.ptr = c};
     if (c->hung || interest == c->interest) return;
@@ -95,7 +105,8 @@ static void take_signals(void) {
         else begin_stop(info.ssi_signo == SIGTERM ? "SIGTERM" : "SIGINT");
 }
 
-static void take_events(int wait) {
+/* Whether there were any. */
+static bool take_events(int wait) {
     struct epoll_event events[EVENTS];
     int count = epoll_wait(loop.epoll, events, EVENTS, wait);
     for (int k = 0; k < count; k++) {
@@ -115,6 +126,7 @@ static void take_events(int wait) {
             }
         }
     }
+    return count > 0;
 }
 
 /* ---- a turn ---- */
@@ -230,6 +242,34 @@ static int rest(void) {
     return at <= now ? 0 : (int)(at - now);
 }
 
+/* Looks again and again for what comes, for as long as that has paid lately; clients have the processor between looks. */
+static bool look_until(uint64_t end) {
+    while (clock_ns() < end) {
+        for (unsigned k = 0; k < LOOKS; k++) {
+            if (lanes_look()) return true;
+            spin_pause();
+        }
+        if (take_events(0)) return true;
+        sched_yield();
+    }
+    return false;
+}
+
+static void wait_for_work(void) {
+    uint64_t began = clock_ns();
+    if (!look_until(began + loop.spin.now) && lanes_sleep()) take_events(rest());
+    spin_learn(&loop.spin, clock_ns() - began);
+}
+
+/* Takes what clients ask. While their lanes have something, sockets are looked at in some turns only: that takes longer. */
+static void take(bool more) {
+    bool found = lanes_look();
+    if (found && ++loop.turns_without_sockets < TURNS_WITHOUT_SOCKETS) return;
+    loop.turns_without_sockets = 0;
+    if (found || more) take_events(0);
+    else wait_for_work();
+}
+
 static bool all_written(void) {
     for (unsigned k = 0; k < loop.ring->count; k++)
         for (const struct client *c = loop.ring->nodes[k].clients; c; c = c->next)
@@ -274,6 +314,7 @@ int loop_run(struct ring *ring, struct sockets *sockets, const struct options *o
     loop.ring = ring;
     loop.sockets = sockets;
     loop.options = options;
+    loop.spin = spin_up_to(options->spin);
     loop.epoll = epoll_create1(EPOLL_CLOEXEC);
     loop.signals = signalfd(-1, &set, SFD_NONBLOCK | SFD_CLOEXEC);
     if (loop.epoll < 0 || loop.signals < 0 || !watch_number(loop.signals, SIGNALS) || !watch_listeners()) {
@@ -282,7 +323,7 @@ int loop_run(struct ring *ring, struct sockets *sockets, const struct options *o
     }
     audit_ring_begins(ring);
     while (!is_over()) {
-        take_events(more ? 0 : rest());
+        take(more);
         end_silent();
         listen_again();
         more = turn();

@@ -2,6 +2,7 @@
  * Every client belongs to a user, whose connections and unread bytes are counted together.
  * A client that is to go is only marked here; the loop frees it, so that no list changes under who walks it. */
 #include "node.h"
+#include "lanes.h"
 #include "log.h"
 #include "users.h"
 #include <stdlib.h>
@@ -70,6 +71,7 @@ void client_free(struct client *c) {
     client_rest(c);
     leave_told(c);
     if (!c->greeted) user_ungreeted_drop(c);
+    lanes_free(c);
     c->user->unread -= c->counted;
     c->user->connections--;
     user_put(c->user);

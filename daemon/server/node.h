@@ -25,6 +25,7 @@ struct limits {
     unsigned user_calls;       /* calls of one user that wait at a node */
     unsigned user_ungreeted;   /* of them, connections that did not greet yet */
     unsigned greet_seconds;    /* for so long */
+    unsigned user_lanes;       /* connections of one user that have lanes in place of their socket */
     size_t room;               /* bytes kept ready for a socket: a client with more is told nothing more, and not heard */
 };
 
@@ -32,7 +33,7 @@ struct limits {
 struct user {
     struct user *next;
     uint32_t uid;
-    unsigned connections, ungreeted;
+    unsigned connections, ungreeted, lanes;
     unsigned waiting[CPGRING_MOST_NODES]; /* calls that wait at each node for a place */
     uint64_t unread;
 };
@@ -73,6 +74,8 @@ struct client {
     struct client *next_ungreeted, *previous_ungreeted;
     int fd;
     uint32_t interest;
+    bool wants_lanes;    /* they are to be given with the answer to its greeting, which is the front of `out` */
+    struct lanes *lanes; /* lanes.h; NULL: it has none */
 };
 
 struct table { /* a group whose rules were changed */

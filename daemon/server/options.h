@@ -16,7 +16,7 @@ struct options {
     uint64_t seed;
     uint32_t ring, places;
     uint64_t ring_bytes;
-    unsigned mode, stop_seconds;
+    unsigned mode, stop_seconds, spin;
     uid_t owner; /* -1: left as it is */
     gid_t owner_group;
     bool foreground;

@@ -2,6 +2,7 @@
  * A full table of descriptors is met by a spare one, which is given up to turn the newcomer away.
  * Nothing here waits: sockets are read and written as far as they go. */
 #include "sockets.h"
+#include "lanes.h"
 #include "log.h"
 #include "users.h"
 #include <errno.h>
@@ -187,13 +188,23 @@ static bool read_once(struct client *c, size_t most) {
     return got > 0;
 }
 
+/* The bytes by which it rings are dropped. false: the other end is closed. */
+static bool drop_rings(const struct client *c) {
+    uint8_t rings[4096];
+    ssize_t got = recv(c->fd, rings, sizeof rings, MSG_DONTWAIT);
+    return got > 0 || (got < 0 && (errno == EAGAIN || errno == EINTR));
+}
+
 void client_read(struct client *c) {
     size_t held = bytes_held(&c->in);
-    if (c->end == END_NOT && !c->hung && held < READ_BELOW) read_once(c, MOST_IN - held);
+    if (c->end != END_NOT || c->hung) return;
+    if (c->lanes && !drop_rings(c)) client_read_out(c);
+    else if (c->lanes) lanes_heat(c);
+    else if (held < READ_BELOW) read_once(c, MOST_IN - held);
 }
 
 void client_read_out(struct client *c) {
-    while (c->end == END_NOT && !c->hung && bytes_held(&c->in) < MOST_LEFT && read_once(c, MOST_IN)) {}
+    while (c->end == END_NOT && !c->hung && bytes_held(&c->in) < MOST_LEFT && (c->lanes ? lanes_read(c, MOST_IN) : read_once(c, MOST_IN))) {}
     client_hang(c);
     client_activate(c);
 }
@@ -205,6 +216,8 @@ static size_t length_of(const struct iovec *pieces, size_t count) {
 }
 
 bool client_write(struct client *c) {
+    if (c->wants_lanes && out_held(&c->out) > 0) lanes_give(c);
+    if (c->lanes) return lanes_write(c);
     while (out_held(&c->out) > 0) {
         struct iovec pieces[PIECES];
         struct msghdr message = {.msg_iov = pieces, .msg_iovlen = out_front(&c->out, pieces, PIECES)};
