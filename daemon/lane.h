@@ -47,12 +47,12 @@ static inline struct lane lane_down(void *memory) {
 
 /* Bytes that the reader may take; more than `size`: the writer's word is no place. */
 static inline uint32_t lane_held(const struct lane *l) {
-    return atomic_load_explicit(&l->words->written, memory_order_acquire) - l->own;
+    return atomic_load(&l->words->written) - l->own;
 }
 
 /* Bytes that the writer may put; more than `size`: the reader's word is no place. */
 static inline uint32_t lane_room(const struct lane *l) {
-    return l->size - (l->own - atomic_load_explicit(&l->words->taken, memory_order_acquire));
+    return l->size - (l->own - atomic_load(&l->words->taken));
 }
 
 static inline bool lane_is_broken(uint32_t held_or_room, const struct lane *l) { return held_or_room > l->size; }
@@ -64,7 +64,7 @@ static inline size_t lane_take(struct lane *l, uint8_t *to, size_t most, uint32_
     memcpy(to, l->bytes + at, front);
     if (count > front) memcpy(to + front, l->bytes, count - front);
     l->own += count;
-    atomic_store_explicit(&l->words->taken, l->own, memory_order_release);
+    atomic_store(&l->words->taken, l->own);
     return count;
 }
 
@@ -78,18 +78,15 @@ static inline void lane_put(const struct lane *l, uint32_t ahead, const uint8_t 
 /* Tells the reader of so many bytes that were put. */
 static inline void lane_tell(struct lane *l, uint32_t count) {
     l->own += count;
-    atomic_store_explicit(&l->words->written, l->own, memory_order_release);
+    atomic_store(&l->words->written, l->own);
 }
 
-/* Says that one is about to sleep. What the lane holds is to be looked at behind it. */
-static inline void lane_sleep(_Atomic uint32_t *word) {
-    atomic_store(word, 1);
-    atomic_thread_fence(memory_order_seq_cst);
-}
+/* Says that one is about to sleep. What the lane holds is to be looked at behind it: of one who sleeps and one who puts or takes,
+ * at least one sees what the other did, since all places and words are in one order. */
+static inline void lane_sleep(_Atomic uint32_t *word) { atomic_store(word, 1); }
 
 /* Whether the other is to be rung, after bytes were told or taken: it is asked once for each time that it sleeps. */
 static inline bool lane_wakes(_Atomic uint32_t *word) {
-    atomic_thread_fence(memory_order_seq_cst);
-    return atomic_load_explicit(word, memory_order_relaxed) != 0 && atomic_exchange(word, 0) != 0;
+    return atomic_load(word) != 0 && atomic_exchange(word, 0) != 0;
 }
 #endif

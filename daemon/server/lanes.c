@@ -23,6 +23,7 @@ static struct {
     struct client **at;
     unsigned count, room;
 } hot;
+static struct client *first_told;
 
 /* ---- giving ---- */
 
@@ -128,6 +129,7 @@ void lanes_heat(struct client *c) {
 
 void lanes_free(struct client *c) {
     if (!c->lanes) return;
+    lanes_ring(); /* it is in no list behind this */
     lanes_cool(c);
     c->user->lanes--;
     lanes_destroy(c->lanes);
@@ -139,6 +141,23 @@ void lanes_free(struct client *c) {
 /* A pipe that is full, or that nobody reads, needs nothing more. */
 static void ring_bell(const struct lanes *lanes) {
     if (write(lanes->bell, "", 1) != 1) errno = 0;
+}
+
+static void ring_later(struct client *c) {
+    if (c->lanes->is_told) return;
+    c->lanes->is_told = true;
+    c->lanes->next_told = first_told;
+    first_told = c;
+}
+
+void lanes_ring(void) {
+    for (struct client *c = first_told; c; c = first_told) {
+        struct lanes *lanes = c->lanes;
+        first_told = lanes->next_told;
+        lanes->is_told = false;
+        bool left = lane_room(&lanes->down) != lanes->down.size; /* else it took all, and needs no ring */
+        if (left && lane_wakes(&lanes->down.words->reader_sleeps)) ring_bell(lanes);
+    }
 }
 
 bool lanes_read(struct client *c, size_t most) {
@@ -180,7 +199,7 @@ bool lanes_write(struct client *c) {
         return true;
     }
     while (room > 0 && out_held(&c->out) > 0) room -= put_front(c, room);
-    if (lane_wakes(&down->words->reader_sleeps)) ring_bell(c->lanes);
+    ring_later(c);
     if (out_held(&c->out) > 0) return false;
     out_shrink(&c->out, client_kept(c));
     return true;

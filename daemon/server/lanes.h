@@ -11,6 +11,8 @@ struct lanes {
     struct lane up, down;
     int bell;                    /* writing end of the pipe that rings the client */
     unsigned hot_at, idle_looks; /* hot_at: 1 more than its place among the hot ones; 0: it is not hot */
+    struct client *next_told;    /* of those that were told something, and may have to be rung */
+    bool is_told;
 };
 
 /* Gives the client lanes, together with the answer to its greeting, where it is among those of its user that may have them and
@@ -21,6 +23,8 @@ void lanes_free(struct client *c);
 bool lanes_read(struct client *c, size_t most);
 /* Writes what is held, as far as there is room. false: there is none left. */
 bool lanes_write(struct client *c);
+/* Rings those who sleep over what was written. It is done once for several turns: a wake-up takes longer than a message. */
+void lanes_ring(void);
 /* It is looked at from now on. */
 void lanes_heat(struct client *c);
 /* Whether there is something in the lanes for the daemon to do: bytes that it may take, or room that it waits for. */
