@@ -135,16 +135,16 @@ bool lanes_open(struct instance *i, int memory, int bell);
 void lanes_close(struct instance *i);
 /* Whether the daemon put something that was not read. The lock `in` is held. */
 bool lanes_hold(const struct instance *i);
-/* As recv, with the lock `in` held, and as sendmsg, with the lock `out`; what is short is sent whole or not at all. */
+/* As recv, with the lock `in` held, and as sendmsg, with the lock `out`: nothing is sent where there is no room for `least`. */
 ssize_t lanes_receive(struct instance *i, uint8_t *at, size_t most);
-ssize_t lanes_send(struct instance *i, const struct iovec *parts, unsigned count);
+ssize_t lanes_send(struct instance *i, const struct iovec *parts, unsigned count, size_t least);
+/* Whether there is so much room. Where there is not, the bell rings once the daemon took some. The lock `out` is held. */
+bool lanes_have_room(struct instance *i, size_t least);
 /* Where nothing is left to be read: silences the bell, which rings for what comes from now on. `in_vain`: it may have rung for
  * nothing. The lock `in` is held. Whether something came meanwhile, and was read. */
 bool lanes_settle(struct instance *i, bool in_vain);
 /* Looks for events until then. Whether there are some. No lock of the stream is held. */
 bool lanes_look(struct instance *i, uint64_t end);
-/* Whether a short ask would be taken. The lock `out` is held. */
-bool lanes_have_room(const struct instance *i);
 
 /* ---- pieces.c ---- */
 

@@ -13,7 +13,7 @@
 #include <sys/stat.h>
 #include <unistd.h>
 
-enum { WHOLE = 16 << 10, LOOKS = 16 /* before other processes have the processor */ };
+enum { LOOKS = 16 /* before other processes have the processor */ };
 
 bool lanes_open(struct instance *i, int memory, int bell) {
     struct epoll_event e = {.events = EPOLLIN};
@@ -92,19 +92,16 @@ bool lanes_look(struct instance *i, uint64_t end) {
 
 /* ---- writing ---- */
 
-/* Whether there is room for so many bytes; where there is none, the daemon is to ring once it took some. */
-static bool has_room(struct instance *i, size_t len) {
-    if (lane_room(&i->up) >= len) return true;
+bool lanes_have_room(struct instance *i, size_t least) {
+    if (lane_room(&i->up) >= least) return true;
     i->asked_room = true;
     lane_sleep(&i->up.words->writer_sleeps);
-    return lane_room(&i->up) >= len;
+    return lane_room(&i->up) >= least;
 }
 
-ssize_t lanes_send(struct instance *i, const struct iovec *parts, unsigned count) {
-    size_t len = 0;
+ssize_t lanes_send(struct instance *i, const struct iovec *parts, unsigned count, size_t least) {
     uint32_t put = 0;
-    for (unsigned k = 0; k < count; k++) len += parts[k].iov_len;
-    if (!has_room(i, len <= WHOLE ? len : 1)) {
+    if (!lanes_have_room(i, least)) {
         errno = EAGAIN;
         return -1;
     }
@@ -122,5 +119,3 @@ ssize_t lanes_send(struct instance *i, const struct iovec *parts, unsigned count
     if (lane_wakes(&i->up.words->reader_sleeps)) ring_daemon(i);
     return (ssize_t)put;
 }
-
-bool lanes_have_room(const struct instance *i) { return lane_room(&i->up) >= WHOLE; }

@@ -149,7 +149,7 @@ static void set_rest_left(struct instance *i, bool left) {
 bool stream_flush(struct instance *i) {
     while (i->rest.begin < i->rest.end && !i->broken) {
         struct iovec part = {i->rest.at + i->rest.begin, i->rest.end - i->rest.begin};
-        ssize_t put = i->memory ? lanes_send(i, &part, 1) : send(i->fd, part.iov_base, part.iov_len, MSG_NOSIGNAL | MSG_DONTWAIT);
+        ssize_t put = i->memory ? lanes_send(i, &part, 1, 1) : send(i->fd, part.iov_base, part.iov_len, MSG_NOSIGNAL | MSG_DONTWAIT);
         if (put < 0 && errno == EINTR) continue;
         if (put < 0) {
             if (errno != EAGAIN) i->broken = true;
@@ -194,18 +194,18 @@ static bool has_room(struct instance *i) {
 
 /* The same of a lane: what there is is taken out of it, since the daemon may wait for that, and the bell rings for room. Another
  * thread may have taken the ring for events, so the wait is short. */
-static void wait_for_room(struct instance *i, bool waits) {
+static void wait_for_room(struct instance *i, bool waits, size_t least) {
     bool reads = has_room(i);
     struct pollfd p[2] = {{i->fd, POLLIN, 0}, {i->bell, POLLIN, 0}};
     struct timespec bound = {0, waits ? LANE_NS : TRY_NS};
     drain(i);
-    if (!lanes_have_room(i) && !i->broken && ppoll(p, reads ? 2 : 1, &bound, NULL) > 0) drain(i);
+    if (!lanes_have_room(i, least) && !i->broken && ppoll(p, reads ? 2 : 1, &bound, NULL) > 0) drain(i);
 }
 
 /* Waits until the socket may take more. The lock `out` is held. */
-static void wait_to_send(struct instance *i, bool waits) {
+static void wait_to_send(struct instance *i, bool waits, size_t least) {
     if (i->memory) {
-        wait_for_room(i, waits);
+        wait_for_room(i, waits, least);
         return;
     }
     struct pollfd p = {i->fd, POLLOUT | (has_room(i) ? POLLIN : 0), 0};
@@ -237,23 +237,33 @@ static size_t gather(const struct iovec *parts, unsigned count, uint8_t *to, siz
 
 /* One write. Whether the socket took some of it. To copy a short ask into one piece takes less than to have the kernel read a
  * list of parts. */
-static bool write_some(struct instance *i, struct iovec **parts, unsigned *count) {
+static bool write_some(struct instance *i, struct iovec **parts, unsigned *count, size_t least) {
     uint8_t piece[SHORT_ASK];
     struct msghdr message = {.msg_iov = *parts, .msg_iovlen = *count};
     size_t len = i->memory ? 0 : gather(*parts, *count, piece, sizeof piece);
     ssize_t put;
-    do put = i->memory ? lanes_send(i, *parts, *count) : len > 0 ? send(i->fd, piece, len, MSG_NOSIGNAL | MSG_DONTWAIT) : sendmsg(i->fd, &message, MSG_NOSIGNAL | MSG_DONTWAIT);
+    do put = i->memory ? lanes_send(i, *parts, *count, least) : len > 0 ? send(i->fd, piece, len, MSG_NOSIGNAL | MSG_DONTWAIT) : sendmsg(i->fd, &message, MSG_NOSIGNAL | MSG_DONTWAIT);
     while (put < 0 && errno == EINTR);
     if (put < 0 && errno != EAGAIN) i->broken = true;
     if (put > 0) *count = advance(parts, *count, (size_t)put);
     return put > 0;
 }
 
+/* How much room a lane has to have for some of the parts to be put into it. What is short goes whole or not at all; what is long
+ * and may be refused begins in a lane with little in it, since it is waited for once it has begun. */
+static size_t least_room(const struct iovec *parts, unsigned count, bool may_begin) {
+    enum { MOST_WHOLE = 16 << 10 };
+    size_t len = 0;
+    for (unsigned k = 0; k < count && len <= MOST_WHOLE; k++) len += parts[k].iov_len;
+    return len <= MOST_WHOLE ? len : may_begin ? LANE_UP / 4 * 3 : 1;
+}
+
 cs_error_t stream_send(struct instance *i, struct iovec *parts, unsigned count, enum way way) {
     uint64_t end = 0;
     bool begun = false, waits = way == SEND_SURELY;
     for (;;) {
-        if (stream_flush(i) && write_some(i, &parts, &count)) begun = true;
+        size_t least = i->memory ? least_room(parts, count, way == SEND_BEGUN && !begun) : 0;
+        if (stream_flush(i) && write_some(i, &parts, &count, least)) begun = true;
         if (i->broken) return CS_ERR_LIBRARY;
         if (way == SEND_BEGUN && begun) waits = true;
         if (waits && end == 0) end = clock_ms() + i->wait_ms;
@@ -263,7 +273,7 @@ cs_error_t stream_send(struct instance *i, struct iovec *parts, unsigned count, 
             i->flow = CPG_FLOW_CONTROL_DISABLED;
             return i->broken ? CS_ERR_LIBRARY : CS_OK;
         }
-        wait_to_send(i, waits);
+        wait_to_send(i, waits, least);
         if (waits && !late) continue;
         i->flow = CPG_FLOW_CONTROL_ENABLED;
         return CS_ERR_TRY_AGAIN;

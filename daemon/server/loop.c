@@ -264,7 +264,7 @@ static void wait_for_work(void) {
 /* Takes what clients ask. While their lanes have something, sockets are looked at in some turns only: that takes longer. */
 static void take(bool more) {
     bool found = lanes_look();
-    if ((!found && !more) || ++loop.turns_without_rings >= TURNS_WITHOUT_RINGS) {
+    if ((!found && !more) || lanes_ring_due() || ++loop.turns_without_rings >= TURNS_WITHOUT_RINGS) {
         loop.turns_without_rings = 0;
         lanes_ring();
     }
