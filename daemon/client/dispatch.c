@@ -193,6 +193,7 @@ PUBLIC cs_error_t cpg_dispatch(cpg_handle_t handle, cs_dispatch_flags_t flags) {
     pthread_mutex_lock(&i->dispatch);
     i->depth++;
     cs_error_t result = dispatch_all(i, one, blocks, &called);
+    if (called) lanes_dispatched(i);
     if (--i->depth == 0) unpin(i);
     look_again(i, false);
     pthread_mutex_unlock(&i->dispatch);

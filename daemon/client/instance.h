@@ -47,6 +47,13 @@ struct pinned { /* a buffer that a callback further out still looks at */
     uint8_t *at;
 };
 
+/* How a program sends and dispatches by turns, where it does; see lanes_linger. */
+struct pace {
+    _Atomic uint64_t sent_at; /* when the first message since the last dispatch was sent, in nanoseconds; 0: there was none */
+    atomic_uint alone;        /* so many messages were alone, each until it was back within a short time */
+    unsigned skip, back_off;  /* after a look in vain, so many messages are not looked for */
+};
+
 struct instance {
     unsigned uses;      /* under the table's lock */
     cpg_handle_t handle;
@@ -74,6 +81,7 @@ struct instance {
 
     pthread_mutex_t out; /* the writing end of the socket, or of the lane */
     struct lane up;
+    struct pace pace;
     struct buffer rest;  /* what the socket did not take of an ask that it had begun to take */
     atomic_bool rest_left; /* some of it is left */
 
@@ -138,6 +146,11 @@ bool lanes_hold(const struct instance *i);
 /* As recv, with the lock `in` held, and as sendmsg, with the lock `out`: nothing is sent where there is no room for `least`. */
 ssize_t lanes_receive(struct instance *i, uint8_t *at, size_t most);
 ssize_t lanes_send(struct instance *i, const struct iovec *parts, unsigned count, size_t least);
+/* A message was sent. Where the last ones were sent one by one, and each was back at once, the program likely waits for this one,
+ * too: it is looked for here, some microseconds at most, so that a poll finds it and does not sleep. The lock `out` is held. */
+void lanes_linger(struct instance *i);
+/* A dispatch called something. */
+void lanes_dispatched(struct instance *i);
 /* Whether there is so much room. Where there is not, the bell rings once the daemon took some. The lock `out` is held. */
 bool lanes_have_room(struct instance *i, size_t least);
 /* Where nothing is left to be read: silences the bell, which rings for what comes from now on. `in_vain`: it may have rung for

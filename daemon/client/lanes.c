@@ -13,7 +13,7 @@
 #include <sys/stat.h>
 #include <unistd.h>
 
-enum { LOOKS = 16 /* before other processes have the processor */ };
+enum { LOOKS = 16 /* before other processes have the processor */, LINGER_NS = 8000, AT_ONCE_NS = 20000, ALONE_FROM = 8, MOST_BACK_OFF = 4096 };
 
 bool lanes_open(struct instance *i, int memory, int bell) {
     struct epoll_event e = {.events = EPOLLIN};
@@ -91,6 +91,41 @@ bool lanes_look(struct instance *i, uint64_t end) {
 }
 
 /* ---- writing ---- */
+
+/* Whether this message is one of many that each came back at once, and nothing else was sent meanwhile. */
+static bool is_awaited(struct instance *i, uint64_t now) {
+    struct pace *p = &i->pace;
+    if (p->sent_at != 0) p->alone = 0;
+    else p->sent_at = now;
+    if (p->alone < ALONE_FROM) return false;
+    if (p->skip == 0) return true;
+    p->skip--;
+    return false;
+}
+
+void lanes_linger(struct instance *i) {
+    struct pace *p = &i->pace;
+    if (!i->memory || i->dispatch_spin.most == 0) return;
+    uint64_t now = clock_ns(), end = now + LINGER_NS;
+    if (!is_awaited(i, now)) return;
+    while (atomic_load(&i->down.words->reader_sleeps)) { /* the daemon clears it before it rings */
+        if (clock_ns() >= end) {
+            p->back_off = p->back_off < MOST_BACK_OFF ? 2 * p->back_off + ALONE_FROM : MOST_BACK_OFF;
+            p->skip = p->back_off;
+            return;
+        }
+        spin_pause();
+    }
+    p->back_off = 0;
+}
+
+void lanes_dispatched(struct instance *i) {
+    struct pace *p = &i->pace;
+    uint64_t sent_at = atomic_exchange(&p->sent_at, 0);
+    if (!i->memory || sent_at == 0) return;
+    if (clock_ns() - sent_at > AT_ONCE_NS) p->alone = 0;
+    else if (p->alone < ALONE_FROM) p->alone++;
+}
 
 bool lanes_have_room(struct instance *i, size_t least) {
     if (lane_room(&i->up) >= least) return true;

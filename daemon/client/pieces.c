@@ -205,6 +205,7 @@ cs_error_t pieces_send(struct instance *i, const struct iovec *parts, unsigned c
     if (whole && count > 0) memcpy(all + 1, parts, count * sizeof *parts);
     pthread_mutex_lock(&i->out);
     result = whole ? stream_send(i, all, 1 + count, SEND_NOW) : send_pieces(i, parts, len);
+    if (result == CS_OK) lanes_linger(i);
     pthread_mutex_unlock(&i->out);
     return result;
 }
