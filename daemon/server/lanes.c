@@ -16,7 +16,6 @@ enum {
     GREETING = sizeof(struct head) + sizeof(struct hello), /* bytes that still go through the socket */
     PIECES = 128,                                          /* of what is held, written at once */
     IDLE_LOOKS = 4096,                                     /* after so many in vain it has to ring again */
-    RING_FROM = 16 << 10,                                  /* bytes that are not to wait for others */
     ROOM_FROM = LANE_DOWN / 4                              /* where there is so much room, writing goes on */
 };
 
@@ -25,7 +24,6 @@ static struct {
     unsigned count, room;
 } hot;
 static struct client *first_told;
-static size_t told_bytes; /* since clients were rung */
 
 /* ---- giving ---- */
 
@@ -145,10 +143,7 @@ static void ring_bell(const struct lanes *lanes) {
     if (write(lanes->bell, "", 1) != 1) errno = 0;
 }
 
-bool lanes_ring_due(void) { return told_bytes >= RING_FROM; }
-
-static void ring_later(struct client *c, size_t bytes) {
-    told_bytes += bytes;
+static void ring_later(struct client *c) {
     if (c->lanes->is_told) return;
     c->lanes->is_told = true;
     c->lanes->next_told = first_told;
@@ -156,7 +151,6 @@ static void ring_later(struct client *c, size_t bytes) {
 }
 
 void lanes_ring(void) {
-    told_bytes = 0;
     for (struct client *c = first_told; c; c = first_told) {
         struct lanes *lanes = c->lanes;
         first_told = lanes->next_told;
@@ -204,9 +198,8 @@ bool lanes_write(struct client *c) {
         client_end(c, END_BROKEN);
         return true;
     }
-    size_t before = out_held(&c->out);
     while (room > 0 && out_held(&c->out) > 0) room -= put_front(c, room);
-    ring_later(c, before - out_held(&c->out));
+    ring_later(c);
     if (out_held(&c->out) > 0) return false;
     out_shrink(&c->out, client_kept(c));
     return true;

@@ -23,10 +23,8 @@ void lanes_free(struct client *c);
 bool lanes_read(struct client *c, size_t most);
 /* Writes what is held, as far as there is room. false: there is none left. */
 bool lanes_write(struct client *c);
-/* Rings those who sleep over what was written. It is done once for several turns: a wake-up takes longer than a message. */
+/* Rings those who sleep over what was written. */
 void lanes_ring(void);
-/* Whether so much was written that it is not to wait. */
-bool lanes_ring_due(void);
 /* It is looked at from now on. */
 void lanes_heat(struct client *c);
 /* Whether there is something in the lanes for the daemon to do: bytes that it may take, or room that it waits for. */

@@ -17,7 +17,7 @@
 #include <unistd.h>
 
 enum { EVENTS = 256, VISITS = 16, ACCEPT_AT_ONCE = 64, AGAIN_MS = 50, PAUSE_MS = 1000, SIGNALS = CPGRING_MOST_NODES };
-enum { LOOKS = 16 /* at lanes, for one at the sockets */, TURNS_WITHOUT_SOCKETS = 8, TURNS_WITHOUT_RINGS = 4 };
+enum { LOOKS = 16 /* at lanes, for one at the sockets */, TURNS_WITHOUT_SOCKETS = 8 };
 
 static struct {
     int epoll, signals;
@@ -28,7 +28,7 @@ static struct {
     uint64_t stop_by; /* in milliseconds */
     uint64_t paused_until, again_at;
     struct spin spin;
-    unsigned turns_without_sockets, turns_without_rings;
+    unsigned turns_without_sockets;
 } loop;
 
 static uint64_t now_ms(void) { return now_us() / 1000; }
@@ -264,10 +264,7 @@ static void wait_for_work(void) {
 /* Takes what clients ask. While their lanes have something, sockets are looked at in some turns only: that takes longer. */
 static void take(bool more) {
     bool found = lanes_look();
-    if ((!found && !more) || lanes_ring_due() || ++loop.turns_without_rings >= TURNS_WITHOUT_RINGS) {
-        loop.turns_without_rings = 0;
-        lanes_ring();
-    }
+    lanes_ring(); /* behind the look: who took all meanwhile is not rung */
     if (found && ++loop.turns_without_sockets < TURNS_WITHOUT_SOCKETS) return;
     loop.turns_without_sockets = 0;
     if (found || more) take_events(0);
