@@ -1,6 +1,7 @@
 /* A handle's state, and the parts of libcpg: handles.c, stream.c, lanes.c, dispatch.c, pieces.c, calls.c and iterations.c.
- * A handle is one Unix socket, and lanes where the daemon gives some. Asks go out as they are made; answers and events come in one stream, so that an answer
- * stands among the events where the node gave it. A call that waits for its answer keeps the events before it. */
+ * A handle is one Unix socket, in whose place there are lanes where the daemon gives some. Asks go out as they are made;
+ * answers and events come in one stream, so that an answer stands among the events where the node gave it. A call that waits
+ * for its answer keeps the events before it. */
 #ifndef CPGRING_INSTANCE_H
 #define CPGRING_INSTANCE_H
 #include "../lane.h"

@@ -13,7 +13,13 @@
 #include <sys/stat.h>
 #include <unistd.h>
 
-enum { LOOKS = 16 /* before other processes have the processor */, LINGER_NS = 8000, AT_ONCE_NS = 20000, ALONE_FROM = 8, MOST_BACK_OFF = 4096 };
+enum { LOOKS = 16 /* before other processes have the processor */ };
+enum {
+    LINGER_NS = 8000,    /* a message is looked for so long at most */
+    AT_ONCE_NS = 20000,  /* where the last ones were back within this */
+    ALONE_FROM = 8,      /* and were so many */
+    MOST_BACK_OFF = 4096 /* after looks in vain, up to so many are not looked for */
+};
 
 bool lanes_open(struct instance *i, int memory, int bell) {
     struct epoll_event e = {.events = EPOLLIN};

@@ -11,7 +11,8 @@
 #include <sys/socket.h>
 #include <time.h>
 
-enum { STEP_MS = 100, TRY_NS = 200000, LANE_NS = 1000000, SHORT_ASK = 1024, MORE_BEHIND = 16 << 10 /* bytes of a read behind which there is likely more */ };
+enum { STEP_MS = 100, TRY_NS = 200000, LANE_NS = 1000000, SHORT_ASK = 1024 };
+enum { MORE_BEHIND = 16 << 10 /* bytes of a read behind which there is likely more */ };
 
 uint64_t clock_ms(void) {
     struct timespec t;
@@ -235,14 +236,19 @@ static size_t gather(const struct iovec *parts, unsigned count, uint8_t *to, siz
     return len;
 }
 
-/* One write. Whether the socket took some of it. To copy a short ask into one piece takes less than to have the kernel read a
- * list of parts. */
-static bool write_some(struct instance *i, struct iovec **parts, unsigned *count, size_t least) {
+/* As sendmsg, by the socket. To copy a short ask into one piece takes less than to have the kernel read a list of parts. */
+static ssize_t send_parts(const struct instance *i, struct iovec *parts, unsigned count) {
     uint8_t piece[SHORT_ASK];
-    struct msghdr message = {.msg_iov = *parts, .msg_iovlen = *count};
-    size_t len = i->memory ? 0 : gather(*parts, *count, piece, sizeof piece);
+    struct msghdr message = {.msg_iov = parts, .msg_iovlen = count};
+    size_t len = gather(parts, count, piece, sizeof piece);
+    if (len > 0) return send(i->fd, piece, len, MSG_NOSIGNAL | MSG_DONTWAIT);
+    return sendmsg(i->fd, &message, MSG_NOSIGNAL | MSG_DONTWAIT);
+}
+
+/* One write. Whether some of it was taken. */
+static bool write_some(struct instance *i, struct iovec **parts, unsigned *count, size_t least) {
     ssize_t put;
-    do put = i->memory ? lanes_send(i, *parts, *count, least) : len > 0 ? send(i->fd, piece, len, MSG_NOSIGNAL | MSG_DONTWAIT) : sendmsg(i->fd, &message, MSG_NOSIGNAL | MSG_DONTWAIT);
+    do put = i->memory ? lanes_send(i, *parts, *count, least) : send_parts(i, *parts, *count);
     while (put < 0 && errno == EINTR);
     if (put < 0 && errno != EAGAIN) i->broken = true;
     if (put > 0) *count = advance(parts, *count, (size_t)put);

@@ -50,7 +50,7 @@ static bool is_low(int fd) {
     return getrlimit(RLIMIT_NOFILE, &files) == 0 && (rlim_t)fd < files.rlim_cur / 2;
 }
 
-/* Sends the answer with both descriptors. Whether all of it was taken. */
+/* Sends the answer with both descriptors. Whether it was taken: so few bytes are taken whole or not at all. */
 static bool send_greeting(int socket, const struct iovec *answer, int memory, int bell) {
     union {
         struct cmsghdr head;

@@ -46,8 +46,8 @@ static const struct option table[] = {
     {0, "user-calls", "N", U32, &limits.user_calls, 1, MOST_WAITING, "calls of one user that wait at a node, which has room for 256 [224]"},
     {0, "ungreeted", "N", U32, &limits.user_ungreeted, 1, 30000, "of one user that did not greet yet; one more ends the oldest [256]"},
     {0, "greet-seconds", "N", U32, &limits.greet_seconds, 1, 3600, "a connection that did not greet for so long is ended [5]"},
-    {0, "user-lanes", "N", U32, &limits.user_lanes, 0, 4096, "of one user's connections so many have memory with the daemon in place of a socket [64]"},
-    {0, "spin", "MICROSECONDS", U32, &chosen.spin, 0, 1000, "before it sleeps, the daemon looks for more work for so long, while that pays [50]"},
+    {0, "user-lanes", "N", U32, &limits.user_lanes, 0, 4096, "connections of one user with shared memory in place of a socket [64]"},
+    {0, "spin", "MICROSECONDS", U32, &chosen.spin, 0, 1000, "the daemon looks for work for so long before it sleeps, while that pays [50]"},
     {0, "stop-seconds", "N", U32, &chosen.stop_seconds, 0, 3600, "when stopped, wait so long for clients to read [2]"},
 };
 enum { COUNT = sizeof table / sizeof *table };
@@ -150,8 +150,8 @@ static void set_defaults(void) {
     chosen = (struct options){.nodes = 1, .seed = 1, .places = 8192, .ring_bytes = 32 << 20, .mode = 0666, .stop_seconds = 2, .spin = 50,
                             .owner = (uid_t)-1, .owner_group = (gid_t)-1};
     chosen.ring = (uint32_t)((uint64_t)time(NULL) % 1000000000) + 1;
-    limits = (struct limits){.unread = 256 << 20, .user_unread = UINT64_C(2) << 30, .connections = 16384, .user_connections = 4096, .user_calls = 224,
-                             .user_ungreeted = 256, .greet_seconds = 5, .user_lanes = 64, .room = 1 << 20};
+    limits = (struct limits){.unread = 256 << 20, .user_unread = UINT64_C(2) << 30, .connections = 16384, .user_connections = 4096,
+                             .user_calls = 224, .user_ungreeted = 256, .greet_seconds = 5, .user_lanes = 64, .room = 1 << 20};
 }
 
 enum words options_read(int count, char **words, struct options *options) {

@@ -204,7 +204,9 @@ void client_read(struct client *c) {
 }
 
 void client_read_out(struct client *c) {
-    while (c->end == END_NOT && !c->hung && bytes_held(&c->in) < MOST_LEFT && (c->lanes ? lanes_read(c, MOST_IN) : read_once(c, MOST_IN))) {}
+    bool more = true;
+    while (more && c->end == END_NOT && !c->hung && bytes_held(&c->in) < MOST_LEFT)
+        more = c->lanes ? lanes_read(c, MOST_IN) : read_once(c, MOST_IN);
     client_hang(c);
     client_activate(c);
 }
