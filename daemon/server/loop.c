@@ -329,6 +329,7 @@ int loop_run(struct ring *ring, struct sockets *sockets, const struct options *o
         listen_again();
         more = turn();
         if (control_stop()) begin_stop("an operator's word");
+        if (ring_takes_long(ring)) lanes_ring(); /* for what was told, clients do not wait until it is done */
         uint64_t renewals = ring->renewals;
         if (is_broken() || (!loop.stopping && !ring_step(ring))) return loop_end() + 1;
         if (ring->renewals == renewals) more = ring_close_old(ring) || more;

@@ -134,6 +134,8 @@ bool ring_step(struct ring *ring) {
     return true;
 }
 
+bool ring_takes_long(const struct ring *ring) { return ring->ending || ring->nodes[0].old.live || ring_is_due(ring); }
+
 static bool can_close_old(const struct node *node) { return node->old.live && node_told_old(node); }
 
 bool ring_close_old(struct ring *ring) {

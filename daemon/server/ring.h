@@ -30,6 +30,8 @@ bool ring_is_due(const struct ring *ring);
 bool ring_step(struct ring *ring);
 /* Closes a node of the ring before, where one has no events left for anybody. Whether there are more of them. */
 bool ring_close_old(struct ring *ring);
+/* Whether the next step may take long, or the ring before is still to be closed. */
+bool ring_takes_long(const struct ring *ring);
 void ring_close(struct ring *ring);
 /* Places that this ring has left before it ends. */
 uint32_t ring_places_left(const struct ring *ring);
