@@ -1,6 +1,7 @@
 /* Lanes and looking before sleep. What it does is its first word:
  * lanes descriptor: the descriptor for poll is readable where a dispatch would call something, and only there but for a ring that
- *   comes late; no event is slept over, by several threads of one handle neither.
+ *   comes late; no event is slept over, by several threads of one handle neither. A handle goes on without lanes where no
+ *   descriptor is left for them.
  * lanes rest PID: the daemon takes no time once traffic has stopped, and is woken by nothing.
  * lanes hostile SECONDS SEED: clients that write whatever they like into their memory. What that did to others is seen by the test
  *   that runs beside. */
@@ -110,6 +111,35 @@ static void be_descriptor(void) {
     pthread_join(asker, NULL);
     EXPECT(cpg_finalize(shared), CS_OK);
     printf("lanes: readable in vain %u times in 4000 rounds\n", alone);
+}
+
+/* The lowest descriptor that is free. */
+static int lowest_free(void) {
+    int fd = dup(STDERR_FILENO);
+    close(fd);
+    return fd;
+}
+
+/* With room for so many descriptors more: four are enough for a handle without lanes, six for one with them, and none is left. */
+static void be_few(void) {
+    enum { WITHOUT = 4, WITH = 6 };
+    struct rlimit before;
+    int first = lowest_free();
+    EXPECT(getrlimit(RLIMIT_NOFILE, &before), 0);
+    for (int room = 0; room <= WITH; room++) {
+        struct rlimit few = {(rlim_t)(first + room), before.rlim_max};
+        cpg_handle_t h;
+        EXPECT(setrlimit(RLIMIT_NOFILE, &few), 0);
+        cs_error_t status = cpg_initialize(&h, NULL);
+        EXPECT(status, room < WITHOUT ? CS_ERR_NO_RESOURCES : CS_OK);
+        EXPECT(setrlimit(RLIMIT_NOFILE, &before), 0);
+        if (status != CS_OK) continue;
+        struct cpg_name group = name_of("few");
+        EXPECT(cpg_join(h, &group), CS_OK);
+        send_one(h, 64);
+        EXPECT(cpg_finalize(h), CS_OK);
+        EXPECT(lowest_free(), first);
+    }
 }
 
 /* ---- at rest ---- */
@@ -265,8 +295,10 @@ static void be_hostile(unsigned seconds, uint64_t seed) {
 }
 
 int main(int count, char **words) {
-    if (count == 2 && !strcmp(words[1], "descriptor")) be_descriptor();
-    else if (count == 3 && !strcmp(words[1], "rest")) be_rest(words[2]);
+    if (count == 2 && !strcmp(words[1], "descriptor")) {
+        be_descriptor();
+        be_few();
+    } else if (count == 3 && !strcmp(words[1], "rest")) be_rest(words[2]);
     else if (count == 4 && !strcmp(words[1], "hostile")) be_hostile((unsigned)atoi(words[2]), (uint64_t)atoll(words[3]));
     else return 2;
     return finish("lanes");
