@@ -5,7 +5,8 @@
  * Who is about to sleep says so in the lane, looks once more, and is then rung by the other: a client by a byte in the pipe
  * whose reading end it was given, the daemon by a byte in the socket. Who is awake is not rung.
  *
- * The memory: struct lanes_memory, then the bytes of the lane to the daemon, then those of the lane to the client. */
+ * The memory: struct lanes_memory, then the bytes of the lane to the daemon, then those of the lane to the client. Its sizes
+ * belong to the protocol's version. */
 #ifndef CPGRINGD_LANE_H
 #define CPGRINGD_LANE_H
 #include <stdatomic.h>

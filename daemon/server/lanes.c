@@ -31,9 +31,17 @@ static void close_one(int fd) {
     if (fd >= 0) close(fd);
 }
 
+/* A file in memory that nobody can execute, where the kernel knows of that: some take no other. */
+static int make_file(void) {
+    enum { NO_EXEC_SEAL = 8 }; /* MFD_NOEXEC_SEAL, of Linux 6.3 */
+    int fd = memfd_create("cpgring-lanes", MFD_CLOEXEC | MFD_ALLOW_SEALING | NO_EXEC_SEAL);
+    if (fd < 0 && errno == EINVAL) fd = memfd_create("cpgring-lanes", MFD_CLOEXEC | MFD_ALLOW_SEALING);
+    return fd;
+}
+
 /* Memory of a size that nobody can change. false: there is none. */
 static bool make_memory(struct lanes *lanes, int *fd) {
-    *fd = memfd_create("cpgring-lanes", MFD_CLOEXEC | MFD_ALLOW_SEALING);
+    *fd = make_file();
     if (*fd < 0 || ftruncate(*fd, LANES_MEMORY) != 0) return false;
     if (fcntl(*fd, F_ADD_SEALS, F_SEAL_SHRINK | F_SEAL_GROW | F_SEAL_SEAL) != 0) return false;
     void *at = mmap(NULL, LANES_MEMORY, PROT_READ | PROT_WRITE, MAP_SHARED, *fd, 0);
