@@ -1,4 +1,4 @@
--- steps of the functions that read and answer, which no contract of a public function cites
+-- steps of the functions that read and answer
 use Rattle.std.specs.Prelude.{ℕ, ◌≡◌, ◌+◌, ◌<◌, ◌⊎◌, Bool, true, false, List, [], ◌∷◌, ◌++◌, length, All, Option, None, Some, MatchOption, IfSome}
 use Rattle.std.specs.Io.KnownBytes.{Keeps}
 use Rattle.cpg_world_laws.specs.Worlds.{WorldValue}

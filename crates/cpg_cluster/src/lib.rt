@@ -21,12 +21,13 @@ mod scripts;
 mod sessions;
 pub mod shell;
 
-pub use acting::do_command;
+pub use acting::{answer_with_memory, do_command};
 pub use asking::{MOST_POLLS, limits};
 pub use commands::{Ask, Command, Numbered};
 pub use cpg_script::Fault;
 pub use forms::{Manner, Noted, PLAIN, Patience, PutsAnswer, Shown};
 pub use noting::Known;
+pub use printing::put_answer;
 pub use reading::command_in_line;
 pub use replies::Reply;
 pub use running::{cluster_script, hand_on, run_sessions};

@@ -11,6 +11,6 @@ mod shells;
 mod typed;
 
 pub use help::HELP;
-pub use lines::{MOST_LINE, limits};
+pub use lines::{MOST_LINE, limits, read_line};
 pub use shells::shell_lines;
 pub use typed::Typed;

@@ -17,11 +17,11 @@ mod reading;
 mod running;
 mod scripts;
 
-pub use acting::answer_to;
+pub use acting::{answer_to, do_command};
 pub use commands::{Command, Look};
 pub use cpg_script::Fault;
 pub use looking::put_look;
 pub use printing::{put_answer, put_frame};
-pub use reading::{read_node, read_node_alone};
+pub use reading::{command_in_line, read_node, read_node_alone};
 pub use running::run_script;
 pub use scripts::read_commands;
