@@ -11,7 +11,7 @@ use cpg_ring::Settings;
 use std::alloc::Global;
 
 /// An empty board of those settings' places, for nodes of which what happens is recorded if that is asked for.
-pub(crate) fn new_board(alloc: Global, settings: Settings, traced: bool) -> Result<Board, Refusal>
+pub fn new_board(alloc: Global, settings: Settings, traced: bool) -> Result<Board, Refusal>
     requires { IsSettings settings }
     ensures board { IfOk result (λ board. (length board.cells ≡ settings.places) × (is_counted board.table ≡ traced)) }
     ensures memory { IsOkUnless result Memory }

@@ -165,7 +165,7 @@ where
 
 /// Tells the failure, if there is one that is to be told, and says whether that was done.
 #[tactic(auto, using(crate::proofs::Fronts::none_of, crate::proofs::Fronts::all_of))]
-pub(crate) fn tell<E: Write>(errors: &mut E, left: bool, failure: &Option<Failure>) -> bool
+pub fn tell<E: Write>(errors: &mut E, left: bool, failure: &Option<Failure>) -> bool
     ensures told { IsTrue result → Appends (E.contents errors.old) (E.contents errors.new) (told_text left failure.now) }
     ensures untold { AppendsFront (E.contents errors.old) (E.contents errors.new) (told_text left failure.now) }
 {
@@ -176,7 +176,7 @@ pub(crate) fn tell<E: Write>(errors: &mut E, left: bool, failure: &Option<Failur
 }
 
 /// Hands on what was gathered, and says whether all of it is.
-pub(crate) fn hand_on<W: Write + Drop>(writer: &mut BufWriter<W>) -> bool
+pub fn hand_on<W: Write + Drop>(writer: &mut BufWriter<W>) -> bool
     ensures kept { Keeps (writer_contents W.contents writer.old) (writer_contents W.contents writer.new) }
     ensures flushed { IsTrue result → writer_buffer writer.new ≡ [] }
 {
@@ -216,7 +216,7 @@ where
 }
 
 /// The script's failure, but one of writing where the flush after it failed.
-pub(crate) fn failure_after(done: Result<(), Failure>, flushed: bool) -> Option<Failure>
+pub fn failure_after(done: Result<(), Failure>, flushed: bool) -> Option<Failure>
     ensures { result ≡ failure_told flushed (failure_of done) }
 {
     match done {

@@ -40,7 +40,7 @@ pub trait KeepsEnds {
 
 /// Stops a cluster, and hands what it leaves to the keeper.
 #[tactic(auto, using(crate::proofs::Traced::was_kept))]
-pub(crate) fn stop_kept<B, G, H, K>(rt: &H, alloc: Global, cluster: Cluster<B, G>, keeper: &mut K)
+pub fn stop_kept<B, G, H, K>(rt: &H, alloc: Global, cluster: Cluster<B, G>, keeper: &mut K)
 where
     B: HistoryName + Send + Sync + 'static,
     G: Gate + Send + Sync + Drop + 'static,

@@ -23,7 +23,7 @@ use Rattle.cpgring.specs.declared.asking.Asked.{Asked}
 use Rattle.cpgring.specs.declared.asking.AskedShell.{AskedShell}
 use Rattle.cpgring.specs.Filtering.{is_filtered, IsFilterGiven}
 use Rattle.cpgring.specs.Questions.{entry_named, question_named, words_for}
-use Rattle.cpgring.specs.Sources.{but_input, first_file, path_of, words_after}
+use Rattle.cpgring.specs.Sources.{accept_words, but_input, path_of, script_file}
 use Rattle.cpg_console.specs.declared.runs.Run.TheVariants.{Judge, JudgeOnly, Accept, Why, Step, StepWhy, Draw, Number, Echo, Cluster, ClusterWhy}
 use Rattle.cpg_console.specs.declared.runs.Form.{Form}
 use Rattle.cpg_console.specs.declared.runs.Form.TheVariants.{Text, Json}
@@ -76,7 +76,7 @@ words_found found = texts_of (matched_of found (codes "accept"))
 
 -- those that let users and groups in
 abbrev pub words_given : Found → List (List ℕ)
-words_given found = words_after (words_found found)
+words_given found = accept_words (words_found found)
 
 -- the words behind the options of `why`, as they were given
 abbrev pub why_words : Found → List (List ℕ)
@@ -94,7 +94,7 @@ path_given (Judge form) found = but_input (first_value found (codes "file"))
 path_given (JudgeOnly filter) found = but_input (first_value found (codes "file"))
 path_given (Accept form) found = but_input (first_value found (codes "file"))
 path_given (Why form asked) found = but_input (slice_get (why_words found) (words_for asked))
-path_given _ found = first_file (words_found found)
+path_given _ found = script_file (words_found found)
 
 -- the option was used, or not
 abbrev pub IsUsed : Found → List ℕ → Type 0

@@ -1,5 +1,5 @@
 -- where a script is read from
-use Rattle.std.specs.Prelude.{ℕ, Bool, true, false, ◌&&◌, is_none, List, [], ◌∷◌, ◌++◌, codes, Option, Some, None, option_map, if◌then◌else◌}
+use Rattle.std.specs.Prelude.{ℕ, ◌-◌, Bool, true, false, ◌&&◌, is_none, List, ◌++◌, length, take, drop, slice_get, codes, Option, Some, None, if◌then◌else◌}
 use Rattle.std.specs.Str.{bytes_eq}
 use Rattle.std.specs.Io.KnownBytes.{Keeps}
 use Rattle.cpg_script.specs.Words.{after_name}
@@ -23,15 +23,30 @@ but_input (Some path) = if bytes_eq path (codes "-") then None else Some path
 abbrev pub lets_nobody_in : List ℕ → Bool
 lets_nobody_in word = is_none (after_name (codes "uid:") word) && is_none (after_name (codes "gid:") word)
 
--- the path of the file that the first word names, where it is not to let anybody in
-abbrev pub first_file : List (List ℕ) → Option (List ℕ)
-first_file [] = None
-first_file (word ∷ rest) = if lets_nobody_in word then but_input (Some word) else None
+-- the word names a file, if there is one
+abbrev pub names_file : Option (List ℕ) → Bool
+names_file None = false
+names_file (Some word) = lets_nobody_in word
 
--- the words that let users and groups in: all, but the first where it names a file
-abbrev pub words_after : List (List ℕ) → List (List ℕ)
-words_after [] = []
-words_after (word ∷ rest) = if lets_nobody_in word then rest else word ∷ rest
+-- the last of the words
+abbrev pub last_word : List (List ℕ) → Option (List ℕ)
+last_word words = slice_get words (length words - 1)
+
+-- the path of the file that the last of the words names, if it names one
+abbrev pub last_file : List (List ℕ) → Option (List ℕ)
+last_file words = if names_file (last_word words) then but_input (last_word words) else None
+
+-- the words but the last where that names a file
+abbrev pub words_before_file : List (List ℕ) → List (List ℕ)
+words_before_file words = if names_file (last_word words) then take (length words - 1) words else words
+
+-- the path of the file that the first of the words names, or else the last
+abbrev pub script_file : List (List ℕ) → Option (List ℕ)
+script_file words = if names_file (slice_get words 0) then but_input (slice_get words 0) else last_file words
+
+-- the words that let users and groups in: all but the one that names the file
+abbrev pub accept_words : List (List ℕ) → List (List ℕ)
+accept_words words = if names_file (slice_get words 0) then drop 1 words else words_before_file words
 
 -- what is said of why a file can't be read
 abbrev pub cause_text : Unread → List ℕ

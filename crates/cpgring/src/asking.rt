@@ -376,7 +376,7 @@ fn spoken_of(given: &ArgMatches<'_>, known: Known) -> Spoken
 }
 
 /// The settings that the options give, where each is a number.
-fn settings_of(given: &ArgMatches<'_>) -> Option<Settings>
+pub(crate) fn settings_of(given: &ArgMatches<'_>) -> Option<Settings>
     ensures { IfSome result (AreSettingsGiven (found_of given.now)) }
 {
     Some(Settings {
@@ -388,7 +388,7 @@ fn settings_of(given: &ArgMatches<'_>) -> Option<Settings>
 }
 
 /// What becomes of a cluster's frames, as the options say it.
-fn chances_of(given: &ArgMatches<'_>) -> Option<Chances>
+pub(crate) fn chances_of(given: &ArgMatches<'_>) -> Option<Chances>
     ensures { IfSome result (AreChancesGiven (found_of given.now)) }
 {
     Some(Chances {
@@ -399,7 +399,7 @@ fn chances_of(given: &ArgMatches<'_>) -> Option<Chances>
 }
 
 /// The words behind the options, in their order.
-fn words_of<'a>(given: &'a ArgMatches<'_>) -> &'a [&'a str]
+pub(crate) fn words_of<'a>(given: &'a ArgMatches<'_>) -> &'a [&'a str]
     ensures { map (λ word. word.now) result.now ≡ words_found (found_of given.now) }
 {
     given.get_strs(ACCEPT).unwrap_or(&[])

@@ -146,7 +146,7 @@ fn with_cluster<'a>(alloc: Global, command: Command<'a>) -> Result<Command<'a>, 
     with_options(alloc, command, &CLUSTER_OPTIONS)
 }
 
-/// The command with the first option of `shell`.
+/// The command with the first options of `shell`.
 fn with_notes<'a>(alloc: Global, command: Command<'a>) -> Result<Command<'a>, AllocError> {
     with_options(alloc, command, &SHELL_OPTIONS)
 }

@@ -18,10 +18,10 @@ _cpgring() {
             why) words='--all --connection --to --json -v --verbose' ;;
             accept) words='--json -v --verbose' ;;
             admit) words='--conf --names --passwd --group --json --echo -v --verbose' ;;
-            step) words="$ring --json --numbers --echo --why --to -v --verbose" ;;
+            step) words="$ring --json --numbers --echo --why --to --checked -v --verbose" ;;
             draw) words="$ring --text -v --verbose" ;;
-            run) words="$ring --lose --repeat --seed --json --wait --echo --trace --why --to -v --verbose" ;;
-            shell) words="$ring --lose --repeat --seed --json --wait --echo --trace -v --verbose" ;;
+            run) words="$ring --lose --repeat --seed --json --wait --echo --trace --why --to --checked -v --verbose" ;;
+            shell) words="$ring --lose --repeat --seed --json --wait --echo --trace --checked -v --verbose" ;;
             completions) words='bash zsh fish' ;;
         esac
         words="$words --help"
@@ -60,12 +60,12 @@ _cpgring() {
         accept) _arguments '--json' $more ;;
         admit) _arguments '--conf=:file:_files' '--names=:file:_files' '--passwd=:file:_files' '--group=:file:_files' \
             '--json' '--echo' '-v' '--verbose' '--help' ;;
-        step) _arguments $ring '--json' '--numbers' '--echo' '--why=:place' '--to=:connection' $more ;;
+        step) _arguments $ring '--json' '--numbers' '--echo' '--why=:place' '--to=:connection' '--checked' $more ;;
         draw) _arguments $ring '--text' $more ;;
         run) _arguments $ring $loss '--json' '--wait=:milliseconds' '--echo' '--trace=:file:_files' '--why=:place' \
-            '--to=:connection' $more ;;
-        shell) _arguments $ring $loss '--json' '--wait=:milliseconds' '--echo' '--trace=:file:_files' '-v' '--verbose' \
-            '--help' ;;
+            '--to=:connection' '--checked' $more ;;
+        shell) _arguments $ring $loss '--json' '--wait=:milliseconds' '--echo' '--trace=:file:_files' '--checked' \
+            '-v' '--verbose' '--help' ;;
         completions) compadd bash zsh fish ;;
     esac
 }
@@ -101,6 +101,7 @@ complete -c cpgring -n '__fish_seen_subcommand_from run shell' -l seed -x
 complete -c cpgring -n '__fish_seen_subcommand_from run shell' -l wait -x
 complete -c cpgring -n '__fish_seen_subcommand_from admit step run shell' -l echo
 complete -c cpgring -n '__fish_seen_subcommand_from run shell' -l trace -r
+complete -c cpgring -n '__fish_seen_subcommand_from step run shell' -l checked
 complete -c cpgring -n '__fish_seen_subcommand_from completions' -f -a 'bash zsh fish'
 "#;
 

@@ -304,8 +304,10 @@ and what its command is of, a connection `7 1.2 `, a node `7 n1 ` or nothing `7 
 the script is done. With --json each line is an object (docs/CLI.md). With --why=PLACE none of this is printed, but
 why the entry at that place was answered as it was, as `cpgring why` tells it, by what the node that delivered most
 delivered; --why=NODE.CONN:EVENT tells it of the entry that told the connection that event, --why=all of each denied
-entry, --why=NODE.CONN the way of a connection. A command that is refused prints the refusal, as in `refused 10
-Stale`, and the script goes on:
+entry, --why=NODE.CONN the way of a connection. With --checked a line `=> TEXT` behind a command says that TEXT is the
+next line that it prints, and `=>` alone that it prints no more; where lines are said of a command, they are all that it
+prints. What is not so is told on standard error, `cpgring: line 3: wanted \"sent 2\", printed \"sent 3\"`, and the
+script goes on. A command that is refused prints the refusal, as in `refused 10 Stale`, and the script goes on:
 
   2 Access           nobody lets the credentials in
   3 NoConnection     the node has no open connection of that number
@@ -342,11 +344,12 @@ for place 1 in rtr, node 1 sends it again (frame 6), and node 2 delivers both pl
   2 1.1 40 7 100 send hi -> allowed default group db members 1/40
   records 2
 
-Exit status: 0 done; 1 a fault, told on standard error; 2 a fault of the command line, `cpgring: bad accept
-word` among them, and with --why a PLACE that has no entry, a connection that made none and an EVENT that was not
-told: `cpgring: there is no entry 9: 2 were delivered`. The faults are `cpgring: 41 BadCommand LINE`, the first line
-that is no command, before which nothing is done or printed; `cpgring: 42 Read`, also where the input is too long;
-`cpgring: 43 Write`; and `cpgring: 1 Memory`, which ends the script at the command that met it.";
+Exit status: 0 done; 1 a fault, told on standard error, or with --checked a line that was not as wanted; 2 a fault of
+the command line, `cpgring: bad accept word` among them, and with --why a PLACE that has no entry, a connection that made
+none and an EVENT that was not told: `cpgring: there is no entry 9: 2 were delivered`. The faults are `cpgring: 41
+BadCommand LINE`, the first line that is no command, before which nothing is done or printed; `cpgring: 42 Read`, also
+where the input is too long; `cpgring: 43 Write`; and `cpgring: 1 Memory`, which ends the script at the command that met
+it.";
 
 pub const DRAW_ABOUT: &str = "Draws the run of a `step` script";
 
@@ -447,8 +450,17 @@ with --to=NODE.CONN why that connection was told of the entry, or was not: a ses
 which its audit shows. All entries that the nodes have judged by then are told of, so wait for a call's verdict
 before the script ends. With --trace=FILE all that happened in the nodes, each frame, delivery and answer in the
 order in which it came, is written to FILE once the nodes have stopped, as a script that `cpgring step $(cat
-FILE.words) < FILE` plays again and `cpgring draw` draws; FILE.words has the words for that. A command that is
-refused prints the refusal, and the script goes on:
+FILE.words) < FILE` plays again and `cpgring draw` draws; FILE.words has the words for that. With --checked lines `=>
+TEXT` say what is printed, as `cpgring step --help` has it, a NAME, which begins with a letter, stands for a session's
+number, and these are commands, too; each loss and wait ends with the script:
+
+  connect NODE PID UID GID as NAME           the session gets that name, too
+  wait S MS                                  session S waits so many milliseconds for the next event
+  drain S                                    session S takes all events that have come, and prints no none
+  hold NODE, let NODE                        the node's turns wait, and go on
+  cut NODE NODE, mend NODE NODE              all frames between two nodes are lost, and come again
+
+A command that is refused prints the refusal, and the script goes on:
 
   2 Access           nobody lets the credentials in
   3 NoConnection     no open session has the number
@@ -489,12 +501,12 @@ What a rule decided, explained:
   put in: entry 1: 2.1 50 0 0 insert db 0 deny join uid:7
   without it: allowed default
 
-Exit status: 0 done; 1 a fault, told on standard error; 2 a fault of the command line, `cpgring: bad accept
-word` among them, and with --why a PLACE that has no entry, a connection that made none and an EVENT that was not told:
-`cpgring: there is no entry 9: 2 were delivered`. The faults are `cpgring: 41 BadCommand LINE`, the
-first line that is no command, before which nothing is done or printed; `cpgring: 42 Read`, also where the input is too
-long; `cpgring: 43 Write`; and `cpgring: 1 Memory`, which ends the script at the command that met it, also where a
-thread is not given.";
+Exit status: 0 done; 1 a fault, told on standard error, or with --checked a line that was not as wanted; 2 a fault of
+the command line, `cpgring: bad accept word` among them, and with --why a PLACE that has no entry, a connection that made
+none and an EVENT that was not told: `cpgring: there is no entry 9: 2 were delivered`. The faults are `cpgring: 41
+BadCommand LINE`, the first line that is no command, before which nothing is done or printed; `cpgring: 42 Read`, also
+where the input is too long; `cpgring: 43 Write`; and `cpgring: 1 Memory`, which ends the script at the command that met
+it, also where a thread is not given.";
 
 pub const SHELL_ABOUT: &str = "Answers commands over a running cluster as they are typed";
 
@@ -505,7 +517,8 @@ that says nothing is told on standard error by its number, from 1, and the next 
 1048576 bytes. The end of the input stops the cluster.
 
 Over a pipe it serves as a driver for the tests of other programs: what a line prints is there before the next
-line is read. With -v, a line that begins with # says behind a none what is known.";
+line is read. With -v, a line that begins with # says behind a none what is known. With --checked the lines may be those
+that `cpgring run --checked` has beside its own, too.";
 
 pub const SHELL_MORE: &str = "\
 Example:
@@ -515,5 +528,6 @@ Example:
   admitted
   event 1 verdict allowed default
 
-Exit status: 0 at the end of the input, whatever lines said nothing; 1 a fault, told on standard error; 2 a fault
-of the command line. The faults are those of `cpgring run`, but for the bad lines.";
+Exit status: 0 at the end of the input, whatever lines said nothing; 1 a fault, told on standard error, or with
+--checked a line that was not as wanted; 2 a fault of the command line. The faults are those of `cpgring run`, but for
+the bad lines.";

@@ -14,6 +14,7 @@ mod folders;
 mod help;
 mod loading;
 mod options;
+mod playing;
 mod questions;
 mod sources;
 mod tracing;
@@ -22,19 +23,20 @@ mod versions;
 use admitting::{admit_manner_of, asks_of, files_of};
 use asking::{
     AskedShell, explain, form_of, is_verbose, match_words, read_asked, read_shell, read_words,
+    words_of,
 };
 use clap::{ArgMatches, Error};
 use completions::completion_of;
 use cpg_console::{
-    Counted, Ended, Failure, KeepsEnds, Piped, Run, Tracer, Untraced, hint_wrong, perform,
-    perform_admit, perform_shell, perform_with_hint, tell_failure, write_text,
+    Counted, Ended, KeepsEnds, Piped, Run, Tracer, Untraced, perform, perform_admit, perform_shell,
+    perform_with_hint, write_text,
 };
-use cpg_text::write_whole;
 use faults::{fault_of_ask, fault_of_completions};
 use folders::{NotLoaded, conf_paths};
 use loading::Loaded;
 use options::SHELL;
-use sources::{Source, Unread, greet, greet_shell, open_file, tell_unread};
+use playing::{is_checked, play, read_play};
+use sources::{Source, greet, greet_shell, open_file, tell_unopened, tell_unread};
 use std::alloc::{AllocError, Global};
 use std::io::{BufWriter, IsTerminal, Read, Write};
 use std::process::ExitCode;
@@ -70,6 +72,9 @@ fn start<H: Threads + Wait + Clock + Copy + Send + 'static>(
     match matches.subcommand() {
         Some(("admit", given)) => admit(rt, given),
         Some(("completions", given)) => complete(rt, given),
+        Some((name, given)) if is_checked(name, given) => {
+            play(rt, threads, &read_play(rt.alloc(), name, &matches, given)?)
+        }
         Some(("shell", given)) => shell(rt, threads, given),
         Some(("run", given)) => { run(rt, threads, &matches, is_verbose(given), trace_of(given)) }
         Some((_, given)) => run(rt, threads, &matches, is_verbose(given), None),
@@ -96,39 +101,22 @@ fn run<H: Threads + Wait + Clock + Copy + Send + 'static>(
             Ok(mut file) => run_over(rt, threads, &asked.run, verbose, trace, &mut file),
             Err(why) => {
                 let told = &mut rt.stderr();
-                Ok(tell_unopened(alloc, told, &asked.run, path, why, verbose))
+                let words = words_with(matches, &asked.run);
+                Ok(tell_unopened(alloc, told, words, path, why, verbose))
             }
         },
     }
 }
 
-/// Whether words that let users and groups in go with the run.
-fn takes_words(run: &Run<'_>) -> bool {
-    !matches!(
-        run,
-        Run::Judge(_) | Run::JudgeOnly(_) | Run::Why(..) | Run::Accept(_)
-    )
-}
-
-/// Says why the file of the script can't be read, and returns the exit status. Where words go with the run that let users
-/// and groups in, a word that names no file is a wrong one of these; a hint is told of it where that is asked for.
-fn tell_unopened<E: Write>(
-    alloc: Global,
-    errors: &mut E,
-    run: &Run<'_>,
-    path: &str,
-    why: Unread,
-    verbose: bool,
-) -> u8 {
-    if !(matches!(why, Unread::Missing) && takes_words(run)) {
-        return tell_unread(alloc, errors, path, why);
-    }
-    if tell_failure(errors, &Failure::BadWord).is_ok() && verbose {
-        if let Ok(hint) = hint_wrong(alloc, &[path]) {
-            let _ = write_whole(errors, hint.as_slice());
+/// The words behind the options, where some that let users and groups in go with the run.
+fn words_with<'a>(matches: &'a ArgMatches<'_>, run: &Run<'_>) -> Option<&'a [&'a str]> {
+    match run {
+        Run::Judge(_) | Run::JudgeOnly(_) | Run::Why(..) | Run::Accept(_) => None,
+        _ => {
+            let (_, given) = matches.subcommand()?;
+            Some(words_of(given))
         }
     }
-    2
 }
 
 /// The exit status of the run of a script, which is traced where that is asked for.

@@ -68,6 +68,9 @@ pub const SEED: &str = "seed";
 /// The option that asks for what an answer is to before each printed line.
 pub const ECHO: &str = "echo";
 
+/// The option that asks for a script that checks itself.
+pub const CHECKED: &str = "checked";
+
 /// The files of `admit`, and its words.
 pub const CONF: &str = "conf";
 
@@ -205,7 +208,7 @@ const SCRIPT: Given = Given(
 const SCRIPT_AND_ACCEPT: Given = Given(
     ACCEPT,
     Takes::Rest("FILE|ACCEPT"),
-    "First the script's file, if any; - or none: standard input. Then whom the nodes let in beside uid 0 and gid 0: uid:N or gid:N, each N 0 to 4294967295",
+    "First or last the script's file, if any; - or none: standard input. Else whom the nodes let in beside uid 0 and gid 0: uid:N or gid:N, each N 0 to 4294967295",
     &[],
 );
 
@@ -385,7 +388,11 @@ pub const ADMIT_OPTIONS: [Given; 8] = [
     ),
 ];
 
-pub const STEP_OPTIONS: [Given; 7] = [
+/// What is said of a script that checks itself.
+const CHECKS: &str =
+    "Take lines `=> TEXT` as well: each tells what is printed next, and what is not so is told, with exit status 1";
+
+pub const STEP_OPTIONS: [Given; 8] = [
     AS_JSON,
     Given(
         ECHO,
@@ -411,6 +418,12 @@ pub const STEP_OPTIONS: [Given; 7] = [
         "With --why=PLACE: explain why that connection was told of the entry, or was not",
         &[NUMBERS],
     ),
+    Given(
+        CHECKED,
+        Takes::Nothing,
+        CHECKS,
+        &[JSON, ECHO, NUMBERS, WHY, VERBOSE],
+    ),
     WITH_HINTS,
     SCRIPT_AND_ACCEPT,
 ];
@@ -426,7 +439,7 @@ pub const DRAW_OPTIONS: [Given; 3] = [
     SCRIPT_AND_ACCEPT,
 ];
 
-pub const RUN_OPTIONS: [Given; 4] = [
+pub const RUN_OPTIONS: [Given; 5] = [
     Given(
         WHY,
         Takes::Word("PLACE"),
@@ -439,12 +452,16 @@ pub const RUN_OPTIONS: [Given; 4] = [
         "With --why=PLACE: explain why that connection was told of the entry, or was not",
         &[ECHO, TRACE],
     ),
+    Given(CHECKED, Takes::Nothing, CHECKS, &[JSON, ECHO, WHY, VERBOSE]),
     WITH_HINTS_AND_NOTES,
     SCRIPT_AND_ACCEPT,
 ];
 
-/// The first option of `shell`: its others are those of a ring and of a cluster.
-pub const SHELL_OPTIONS: [Given; 1] = [WITH_NOTES];
+/// The first options of `shell`: its others are those of a ring and of a cluster.
+pub const SHELL_OPTIONS: [Given; 2] = [
+    WITH_NOTES,
+    Given(CHECKED, Takes::Nothing, CHECKS, &[JSON, ECHO, VERBOSE]),
+];
 
 pub const SHELL_WORDS: [Given; 1] = [Given(
     ACCEPT,

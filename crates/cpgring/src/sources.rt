@@ -4,9 +4,9 @@
 
 ghost use Rattle.std.specs.Prelude.{◌≡◌, ◌≢◌, ◌⊎◌, IfOk, IsOkUnless, map, option_map};
 ghost use Rattle.cpg_text.specs.Streams.{AppendsFront};
-ghost use Rattle.cpgring.specs.Sources.{GreetsAt, but_input, cause_text, first_file, greeting, shell_greeting, lets_nobody_in, path_of, unread_line, words_after};
+ghost use Rattle.cpgring.specs.Sources.{GreetsAt, accept_words, but_input, cause_text, greeting, last_file, lets_nobody_in, names_file, path_of, script_file, shell_greeting, unread_line, words_before_file};
 
-use cpg_console::tell_fault;
+use cpg_console::{Failure, hint_wrong, tell_failure, tell_fault};
 use cpg_cred::Refusal;
 use cpg_script::{Fault, put, strip_name};
 use cpg_text::write_whole;
@@ -51,21 +51,48 @@ pub fn source_of(path: Option<&str>) -> Source<'_>
     }
 }
 
-/// Whether the word lets in neither users nor groups, whatever follows its front. The first of the words then names a file.
+/// Whether there is a word that lets in neither users nor groups, whatever follows its front. It names a file.
+fn names_file(word: Option<&str>) -> bool
+    ensures { result ≡ names_file (option_map (λ text. text.now) word.entry) }
+{
+    match word {
+        None => false,
+        Some(word) => is_file_name(word.as_bytes()),
+    }
+}
+
+/// Whether the word lets in neither users nor groups, whatever follows its front.
 fn is_file_name(word: &[u8]) -> bool
     ensures { result ≡ lets_nobody_in word.now }
 {
     strip_name(b"uid:", word).is_none() && strip_name(b"gid:", word).is_none()
 }
 
-/// The source that the first of the words names, if it names one, and the words that let users and groups in.
+/// The source that the first of the words names, or else the last, if one of them names one; and the words that let users
+/// and groups in.
 pub fn split_words<'a>(words: &'a [&'a str]) -> (Source<'a>, &'a [&'a str])
-    ensures source { path_of result.0 ≡ first_file (map (λ word. word.now) words.now) }
-    ensures words { map (λ word. word.now) result.1.now ≡ words_after (map (λ word. word.now) words.now) }
+    ensures source { path_of result.0 ≡ script_file (map (λ word. word.now) words.now) }
+    ensures words { map (λ word. word.now) result.1.now ≡ accept_words (map (λ word. word.now) words.now) }
 {
-    match words.split_first() {
-        Some((first, rest)) if is_file_name(first.as_bytes()) => (source_of(Some(first)), rest),
-        _ => (Source::Input, words),
+    let first = words.first().copied();
+    if names_file(first) {
+        (source_of(first), &words[1..])
+    } else {
+        split_last(words)
+    }
+}
+
+/// The source that the last of the words names, if it names one, and the words before it.
+#[tactic(auto, using(crate::proofs::LastWords::last_mapped, crate::proofs::LastWords::before_mapped))]
+fn split_last<'a>(words: &'a [&'a str]) -> (Source<'a>, &'a [&'a str])
+    ensures source { path_of result.0 ≡ last_file (map (λ word. word.now) words.now) }
+    ensures words { map (λ word. word.now) result.1.now ≡ words_before_file (map (λ word. word.now) words.now) }
+{
+    let last = words.last().copied();
+    if names_file(last) {
+        (source_of(last), &words[..words.len() - 1])
+    } else {
+        (Source::Input, words)
     }
 }
 
@@ -144,6 +171,34 @@ pub fn tell_unread<E: Write>(alloc: Global, errors: &mut E, path: &str, why: Unr
             let _ = tell_fault(errors, &Fault::from(refusal));
             1
         }
+    }
+}
+
+/// Says why the file of the script can't be read, and returns the exit status. Where words go with the run that let users
+/// and groups in, one that names no file is a wrong one of these; a hint is told of it where that is asked for.
+pub fn tell_unopened<E: Write>(
+    alloc: Global,
+    errors: &mut E,
+    words: Option<&[&str]>,
+    path: &str,
+    why: Unread,
+    verbose: bool,
+) -> u8 {
+    match (why, words) {
+        (Unread::Missing, Some(words)) => {
+            if tell_failure(errors, &Failure::BadWord).is_ok() && verbose {
+                tell_wrong(alloc, errors, words);
+            }
+            2
+        }
+        _ => tell_unread(alloc, errors, path, why),
+    }
+}
+
+/// Tells what a person needs to mend the first wrong word, as far as memory and the stream allow.
+fn tell_wrong<E: Write>(alloc: Global, errors: &mut E, words: &[&str]) {
+    if let Ok(hint) = hint_wrong(alloc, words) {
+        let _ = write_whole(errors, hint.as_slice());
     }
 }
 
