@@ -7,7 +7,7 @@ use Rattle.cpg_script.specs.Faults.{fault_text}
 use Rattle.cpg_console.specs.declared.failures.Failure.{Failure}
 use Rattle.cpg_why.specs.declared.asking.Missing as absent
 use Rattle.cpg_record.specs.declared.connections.ConnId.{ConnId}
-use Rattle.cpg_why.specs.declared.asking.Missing.TheVariants.{Entry, Event, Connection}
+use Rattle.cpg_why.specs.declared.asking.Missing.TheVariants.{Entry, Event, Connection, Process}
 use Rattle.cpg_console.specs.declared.failures.Among.{Among}
 use Rattle.cpg_console.specs.declared.failures.Among.TheVariants.{Script, Delivered}
 use Rattle.cpg_console.specs.declared.failures.Failure.TheVariants.{BadWord, Fault, Missing}
@@ -36,6 +36,12 @@ conn_line Script conn conns = codes "cpgring: there is no connection " ++ conn_t
 conn_line Delivered conn conns =
     codes "cpgring: there is no entry of " ++ conn_text conn ++ codes ": " ++ one_or_more conns (codes " connection has one\n") (codes " connections have one\n")
 
+-- the line of a process that made none of the entries, which so many connections made
+abbrev pub process_line : Among → ℕ → ℕ → List ℕ
+process_line Script pid conns = codes "cpgring: there is no process " ++ decimal pid ++ codes ": the script has " ++ one_or_more conns (codes " connection\n") (codes " connections\n")
+process_line Delivered pid conns =
+    codes "cpgring: there is no entry of process " ++ decimal pid ++ codes ": " ++ one_or_more conns (codes " connection has one\n") (codes " connections have one\n")
+
 -- the line of an event that is none of so many that a connection was told
 abbrev pub event_line : ConnId → ℕ → ℕ → List ℕ
 event_line conn event events =
@@ -46,6 +52,7 @@ abbrev pub missing_line : Among → absent.Missing → List ℕ
 missing_line among (Entry place entries) = entry_line among place entries
 missing_line among (Connection conn conns) = conn_line among conn conns
 missing_line among (Event conn event events) = event_line conn event events
+missing_line among (Process pid conns) = process_line among pid conns
 
 -- the line of a failure
 abbrev pub failure_line : Failure → List ℕ

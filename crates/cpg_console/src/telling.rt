@@ -8,7 +8,7 @@ ghost use Rattle.std.specs.Io.KnownBytes.{Appends};
 ghost use Rattle.cpg_text.specs.Streams.{AppendsFront};
 ghost use Rattle.cpg_script.specs.Faults.{part_text};
 ghost use Rattle.cpg_accept.specs.Accepting.{whole_fault};
-ghost use Rattle.cpg_console.specs.Telling.{conn_line, conn_text, entry_line, error_line, event_line, failure_line, missing_line};
+ghost use Rattle.cpg_console.specs.Telling.{conn_line, conn_text, entry_line, error_line, event_line, failure_line, missing_line, process_line};
 
 use crate::failures::{Among, Failure};
 use arrayvec::ArrayString;
@@ -112,6 +112,7 @@ fn missing_line(among: Among, what: &Missing) -> Result<ArrayString<ROOM>, fmt::
     match what {
         Missing::Entry { place, entries } => entry_line(among, *place, *entries),
         Missing::Connection { conn, conns } => conn_line(among, conn, *conns),
+        Missing::Process { pid, conns } => process_line(among, *pid, *conns),
         Missing::Event {
             conn,
             event,
@@ -201,6 +202,48 @@ fn conn_of_delivered(conn: &ConnId, conns: u32) -> Result<ArrayString<ROOM>, fmt
     let mut line = ArrayString::new();
     line.write_str("cpgring: there is no entry of ")?;
     put_conn(&mut line, conn)?;
+    line.write_str(": ")?;
+    put_number(&mut line, conns)?;
+    line.write_str(if conns == 1 {
+        " connection has one\n"
+    } else {
+        " connections have one\n"
+    })?;
+    Ok(line)
+}
+
+/// The line of a process of which no connection is among the so many that made an entry.
+fn process_line(among: Among, pid: u32, conns: u32) -> Result<ArrayString<ROOM>, fmt::Error>
+    ensures { IfOk result (λ line. line.bytes ≡ process_line among pid conns) }
+{
+    match among {
+        Among::Script => process_of_script(pid, conns),
+        Among::Delivered => process_of_delivered(pid, conns),
+    }
+}
+
+fn process_of_script(pid: u32, conns: u32) -> Result<ArrayString<ROOM>, fmt::Error>
+    ensures { IfOk result (λ line. line.bytes ≡ process_line Among.Script pid conns) }
+{
+    let mut line = ArrayString::new();
+    line.write_str("cpgring: there is no process ")?;
+    put_number(&mut line, pid)?;
+    line.write_str(": the script has ")?;
+    put_number(&mut line, conns)?;
+    line.write_str(if conns == 1 {
+        " connection\n"
+    } else {
+        " connections\n"
+    })?;
+    Ok(line)
+}
+
+fn process_of_delivered(pid: u32, conns: u32) -> Result<ArrayString<ROOM>, fmt::Error>
+    ensures { IfOk result (λ line. line.bytes ≡ process_line Among.Delivered pid conns) }
+{
+    let mut line = ArrayString::new();
+    line.write_str("cpgring: there is no entry of process ")?;
+    put_number(&mut line, pid)?;
     line.write_str(": ")?;
     put_number(&mut line, conns)?;
     line.write_str(if conns == 1 {

@@ -161,3 +161,4 @@ pub asked_of : (entries : List Entry) (asked : Asked) (what : Missing) → IsMis
 asked_of entries asked (missing.Entry place count) is = is.0
 asked_of entries asked (missing.Event conn event count) is = is.0
 asked_of entries asked (missing.Connection conn count) is = is.0
+asked_of entries asked (missing.Process pid count) is = is.0

@@ -2,6 +2,7 @@ pub mod Explaining
 pub mod Forms
 pub mod Laws
 pub mod Moves
+pub mod Processes
 pub mod Scripts
 pub mod Sessions
 pub mod Standings

@@ -13,12 +13,13 @@ use Rattle.cpg_text.specs.Streams.{AppendsFront}
 use Rattle.cpg_script.specs.Commands.{commands_of}
 use Rattle.cpg_script.specs.Reading.{FailsAs}
 use Rattle.cpg_why.specs.declared.asking.Asked.{Asked}
-use Rattle.cpg_why.specs.declared.asking.Asked.TheVariants.{Place, Denials, Connection, Told, To}
+use Rattle.cpg_why.specs.declared.asking.Asked.TheVariants.{Place, Denials, Connection, Told, To, ToProcess}
 use Rattle.cpg_why.specs.declared.asking.Missing as absent
 use Rattle.cpg_why.specs.declared.asking.Missing.TheVariants as missing
 use Rattle.cpg_why.specs.declared.asking.WhyFault.{WhyFault}
 use Rattle.cpg_why.specs.declared.asking.WhyFault.TheVariants.{Script, Missing}
 use Rattle.cpg_why.specs.Forms.{Form, denials_told, event_told, stand_told, way_told, why_told}
+use Rattle.cpg_why.specs.Processes.{has_process, process_told}
 
 -- the numbers of the lines of a script's entries
 abbrev pub numbers_of : List ℕ → List ℕ
@@ -36,10 +37,11 @@ events_told entries conn = length (inbox (judged entries) conn)
 abbrev pub has_entry : List Entry → ConnId → Bool
 has_entry entries conn = list_any (is_conn conn) (conns_of entries)
 
--- what is asked of can be told: a place must have an entry, an event must have been told, and a connection must have made an entry
+-- what is asked of can be told: a place must have an entry, an event must have been told, and a connection or a process must have made an entry
 abbrev pub CanTell : Asked → List Entry → Type 0
 CanTell (Place place) entries = Stands place (length entries)
 CanTell (To place conn) entries = Stands place (length entries)
+CanTell (ToProcess place pid) entries = Stands place (length entries) × IsTrue (has_process entries pid)
 CanTell (Told conn event) entries = Stands event (events_told entries conn)
 CanTell (Connection conn) entries = IsTrue (has_entry entries conn)
 CanTell Denials entries = ⊤
@@ -50,6 +52,7 @@ asked_told form numbers entries (Place place) = why_told form numbers (judged en
 asked_told form numbers entries Denials = denials_told form numbers (judged entries)
 asked_told form numbers entries (Connection conn) = way_told form numbers (judged entries) conn
 asked_told form numbers entries (To place conn) = stand_told form numbers (judged entries) conn place
+asked_told form numbers entries (ToProcess place pid) = process_told form numbers (judged entries) (conns_of entries) pid place
 asked_told form numbers entries (Told conn event) = event_told form numbers (judged entries) conn event
 
 -- it is what is told of a script that has a meaning
@@ -61,14 +64,21 @@ IsTold form (Err line) numbers asked text = ⊥
 abbrev pub place_asked : Asked → Option ℕ
 place_asked (Place place) = Some place
 place_asked (To place conn) = Some place
+place_asked (ToProcess place pid) = Some place
 place_asked _ = None
 
--- what is asked of is not there: no entry stands at the place, of so many; the connection was told so many events and none of that number; or it
--- made no entry, and so many connections made one
+-- the pid of the process that is asked of, if one is
+abbrev pub pid_asked : Asked → Option ℕ
+pid_asked (ToProcess place pid) = Some pid
+pid_asked _ = None
+
+-- what is asked of is not there: no entry stands at the place, of so many; the connection was told so many events and none of that number; or it,
+-- or the process, made no entry, and so many connections made one
 abbrev pub IsMissing : List Entry → Asked → absent.Missing → Type 0
 IsMissing entries asked (missing.Entry place count) = (place_asked asked ≡ Some place) × (count ≡ length entries) × (¬ Stands place count)
 IsMissing entries asked (missing.Event conn event count) = (asked ≡ Told conn event) × (count ≡ events_told entries conn) × (¬ Stands event count)
 IsMissing entries asked (missing.Connection conn count) = (asked ≡ Connection conn) × (count ≡ length (conns_of entries)) × (has_entry entries conn ≡ false)
+IsMissing entries asked (missing.Process pid count) = (pid_asked asked ≡ Some pid) × (count ≡ length (conns_of entries)) × (has_process entries pid ≡ false)
 
 -- the same of the entries of a script that has a meaning
 abbrev pub IsMissingIn : Result (List Entry) ℕ → Asked → absent.Missing → Type 0
@@ -106,11 +116,12 @@ EndsBy refusal.Memory old new = Keeps old new
 EndsBy refusal.Write old new = ⊤
 EndsBy _ old new = ⊥
 
--- what can be missing of what is asked: a place's entry, an event that a connection was told, or an entry that one made
+-- what can be missing of what is asked: a place's entry, an event that a connection was told, or an entry that one, or a process, made
 abbrev pub IsAskedOf : Asked → absent.Missing → Type 0
 IsAskedOf asked (missing.Entry place count) = place_asked asked ≡ Some place
 IsAskedOf asked (missing.Event conn event count) = asked ≡ Told conn event
 IsAskedOf asked (missing.Connection conn count) = asked ≡ Connection conn
+IsAskedOf asked (missing.Process pid count) = pid_asked asked ≡ Some pid
 
 -- the same of a fault
 abbrev pub EndsWhy : Asked → WhyFault → Option (List ℕ) → Option (List ℕ) → Type 0

@@ -20,6 +20,8 @@ pub enum Asked {
     Connection(ConnId),
     /// Why the entry at that place told the connection something, or did not, and what.
     To(u32, ConnId),
+    /// The same of each connection whose first entry a process of that pid made, in the order of these.
+    ToProcess(u32, u32),
     /// Why the entry was answered as it was that told that connection its event of that number; events are counted
     /// from 1, in the order in which the connection was told them.
     Told(ConnId, u32),
@@ -38,6 +40,12 @@ pub enum Missing {
     #[error("no entry of {}.{}: {conns} connections have one", .conn.node.get(), .conn.conn)]
     Connection {
         conn: ConnId,
+        conns: u32,
+    },
+    /// No process of that pid made an entry; so many connections made one.
+    #[error("no entry of process {pid}: {conns} connections have one")]
+    Process {
+        pid: u32,
         conns: u32,
     },
     /// The connection was told no event of that number, as it was told so many.

@@ -13,6 +13,7 @@ mod inboxes;
 mod laws;
 mod moves;
 mod numbers;
+mod processes;
 mod reasons;
 mod scripts;
 pub mod sessions;

@@ -14,6 +14,7 @@ use crate::asking::{Asked, Missing, WhyFault};
 use crate::forms::{AsText, Tells};
 use crate::inboxes::{find_told, stands};
 use crate::numbers::read_numbers;
+use crate::processes::{has_process, put_process};
 use crate::scripts::read_entries;
 use crate::standings::put_stand_in;
 use crate::walk::{pass_all, put_denials, put_why_of};
@@ -93,6 +94,7 @@ pub(crate) fn tell_entries<F: Tells>(
         Asked::Denials => tell_denials::<F>(alloc, numbers, entries),
         Asked::Connection(conn) => tell_way::<F>(alloc, numbers, entries, &conn),
         Asked::To(place, conn) => tell_stand::<F>(alloc, numbers, entries, &conn, place),
+        Asked::ToProcess(place, pid) => tell_process::<F>(alloc, numbers, entries, pid, place),
         Asked::Told(conn, event) => tell_event::<F>(alloc, numbers, entries, &conn, event),
     }
 }
@@ -206,6 +208,37 @@ fn tell_stand<F: Tells>(
     }
     let mut text = Vec::new(alloc);
     match put_stand_in::<F>(&mut text, numbers, entries, conn, place) {
+        Ok(()) => Ok(text),
+        Err(refusal) => Err(WhyFault::from(refusal)),
+    }
+}
+
+/// Why each connection of the process is told of the entry of a place, or is not.
+fn tell_process<F: Tells>(
+    alloc: Global,
+    numbers: &[u32],
+    entries: &[Entry],
+    pid: u32,
+    place: u32,
+) -> Result<Vec<u8>, WhyFault>
+    requires { length entries.now ≤ most_places }
+    ensures ok { IfOk result (λ text. CanTell (Asked.ToProcess place pid) entries.now × (text.items ≡ asked_told F.form numbers.now entries.now (Asked.ToProcess place pid))) }
+    ensures err { IfErr result (TellsNot (Ok entries.now) (Asked.ToProcess place pid)) }
+{
+    let count = entries.len() as u32;
+    if !stands(place, count) {
+        return Err(WhyFault::Missing(Missing::Entry {
+            place,
+            entries: count,
+        }));
+    }
+    let walk = pass_all(alloc, entries)?;
+    if !has_process(&walk.policy, pid) {
+        let conns = walk.policy.connections().len() as u32;
+        return Err(WhyFault::Missing(Missing::Process { pid, conns }));
+    }
+    let mut text = Vec::new(alloc);
+    match put_process::<F>(&mut text, numbers, &walk.policy, pid, place) {
         Ok(()) => Ok(text),
         Err(refusal) => Err(WhyFault::from(refusal)),
     }

@@ -7,7 +7,7 @@ use Rattle.cpg_text.specs.Numbers.{number_in}
 use Rattle.cpg_script.specs.Words.{cut_at}
 use Rattle.cpg_print.specs.Entries.{conn_of_word}
 use Rattle.cpg_why.specs.declared.asking.Asked.{Asked as Question}
-use Rattle.cpg_why.specs.declared.asking.Asked.TheVariants.{Place, To, Told}
+use Rattle.cpg_why.specs.declared.asking.Asked.TheVariants.{Place, To, ToProcess, Told}
 use Rattle.clap.specs.declared.parser.matches.Found.{Found}
 use Rattle.clap.specs.Words.{first_value}
 use Rattle.cpg_console.specs.declared.runs.Form.{Form}
@@ -16,7 +16,7 @@ use Rattle.cpg_console.specs.declared.runs.Run.TheVariants.{Why}
 use Rattle.cpgring.specs.declared.asking.Asked.{Asked}
 use Rattle.cpgring.specs.declared.sources.Source.{Source}
 use Rattle.cpgring.specs.Asking.{why_words, words_before, IsAskedFor, IsEntryAsked, IsFormGiven, IsGivenBy, IsUsed, IsWhyAsked}
-use Rattle.cpgring.specs.Questions.{entry_named, event_of_parts, of_place, or_event, told_by, unless_to, words_for}
+use Rattle.cpgring.specs.Questions.{entry_named, event_of_parts, of_place, or_event, to_whom, told_by, unless_to, words_for}
 use Rattle.cpgring.specs.Sources.{but_input, path_of}
 
 of_told : (conn : Option ConnId) (event : Option ℕ) (asked : Question) → told_by conn event ≡ Some asked → words_for asked ≡ 1
@@ -28,13 +28,14 @@ of_parts : (parts : Option (List ℕ × List ℕ)) (asked : Question) → event_
 of_parts None asked is = absurd (none-some asked is)
 of_parts (Some parts) asked is = of_told (conn_of_word parts.0) (number_in 1 4294967295 parts.1) asked is
 
-of_conn : (place : ℕ) (conn : Option ConnId) (asked : Question) → option_map (λ c. To place c) conn ≡ Some asked → words_for asked ≡ 1
-of_conn place (Some conn) asked is = sym (ap words_for (same_Some (To place conn) asked is))
-of_conn place None asked is = absurd (none-some asked is)
+of_whom : (place : ℕ) (conn : Option ConnId) (pid : Option ℕ) (asked : Question) → to_whom place conn pid ≡ Some asked → words_for asked ≡ 1
+of_whom place (Some conn) pid asked is = sym (ap words_for (same_Some (To place conn) asked is))
+of_whom place None (Some pid) asked is = sym (ap words_for (same_Some (ToProcess place pid) asked is))
+of_whom place None None asked is = absurd (none-some asked is)
 
 of_one : (to : Option (List ℕ)) (place : ℕ) (asked : Question) → of_place to place ≡ Some asked → words_for asked ≡ 1
 of_one None place asked is = sym (ap words_for (same_Some (Place place) asked is))
-of_one (Some word) place asked is = of_conn place (conn_of_word word) asked is
+of_one (Some word) place asked is = of_whom place (conn_of_word word) (number_in 0 4294967295 word) asked is
 
 of_event : (to : Option (List ℕ)) (word : List ℕ) (asked : Question) → unless_to to (event_of_parts (cut_at 58 word)) ≡ Some asked → words_for asked ≡ 1
 of_event None word asked is = of_parts (cut_at 58 word) asked is

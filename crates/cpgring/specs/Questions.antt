@@ -6,7 +6,7 @@ use Rattle.cpg_text.specs.Numbers.{number_in}
 use Rattle.cpg_script.specs.Words.{cut_at}
 use Rattle.cpg_print.specs.Entries.{conn_of_word}
 use Rattle.cpg_why.specs.declared.asking.Asked.{Asked as Question}
-use Rattle.cpg_why.specs.declared.asking.Asked.TheVariants.{Place, Denials, Connection, To, Told}
+use Rattle.cpg_why.specs.declared.asking.Asked.TheVariants.{Place, Denials, Connection, To, ToProcess, Told}
 
 -- the event of that number that the connection was told, where both are there
 abbrev pub told_by : Option ConnId → Option ℕ → Option Question
@@ -22,10 +22,15 @@ event_of_parts (Some parts) = told_by (conn_of_word parts.0) (number_in 1 429496
 abbrev pub event_named : List ℕ → Option Question
 event_named word = event_of_parts (cut_at 58 word)
 
--- the entry of a place; where a connection is named, why that is told of it, or is not
+-- why a connection, or else the connections of a process, are told of the entry of a place, or are not
+abbrev pub to_whom : ℕ → Option ConnId → Option ℕ → Option Question
+to_whom place (Some conn) pid = Some (To place conn)
+to_whom place None pid = option_map (λ p. ToProcess place p) pid
+
+-- the entry of a place; where a connection or a process is named, why that is told of it, or is not
 abbrev pub of_place : Option (List ℕ) → ℕ → Option Question
 of_place None place = Some (Place place)
-of_place (Some word) place = option_map (λ conn. To place conn) (conn_of_word word)
+of_place (Some word) place = to_whom place (conn_of_word word) (number_in 0 4294967295 word)
 
 -- a question of no place, beside which no connection is named
 abbrev pub unless_to : Option (List ℕ) → Option Question → Option Question
@@ -54,5 +59,6 @@ question_named to word = if bytes_eq word (codes "all") then unless_to to (Some 
 abbrev pub words_for : Question → ℕ
 words_for (Place place) = 1
 words_for (To place conn) = 1
+words_for (ToProcess place pid) = 1
 words_for (Told conn event) = 1
 words_for _ = 0

@@ -24,6 +24,9 @@ struct Wrong<'a> {
 
 const CONN_WANTED: &str = "a node from 1 to 8, a dot, and a connection from 1 to 65535";
 
+const WHOM_WANTED: &str =
+    "NODE.CONN, NODE from 1 to 8, CONN from 1 to 65535, or a process's number from 0 to 4294967295";
+
 const QUESTION_WANTED: &str =
     "a place from 1, NODE.CONN:EVENT, NODE.CONN, or all; NODE from 1 to 8, CONN from 1 to 65535, EVENT from 1";
 
@@ -150,18 +153,18 @@ fn wrong_question<'a>(given: &'a ArgMatches<'_>) -> Option<Wrong<'a>> {
     }
 }
 
-/// A connection that is none, or that is named beside a question of no place.
+/// A connection or a process that is none, or that is named beside a question of no place.
 fn wrong_to<'a>(given: &'a ArgMatches<'_>, question: &str) -> Option<Wrong<'a>> {
     let word = given.get_str(TO)?;
-    let wanted = if read_conn(word.as_bytes()).is_none() {
-        CONN_WANTED
+    let wanted = if read_entry(Some(word), b"1").is_none() {
+        WHOM_WANTED
     } else if read_question(Some(word), question.as_bytes()).is_none() {
         "it goes with one PLACE, a number from 1"
     } else {
         return None;
     };
     Some(Wrong {
-        taken_by: "--to <NODE.CONN>",
+        taken_by: "--to <NODE.CONN|PID>",
         word,
         wanted,
     })

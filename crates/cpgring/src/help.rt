@@ -115,8 +115,8 @@ Judges the agreed entries of a script as `cpgring judge` does, and explains the 
 the one that told a connection its event of a number, by NODE.CONN:EVENT, or with --all each denial: the rule that
 decides, or the state that does, and which entry made it. With --connection it tells the way of one connection
 instead: its entries with their verdicts, and the changes of its group's members that it was told. With --to it tells
-why that connection was told of the entry at PLACE, or was not. The help of `cpgring judge` has the script and the
-words of a verdict; a connection's events are numbered from 1 in the order in which it was told them, as `cpgring
+why that connection was told of the entry at PLACE, or was not; --to=PID tells it of each connection of the processes of
+that number. The help of `cpgring judge` has the script and the words of a verdict; a connection's events are numbered from 1 in the order in which it was told them, as `cpgring
 judge --connection=NODE.CONN` prints them.";
 
 pub const WHY_MORE: &str = "\
@@ -157,8 +157,8 @@ Example:
 
 Exit status: 0 done; 1 a fault, told on standard error; 2 a fault of the command line, a PLACE that has no entry, a
 connection that made none and an EVENT that was not told among them: `cpgring: there is no entry 3: the script has
-2`, `cpgring: there is no connection 2.9: the script has 3`, `cpgring: there is no event 4: 1.2 was told 3`. The
-faults are those of `cpgring judge`; nothing is printed before all is known.";
+2`, `cpgring: there is no connection 2.9: the script has 3`, `cpgring: there is no event 4: 1.2 was told 3`,
+`cpgring: there is no process 9: the script has 3 connections`. The faults are those of `cpgring judge`; nothing is printed before all is known.";
 
 pub const ADMIT_ABOUT: &str = "Tells whom conf files let in";
 
@@ -446,12 +446,12 @@ chooses which: the frame of a number between two nodes meets the same fate in ea
 same, and takes longer. With --why=PLACE none of this is printed, but, once all commands are done, why the entry at
 that place was answered as it was, as `cpgring why` tells it; --why=NODE.CONN:EVENT tells it of the entry that told
 the connection that event, --why=all of each denied entry, --why=NODE.CONN the way of a connection, and --why=PLACE
-with --to=NODE.CONN why that connection was told of the entry, or was not: a session is named by its connection,
-which its audit shows. All entries that the nodes have judged by then are told of, so wait for a call's verdict
-before the script ends. With --trace=FILE all that happened in the nodes, each frame, delivery and answer in the
-order in which it came, is written to FILE once the nodes have stopped, as a script that `cpgring step $(cat
-FILE.words) < FILE` plays again and `cpgring draw` draws; FILE.words has the words for that. With --checked lines `=>
-TEXT` say what is printed, as `cpgring step --help` has it, a NAME, which begins with a letter, stands for a session's
+with --to=NODE.CONN why that connection was told of the entry, or was not, or --to=PID why each of that process was: a
+session is named by its connection, which its audit shows. All entries that the nodes have judged by then are told of,
+so wait for a call's verdict before the script ends. With --trace=FILE all that happened in the nodes, each frame,
+delivery and answer in the order in which it came, is written to FILE once the nodes have stopped, as a script that
+`cpgring step $(cat FILE.words) < FILE` plays again and `cpgring draw` draws; FILE.words has the words for that. With
+--checked lines `=> TEXT` say what is printed, as `cpgring step --help` has it, a NAME, which begins with a letter, stands for a session's
 number, and these are commands, too; each loss and wait ends with the script:
 
   connect NODE PID UID GID as NAME           the session gets that name, too

@@ -326,8 +326,8 @@ pub const WHY_OPTIONS: [Given; 6] = [
     ),
     Given(
         TO,
-        Takes::Word("NODE.CONN"),
-        "Explain of the entry at PLACE why that connection was told of it, or was not",
+        Takes::Word("NODE.CONN|PID"),
+        "Explain of the entry at PLACE why that connection, or each of that process, was told of it, or was not",
         &[ALL, CONNECTION],
     ),
     AS_JSON,
@@ -414,8 +414,8 @@ pub const STEP_OPTIONS: [Given; 8] = [
     ),
     Given(
         TO,
-        Takes::Beside("NODE.CONN", WHY),
-        "With --why=PLACE: explain why that connection was told of the entry, or was not",
+        Takes::Beside("NODE.CONN|PID", WHY),
+        "With --why=PLACE: explain why that connection, or each of that process, was told of the entry, or was not",
         &[NUMBERS],
     ),
     Given(
@@ -448,8 +448,8 @@ pub const RUN_OPTIONS: [Given; 5] = [
     ),
     Given(
         TO,
-        Takes::Beside("NODE.CONN", WHY),
-        "With --why=PLACE: explain why that connection was told of the entry, or was not",
+        Takes::Beside("NODE.CONN|PID", WHY),
+        "With --why=PLACE: explain why that connection, or each of that process, was told of the entry, or was not",
         &[ECHO, TRACE],
     ),
     Given(CHECKED, Takes::Nothing, CHECKS, &[JSON, ECHO, WHY, VERBOSE]),

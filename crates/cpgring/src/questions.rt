@@ -4,7 +4,8 @@
 
 ghost use Rattle.std.specs.Prelude.{◌≡◌, Some, option_map};
 ghost use Rattle.cpg_print.specs.Entries.{conn_of_word};
-ghost use Rattle.cpgring.specs.Questions.{entry_named, event_named, of_place, question_named, unless_to};
+ghost use Rattle.cpg_text.specs.Numbers.{number_in};
+ghost use Rattle.cpgring.specs.Questions.{entry_named, event_named, of_place, question_named, to_whom, unless_to};
 
 use cpg_console::Asked;
 use cpg_cred::{MOST_NODES, NodeId};
@@ -33,13 +34,24 @@ fn read_event(word: &[u8]) -> Option<Asked>
     Some(Asked::Told(read_conn(conn)?, read_u32(1, u32::MAX, event)?))
 }
 
-/// The entry of a place; where a connection is named, why that is told of it, or is not.
+/// Why the connection that a word names, or else each of the process that it names, is told of the entry of a place, or is
+/// not.
+fn to_whom(place: u32, word: &[u8]) -> Option<Asked>
+    ensures { result ≡ to_whom place (conn_of_word word.now) (number_in 0 4294967295 word.now) }
+{
+    match read_conn(word) {
+        Some(conn) => Some(Asked::To(place, conn)),
+        None => Some(Asked::ToProcess(place, read_u32(0, u32::MAX, word)?)),
+    }
+}
+
+/// The entry of a place; where a connection or a process is named, why that is told of it, or is not.
 fn of_place(to: Option<&str>, place: u32) -> Option<Asked>
     ensures { result ≡ of_place (option_map (λ text. text.now) to.entry) place }
 {
     match to {
         None => Some(Asked::Place(place)),
-        Some(word) => Some(Asked::To(place, read_conn(word.as_bytes())?)),
+        Some(word) => to_whom(place, word.as_bytes()),
     }
 }
 
