@@ -2,9 +2,9 @@
 //! prints. Over a running cluster sessions have names, `drain` and `wait` take events, and `hold`, `let`, `cut` and `mend`
 //! hold nodes and lose frames.
 //!
-//! The forms are this project's own. Proved: a line is as wanted exactly where the next printed line is it; which frames
-//! are lost and which turns wait by the switches; each line does the command of its kind of script, as that is proved of
-//! `cpg_step` and `cpg_cluster`. How differences are worded is tested.
+//! The forms are this project's own. Proved: a line is as wanted exactly where the next printed line is it; a line of
+//! `step` does its command, and what a line over a cluster says is done as `cpg_cluster` does it. What such a line says,
+//! switches, and how differences are worded is tested.
 #![tactic(auto)]
 
 mod checking;
