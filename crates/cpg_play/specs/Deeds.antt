@@ -19,7 +19,8 @@ pub record PlayerValue : Type 0 where
 
 -- the node of a deed is there
 abbrev pub IsDeedWithin : ℕ → Deed → Type 0
-IsDeedWithin nodes (deed.Command command name) = IsWithin nodes command
+IsDeedWithin nodes (deed.Command command) = IsWithin nodes command
+IsDeedWithin nodes (deed.Named command name) = IsWithin nodes command
 IsDeedWithin nodes _ = ⊤
 
 -- the command is answered, and its answer is printed alone
@@ -28,7 +29,8 @@ IsAnswered start old command text new = IsDone (shown_as Plain) start old (recor
 
 -- what a deed prints over running nodes whose history starts so, and the sessions after it
 abbrev pub IsDeedDone : WorldValue → SessionsValue → Deed → List ℕ → SessionsValue → Type 0
-IsDeedDone start old (deed.Command command name) text new = IsAnswered start old command text new
+IsDeedDone start old (deed.Command command) text new = IsAnswered start old command text new
+IsDeedDone start old (deed.Named command name) text new = IsAnswered start old command text new
 IsDeedDone start old (deed.Wait number millis) text new = IsAnswered start old (Ask number Wait) text new
 IsDeedDone start old (deed.Drain number) text new = ⊤
 IsDeedDone start old (deed.Turn switch) text new = (text ≡ []) × (new ≡ old)

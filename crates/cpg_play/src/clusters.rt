@@ -179,10 +179,10 @@ impl<H: Wait + Clock, B: HistoryName, G> OverCluster<'_, H, B, G> {
     {
         let (rt, running, sessions) = (self.rt, self.running, &mut self.sessions);
         match deed {
-            Deed::Command(asked, None) => {
+            Deed::Command(asked) => {
                 command(rt, alloc, text, running, sessions, self.patience, asked)
             }
-            Deed::Command(asked, Some(name)) => {
+            Deed::Named(asked, name) => {
                 let number = connect(rt, alloc, text, running, sessions, asked)?;
                 self.names.give(name, number)
             }
@@ -205,7 +205,10 @@ impl<H: Wait + Clock, B: HistoryName, G> OverCluster<'_, H, B, G> {
         ensures memory { IsOkUnless result Refusal.Memory }
     {
         match deed {
-            Deed::Command(_, Some(name)) => self.names.give(name, 0),
+            Deed::Named(command, name) => {
+                drop(command);
+                self.names.give(name, 0)
+            }
             _ => Ok(()),
         }
     }

@@ -20,8 +20,10 @@ const WORDS: usize = 8;
 /// What a line says.
 #[derive(Drop)]
 pub enum Deed {
-    /// A command of `run`, with the name that the session is to have which it gives.
-    Command(Command, Option<Vec<u8>>),
+    /// A command of `run`.
+    Command(Command),
+    /// A connection whose session is to have that name.
+    Named(Command, Vec<u8>),
     /// The session of that number takes its next event, for which it waits so many milliseconds.
     Wait(u32, u64),
     /// The session of that number takes all events that have come.
@@ -98,7 +100,7 @@ fn read_named(alloc: Global, nodes: u8, words: &[&[u8]]) -> Result<Option<Deed>,
     let mut owned = Vec::new(alloc);
     put_bytes(&mut owned, name)?;
     match command_in_line(alloc, nodes, line.as_slice())? {
-        Some(command) => Ok(Some(Deed::Command(command, Some(owned)))),
+        Some(command) => Ok(Some(Deed::Named(command, owned))),
         None => Ok(None),
     }
 }
@@ -138,7 +140,7 @@ fn read_command(
         None => command_in_line(alloc, nodes, line)?,
     };
     match command {
-        Some(command) => Ok(Some(Deed::Command(command, None))),
+        Some(command) => Ok(Some(Deed::Command(command))),
         None => Ok(None),
     }
 }

@@ -1,5 +1,7 @@
 //! Names of sessions.
 
+ghost use Rattle.std.specs.Prelude.{IsOkUnless};
+
 use cpg_cred::{NameHasher, Refusal};
 use indexmap::IndexMap;
 use std::alloc::Global;
@@ -30,7 +32,9 @@ impl Names {
     }
 
     /// Gives the session of that number the name, which no other has any more.
-    pub fn give(&mut self, name: Vec<u8>, number: u32) -> Result<(), Refusal> {
+    pub fn give(&mut self, name: Vec<u8>, number: u32) -> Result<(), Refusal>
+        ensures { IsOkUnless result Refusal.Memory }
+    {
         self.numbers.insert(name, number)?;
         Ok(())
     }
