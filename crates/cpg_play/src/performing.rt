@@ -76,7 +76,7 @@ impl Played {
 ///
 /// A wrong word comes first, then settings out of their ranges, then the faults of the script. Why it ended early is told
 /// as `perform` tells it.
-#[tactic(auto, using(crate::proofs::Played::word_played, crate::proofs::Played::kept_played))]
+#[tactic(auto, using(crate::proofs::Flushing::word_played, crate::proofs::Flushing::kept_played))]
 pub fn perform_play<H, R, W, E, K>(
     rt: H,
     alloc: Global,

@@ -71,6 +71,25 @@ fn put_stand_if<F: Tells>(
     }
 }
 
+/// Puts why each of the connections that is of the process is told of the entry of that place, or is not.
+fn put_each<F: Tells>(
+    line: &mut Vec<u8>,
+    numbers: &[u32],
+    policy: &Policy,
+    pid: u32,
+    place: u32,
+    conns: &[ConnId],
+) -> Result<(), Refusal>
+    requires { (1 ≤ place) × (place ≤ length policy.now) }
+    ensures ok { OnOk result (line.new.items ≡ line.old.items ++ process_told F.form numbers.now (judged policy.now) conns.now pid place) }
+    ensures memory { IsOkUnless result Refusal.Memory }
+{
+    for conn in conns {
+        put_stand_if::<F>(line, numbers, policy, pid, place, conn)?;
+    }
+    Ok(())
+}
+
 /// Puts why each connection of the process is told of the entry of that place, or is not.
 pub(crate) fn put_process<F: Tells>(
     line: &mut Vec<u8>,
@@ -83,8 +102,5 @@ pub(crate) fn put_process<F: Tells>(
     ensures ok { OnOk result (line.new.items ≡ line.old.items ++ process_told F.form numbers.now (judged policy.now) (conns_of policy.now) pid place) }
     ensures memory { IsOkUnless result Refusal.Memory }
 {
-    for conn in policy.connections() {
-        put_stand_if::<F>(line, numbers, policy, pid, place, conn)?;
-    }
-    Ok(())
+    put_each::<F>(line, numbers, policy, pid, place, policy.connections())
 }
