@@ -38,7 +38,7 @@ conn_line Delivered conn conns =
 
 -- the line of a process that made none of the entries, which so many connections made
 abbrev pub process_line : Among → ℕ → ℕ → List ℕ
-process_line Script pid conns = codes "cpgring: there is no process " ++ decimal pid ++ codes ": the script has " ++ one_or_more conns (codes " connection\n") (codes " connections\n")
+process_line Script pid conns = codes "cpgring: there is no connection of process " ++ decimal pid ++ codes ": the script has " ++ decimal conns ++ codes "\n"
 process_line Delivered pid conns =
     codes "cpgring: there is no entry of process " ++ decimal pid ++ codes ": " ++ one_or_more conns (codes " connection has one\n") (codes " connections have one\n")
 

@@ -226,15 +226,11 @@ fn process_of_script(pid: u32, conns: u32) -> Result<ArrayString<ROOM>, fmt::Err
     ensures { IfOk result (λ line. line.bytes ≡ process_line Among.Script pid conns) }
 {
     let mut line = ArrayString::new();
-    line.write_str("cpgring: there is no process ")?;
+    line.write_str("cpgring: there is no connection of process ")?;
     put_number(&mut line, pid)?;
     line.write_str(": the script has ")?;
     put_number(&mut line, conns)?;
-    line.write_str(if conns == 1 {
-        " connection\n"
-    } else {
-        " connections\n"
-    })?;
+    line.write_str("\n")?;
     Ok(line)
 }
 

@@ -116,8 +116,8 @@ the one that told a connection its event of a number, by NODE.CONN:EVENT, or wit
 decides, or the state that does, and which entry made it. With --connection it tells the way of one connection
 instead: its entries with their verdicts, and the changes of its group's members that it was told. With --to it tells
 why that connection was told of the entry at PLACE, or was not; --to=PID tells it of each connection of the processes of
-that number. The help of `cpgring judge` has the script and the words of a verdict; a connection's events are numbered from 1 in the order in which it was told them, as `cpgring
-judge --connection=NODE.CONN` prints them.";
+that number. The help of `cpgring judge` has the script and the words of a verdict; a connection's events are numbered
+from 1 in the order in which it was told them, as `cpgring judge --connection=NODE.CONN` prints them.";
 
 pub const WHY_MORE: &str = "\
 Printed are lines that each begin with what they tell; between the entries of --all stands an empty line:
@@ -158,7 +158,8 @@ Example:
 Exit status: 0 done; 1 a fault, told on standard error; 2 a fault of the command line, a PLACE that has no entry, a
 connection that made none and an EVENT that was not told among them: `cpgring: there is no entry 3: the script has
 2`, `cpgring: there is no connection 2.9: the script has 3`, `cpgring: there is no event 4: 1.2 was told 3`,
-`cpgring: there is no process 9: the script has 3 connections`. The faults are those of `cpgring judge`; nothing is printed before all is known.";
+`cpgring: there is no connection of process 9: the script has 3`. The faults are those of `cpgring judge`; nothing is
+printed before all is known.";
 
 pub const ADMIT_ABOUT: &str = "Tells whom conf files let in";
 
