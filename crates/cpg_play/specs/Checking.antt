@@ -1,5 +1,5 @@
 -- what a command printed, beside what is wanted of it
-use Rattle.std.specs.Prelude.{ℕ, ◌+◌, Bool, true, false, List, [], ◌∷◌, length, drop, codes, Option, Some, None, is_none, if◌then◌else◌}
+use Rattle.std.specs.Prelude.{ℕ, ◌+◌, Bool, true, false, List, [], ◌∷◌, length, drop, codes, Option, Some, None, if◌then◌else◌}
 use Rattle.std.specs.Str.{bytes_eq}
 use Rattle.cpg_text.specs.Lines.{lines_of, is_blank, trimmed}
 use Rattle.cpg_script.specs.Words.{◌>>=◌, after_name}
