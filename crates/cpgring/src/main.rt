@@ -35,7 +35,7 @@ use faults::{fault_of_ask, fault_of_completions};
 use folders::{NotLoaded, conf_paths};
 use loading::Loaded;
 use options::SHELL;
-use playing::{is_checked, play, read_play};
+use playing::{is_checked, play};
 use sources::{Source, greet, greet_shell, open_file, tell_unopened, tell_unread};
 use std::alloc::{AllocError, Global};
 use std::io::{BufWriter, IsTerminal, Read, Write};
@@ -73,7 +73,7 @@ fn start<H: Threads + Wait + Clock + Copy + Send + 'static>(
         Some(("admit", given)) => admit(rt, given),
         Some(("completions", given)) => complete(rt, given),
         Some((name, given)) if is_checked(name, given) => {
-            play(rt, threads, &read_play(rt.alloc(), name, &matches, given)?)
+            play(rt, threads, name, &matches, given)
         }
         Some(("shell", given)) => shell(rt, threads, given),
         Some(("run", given)) => { run(rt, threads, &matches, is_verbose(given), trace_of(given)) }

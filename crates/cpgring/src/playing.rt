@@ -22,7 +22,7 @@ use std::time::Clock;
 /// A script that checks itself: over what, with which settings, words and words that were given, where it is read from, and
 /// where its trace goes.
 #[derive(Clone, Copy)]
-pub struct AskedPlay<'a> {
+struct AskedPlay<'a> {
     stage: Stage,
     settings: Settings,
     words: &'a [&'a str],
@@ -37,7 +37,7 @@ pub fn is_checked(name: &str, given: &ArgMatches<'_>) -> bool {
 }
 
 /// What the subcommand of that name is to play.
-pub fn read_play<'a>(
+fn read_play<'a>(
     alloc: Global,
     name: &str,
     matches: &'a ArgMatches<'_>,
@@ -92,8 +92,23 @@ fn is_typed(stage: Stage) -> bool {
     matches!(stage, Stage::Cluster(Live { typed: true, .. }))
 }
 
-/// The exit status of a script that checks itself.
-pub fn play<H>(rt: &HostRuntime, threads: H, asked: &AskedPlay<'_>) -> Result<u8, Error>
+/// The exit status of a script that checks itself, which the subcommand of that name is to play.
+pub fn play<H>(
+    rt: &HostRuntime,
+    threads: H,
+    name: &str,
+    matches: &ArgMatches<'_>,
+    given: &ArgMatches<'_>,
+) -> Result<u8, Error>
+where
+    H: Threads + Wait + Clock + Copy + Send + 'static,
+{
+    let asked = read_play(rt.alloc(), name, matches, given)?;
+    play_asked(rt, threads, &asked)
+}
+
+/// The same of what is asked for.
+fn play_asked<H>(rt: &HostRuntime, threads: H, asked: &AskedPlay<'_>) -> Result<u8, Error>
 where
     H: Threads + Wait + Clock + Copy + Send + 'static,
 {
