@@ -16,7 +16,7 @@ abbrev pub failure_played : Result Bool Failure → Option Failure
 failure_played (Err failure) = Some failure
 failure_played (Ok wanted) = None
 
--- whether all was printed as wanted, as far as it came
+-- whether all was printed as wanted, which is said of what ended early, too
 abbrev pub wanted_played : Result Bool Failure → Bool
 wanted_played (Err failure) = true
 wanted_played (Ok wanted) = wanted

@@ -55,7 +55,7 @@ pub struct Live {
 pub struct Played {
     /// How it ended, as any run.
     pub ended: Ended,
-    /// Whether all that was printed is as its lines want it, as far as it came.
+    /// Whether all that was printed is as its lines want it; true, too, where it ended early.
     pub wanted: bool,
 }
 
@@ -115,7 +115,7 @@ where
     }
 }
 
-/// Whether all was printed as wanted, as far as it came, and how it ended.
+/// Whether all was printed as wanted, which is said of what ended early, too; and how it ended.
 fn parted(played: Result<bool, Failure>) -> (bool, Result<(), Failure>)
     ensures failure { failure_of result.1 ≡ failure_played played }
     ensures wanted { result.0 ≡ wanted_played played }

@@ -453,7 +453,7 @@ so wait for a call's verdict before the script ends. With --trace=FILE all that 
 delivery and answer in the order in which it came, is written to FILE once the nodes have stopped, as a script that
 `cpgring step $(cat FILE.words) < FILE` plays again and `cpgring draw` draws; FILE.words has the words for that. With
 --checked lines `=> TEXT` say what is printed, as `cpgring step --help` has it, a NAME, which begins with a letter, stands for a session's
-number, and these are commands, too; each loss and wait ends with the script:
+number, and these are commands, too; nothing is held or cut past the script:
 
   connect NODE PID UID GID as NAME           the session gets that name, too
   wait S MS                                  session S waits so many milliseconds for the next event
