@@ -176,6 +176,13 @@ impl Policy {
         self.records.as_slice()
     }
 
+    /// Its records, for who frees them piece by piece; all else of it is freed.
+    pub fn into_records(self) -> Vec<Record>
+        ensures { result.items ≡ judged self }
+    {
+        self.records
+    }
+
     /// The connections of the entries, each once, in the order of their first entries.
     pub fn connections(&self) -> &[ConnId]
         ensures { result.now ≡ conns_of self.now }

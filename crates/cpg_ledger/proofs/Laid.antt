@@ -31,6 +31,18 @@ module _ {T : Type 0} where
   at_left (x ∷ xs) ys zero h = refl
   at_left (x ∷ xs) ys (suc i) h = at_left xs ys i (omega arith)
 
+  -- all of the first list, and the first items of the second
+  pub take_over : (xs ys : List T) (n k : ℕ) → n ≡ length xs + k → take n (xs ++ ys) ≡ xs ++ take k ys
+  take_over [] ys n k e = let same : n ≡ k = omega arith in ap (λ m. take m ys) same
+  take_over (x ∷ xs) ys zero k e = absurd (omega arith)
+  take_over (x ∷ xs) ys (suc n) k e = ap (λ l. x ∷ l) (take_over xs ys n k (omega arith))
+
+  -- no more than there were
+  pub take_shorter : (k : ℕ) (ys : List T) → length (take k ys) ≤ length ys
+  take_shorter zero ys = omega arith
+  take_shorter (suc k) [] = omega arith
+  take_shorter (suc k) (y ∷ ys) = let rest = take_shorter k ys in omega arith
+
   -- what is left once the first items, which came last, are cut off
   pub rotated : (xs : List T) (n rest : ℕ) → n + rest ≡ length xs → take rest (drop n xs ++ take n xs) ≡ drop n xs
   rotated xs n rest e =

@@ -1,6 +1,6 @@
 //! The lists of what nodes delivered.
 
-ghost use Rattle.std.specs.Prelude.{◌≡◌, ◌⊎◌, ℕ, ◌+◌, ◌*◌, ◌<◌, ◌≤◌, ◌++◌, ◌∷◌, [], Some, All, length, take, drop, slice_get, OnOk, OnErr, IsOkUnless, vec_capacity};
+ghost use Rattle.std.specs.Prelude.{◌≡◌, ◌⊎◌, ℕ, ◌+◌, ◌-◌, ◌*◌, ◌<◌, ◌≤◌, ◌++◌, ◌∷◌, [], Some, All, length, take, drop, slice_get, OnOk, OnErr, IsOkUnless, vec_capacity};
 ghost use Rattle.std.specs.Arc.{arc_value};
 ghost use Rattle.cpg_entry.specs.declared.ranges.TheConstants.{MOST_PLACES};
 ghost use Rattle.cpg_ledger.specs.Blocks.{laid, IsBlock};
@@ -176,6 +176,16 @@ impl Ledger {
         ensures room { self.new.room ≡ self.old.room }
     {
         self.own.push_reserved(entry);
+    }
+
+    /// Drops what stands behind the first `len` entries, so far as it is its own: what stands in blocks stays.
+    #[tactic(auto, using(crate::proofs::Laid::length_append, crate::proofs::Laid::take_over, crate::proofs::Laid::take_shorter))]
+    pub fn truncate(&mut self, len: usize)
+        ensures items { self.new.items ≡ take (self.old.in_blocks + (len - self.old.in_blocks)) self.old.items }
+        ensures laid { self.new.in_blocks ≡ self.old.in_blocks }
+    {
+        let laid = count_laid(self.blocks.as_slice());
+        self.own.truncate(len.saturating_sub(laid));
     }
 
     /// Takes the first 256 of its own entries from the shelf, in the place where lists that begin alike put the same

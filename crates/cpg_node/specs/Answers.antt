@@ -1,5 +1,5 @@
 -- What a call may answer where memory may be refused.
-use Rattle.std.specs.Prelude.{◌≡◌, ℕ, List, [], map, Option, Some, None, IsSome, Result, Ok, Err, option_map}
+use Rattle.std.specs.Prelude.{◌≡◌, ◌⊎◌, ℕ, Bool, true, false, List, [], map, Option, Some, None, IsSome, Result, Ok, Err, option_map}
 use Rattle.cpg_cred.specs.Listed.{Listed}
 use Rattle.cpg_cred.specs.declared.refusals.Refusal.TheVariants as refusal
 use Rattle.cpg_cred.specs.declared.refusals.Refused.{Refused}
@@ -9,7 +9,8 @@ use Rattle.cpg_entry.specs.Ranges.{IsFrame}
 use Rattle.cpg_entry.specs.Widths.{FrameFits}
 use Rattle.cpg_wire.specs.declared.codes.Version.TheVariants.{Two}
 use Rattle.cpg_wire.specs.Spelling.{spelling}
-use Rattle.cpg_ring.specs.States.{Frame, Refusal}
+use Rattle.cpg_entry.specs.declared.frames.Frame.TheVariants as frames
+use Rattle.cpg_ring.specs.States.{Frame, Refusal, Token}
 use Rattle.cpg_ring.specs.declared.settings.Settings.{Settings}
 use Rattle.cpg_ring.specs.Rings.{IsRingNode}
 use Rattle.cpg_node.specs.declared.connections.Client.{Client}
@@ -43,6 +44,13 @@ IsFrameAnswer items x None answer new = (answer ≡ Err refusal.Malformed) × (n
 IsFrameAnswer items x (Some f) (Ok bytes) new = (frame_refusal x f ≡ None) × (items bytes ≡ spelled (answers_to x f)) × (new ≡ after_frame x f)
 IsFrameAnswer items x (Some f) (Err refusal.Memory) new = (frame_refusal x f ≡ None) × (new ≡ x)
 IsFrameAnswer items x (Some f) (Err why) new = (frame_refusal x f ≡ Some why) × (new ≡ x)
+
+-- What `turn` answers, and the node after it: false where the node sent no token; else true, or the first refusal that fits, or
+-- Memory. A refusal leaves the node as it was.
+abbrev pub IsTurnAnswer : NodeValue → Option Token → Result Bool Refusal → NodeValue → Type 0
+IsTurnAnswer x None answer new = (answer ≡ Ok false) × (new ≡ x)
+IsTurnAnswer x (Some t) (Ok passed) new = (passed ≡ true) × (frame_refusal x (frames.Token t) ≡ None) × (new ≡ after_frame x (frames.Token t))
+IsTurnAnswer x (Some t) (Err why) new = ((why ≡ refusal.Memory) ⊎ (frame_refusal x (frames.Token t) ≡ Some why)) × (new ≡ x)
 
 -- What `take` answers: NoConnection, or the next event; or Memory in the place of one that is there.
 abbrev pub IsTakeAnswer : NodeValue → ℕ → Option Client → Result (Option Event) Refusal → Type 0

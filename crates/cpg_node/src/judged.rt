@@ -54,6 +54,13 @@ impl Judged {
         &self.policy
     }
 
+    /// The records, for who frees them piece by piece.
+    pub fn into_records(self) -> Vec<Record>
+        ensures { result.items ≡ judged self }
+    {
+        self.policy.into_records()
+    }
+
     /// Puts the entry of a record last, where the record is its judgement here. A refusal changes nothing and
     /// gives the record back.
     pub fn apply(&mut self, next: Record) -> Result<(), Refused<Record>>

@@ -13,6 +13,7 @@ mod judged;
 mod keepers;
 mod names;
 mod nodes;
+mod remains;
 mod ringing;
 
 pub use connections::{Client, Connection};
@@ -20,3 +21,4 @@ pub use cpg_group::{Event, Names, Processes, Record};
 pub use cpg_ring::Settings;
 pub use names::call_refusal;
 pub use nodes::Node;
+pub use remains::Remains;

@@ -15,14 +15,15 @@ ghost use Rattle.cpg_wire.specs.Views.{frame_seen};
 ghost use Rattle.cpg_entry.specs.Ranges.{IsFrame};
 ghost use Rattle.cpg_node.specs.Nodes.{records_of, open_client, new_value, conn_id};
 ghost use Rattle.cpg_node.specs.Calls.{connect_refusal, connected, submit_refusal, submitted, closed_refusal, disconnected, frame_refusal, answers_to, place_to_deliver, next_record, node_after_delivery, next_event, took};
-ghost use Rattle.cpg_node.specs.Answers.{CanBeSpelled, IsNodeMade, IsFrameAnswer, IsListAnswer, IsGroupsAnswer, IsTakeAnswer, connection_of};
+ghost use Rattle.cpg_node.specs.Answers.{CanBeSpelled, IsNodeMade, IsFrameAnswer, IsListAnswer, IsGroupsAnswer, IsTakeAnswer, IsTurnAnswer, connection_of};
 
 use crate::clients::{open_client, put_client};
 use crate::connections::{Client, Connection};
 use crate::judged::Judged;
 use crate::keepers::Kept;
 use crate::names::call_refusal;
-use crate::ringing::{hear_packet, hear_token};
+use crate::remains::Remains;
+use crate::ringing::{hear_packet, hear_token, pass_token};
 use bytes::Bytes;
 use cpg_cred::{AcceptList, Cred, NodeId, Refusal, Refused};
 use cpg_entry::{Call, Entry, Frame, MOST_CONNECTIONS, Op, SharedEntry, Token, token_fits};
@@ -262,6 +263,20 @@ impl Node {
         }
     }
 
+    /// The node hears the token that it sent last, which is for it in a ring of one node, and spells nothing of what it
+    /// would send. Tells whether there is a token.
+    pub fn turn(&mut self) -> Result<bool, Refusal>
+        ensures answer { IsTurnAnswer self.old self.old.ring.state.last_token result self.new }
+        ensures kept { records_of self.new ≡ records_of self.old }
+    {
+        let Some(token) = self.ring.resend() else {
+            return Ok(false);
+        };
+        let token = token.copy(self.alloc)?;
+        pass_token(&mut self.ring, &token)?;
+        Ok(true)
+    }
+
     /// The judgement of the next place, if it is held.
     pub fn judge_next(&self) -> Result<Option<Record>, Refusal>
         ensures ok { IfOk result (λ next. next ≡ next_record self.now) }
@@ -377,6 +392,15 @@ impl Node {
         ensures { result.now ≡ records_of self.now }
     {
         self.judged.policy().records()
+    }
+
+    /// What is left of the node that is no more, to be freed piece by piece.
+    #[tactic(auto, using(crate::proofs::Keeping::delivered_most))]
+    pub fn into_remains(self) -> Remains
+        ensures { result ≡ length (records_of self) }
+    {
+        let _ = self.delivered();
+        Remains::of(self.ring.into_ledger(), self.judged.into_records())
     }
 
     /// How many places it delivered: it has a record of each.

@@ -76,3 +76,17 @@ pub(crate) fn hear_token(
     ring.accept(token, visit.token)?;
     Ok(list)
 }
+
+/// Accepts the token, or gives the first refusal that fits; after a refusal the ring is as it was. Nothing is spelled of
+/// what is to be sent.
+pub(crate) fn pass_token(ring: &mut Ring, token: &Token) -> Result<(), Refusal>
+    requires sound { IsSound ring.old }
+    requires token { IsToken token.now }
+    ensures answer { IsAnswer (refusal_of ring.old token.now) (λ _. ring.new ≡ visited ring.old token.now) result }
+    ensures err { OnErr result (ring.new ≡ ring.old) }
+    ensures kept { IsKeptBy ring.old ring.new }
+{
+    let Visit { token: next, .. } = ring.visit(token)?;
+    ring.accept(token, next)?;
+    Ok(())
+}

@@ -186,6 +186,13 @@ impl Held {
         self.done.share(shelf, keeper);
     }
 
+    /// What was delivered; what is held above it is freed.
+    pub fn into_ledger(self) -> Ledger
+        ensures { length result.items ≡ self.delivered }
+    {
+        self.done
+    }
+
     /// The packets of the places asked for that are held.
     pub fn serve(
         &self,

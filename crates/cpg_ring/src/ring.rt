@@ -22,7 +22,7 @@ use crate::settings::{MOST_WAITING, Settings, WINDOW};
 use crate::waiting::Waiting;
 use cpg_cred::{MOST_NODES, Refused};
 use cpg_entry::{Entry, MOST_HOPS, MOST_PLACES, NodeId, Packet, Places, Refusal, Token};
-use cpg_ledger::{Keeper, Shelf};
+use cpg_ledger::{Keeper, Ledger, Shelf};
 use std::alloc::Global;
 use std::marker::Model;
 
@@ -157,6 +157,13 @@ impl Ring {
         ensures { self.new ≡ self.old }
     {
         self.held.share(shelf, keeper);
+    }
+
+    /// What it delivered, for who frees it piece by piece; all else of it is freed.
+    pub fn into_ledger(self) -> Ledger
+        ensures { length result.items ≡ self.state.delivered }
+    {
+        self.held.into_ledger()
     }
 
     /// Puts a call last among the waiting entries. Refused with QueueFull exactly where 256 calls or more
