@@ -43,8 +43,9 @@ static size_t play(void) {
     static uint8_t frame[CPGRING_MOST_FRAME], message[100];
     const cpgring_setup setup = {1, 1, 1, 100, 100};
     const cpgring_rule rule = {0, CPGRING_DENY, CPGRING_RIGHT_JOIN, true, false, false, 8, 0, 0};
-    cpgring ring = CPGRING_INIT;
+    cpgring ring = CPGRING_INIT, next = CPGRING_INIT;
     cpgring_event event;
+    bool refused_before = false;
     uint16_t conn = 0;
     uint32_t place = 0, route = 0;
     size_t len = 0, count = 0, told = 0;
@@ -76,7 +77,13 @@ static size_t play(void) {
     DO(cpgring_seat(&ring, 0, &place), CPGRING_OK);
     told += place;
     DO(cpgring_disconnect(&ring, conn), CPGRING_OK);
-    DO(cpgring_close(&ring), CPGRING_OK);
+    DO(cpgring_open(&next, &setup, users, 3, groups, 1), CPGRING_OK);
+    refused_before = refused;
+    DO(cpgring_close_into(&ring, &next), CPGRING_OK);
+    DO(cpgring_shed(&next, 3, &len), CPGRING_OK);
+    if (refused != refused_before) differs = true; /* neither allocates */
+    told += len;
+    DO(cpgring_close(&next), CPGRING_OK);
     return told + count;
 }
 

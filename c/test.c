@@ -580,6 +580,60 @@ static void seats(void) {
     end(1);
 }
 
+/* Delivers a join and nine messages of one connection at a ring of one node. */
+static void fill_ten(void) {
+    begin(1, 100);
+    connect_as(1, 40, 7, 100);
+    IS(cpgring_join(&ring[1], 1, BYTES("db")), CPGRING_OK);
+    for (unsigned k = 0; k < 9; k++) IS(cpgring_send(&ring[1], 1, BYTES("a message of more than 16 bytes")), CPGRING_OK);
+    IS(cpgring_turn(&ring[1]), CPGRING_OK);
+    for (uint32_t k = 1; k <= 8; k++) deliver(1, k);
+    IS(cpgring_turn(&ring[1]), CPGRING_OK);
+    for (uint32_t k = 9; k <= 10; k++) deliver(1, k);
+}
+
+static void shed(cpgring *handle, size_t most, size_t wanted) {
+    size_t left = 99;
+    IS(cpgring_shed(handle, most, &left), CPGRING_OK);
+    IS(left, wanted);
+}
+
+/* A node of ten places is closed into another one, which goes on as it was and gives back what that one had, piece by piece; a
+ * second one is closed into it before all is given back, and the rest goes with it. */
+static void closed_into(void) {
+    cpgring keeper = CPGRING_INIT, none = CPGRING_INIT;
+    cpgring_setup setup = {2, 1, 1, 100, 100};
+    const uint32_t users[] = {0};
+    uint16_t conn = 0;
+    size_t left = 0;
+    const uint8_t *message = NULL;
+    fill_ten();
+    IS(cpgring_close_into(&ring[1], &none), CPGRING_CLOSED);
+    IS(cpgring_close_into(&none, &ring[1]), CPGRING_CLOSED);
+    IS(cpgring_close_into(&none, &keeper), CPGRING_CLOSED);
+    IS(cpgring_shed(&none, 1, &left), CPGRING_CLOSED);
+    shed(&ring[1], 1, 0);
+    IS(cpgring_audit_lent(&ring[1], 10, &message, &left), CPGRING_OK);
+    IS(left, 31);
+    IS(cpgring_open(&keeper, &setup, users, 0, users, 0), CPGRING_OK);
+    IS(cpgring_connect(&keeper, 1, 0, 0, &conn), CPGRING_OK);
+    IS(cpgring_close_into(&ring[1], &keeper), CPGRING_OK);
+    IS(cpgring_close(&ring[1]), CPGRING_CLOSED);
+    shed(&keeper, 4, 6);
+    shed(&keeper, 0, 6);
+    shed(&keeper, 4, 2);
+    shed(&keeper, 1000, 0);
+    shed(&keeper, 1, 0);
+    IS(cpgring_connect(&keeper, 1, 0, 0, &conn), CPGRING_OK);
+    IS(conn, 2);
+    for (unsigned k = 0; k < 2; k++) {
+        fill_ten();
+        IS(cpgring_close_into(&ring[1], &keeper), CPGRING_OK);
+        shed(&keeper, 3, 7);
+    }
+    IS(cpgring_close(&keeper), CPGRING_OK);
+}
+
 /* Handles that are opened, opened again, closed, and used when they are not open. */
 static void handles(void) {
     cpgring handle = CPGRING_INIT;
@@ -647,6 +701,7 @@ int main(void) {
     turns();
     lent();
     seats();
+    closed_into();
     handles();
     printf("%u answers compared, %u differ\n", compared, differing);
     return differing != 0;

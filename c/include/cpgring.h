@@ -192,6 +192,15 @@ uint32_t cpgring_open_conf(cpgring *handle, const cpgring_setup *setup, const ui
 /* Closes a handle, and gives all its memory back. CPGRING_CLOSED where it is not open. */
 uint32_t cpgring_close(cpgring *handle);
 
+/* Closes a handle, whose memory then is `keeper`'s, to be given back piece by piece by cpgring_shed: to give all of it back
+ * at once takes a time that grows with its places. Nothing else of `keeper` changes; what it kept of an earlier handle is
+ * given back at once. CPGRING_CLOSED where one of both is not open. */
+uint32_t cpgring_close_into(cpgring *handle, cpgring *keeper);
+
+/* Gives back what a handle that was closed into this one has of its last places, of `most` places or of all that are left.
+ * Tells how many are left, 0 where nothing is. It allocates nothing. */
+uint32_t cpgring_shed(cpgring *handle, size_t most, size_t *left);
+
 /* ---- Connections. Each of these calls, but the first, waits at the node until the token comes. ---- */
 
 /* Takes a connection of a process in, and tells its number, from 1. CPGRING_ACCESS, CPGRING_CONNECTIONS_FULL,

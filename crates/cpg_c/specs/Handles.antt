@@ -4,6 +4,7 @@ use Rattle.cpg_cred.specs.declared.refusals.Refusal.{Refusal}
 use Rattle.cpg_cred.specs.declared.refusals.Refusal.TheVariants.{Memory}
 use Rattle.cpg_cred.specs.Listed.{Listed}
 use Rattle.cpg_embed.specs.Endpoints.{EndpointValue}
+use Rattle.cpg_embed.specs.Closing.{with_remains}
 use Rattle.cpg_conf.specs.Names.{Known}
 use Rattle.cpg_embed.specs.Opening.{IsOpened, IsConfOpened}
 use Rattle.cpg_embed.specs.Statuses.{number}
@@ -38,3 +39,10 @@ IsConfOpenedAt setup known conf None status None fault = IsConfOpened setup know
 abbrev pub IsEmptied : Option EndpointValue → ℕ → Option EndpointValue → Type 0
 IsEmptied None status new = (status ≡ CLOSED) × (new ≡ None)
 IsEmptied (Some e) status new = (status ≡ OK) × (new ≡ None)
+
+-- Close into another: Closed where one of both is not open, and nothing happens; else nothing is in the handle then, and what is
+-- left of its node is at the other, whose own node stays as it is.
+abbrev pub IsClosedInto : Option EndpointValue → Option EndpointValue → ℕ → Option EndpointValue → Option EndpointValue → Type 0
+IsClosedInto (Some ended) (Some e) status new keeper = (status ≡ OK) × (new ≡ None) × (keeper ≡ Some (with_remains e ended.node))
+IsClosedInto old None status new keeper = (status ≡ CLOSED) × (new ≡ old) × (keeper ≡ None)
+IsClosedInto None (Some e) status new keeper = (status ≡ CLOSED) × (new ≡ None) × (keeper ≡ Some e)

@@ -7,6 +7,7 @@
 #![tactic(auto)]
 
 mod calls;
+mod closing;
 mod events;
 mod frames;
 mod handles;

@@ -1,13 +1,13 @@
-//! Opening and closing.
+//! Opening.
 
 ghost use Rattle.std.specs.Prelude.{◌≡◌};
 ghost use Rattle.cpg_conf.specs.Names.{known_of};
 ghost use Rattle.cpg_embed.specs.Opening.{listing_of};
-ghost use Rattle.cpg_c.specs.Handles.{IsOpenedAt, IsConfOpenedAt, IsEmptied};
+ghost use Rattle.cpg_c.specs.Handles.{IsOpenedAt, IsConfOpenedAt};
 
 use crate::handles::Handle;
 use cpg_cred::Refusal;
-use cpg_embed::{BUSY, CLOSED, Fault, OK, Setup, number_of, open, open_conf};
+use cpg_embed::{BUSY, Fault, OK, Setup, number_of, open, open_conf};
 use std::alloc::Global;
 
 /// Opens a node of that setup, which lets in those users and groups.
@@ -66,19 +66,5 @@ pub extern "C" fn cpgring_open_conf(
             },
             Err(status) => status,
         },
-    }
-}
-
-/// Closes a handle.
-#[unsafe(no_mangle)]
-pub extern "C" fn cpgring_close(alloc: Global, handle: &mut Handle) -> u32
-    ensures { IsEmptied handle.old.slot.held result handle.new.slot.held }
-{
-    match handle.take(alloc) {
-        Some(boxed) => {
-            drop(boxed);
-            OK
-        }
-        None => CLOSED,
     }
 }

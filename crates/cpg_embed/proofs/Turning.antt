@@ -1,33 +1,32 @@
--- The last token as its bytes are heard.
-use Rattle.std.proofs.Common.{◌≡◌, ◌≤◌, ℕ, false, List, [], length, nat_lt, sym, ap, subst, arith}
-use Rattle.std.specs.Prelude.{Option, Some, None, IfSome, option_map, unwrap_or}
-use Rattle.cpg_entry.specs.Ranges.{IsFrame}
-use Rattle.cpg_entry.specs.Widths.{FrameFits}
+-- What a turn's answer says of the status.
+use Rattle.std.proofs.Common.{◌≡◌, ◌≤◌, ℕ, true, false, [], length, nat_lt, refl, sym, ap, subst, inl, inr, arith}
+use Rattle.std.specs.Prelude.{Option, Some, None, Ok, Err}
+use Rattle.cpg_cred.specs.declared.refusals.Refusal.{Refusal}
 use Rattle.cpg_entry.specs.declared.frames.Frame.TheVariants as frames
-use Rattle.cpg_node.specs.Answers.{CanBeSpelled}
-use Rattle.cpg_ring.specs.States.{Frame, Token}
-use Rattle.cpg_wire.specs.Reading.{frame_of}
-use Rattle.cpg_wire.specs.Spelling.{spelling}
-use Rattle.cpg_wire.specs.Versions.{Fits}
-use Rattle.cpg_wire.specs.declared.codes.Version.{Version}
-use Rattle.cpg_wire.specs.declared.codes.Version.TheVariants.{Two}
-use Rattle.cpg_embed.specs.Endpoints.{EndpointValue}
-use Rattle.cpg_embed.specs.Frames.{IsReadAlone, IsTurned, IsTurnStatus}
-use Rattle.cpg_embed.specs.Statuses.{IfElse}
-use Rattle.cpg_embed.specs.declared.statuses.TheConstants.{BUSY}
+use Rattle.cpg_node.specs.Nodes.{NodeValue}
+use Rattle.cpg_node.specs.Answers.{IsTurnAnswer}
+use Rattle.cpg_ring.specs.States.{Token}
+use Rattle.cpg_embed.specs.Endpoints.{EndpointValue, at_node, with_frames}
+use Rattle.cpg_embed.specs.Frames.{IsHeardAlone, IsTurned, IsTurnStatus}
+use Rattle.cpg_embed.specs.Statuses.{IfElse, number}
+use Rattle.cpg_embed.specs.declared.statuses.TheConstants.{OK, NONE, BUSY}
 
--- what the codec promises: a frame's spelling is read again
-abbrev pub ReadAgain : Type 0
-ReadAgain = (version : Version) (f : Frame) → IsFrame f → FrameFits f → Fits version f → frame_of (spelling version f) ≡ Some f
+-- the token was heard
+pub turned : (e : EndpointValue) (last : Option Token) (node : NodeValue) → IsTurnAnswer e.node last (Ok true) node → IsTurned e last OK (with_frames (at_node e node) [])
+turned e None node is = absurd (cc)
+turned e (Some t) node is =
+    inr (subst (λ r. IsHeardAlone e (frames.Token t) r OK (with_frames (at_node e node) [])) (sym is.1) (refl, ap (λ n. with_frames (at_node e n) []) is.2))
 
--- hearing the bytes of the last token is hearing the last token
-pub heard_again : (e : EndpointValue) (last : Option Token) (bytes : List ℕ) (status : ℕ) (new : EndpointValue) →
-    Some bytes ≡ option_map (λ t. spelling Two (frames.Token t)) last → IfSome last (λ t. CanBeSpelled (frames.Token t)) → ReadAgain →
-    IsReadAlone e (frame_of bytes) status new → IsTurned e last status new
-heard_again e None bytes status new is can again says = absurd (cc)
-heard_again e (Some t) bytes status new is can again says =
-    subst (λ f. IsReadAlone e f status new) (again Two (frames.Token t) can.0 can.1 tt)
-    (subst (λ b. IsReadAlone e (frame_of b) status new) (ap (λ o. unwrap_or o []) is) says)
+-- there is none
+pub not_turned : (e : EndpointValue) (last : Option Token) (node : NodeValue) → IsTurnAnswer e.node last (Ok false) node → IsTurned e last NONE (at_node e node)
+not_turned e None node is = (refl, ap (at_node e) is.1)
+not_turned e (Some t) node is = absurd (cc)
+
+-- it was refused
+pub refused : (e : EndpointValue) (last : Option Token) (why : Refusal) (node : NodeValue) → IsTurnAnswer e.node last (Err why) node → IsTurned e last (number why) (at_node e node)
+refused e None why node is = absurd (cc)
+refused e (Some t) why node (inl memory, same) = inl (ap number memory, ap (at_node e) same)
+refused e (Some t) why node (inr says, same) = inr (subst (λ r. IsHeardAlone e (frames.Token t) r (number why) (at_node e node)) (sym says) (refl, ap (at_node e) same))
 
 -- where no frames wait, the status is that of the turn
 pub not_busy : (e : EndpointValue) (status : ℕ) (new : EndpointValue) → length e.made ≤ e.given → IsTurned e e.node.ring.state.last_token status new →

@@ -16,10 +16,12 @@ pub record EndpointValue : Type 0 where
   pub names : Option (List (List ℕ))
   -- the places of the members' joins, as they were told last
   pub seats : Option (List ℕ)
+  -- how many places are left of an endpoint that was closed into it
+  pub remains : Option ℕ
 
 -- an endpoint of that node, which has nothing to hand over
 abbrev pub new_endpoint : NodeValue → EndpointValue
-new_endpoint node = record { node = node; made = []; given = 0; event = None; processes = None; names = None; seats = None }
+new_endpoint node = record { node = node; made = []; given = 0; event = None; processes = None; names = None; seats = None; remains = None }
 
 -- the endpoint with its node changed
 abbrev pub at_node : EndpointValue → NodeValue → EndpointValue

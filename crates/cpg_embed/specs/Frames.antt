@@ -50,16 +50,11 @@ abbrev pub IsHeardAlone : EndpointValue → Frame → Option Refusal → ℕ →
 IsHeardAlone e f (Some why) status new = (status ≡ number why) × (new ≡ e)
 IsHeardAlone e f None status new = (status ≡ OK) × (new ≡ with_frames (at_node e (after_frame e.node f)) [])
 
--- The same of bytes, as they are read.
-abbrev pub IsReadAlone : EndpointValue → Option Frame → ℕ → EndpointValue → Type 0
-IsReadAlone e None status new = (status ≡ number refusal.Malformed) × (new ≡ e)
-IsReadAlone e (Some f) status new = ((status ≡ number refusal.Memory) × (new ≡ e)) ⊎ IsHeardAlone e f (frame_refusal e.node f) status new
-
 -- The last token is heard by the node that sent it, which is refused where the token is for another node; there is nothing to
 -- hear, where the node sent none.
 abbrev pub IsTurned : EndpointValue → Option Token → ℕ → EndpointValue → Type 0
 IsTurned e None status new = (status ≡ NONE) × (new ≡ e)
-IsTurned e (Some t) status new = IsReadAlone e (Some (frames.Token t)) status new
+IsTurned e (Some t) status new = ((status ≡ number refusal.Memory) × (new ≡ e)) ⊎ IsHeardAlone e (frames.Token t) (frame_refusal e.node (frames.Token t)) status new
 
 -- Turn.
 abbrev pub IsTurnStatus : EndpointValue → ℕ → EndpointValue → Type 0

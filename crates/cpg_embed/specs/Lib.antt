@@ -8,6 +8,7 @@ pub mod Events
 pub mod Rules
 pub mod Listings
 pub mod Seats
+pub mod Closing
 pub mod Records
 pub mod Opening
 pub mod Laws

@@ -12,12 +12,12 @@ use crate::statuses::{OK, number_of};
 use bytes::Bytes;
 use cpg_cred::{Cred, Refusal};
 use cpg_entry::{Call, Message, Name};
-use cpg_node::{Event, Names, Node, Processes};
+use cpg_node::{Event, Names, Node, Processes, Remains};
 use std::alloc::Global;
 use std::marker::Model;
 
 /// A node with what it still has to hand over: the frames of its last answer, the event that was taken
-/// last, and what was listed last.
+/// last, and what was listed last; and what is left of an endpoint that was closed into it.
 #[derive(Drop)]
 pub struct Endpoint {
     pub(crate) alloc: Global,
@@ -28,6 +28,7 @@ pub struct Endpoint {
     pub(crate) processes: Option<Processes>,
     pub(crate) names: Option<Names>,
     pub(crate) seats: Option<Seats>,
+    pub(crate) remains: Option<Remains>,
 }
 
 impl Model for Endpoint {
@@ -39,7 +40,7 @@ impl Model for Endpoint {
 
     ghost coded = { Prim.hlevel (codes, held_code) };
 
-    ghost view = { λ e. record { node = e.node; made = e.made.items; given = e.given; event = e.event; processes = e.processes; names = e.names; seats = e.seats } };
+    ghost view = { λ e. record { node = e.node; made = e.made.items; given = e.given; event = e.event; processes = e.processes; names = e.names; seats = e.seats; remains = e.remains } };
 }
 
 impl Endpoint {
@@ -56,6 +57,7 @@ impl Endpoint {
             processes: None,
             names: None,
             seats: None,
+            remains: None,
         }
     }
 

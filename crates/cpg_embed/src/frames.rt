@@ -3,13 +3,11 @@
 ghost use Rattle.std.specs.Prelude.{◌≡◌};
 ghost use Rattle.std.specs.List.{slice_get};
 ghost use Rattle.cpg_node.specs.Calls.{place_to_deliver};
-ghost use Rattle.cpg_wire.specs.Reading.{frame_of};
-ghost use Rattle.cpg_embed.specs.Frames.{IsFrameStatus, IsReadAlone, IsTimerStatus, IsTurnStatus, IsNextFrame, IsDelivered};
+ghost use Rattle.cpg_embed.specs.Frames.{IsFrameStatus, IsTimerStatus, IsTurnStatus, IsNextFrame, IsDelivered};
 
 use crate::endpoints::Endpoint;
 use crate::statuses::{BUSY, NONE, OK, hand, number_of};
 use cpg_cred::Refusal;
-use cpg_wire::reads_what_is_spelled;
 
 /// A frame that goes to all other nodes.
 const TO_ALL: u32 = 1;
@@ -60,32 +58,22 @@ impl Endpoint {
         }
     }
 
-    /// The node hears the last token that it sent, and what it answers is handed over to nobody: so the token goes round in
-    /// a ring of one node. In any other ring that token is for another node, and is refused.
+    /// The node hears the last token that it sent, and what it answers is spelled for nobody: so the token goes round in a
+    /// ring of one node. In any other ring that token is for another node, and is refused.
+    #[tactic(auto, using(crate::proofs::Turning::turned, crate::proofs::Turning::not_turned, crate::proofs::Turning::refused, crate::proofs::Turning::not_busy))]
     pub fn turn(&mut self) -> u32
         ensures { IsTurnStatus self.old result self.new }
     {
-        reads_what_is_spelled();
         if self.given < self.made.len() {
             return BUSY;
         }
-        match self.node.timer() {
-            Ok(None) => NONE,
-            Ok(Some(token)) => self.hear_own(token.as_slice()),
-            Err(refusal) => number_of(refusal),
-        }
-    }
-
-    /// Hears a frame whose answer goes nowhere.
-    fn hear_own(&mut self, bytes: &[u8]) -> u32
-        ensures { IsReadAlone self.old (frame_of bytes.now) result self.new }
-    {
-        match self.node.frame(bytes) {
-            Ok(_) => {
+        match self.node.turn() {
+            Ok(true) => {
                 self.made = Vec::new(self.alloc);
                 self.given = 0;
                 OK
             }
+            Ok(false) => NONE,
             Err(refusal) => number_of(refusal),
         }
     }

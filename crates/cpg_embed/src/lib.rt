@@ -7,6 +7,7 @@
 //! the number of its refusal; what it hands over is what the node gave, each frame once, in order.
 #![tactic(auto)]
 
+mod closing;
 mod endpoints;
 mod events;
 mod frames;
