@@ -1,5 +1,5 @@
 -- how a script that checks itself ends
-use Rattle.std.specs.Prelude.{ℕ, ◌≡◌, Bool, true, false, List, Option, Some, None, Result, Ok, Err}
+use Rattle.std.specs.Prelude.{ℕ, ◌≡◌, ⊤, Bool, true, false, List, Option, Some, None, Result, Ok, Err}
 use Rattle.cpg_cred.specs.Listed.{Listed}
 use Rattle.cpg_ring.specs.declared.settings.Settings.{Settings}
 use Rattle.cpg_history.specs.Members.{MemberValue}
@@ -8,6 +8,7 @@ use Rattle.cpg_world_laws.specs.declared.events.WorldEvent.{WorldEvent}
 use Rattle.cpg_console.specs.declared.failures.Failure.{Failure}
 use Rattle.cpg_console.specs.Runs.{status_after}
 use Rattle.cpg_console.specs.Tracing.{WasKeptOf}
+use Rattle.cpg_play.specs.Worlds.{IsPlayedOverWorld}
 use Rattle.cpg_play.specs.declared.performing.Stage.{Stage}
 use Rattle.cpg_play.specs.declared.performing.Stage.TheVariants.{World, Cluster}
 
@@ -26,6 +27,11 @@ abbrev pub status_played : Option Failure → Bool → ℕ
 status_played None false = 1
 status_played None true = 0
 status_played (Some failure) wanted = status_after (Some failure)
+
+-- What a script wrote over a new world, and whether all was as wanted. What it does over a cluster is said line by line.
+abbrev pub IsPlayedOn : Stage → Settings → Option Listed → List ℕ → Option (List ℕ) → Option (List ℕ) → Bool → Type 0
+IsPlayedOn World settings list script before after wanted = IsPlayedOverWorld settings list script before after wanted
+IsPlayedOn (Cluster live) settings list script before after wanted = ⊤
 
 -- the keeper has what was left of a cluster; a world leaves nothing
 abbrev pub IsLeftOf : {K : Type 0} → (WorldValue → List WorldEvent → List MemberValue → K → K → Type 0) → Stage → Settings → Option Listed → K → K → Type 0

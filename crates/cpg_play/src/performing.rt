@@ -2,13 +2,15 @@
 //!
 //! Proved: a wrong word comes first, what a stopped cluster leaves is the keeper's, and the exit status.
 
-ghost use Rattle.std.specs.Prelude.{◌≡◌, ◌≢◌, ◌↔◌, [], Err, Some, None, map, OnOk, IsTrue};
+ghost use Rattle.std.specs.Prelude.{◌≡◌, ◌≢◌, ◌↔◌, [], Err, Some, None, map, OnOk, IfOk, IfSome, IsTrue};
 ghost use Rattle.std.specs.Io.Buffered.{writer_buffer};
 ghost use Rattle.cpg_world_laws.specs.Worlds.{new_world};
 ghost use Rattle.cpg_console.specs.Runs.{failure_of};
 ghost use Rattle.cpg_console.specs.Tracing.{WasKept};
+ghost use Rattle.cpg_console.specs.Pipes.{written};
 ghost use Rattle.cpg_console.specs.Words.{list_of_words};
-ghost use Rattle.cpg_play.specs.Playing.{IsLeftOf, failure_played, status_played, wanted_played};
+ghost use Rattle.cpg_play.specs.Worlds.{IsPlayedOverWorld};
+ghost use Rattle.cpg_play.specs.Playing.{IsLeftOf, IsPlayedOn, failure_played, status_played, wanted_played};
 
 use crate::clusters::OverCluster;
 use crate::switches::{Switched, Switches};
@@ -96,6 +98,8 @@ where
     K: KeepsEnds,
     ensures word { (result.ended.failure ≡ Some Failure.BadWord) ↔ (list_of_words (map (λ word. word.now) words.now) ≡ None) }
     ensures flushed { IsTrue result.ended.flushed → writer_buffer writer.new ≡ [] }
+    ensures played { result.ended.failure ≡ None → IfSome (R.remaining reader.old) (λ script.
+        IsPlayedOn stage.now settings (list_of_words (map (λ word. word.now) words.now)) script (written W.contents writer.old) (written W.contents writer.new) result.wanted) }
     ensures kept { result.ended.failure ≡ None → IsLeftOf K.keeps stage.now settings (list_of_words (map (λ word. word.now) words.now)) keeper.old keeper.new }
 {
     let played = play(
@@ -145,6 +149,8 @@ where
     E: Write,
     K: KeepsEnds,
     ensures word { (result ≡ Err Failure.BadWord) ↔ (list_of_words (map (λ word. word.now) words.now) ≡ None) }
+    ensures played { IfOk result (λ wanted. IfSome (R.remaining reader.old) (λ script.
+        IsPlayedOn stage.now settings (list_of_words (map (λ word. word.now) words.now)) script (W.contents writer.old) (W.contents writer.new) wanted)) }
     ensures kept { OnOk result (IsLeftOf K.keeps stage.now settings (list_of_words (map (λ word. word.now) words.now)) keeper.old keeper.new) }
 {
     match stage {
@@ -168,7 +174,9 @@ fn play_over_world<R: Read, W: Write, E: Write>(
     writer: &mut W,
     errors: &mut E,
 ) -> Result<bool, Failure>
-    ensures { (result ≡ Err Failure.BadWord) ↔ (list_of_words (map (λ word. word.now) words.now) ≡ None) }
+    ensures word { (result ≡ Err Failure.BadWord) ↔ (list_of_words (map (λ word. word.now) words.now) ≡ None) }
+    ensures played { IfOk result (λ wanted. IfSome (R.remaining reader.old) (λ script.
+        IsPlayedOverWorld settings (list_of_words (map (λ word. word.now) words.now)) script (W.contents writer.old) (W.contents writer.new) wanted)) }
 {
     match world_by(alloc, settings, words) {
         Err(failure) => Err(failure),

@@ -3,10 +3,11 @@
 //! Proved: what a line wants, whether the next printed line is that, and that a command does what its player says. That
 //! each line is come to, and that one difference is enough, is tested.
 
-ghost use Rattle.std.specs.Prelude.{◌≡◌, ◌≢◌, [], true, false, Some, None, option_map, is_none, OnOk, IfOk, IfSome};
+ghost use Rattle.std.specs.Prelude.{◌≡◌, ◌≢◌, ◌↔◌, Bool, [], true, false, Some, None, option_map, is_none, OnOk, IfOk, IfSome, IsTrue};
 ghost use Rattle.std.specs.Io.KnownBytes.{Appends};
 ghost use Rattle.cpg_text.specs.Lines.{is_ignored};
 ghost use Rattle.cpg_play.specs.Checking.{are_same, behind_line, next_line, unwanted_in, wanted_behind, wanted_by, went_by, and_went};
+ghost use Rattle.cpg_play.specs.Walking.{IsLinePlayed, IsScriptPlayed};
 
 use crate::checking::Printed;
 use crate::telling::tell_difference;
@@ -30,6 +31,7 @@ pub trait Plays {
 
     /// Whether the line, which is not ignored, says something after the lines before it.
     fn reads(&mut self, alloc: Global, line: &[u8]) -> Result<bool, Refusal>
+        ensures same { self.new ≡ self.old }
         ensures memory { IsOkUnless result Refusal.Memory };
 
     /// Does what the line says, puts what that prints where there is nothing, and returns whether it says something.
@@ -91,6 +93,13 @@ fn and_went(wanted: bool, went: Went) -> bool
     ensures { result ≡ and_went wanted went }
 {
     wanted && !matches!(went, Went::Otherwise)
+}
+
+/// Whether the line said nothing.
+fn is_bad(went: Went) -> bool
+    ensures { IsTrue result ↔ (went ≡ Went.Bad) }
+{
+    matches!(went, Went::Bad)
 }
 
 /// Tells whether the next line that was printed is not the wanted one, and goes on behind it.
@@ -160,11 +169,9 @@ fn play_line<P: Plays, W: Write, E: Write>(
     number: u32,
     line: &[u8],
 ) -> Result<Went, Refusal>
-    ensures ignored { is_ignored line.now ≡ true → IfOk result (λ went. (went ≡ Went.Well) × (printed.new ≡ printed.old)) }
-    ensures wanted { is_ignored line.now ≡ false → IfSome (wanted_by line.now) (λ wanted. IfOk result (λ went.
-        (went ≡ went_by (are_same (next_line printed.old.rest) wanted)) × (printed.new ≡ record { rest = behind_line printed.old.rest; wanted = Some number }))) }
-    ensures command { is_ignored line.now ≡ false → wanted_by line.now ≡ None → IfOk result (λ went. went ≢ Went.Bad →
-        (went ≡ went_by (is_none (unwanted_in printed.old.rest printed.old.wanted))) × P.does player.old line.now true printed.new.rest player.new) }
+    ensures { IfOk result (λ went. went ≢ Went.Bad → (all : Bool) → IsLinePlayed P.does number line.now
+        (record { player = player.old; printed = printed.old; written = W.contents writer.old; wanted = all })
+        (record { player = player.new; printed = printed.new; written = W.contents writer.new; wanted = and_went all went })) }
 {
     if is_ignored(line) {
         return Ok(Went::Well);
@@ -183,7 +190,9 @@ fn play_line<P: Plays, W: Write, E: Write>(
 }
 
 /// Whether each line says something; the number of the first that does not.
-fn read_lines<P: Plays>(alloc: Global, player: &mut P, script: &[u8]) -> Result<(), Refusal> {
+fn read_lines<P: Plays>(alloc: Global, player: &mut P, script: &[u8]) -> Result<(), Refusal>
+    ensures { player.new ≡ player.old }
+{
     let mut number = 0u32;
     for line in Lines::of(script) {
         number = number.saturating_add(1);
@@ -198,30 +207,46 @@ fn read_lines<P: Plays>(alloc: Global, player: &mut P, script: &[u8]) -> Result<
     Ok(())
 }
 
+/// Plays the lines of a script, and says whether all was printed as they want it. What is not is told line by line.
+fn play_all<P: Plays, W: Write, E: Write>(
+    alloc: Global,
+    player: &mut P,
+    writer: &mut W,
+    errors: &mut E,
+    script: &[u8],
+) -> Result<bool, Refusal>
+    ensures { IfOk result (λ wanted. IsScriptPlayed P.does script.now player.old player.new (W.contents writer.old) (W.contents writer.new) wanted) }
+{
+    let mut printed = Printed::nothing(alloc);
+    let mut wanted = true;
+    let mut number = 0u32;
+    for line in Lines::of(script) {
+        number = number.saturating_add(1);
+        let line = trim(line);
+        let went = play_line(alloc, player, writer, errors, &mut printed, number, line)?;
+        if is_bad(went) {
+            return Err(Refusal::BadCommand(number));
+        }
+        wanted = and_went(wanted, went);
+    }
+    Ok(and_went(wanted, check_end(alloc, errors, &printed)?))
+}
+
 /// Plays a script, which is read and checked whole before its first line is done, and says whether all was printed as its
-/// lines want it. What is not is told line by line.
+/// lines want it.
 pub fn play_script<P: Plays, R: Read, W: Write, E: Write>(
     alloc: Global,
     player: &mut P,
     reader: &mut R,
     writer: &mut W,
     errors: &mut E,
-) -> Result<bool, Refusal> {
+) -> Result<bool, Refusal>
+    ensures { IfOk result (λ wanted. IfSome (R.remaining reader.old) (λ script.
+        IsScriptPlayed P.does script player.old player.new (W.contents writer.old) (W.contents writer.new) wanted)) }
+{
     let script = read_whole(alloc, reader)?;
     read_lines(alloc, player, script.as_slice())?;
-    let mut printed = Printed::nothing(alloc);
-    let mut wanted = true;
-    let mut number = 0u32;
-    for line in Lines::of(script.as_slice()) {
-        number = number.saturating_add(1);
-        let line = trim(line);
-        let went = play_line(alloc, player, writer, errors, &mut printed, number, line)?;
-        if matches!(went, Went::Bad) {
-            return Err(Refusal::BadCommand(number));
-        }
-        wanted = and_went(wanted, went);
-    }
-    Ok(and_went(wanted, check_end(alloc, errors, &printed)?))
+    play_all(alloc, player, writer, errors, script.as_slice())
 }
 
 /// Tells a line of that number that says nothing, as the shell does.
@@ -254,7 +279,7 @@ pub fn play_lines<P: Plays, R: Read, W: Write, E: Write>(
             let line = trim(line.as_slice());
             play_line(alloc, player, writer, errors, &mut printed, number, line)?
         };
-        if matches!(went, Went::Bad) {
+        if is_bad(went) {
             tell_bad(alloc, errors, number)?;
         }
         wanted = and_went(wanted, went);

@@ -16,12 +16,9 @@ pub struct OverWorld {
 }
 
 impl Plays for OverWorld {
-    ghost use Rattle.std.specs.Prelude.{◌≡◌, true, false, length, MatchOption};
-    ghost use Rattle.cpg_text.specs.Lines.{words_of};
-    ghost use Rattle.cpg_step.specs.Commands.{command_of};
-    ghost use Rattle.cpg_step.specs.Steps.{IsDone};
+    ghost use Rattle.cpg_play.specs.Worlds.{does_in_world};
 
-    ghost does = { λ old line said text new. MatchOption (command_of (length old.world.nodes) (words_of line)) (said ≡ false) (λ command. (said ≡ true) × IsDone old.world command text new.world) };
+    ghost does = { does_in_world };
 
     fn is_live(&self) -> bool {
         false
