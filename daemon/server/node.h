@@ -86,6 +86,7 @@ struct table { /* a group whose rules were changed */
 struct node {
     cpgring ring;
     cpgring old;      /* the ring before, until it is closed */
+    size_t to_free;   /* places of the ring before, closed, whose memory is freed piece by piece */
     unsigned lagging; /* clients for which it has events left */
     cpgring_setup setup;
     uint16_t own; /* the daemon's own connection */

@@ -12,6 +12,7 @@
 #include <time.h>
 
 enum { NEW_LONG_NAMES = MOST_LONG_NAMES / 4, MOST_CONNECTED = 60000 };
+enum { PLACES_FREED = 512 /* of a ring that ended, in a turn of the loop */ };
 
 uint64_t now_us(void) {
     struct timespec t;
@@ -65,6 +66,7 @@ static uint32_t open_next(struct ring *ring, const struct carried *carried) {
         node->old = node->ring;
         node_tell_later(node);
         node->ring = (cpgring)CPGRING_INIT;
+        node->to_free = 0;
         node_forget(node);
     }
     ring->number++;
@@ -93,7 +95,7 @@ static bool renew(struct ring *ring) {
     uint64_t began = now_us();
     for (unsigned k = 0; k < ring->count; k++) {
         node_tell_old(&ring->nodes[k]); /* of two rings before, where somebody is so far behind */
-        cpgring_close(&ring->nodes[k].old);
+        cpgring_close_into(&ring->nodes[k].old, &ring->nodes[k].ring);
         node_tell(&ring->nodes[k]);
     }
     control_ring_ends(ring);
@@ -134,15 +136,26 @@ bool ring_step(struct ring *ring) {
     return true;
 }
 
-bool ring_takes_long(const struct ring *ring) { return ring->ending || ring->nodes[0].old.live || ring_is_due(ring); }
-
 static bool can_close_old(const struct node *node) { return node->old.live && node_told_old(node); }
+
+static bool has_to_free(const struct node *node) { return node->to_free > 0 || can_close_old(node); }
+
+bool ring_takes_long(const struct ring *ring) {
+    const struct node *first = &ring->nodes[0];
+    return ring->ending || first->old.live || first->to_free > 0 || ring_is_due(ring);
+}
+
+/* To close a node at once takes a time that grows with its places. */
+static void free_some(struct node *node) {
+    if (node->to_free == 0) cpgring_close_into(&node->old, &node->ring);
+    cpgring_shed(&node->ring, PLACES_FREED, &node->to_free);
+}
 
 bool ring_close_old(struct ring *ring) {
     unsigned k = 0, more = 0;
-    while (k < ring->count && !can_close_old(&ring->nodes[k])) k++;
-    if (k < ring->count) cpgring_close(&ring->nodes[k].old);
-    for (; k < ring->count; k++) more += can_close_old(&ring->nodes[k]);
+    while (k < ring->count && !has_to_free(&ring->nodes[k])) k++;
+    if (k < ring->count) free_some(&ring->nodes[k]);
+    for (; k < ring->count; k++) more += has_to_free(&ring->nodes[k]);
     return more > 0;
 }
 

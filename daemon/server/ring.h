@@ -28,7 +28,7 @@ uint32_t ring_open(struct ring *ring, const struct options *options, cpgring_fau
 bool ring_is_due(const struct ring *ring);
 /* Goes on with what a ring's end needs. false: the next ring could not be made. */
 bool ring_step(struct ring *ring);
-/* Closes a node of the ring before, where one has no events left for anybody. Whether there are more of them. */
+/* Frees a piece of a node of the ring before, where one has no events left for anybody. Whether there is more. */
 bool ring_close_old(struct ring *ring);
 /* Whether the next step may take long, or the ring before is still to be closed. */
 bool ring_takes_long(const struct ring *ring);
