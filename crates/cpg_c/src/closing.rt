@@ -25,11 +25,7 @@ pub extern "C" fn cpgring_close(alloc: Global, handle: &mut Handle) -> u32
 
 /// Closes a handle, and leaves its memory to be freed piece by piece to another one, which is open.
 #[unsafe(no_mangle)]
-pub extern "C" fn cpgring_close_into(
-    alloc: Global,
-    handle: &mut Handle,
-    keeper: &mut Handle,
-) -> u32
+pub extern "C" fn cpgring_close_into(alloc: Global, handle: &mut Handle, keeper: &mut Handle) -> u32
     ensures { IsClosedInto handle.old.slot.held keeper.old.slot.held result handle.new.slot.held keeper.new.slot.held }
 {
     let Some(ended) = handle.take(alloc) else {
