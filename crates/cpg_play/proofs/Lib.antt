@@ -1,2 +1,3 @@
 pub mod Flushing
+pub mod OnWorlds
 pub mod Walking

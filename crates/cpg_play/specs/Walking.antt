@@ -1,6 +1,6 @@
 -- what a script that checks itself does, line by line
 use Rattle.std.specs.Prelude.{◌≡◌, ℕ, Bool, true, false, ◌&&◌, List, [], ◌∷◌, Option, Some, None, is_none}
-use Rattle.std.specs.Io.KnownBytes.{Appends}
+use Rattle.std.specs.Io.KnownBytes.{Appends, Keeps}
 use Rattle.cpg_text.specs.Lines.{lines_of, trimmed, is_ignored}
 use Rattle.cpg_conf.specs.Names.{next_number}
 use Rattle.cpg_play.specs.Checking.{PrintedValue, are_same, behind_line, next_line, unwanted_in, wanted_by}
@@ -63,4 +63,4 @@ module _ {P : Type 0} where
   abbrev pub IsScriptPlayed : Does P → List ℕ → P → P → Option (List ℕ) → Option (List ℕ) → Bool → Type 0
   IsScriptPlayed does script player other before after wanted =
       (last : Course P) × ArePlayed does 1 (lines_of script) (begun player before) last
-      × (last.player ≡ other) × (last.written ≡ after) × (wanted ≡ (last.wanted && none_unwanted last.printed))
+      × (last.player ≡ other) × Keeps last.written after × (wanted ≡ (last.wanted && none_unwanted last.printed))

@@ -2,9 +2,9 @@
 //! prints. Over a running cluster sessions have names, `drain` and `wait` take events, and `hold`, `let`, `cut` and `mend`
 //! hold nodes and lose frames.
 //!
-//! The forms are this project's own. Proved: a line is as wanted exactly where the next printed line is it; a line of
-//! `step` does its command, and what a line over a cluster says is done as `cpg_cluster` does it. What such a line says,
-//! switches, and how differences are worded is tested.
+//! The forms are this project's own. Proved: over a world, what a script writes and whether all was as its lines want it;
+//! over a cluster, that what a line says is done as `cpg_cluster` does it, and what a line wants is compared with the
+//! next printed line. What such a line says, switches, and how differences are worded is tested.
 #![tactic(auto)]
 
 mod checking;

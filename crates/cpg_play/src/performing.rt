@@ -1,6 +1,7 @@
 //! `--checked`: a new world or a new cluster, and the script that checks itself over it.
 //!
-//! Proved: a wrong word comes first, what a stopped cluster leaves is the keeper's, and the exit status.
+//! Proved: a wrong word comes first, what a script writes over a world and whether all was as wanted, what a stopped
+//! cluster leaves is the keeper's, and the exit status.
 
 ghost use Rattle.std.specs.Prelude.{◌≡◌, ◌≢◌, ◌↔◌, [], Err, Some, None, map, OnOk, IfOk, IfSome, IsTrue};
 ghost use Rattle.std.specs.Io.Buffered.{writer_buffer};
@@ -78,7 +79,7 @@ impl Played {
 ///
 /// A wrong word comes first, then settings out of their ranges, then the faults of the script. Why it ended early is told
 /// as `perform` tells it.
-#[tactic(auto, using(crate::proofs::Flushing::word_played, crate::proofs::Flushing::kept_played))]
+#[tactic(auto, using(crate::proofs::Flushing::word_played, crate::proofs::Flushing::kept_played, crate::proofs::Flushing::all_played))]
 pub fn perform_play<H, R, W, E, K>(
     rt: H,
     alloc: Global,

@@ -1,7 +1,8 @@
 //! Scripts that check themselves, line by line.
 //!
-//! Proved: what a line wants, whether the next printed line is that, and that a command does what its player says. That
-//! each line is come to, and that one difference is enough, is tested.
+//! Proved: what a script does, each line in its order: a command does what its player says and all that it prints is
+//! written, what a line wants is compared with the next printed line, and all is as wanted or it is not. That lines which
+//! are typed go the same way one after the other is tested.
 
 ghost use Rattle.std.specs.Prelude.{◌≡◌, ◌≢◌, ◌↔◌, Bool, [], true, false, Some, None, option_map, is_none, OnOk, IfOk, IfSome, IsTrue};
 ghost use Rattle.std.specs.Io.KnownBytes.{Appends};

@@ -1,4 +1,5 @@
 use Rattle.std.proofs.Common.{◌≢◌, refl, subst, option_map}
+use Rattle.std.proofs.KnownBytes.{Keeps-refl}
 use Rattle.std.specs.Prelude.{IsTrue}
 use Rattle.cpg_text.specs.Lines.{lines_left}
 use Rattle.cpg_conf.specs.Names.{next_number}
@@ -26,6 +27,10 @@ loop-line-preserved g c =
 pub returns : goal.returns
 returns g c =
     let now = c.loop-line in
-    let last : Course _ = record { player = now.player; printed = now.printed; written = g.W.Write.contents now.writer; wanted = now.wanted } in
-    (last, now.invariant.played last (at_end g.P.Plays.does (next_number now.number) _ last c.in-None.ensures.steps.0), refl, refl,
-    all_wanted now.wanted c.and_went.result c.in_ok-check_end.field-0 now.printed c.and_went.ensures c.in_ok-check_end.ensures)
+    let last : Course _ = record { player = now.player; printed = now.printed; written = g.W.Write.contents now.writer; wanted = now.wanted } in (
+      last,
+      now.invariant.played last (at_end g.P.Plays.does (next_number now.number) _ last c.in-None.ensures.steps.0),
+      refl,
+      Keeps-refl (g.W.Write.contents now.writer),
+      all_wanted now.wanted c.and_went.result c.in_ok-check_end.field-0 now.printed c.and_went.ensures c.in_ok-check_end.ensures,
+    )

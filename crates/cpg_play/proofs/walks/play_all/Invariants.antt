@@ -10,6 +10,6 @@ invariant-loop-line g l = record {
   finite : (goal.iterator-loop-line g).is_finite l.line-iterator;
   played : (last : Course _) →
       ArePlayed g.P.Plays.does (next_number l.number) (lines_left (option_map (λ rest. rest.now) l.line-iterator.rest))
-          (record { player = l.player; printed = l.printed; written = g.W.Write.contents l.writer; wanted = l.wanted }) last →
+      (record { player = l.player; printed = l.printed; written = g.W.Write.contents l.writer; wanted = l.wanted }) last →
       ArePlayed g.P.Plays.does 1 (lines_of l.script) (begun l.initial.player (g.W.Write.contents l.initial.writer)) last;
 }
