@@ -102,16 +102,16 @@ TellsSteps form asked s (Some list) script (Some (Missing absent)) old new =
     × ((world : WorldValue) × told_steps.Leaves (why_as form) (commands_of_script s.nodes script) asked (why_fault.Missing absent.what) (new_world s list) old new world)
 TellsSteps form asked s (Some list) script (Some BadWord) old new = ⊥
 
--- the picture of a script's run, as one SVG or as lines for a terminal, is written, or its lines with the numbers of frames
+-- the picture of an excerpt of a script's run, as one SVG or as lines for a terminal, is written, or its lines with the numbers of frames
 abbrev pub IsDrawn : Picture → Result (List Command) ℕ → WorldValue → Option (List ℕ) → Option (List ℕ) → Type 0
-IsDrawn picture.Svg commands w old new = svg.IsDrawn commands w old new
-IsDrawn picture.Lines commands w old new = draw.IsDrawn commands w old new
+IsDrawn (picture.Svg x) commands w old new = svg.IsDrawn x commands w old new
+IsDrawn (picture.Lines x) commands w old new = draw.IsDrawn x commands w old new
 IsDrawn picture.Numbered commands w old new = numbers.IsStepped commands w old new
 
 -- what a refusal leaves of it
 abbrev pub LeavesDrawn : Picture → Result (List Command) ℕ → Refusal → WorldValue → Option (List ℕ) → Option (List ℕ) → Type 0
-LeavesDrawn picture.Svg commands refused w old new = svg.Leaves commands refused w old new
-LeavesDrawn picture.Lines commands refused w old new = draw.Leaves commands refused w old new
+LeavesDrawn (picture.Svg x) commands refused w old new = svg.Leaves x commands refused w old new
+LeavesDrawn (picture.Lines x) commands refused w old new = draw.Leaves x commands refused w old new
 LeavesDrawn picture.Numbered commands refused w old new = numbers.Leaves commands refused w old new
 
 -- What a refusal leaves written of the picture of a script's run; Range tells that there is no world of those settings.

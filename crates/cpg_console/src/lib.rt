@@ -32,6 +32,7 @@ pub use chances::Chances;
 pub use cpg_accept::accept_script;
 pub use cpg_accept::admit::NamedText;
 pub use cpg_cluster::{Known, Manner, Noted, PLAIN, Patience, Shown, cluster_script};
+pub use cpg_draw::Excerpt;
 pub use cpg_judge::filter::{Filter, Only};
 pub use cpg_judge::judge_script;
 pub use cpg_print::{entries_read_back, rules_read_back, whos_read_back};

@@ -27,6 +27,7 @@ use crate::telling::tell_failure;
 use crate::tracing::KeepsEnds;
 use cpg_cluster::Manner;
 use cpg_cred::Refusal;
+use cpg_draw::Excerpt;
 use cpg_judge::filter::{Filter, judge_filtered};
 use cpg_ring::Settings;
 use cpg_script::Fault;
@@ -49,10 +50,10 @@ pub enum Form {
 /// How a picture is written.
 #[derive(Debug, Clone, Copy)]
 pub enum Picture {
-    /// As one SVG.
-    Svg,
-    /// As lines for a terminal.
-    Lines,
+    /// As one SVG, of which those rows are shown.
+    Svg(Excerpt),
+    /// As lines for a terminal, of which those rows are shown.
+    Lines(Excerpt),
     /// As the lines of `step`, with the numbers of the frames that each command sent.
     Numbered,
 }

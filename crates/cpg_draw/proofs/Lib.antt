@@ -1,5 +1,6 @@
 pub mod Cut
 pub mod Drawn
+pub mod Excerpts
 pub mod Joined
 pub mod Overtaken
 pub mod PictureDrawn

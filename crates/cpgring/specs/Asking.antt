@@ -21,10 +21,11 @@ use Rattle.cpg_console.specs.declared.speaking.Spoken.{Spoken}
 use Rattle.cpg_console.specs.declared.speaking.Spoken.TheVariants as spoken
 use Rattle.cpgring.specs.declared.asking.Asked.{Asked}
 use Rattle.cpgring.specs.declared.asking.AskedShell.{AskedShell}
-use Rattle.cpgring.specs.Filtering.{is_filtered, IsFilterGiven}
+use Rattle.cpgring.specs.Filtering.{is_filtered, rows_given, IsFilterGiven}
 use Rattle.cpgring.specs.Questions.{entry_named, question_named, words_for}
 use Rattle.cpgring.specs.Sources.{accept_words, but_input, path_of, script_file}
 use Rattle.cpg_console.specs.declared.runs.Run.TheVariants.{Judge, JudgeOnly, Accept, Why, Step, StepWhy, Draw, Number, Echo, Cluster, ClusterWhy}
+use Rattle.cpg_draw.specs.declared.excerpts.Excerpt.{Excerpt}
 use Rattle.cpg_console.specs.declared.runs.Form.{Form}
 use Rattle.cpg_console.specs.declared.runs.Form.TheVariants.{Text, Json}
 use Rattle.cpg_console.specs.declared.runs.Picture.{Picture}
@@ -107,9 +108,25 @@ IsUnused found name = (one_text found name ≡ Some (codes "false")) ⊎ (one_te
 abbrev pub IsFormGiven : Found → Form → Type 0
 IsFormGiven found form = (IsUsed found (codes "json") → form ≡ Json) × (IsUnused found (codes "json") → form ≡ Text)
 
+-- the rows of a picture are those that the option's word says, and those with frames alone where an option asks for that
+pub record IsExcerptGiven (found : Found) (excerpt : Excerpt) : Type 0 where
+  pub rows : rows_given (first_value found (codes "rows")) ≡ Some (excerpt.first, excerpt.last)
+  pub frames : IsUsed found (codes "frames-only") → excerpt.frames ≡ true
+  pub all : IsUnused found (codes "frames-only") → excerpt.frames ≡ false
+
+-- the picture is one of lines, of those rows
+abbrev pub IsLinesGiven : Found → Picture → Type 0
+IsLinesGiven found (Lines excerpt) = IsExcerptGiven found excerpt
+IsLinesGiven found _ = ⊥
+
+-- or an SVG of them
+abbrev pub IsSvgGiven : Found → Picture → Type 0
+IsSvgGiven found (Svg excerpt) = IsExcerptGiven found excerpt
+IsSvgGiven found _ = ⊥
+
 -- the picture is one of lines where the option asks for it, and else an SVG
 abbrev pub IsPictureGiven : Found → Picture → Type 0
-IsPictureGiven found picture = (IsUsed found (codes "text") → picture ≡ Lines) × (IsUnused found (codes "text") → picture ≡ Svg)
+IsPictureGiven found picture = (IsUsed found (codes "text") → IsLinesGiven found picture) × (IsUnused found (codes "text") → IsSvgGiven found picture)
 
 -- the entry that is asked of is the one that the first word names, and whom it told, where a connection is named
 abbrev pub IsEntryAsked : Form → Option (List ℕ) → List (List ℕ) → Run → Type 0

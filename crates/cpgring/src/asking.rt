@@ -8,11 +8,12 @@ ghost use Rattle.clap.specs.Words.{found_of, first_value, subcommand_name_of};
 ghost use Rattle.clap.specs.Values.{kind_of};
 ghost use Rattle.cpg_console.specs.Pipes.{stream_of};
 ghost use Rattle.cpg_console.specs.declared.runs.Run.TheVariants.{Why};
-ghost use Rattle.cpgring.specs.Filtering.{is_filtered, IsBadFilter};
+ghost use Rattle.cpgring.specs.Filtering.{is_filtered, rows_given, IsBadFilter};
 ghost use Rattle.cpgring.specs.Sources.{but_input, path_of};
 ghost use Rattle.cpgring.specs.Asking.{name_of, words_found, AreChancesGiven, AreSettingsGiven, IsAskedFor, IsFormGiven, IsInquiryGiven, IsMannerGiven, IsPictureGiven, IsShellGiven, IsShownGiven, IsSpokenGiven, patience_given, IsEntryAsked, words_before, IsStatusOf, IsUnused, IsUsed, SaysByKind, is_echoed, is_numbered};
 
 use crate::commands::{build_command, command_for};
+use crate::excerpts::excerpt_of;
 use crate::faults::{fault_of, fault_of_shell};
 use crate::filtering::{filter_of, is_filtered};
 use crate::options::{
@@ -127,15 +128,17 @@ pub fn form_of(given: &ArgMatches<'_>) -> Form
     }
 }
 
-/// The picture that the option asks for.
-fn picture_of(given: &ArgMatches<'_>) -> Picture
-    ensures { IsPictureGiven (found_of given.now) result }
+/// The picture that the options ask for, where their words say one.
+fn picture_of(given: &ArgMatches<'_>) -> Option<Picture>
+    ensures given { IfSome result (IsPictureGiven (found_of given.now)) }
+    ensures none { (result ≡ None) ↔ (rows_given (first_value (found_of given.now) (codes "rows")) ≡ None) }
 {
-    if given.get_flag(TEXT) {
-        Picture::Lines
+    let excerpt = excerpt_of(given)?;
+    Some(if given.get_flag(TEXT) {
+        Picture::Lines(excerpt)
     } else {
-        Picture::Svg
-    }
+        Picture::Svg(excerpt)
+    })
 }
 
 /// The judgement of a script, in the form and through the filter that are asked for.
@@ -260,7 +263,7 @@ fn draw_of<'a>(given: &'a ArgMatches<'_>) -> Option<Asked<'a>>
     let settings = settings_of(given)?;
     let (source, words) = split_words(words_of(given));
     Some(Asked {
-        run: Run::Draw(picture_of(given), settings, words),
+        run: Run::Draw(picture_of(given)?, settings, words),
         source,
     })
 }

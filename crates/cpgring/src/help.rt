@@ -367,6 +367,10 @@ the first two of a row for a node have their place or hop beyond that node's col
 is the frame as `show` of `cpgring step` prints it. The nodes' numbers come again every 40 rows. Right of the columns
 stands what a row of --text has, cut after 112 letters; its title then has all of it.
 
+--rows=A..B draws the commands A to B alone, as if the script ended with B: a frame that comes later is then under way.
+Rows above A are not shown, nor what became of their frames; an arrow from there begins with an open diamond below the
+nodes' numbers. --frames-only folds away each row that neither sends a frame nor brings one. Rows keep their numbers.
+
 With --text, in a row `*` is the node that the command is at, and an arrow comes in from the node that sent the frame
 that the row brings, marked `o`: --> is data, ==> data that is sent again, ..> the token. The first token, which was
 sent before the script, comes from outside. After the columns stand the row's number and

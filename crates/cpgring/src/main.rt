@@ -8,6 +8,7 @@ mod admitting;
 mod asking;
 mod commands;
 mod completions;
+mod excerpts;
 mod faults;
 mod filtering;
 mod folders;
