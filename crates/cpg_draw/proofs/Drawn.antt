@@ -60,11 +60,12 @@ told_acted spot arrows later w v e old first new put told = record {
 }
 
 -- an event's row, where it is shown, stands before those that follow it
-pub act_goes_on : (x : Excerpt) (next : Spot) (arrows : List Arrow) (w : WorldValue) (e : WorldEvent) (old line : List ℕ) (moved here : Bool) (then : List Arrow) (v : WorldValue) (new : List ℕ)
-    → moved ≡ moves arrows w e → here ≡ is_shown x next.row moved → IsActed (spot_of x next) arrows w e [] then v line → new ≡ old ++ text_shown here line
+pub act_goes_on : (x : Excerpt) (next spot : Spot) (arrows : List Arrow) (w : WorldValue) (e : WorldEvent) (old line : List ℕ) (moved here : Bool) (then : List Arrow) (v : WorldValue) (new : List ℕ)
+    → spot ≡ spot_of x next → moved ≡ moves arrows w e → here ≡ is_shown x next.row moved → IsActed spot arrows w e [] then v line → new ≡ old ++ text_shown here line
     → StandsBefore x next arrows w (Act e) old here then v new
-act_goes_on x next arrows w e old line moved here then v new told shown acted put later whole h =
+act_goes_on x next at arrows w e old line moved here then v new placed told shown done put later whole h =
     let spot : Spot = spot_of x next in
+    let acted : IsActed spot arrows w e [] then v line = subst (λ s. IsActed s arrows w e [] then v line) placed done in
     let same : here ≡ is_shown x next.row (moves arrows w e) = shown ∙ ap (is_shown x next.row) told in
     let there : AreRows x (after_row here next) then (happens w e) later new whole = subst (λ u. AreRows x (after_row here next) then u later new whole) acted.happened h in
     let rest : AreRows x (after_row here next) (arrows_after spot arrows w e) (happens w e) later new whole = subst (λ known. AreRows x (after_row here next) known (happens w e) later new whole) acted.noted there in

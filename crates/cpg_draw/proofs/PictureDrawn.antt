@@ -120,12 +120,13 @@ row_joined next here row rows line old new whole free under over put below above
 }
 
 -- an event's row, where it is shown, stands before those that follow it
-pub act_goes_on : (x : Excerpt) (next : Spot) (arrows : List Arrow) (w : WorldValue) (e : WorldEvent) (empty line old : Sheet) (moved here : Bool) (then : List Arrow) (v : WorldValue) (new : Sheet)
+pub act_goes_on : (x : Excerpt) (next spot : Spot) (arrows : List Arrow) (w : WorldValue) (e : WorldEvent) (empty line old : Sheet) (moved here : Bool) (then : List Arrow) (v : WorldValue) (new : Sheet)
     → empty.under.items ≡ [] → empty.over.items ≡ []
-    → moved ≡ moves arrows w e → here ≡ is_shown x next.row moved → IsActed (spot_of x next) arrows w e empty then v line → IsPutShown here line old new
+    → spot ≡ spot_of x next → moved ≡ moves arrows w e → here ≡ is_shown x next.row moved → IsActed spot arrows w e empty then v line → IsPutShown here line old new
     → StandsBefore x next arrows w (Act e) old here then v new
-act_goes_on x next arrows w e empty line old moved here then v new none nothing told shown acted put later free last world whole h =
+act_goes_on x next at arrows w e empty line old moved here then v new none nothing placed told shown done put later free last world whole h =
     let spot : Spot = spot_of x next in
+    let acted : IsActed spot arrows w e empty then v line = subst (λ s. IsActed s arrows w e empty then v line) placed done in
     let same : here ≡ is_shown x next.row (moves arrows w e) = shown ∙ ap (is_shown x next.row) told in
     let there : AreRows x (after_row here next) then (happens w e) later new free last world whole
     = subst (λ u. AreRows x (after_row here next) then u later new free last world whole) acted.happened h in
@@ -150,11 +151,12 @@ act_goes_on x next arrows w e empty line old moved here then v new none nothing 
     }
 
 -- and so does the row of a command that only looks
-pub look_goes_on : (x : Excerpt) (next : Spot) (arrows : List Arrow) (w : WorldValue) (l : LookValue) (empty line old : Sheet) (here : Bool) (new : Sheet)
+pub look_goes_on : (x : Excerpt) (next spot : Spot) (arrows : List Arrow) (w : WorldValue) (l : LookValue) (empty line old : Sheet) (here : Bool) (new : Sheet)
     → empty.under.items ≡ [] → empty.over.items ≡ []
-    → here ≡ is_shown x next.row false → IsPut (look_row (spot_of x next) arrows w l) empty line → IsPutShown here line old new
+    → spot ≡ spot_of x next → here ≡ is_shown x next.row false → IsPut (look_row spot arrows w l) empty line → IsPutShown here line old new
     → StandsBefore x next arrows w (Look l) old here arrows w new
-look_goes_on x next arrows w l empty line old here new none nothing shown drawn put later free last world whole rest =
+look_goes_on x next at arrows w l empty line old here new none nothing placed shown done put later free last world whole rest =
+    let drawn : IsPut (look_row (spot_of x next) arrows w l) empty line = subst (λ s. IsPut (look_row s arrows w l) empty line) placed done in
     let row : Row = look_row (spot_of x next) arrows w l in
     let under : line.under.items ≡ row.under = drawn.under ∙ ap (λ t. t ++ row.under) none in
     let over : line.over.items ≡ row.over = drawn.over ∙ ap (λ t. t ++ row.over) nothing in

@@ -32,5 +32,5 @@ pub record AreRows (x : Excerpt) (next : Spot) (arrows : List Arrow) (w : WorldV
 
 -- whatever rows follow, the command's row stands before them, where it is shown
 abbrev pub StandsBefore : Excerpt → Spot → List Arrow → WorldValue → Command → List ℕ → Bool → List Arrow → WorldValue → List ℕ → Type 0
-StandsBefore x next arrows w command old here then world new =
-    (later : List Command) (whole : List ℕ) → AreRows x (after_row here next) then world later new whole → AreRows x next arrows w (command ∷ later) old whole
+StandsBefore x next arrows w command old here past world new =
+    (later : List Command) (whole : List ℕ) → AreRows x (after_row here next) past world later new whole → AreRows x next arrows w (command ∷ later) old whole

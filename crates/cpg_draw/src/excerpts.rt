@@ -2,7 +2,7 @@
 //!
 //! Proved: the definitions of `specs/Excerpts.antt`.
 
-ghost use Rattle.std.specs.Prelude.{◌≡◌, ◌<◌, ◌≤◌, ◌^◌, ℕ, All, take, OnOk, IfOk, IsOkUnless};
+ghost use Rattle.std.specs.Prelude.{◌≡◌, ◌<◌, ◌≤◌, ◌^◌, ◌++◌, ℕ, All, take, OnOk, IfOk, IsOkUnless};
 ghost use Rattle.cpg_step.specs.Commands.{IsWithin};
 ghost use Rattle.cpg_draw.specs.Excerpts.{after_row, is_below, is_shown, miss_kept, misses_kept, shown_misses, spot_of, start, first_spot};
 
@@ -47,7 +47,7 @@ pub(crate) fn first_spot() -> Spot
 }
 
 /// The commands up to the last that has a row.
-#[tactic(auto, using(crate::proofs::Excerpts::cut_within))]
+#[tactic(auto, using(crate::proofs::Front::cut_within, crate::proofs::Front::cut_whole))]
 pub(crate) fn cut(excerpt: Excerpt, commands: &[Command]) -> &[Command]
     ensures front { result.now ≡ take excerpt.last commands.now }
     ensures within { (nodes : ℕ) → All (λ command. IsWithin nodes command) commands.now → All (λ command. IsWithin nodes command) result.now }
