@@ -7,12 +7,12 @@ pub loop-command-preserved : goal.loop-command-preserved
 loop-command-preserved c =
     let i = c.loop-command.command-index in
     let within : i < length c.args.commands.now = omega arith in
-    let placed = c.after.ensures.value in
+    let placed = c.after-next.ensures.value in
     record {
       counted = ap (λ s. s.row) placed ∙ ap (λ n. n + 1) c.loop-command.invariant.counted;
-      some = c.after.ensures.line;
-      few = c.after.ensures.order;
-      drawn = λ free last world whole rest. step_rows c.args.excerpt c.args.commands.now i c.command-item.result c.loop-command.next c.here.result c.loop-command.arrows.items c.draw_command.new.arrows.items c.args.arrows.now.items c.loop-command.world c.draw_command.new.world c.args.world.now c.loop-command.sheet c.draw_command.new.sheet c.args.sheet.now within (sym c.command-item.is) c.loop-command.invariant.drawn c.in_ok-here.ensures.ok
+      some = c.after-next.ensures.line;
+      few = c.after-next.ensures.order;
+      drawn = λ free last world whole rest. step_rows c.args.excerpt c.args.commands.now i c.command-item.result c.loop-command.next c.in_ok-here.here c.loop-command.arrows.items c.draw_command.new.arrows.items c.args.arrows.now.items c.loop-command.world c.draw_command.new.world c.args.world.now c.loop-command.sheet c.draw_command.new.sheet c.args.sheet.now within (sym c.command-item.is) c.loop-command.invariant.drawn c.in_ok-here.ensures.ok
           free last world whole (subst (λ n. AreRows c.args.excerpt n c.draw_command.new.arrows.items c.draw_command.new.world (drop (i + 1) c.args.commands.now) c.draw_command.new.sheet free last world whole) placed rest);
       nodes = c.in_ok-here.ensures.nodes ∙ c.loop-command.invariant.nodes;
     }
