@@ -1,4 +1,5 @@
 use Rattle.std.proofs.Common.{◌≡◌, ◌<◌, ◌≤◌, ◌+◌, ◌++◌, List, ℕ, drop, length, sym, ap, subst, ◌∙◌, arith}
+use Rattle.cpg_draw.specs.declared.excerpts.Spot.{Spot}
 use Rattle.cpg_draw.specs.Excerpts.{first_spot}
 use Rattle.cpg_draw.specs.Steps.{AreRows}
 use Rattle.cpg_draw.specs.Words.{misses_text}
@@ -11,7 +12,7 @@ loop-command-preserved c =
     let within : i < length c.args.commands.now = omega arith in
     let placed = c.after-next.ensures.value in
     record {
-      counted = ap (λ s. s.row) placed ∙ ap (λ n. n + 1) c.loop-command.invariant.counted;
+      counted = ap (λ (s : Spot). s.row) placed ∙ ap (λ n. n + 1) c.loop-command.invariant.counted;
       some = c.after-next.ensures.line;
       few = c.after-next.ensures.order;
       drawn = λ whole rest. step_rows c.args.excerpt c.args.commands.now i c.command-item.result c.loop-command.next c.in_ok-here.here c.loop-command.arrows.items c.draw_command.new.arrows.items c.args.arrows.now.items c.loop-command.world c.draw_command.new.world c.args.world.now c.loop-command.text.items c.draw_command.new.text.items c.args.text.now.items within (sym c.command-item.is) c.loop-command.invariant.drawn c.in_ok-here.ensures.ok
