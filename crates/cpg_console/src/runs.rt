@@ -27,6 +27,7 @@ use crate::telling::tell_failure;
 use crate::tracing::KeepsEnds;
 use cpg_cluster::Manner;
 use cpg_cred::Refusal;
+use cpg_json::Marks;
 use cpg_judge::filter::{Filter, judge_filtered};
 use cpg_ring::Settings;
 use cpg_script::Fault;
@@ -44,6 +45,15 @@ pub enum Form {
     Text,
     /// As objects of JSON, one a line.
     Json,
+}
+
+/// How the answers of `step` are written.
+#[derive(Debug, Clone, Copy)]
+pub enum Stepped {
+    /// As text.
+    Text,
+    /// As objects of JSON, one a line, with those marks.
+    Json(Marks),
 }
 
 /// How a picture is written.
@@ -70,7 +80,7 @@ pub enum Run<'a> {
     Accept(Form),
     /// `cpgring step`: a script of commands is run over a new world of those settings, whose nodes let in
     /// whom the words let in.
-    Step(Form, Settings, &'a [&'a str]),
+    Step(Stepped, Settings, &'a [&'a str]),
     /// `cpgring step --why`: it is told why entries that such a world delivered were answered as they were.
     StepWhy(Form, Asked, Settings, &'a [&'a str]),
     /// `cpgring draw`: the run of such a script over a new world is drawn.

@@ -3,6 +3,7 @@ pub mod Between
 pub mod Doing
 pub mod Escaping
 pub mod Fields
+pub mod Heads
 pub mod Hearing
 pub mod Listing
 pub mod Passed

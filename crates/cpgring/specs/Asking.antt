@@ -27,6 +27,10 @@ use Rattle.cpgring.specs.Sources.{accept_words, but_input, path_of, script_file}
 use Rattle.cpg_console.specs.declared.runs.Run.TheVariants.{Judge, JudgeOnly, Accept, Why, Step, StepWhy, Draw, Number, Echo, Cluster, ClusterWhy}
 use Rattle.cpg_console.specs.declared.runs.Form.{Form}
 use Rattle.cpg_console.specs.declared.runs.Form.TheVariants.{Text, Json}
+use Rattle.cpg_console.specs.declared.runs.Stepped.{Stepped}
+use Rattle.cpg_console.specs.declared.runs.Stepped.TheVariants as stepped
+use Rattle.cpg_json.specs.declared.marks.Marks.{Marks}
+use Rattle.cpg_json.specs.declared.marks.Marks.TheVariants as marks
 use Rattle.cpg_console.specs.declared.runs.Picture.{Picture}
 use Rattle.cpg_console.specs.declared.runs.Picture.TheVariants.{Svg, Lines}
 use Rattle.cpg_why.specs.declared.asking.Asked.{Asked as Question}
@@ -107,6 +111,17 @@ IsUnused found name = (one_text found name ≡ Some (codes "false")) ⊎ (one_te
 abbrev pub IsFormGiven : Found → Form → Type 0
 IsFormGiven found form = (IsUsed found (codes "json") → form ≡ Json) × (IsUnused found (codes "json") → form ≡ Text)
 
+-- what stands in the objects of `step` is what the options ask for: at most one of both is used
+pub record AreMarksGiven (found : Found) (given : Marks) : Type 0 where
+  pub numbers : IsUsed found (codes "numbers") → given ≡ marks.Numbers
+  pub echo : IsUnused found (codes "numbers") → IsUsed found (codes "echo") → given ≡ marks.Echo
+  pub none : IsUnused found (codes "numbers") → IsUnused found (codes "echo") → given ≡ marks.Line
+
+-- the answers of `step` are objects with those marks where the option asks for JSON, and else text
+abbrev pub IsSteppedGiven : Found → Stepped → Type 0
+IsSteppedGiven found stepped.Text = IsFormGiven found Text
+IsSteppedGiven found (stepped.Json given) = IsFormGiven found Json × AreMarksGiven found given
+
 -- the picture is one of lines where the option asks for it, and else an SVG
 abbrev pub IsPictureGiven : Found → Picture → Type 0
 IsPictureGiven found picture = (IsUsed found (codes "text") → picture ≡ Lines) × (IsUnused found (codes "text") → picture ≡ Svg)
@@ -184,7 +199,7 @@ IsGivenBy found (Judge form) = IsFormGiven found form × (is_filtered found ≡ 
 IsGivenBy found (JudgeOnly filter) = IsFilterGiven found filter
 IsGivenBy found (Accept form) = IsFormGiven found form
 IsGivenBy found (Why form asked) = IsWhyGiven form found (Why form asked)
-IsGivenBy found (Step form settings words) = (first_value found (codes "why") ≡ None) × IsFormGiven found form × AreGiven found settings (map (λ word. word.now) words.now)
+IsGivenBy found (Step form settings words) = (first_value found (codes "why") ≡ None) × IsSteppedGiven found form × AreGiven found settings (map (λ word. word.now) words.now)
 IsGivenBy found (Draw picture settings words) = IsPictureGiven found picture × AreGiven found settings (map (λ word. word.now) words.now)
 IsGivenBy found (StepWhy form asked settings words) =
     (question_asked (first_value found (codes "to")) (first_value found (codes "why")) ≡ Some asked) × IsFormGiven found form × AreGiven found settings (map (λ word. word.now) words.now)

@@ -10,7 +10,7 @@ ghost use Rattle.cpg_console.specs.Pipes.{stream_of};
 ghost use Rattle.cpg_console.specs.declared.runs.Run.TheVariants.{Why};
 ghost use Rattle.cpgring.specs.Filtering.{is_filtered, IsBadFilter};
 ghost use Rattle.cpgring.specs.Sources.{but_input, path_of};
-ghost use Rattle.cpgring.specs.Asking.{name_of, words_found, AreChancesGiven, AreSettingsGiven, IsAskedFor, IsFormGiven, IsInquiryGiven, IsMannerGiven, IsPictureGiven, IsShellGiven, IsShownGiven, IsSpokenGiven, patience_given, IsEntryAsked, words_before, IsStatusOf, IsUnused, IsUsed, SaysByKind, is_echoed, is_numbered};
+ghost use Rattle.cpgring.specs.Asking.{name_of, words_found, AreChancesGiven, AreMarksGiven, AreSettingsGiven, IsAskedFor, IsFormGiven, IsInquiryGiven, IsMannerGiven, IsPictureGiven, IsShellGiven, IsShownGiven, IsSpokenGiven, patience_given, IsEntryAsked, words_before, IsStatusOf, IsUnused, IsUsed, SaysByKind, is_echoed, is_numbered};
 
 use crate::commands::{build_command, command_for};
 use crate::faults::{fault_of, fault_of_shell};
@@ -25,8 +25,8 @@ use crate::versions::write_commit;
 use clap::error::ErrorKind;
 use clap::{ArgMatches, Command, Error};
 use cpg_console::{
-    Asked as Question, Chances, Form, Inquiry, Known, Manner, Noted, Patience, Picture, Piped, Run,
-    Shown, Spoken, tell_fault,
+    Asked as Question, Chances, Form, Inquiry, Known, Manner, Marks, Noted, Patience, Picture, Piped, Run,
+    Shown, Spoken, Stepped, tell_fault,
 };
 use cpg_cred::Refusal;
 use cpg_ring::Settings;
@@ -124,6 +124,19 @@ pub fn form_of(given: &ArgMatches<'_>) -> Form
         Form::Json
     } else {
         Form::Text
+    }
+}
+
+/// What stands in the objects of `step` that the options ask for.
+fn marks_of(given: &ArgMatches<'_>) -> Marks
+    ensures { AreMarksGiven (found_of given.now) result }
+{
+    if given.get_flag(NUMBERS) {
+        Marks::Numbers
+    } else if given.get_flag(ECHO) {
+        Marks::Echo
+    } else {
+        Marks::Line
     }
 }
 
@@ -245,9 +258,10 @@ fn step_of<'a>(given: &'a ArgMatches<'_>) -> Option<Asked<'a>>
             Run::StepWhy(form, question, settings, words)
         }
         None => match form {
+            Form::Json => Run::Step(Stepped::Json(marks_of(given)), settings, words),
             Form::Text if given.get_flag(NUMBERS) => Run::Number(settings, words),
             Form::Text if given.get_flag(ECHO) => Run::Echo(settings, words),
-            form => Run::Step(form, settings, words),
+            Form::Text => Run::Step(Stepped::Text, settings, words),
         },
     };
     Some(Asked { run, source })

@@ -398,13 +398,13 @@ pub const STEP_OPTIONS: [Given; 8] = [
         ECHO,
         Takes::Nothing,
         "Print before each line the number of its script line and the node or connection that its command is of",
-        &[JSON, NUMBERS, WHY],
+        &[NUMBERS, WHY],
     ),
     Given(
         NUMBERS,
         Takes::Nothing,
         "Print the numbers of the frames that each command sent",
-        &[JSON],
+        &[],
     ),
     Given(
         WHY,
