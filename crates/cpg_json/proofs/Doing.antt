@@ -91,7 +91,7 @@ replies_parted w (e ∷ es) fs (a ∷ answers) more all later = (all.0, replies_
 -- the lines of commands after commands, which begin at a later index
 lines_parted : (heads : Heads) (index : ℕ) (w : WorldValue) (before more : List Command) (answers others : List Answer) → AreReplies w (events_in before) answers
     → step_json_lines heads index w (before ++ more) (answers ++ others)
-      ≡ step_json_lines heads index w before answers ++ step_json_lines heads (index + length before) (after w before) more others
+    ≡ step_json_lines heads index w before answers ++ step_json_lines heads (index + length before) (after w before) more others
 lines_parted heads index w [] more [] others all = ap (λ n. step_json_lines heads n w more others) (omega arith)
 lines_parted heads index w [] more (a ∷ answers) others all = absurd all
 lines_parted heads index w (Look l ∷ before) more answers others all =
@@ -121,6 +121,7 @@ done_more heads index w v u before more a b d first second = record {
   where
     last : ℕ
     last = index + length before
+
     texts : concat (step_json_lines heads index w (before ++ more) (first.answers ++ second.answers)) ≡ concat (step_json_lines heads index w before first.answers) ++ concat (step_json_lines heads last v more second.answers)
     texts = ap concat (lines_parted heads index w before more first.answers second.answers first.replies) ∙ (concat-append (step_json_lines heads index w before first.answers) (step_json_lines heads last (after w before) more second.answers) ∙ ap (λ x. concat (step_json_lines heads index w before first.answers) ++ concat (step_json_lines heads last x more second.answers)) (sym first.world_after))
 

@@ -142,7 +142,13 @@ fn put_alone(line: &mut Vec<u8>, head: &[u8], name: &str) -> Result<(), Refusal>
 }
 
 /// Puts an object of its kind and a number at the lines' end.
-fn put_counted(line: &mut Vec<u8>, head: &[u8], name: &str, counted: &str, value: u64) -> Result<(), Refusal>
+fn put_counted(
+    line: &mut Vec<u8>,
+    head: &[u8],
+    name: &str,
+    counted: &str,
+    value: u64,
+) -> Result<(), Refusal>
     ensures ok { OnOk result (line.new.items ≡ line.old.items ++ object_line (head_of name.now head.now ∷ number counted.now value ∷ [])) }
     ensures memory { IsOkUnless result Refusal.Memory }
 {
@@ -276,7 +282,13 @@ fn put_reply(line: &mut Vec<u8>, head: &[u8], reply: &Reply) -> Result<(), Refus
     ensures memory { IsOkUnless result Refusal.Memory }
 {
     match reply {
-        Reply::Connected(conn) => put_counted(line, head, "connected", "connection", u64::from(*conn)),
+        Reply::Connected(conn) => put_counted(
+            line,
+            head,
+            "connected",
+            "connection",
+            u64::from(*conn),
+        ),
         Reply::Admitted => put_alone(line, head, "admitted"),
         Reply::Closed => put_alone(line, head, "closed"),
         Reply::Sent(count) => put_counted(line, head, "sent", "frames", *count as u64),
@@ -288,7 +300,11 @@ fn put_reply(line: &mut Vec<u8>, head: &[u8], reply: &Reply) -> Result<(), Refus
 }
 
 /// Puts the line of a reply or of a refusal at the lines' end.
-pub(crate) fn put_answer(line: &mut Vec<u8>, head: &[u8], answer: &Result<Reply, Refusal>) -> Result<(), Refusal>
+pub(crate) fn put_answer(
+    line: &mut Vec<u8>,
+    head: &[u8],
+    answer: &Result<Reply, Refusal>,
+) -> Result<(), Refusal>
     ensures ok { OnOk result (line.new.items ≡ line.old.items ++ answer_json head.now answer.now) }
     ensures memory { IsOkUnless result Refusal.Memory }
 {
@@ -299,7 +315,12 @@ pub(crate) fn put_answer(line: &mut Vec<u8>, head: &[u8], answer: &Result<Reply,
 }
 
 /// Puts the line of a table's rule, with its id, at the lines' end.
-pub(crate) fn put_rule_line(line: &mut Vec<u8>, head: &[u8], id: u32, rule: Rule) -> Result<(), Refusal>
+pub(crate) fn put_rule_line(
+    line: &mut Vec<u8>,
+    head: &[u8],
+    id: u32,
+    rule: Rule,
+) -> Result<(), Refusal>
     ensures ok { OnOk result (line.new.items ≡ line.old.items ++ rule_json head.now (id, rule)) }
     ensures memory { IsOkUnless result Refusal.Memory }
 {

@@ -48,7 +48,13 @@ pub(crate) fn put_look(
 }
 
 /// Puts the line of the frame of that number, or of its refusal, at the lines' end.
-fn put_shown(alloc: Global, line: &mut Vec<u8>, head: &[u8], world: &World, number: u64) -> Result<(), Refusal>
+fn put_shown(
+    alloc: Global,
+    line: &mut Vec<u8>,
+    head: &[u8],
+    world: &World,
+    number: u64,
+) -> Result<(), Refusal>
     ensures ok { OnOk result (line.new.items ≡ line.old.items ++ show_json head.now (item world.now.sent number)) }
     ensures memory { IsOkUnless result Refusal.Memory }
 {

@@ -69,11 +69,15 @@ pub(crate) fn put_chars(line: &mut Vec<u8>, text: &str) -> Result<(), Refusal>
     put(line, "\"")
 }
 
-/// Puts each character as itself or escaped at the line's end.
+/// Puts each character as itself or escaped at the line's end, all at once where each stands for itself.
+#[tactic(auto, using(crate::proofs::Escaping::plain_text))]
 fn put_escaped_chars(line: &mut Vec<u8>, text: &str) -> Result<(), Refusal>
     ensures ok { OnOk result (line.new.items ≡ line.old.items ++ flat_map string_char (chars text.now)) }
     ensures memory { IsOkUnless result Refusal.Memory }
 {
+    if has_plain_alone(text.as_bytes()) {
+        return put_bytes(line, text.as_bytes());
+    }
     for c in text.chars() {
         put_char(line, c)?;
     }

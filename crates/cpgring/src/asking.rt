@@ -25,8 +25,8 @@ use crate::versions::write_commit;
 use clap::error::ErrorKind;
 use clap::{ArgMatches, Command, Error};
 use cpg_console::{
-    Asked as Question, Chances, Form, Inquiry, Known, Manner, Marks, Noted, Patience, Picture, Piped, Run,
-    Shown, Spoken, Stepped, tell_fault,
+    Asked as Question, Chances, Form, Inquiry, Known, Manner, Marks, Noted, Patience, Picture,
+    Piped, Run, Shown, Spoken, Stepped, tell_fault,
 };
 use cpg_cred::Refusal;
 use cpg_ring::Settings;
@@ -251,18 +251,17 @@ fn step_of<'a>(given: &'a ArgMatches<'_>) -> Option<Asked<'a>>
 {
     let settings = settings_of(given)?;
     let (source, words) = split_words(words_of(given));
-    let form = form_of(given);
     let run = match given.get_str(WHY) {
         Some(word) => {
             let question = read_question(given.get_str(TO), word.as_bytes())?;
-            Run::StepWhy(form, question, settings, words)
+            Run::StepWhy(form_of(given), question, settings, words)
         }
-        None => match form {
-            Form::Json => Run::Step(Stepped::Json(marks_of(given)), settings, words),
-            Form::Text if given.get_flag(NUMBERS) => Run::Number(settings, words),
-            Form::Text if given.get_flag(ECHO) => Run::Echo(settings, words),
-            Form::Text => Run::Step(Stepped::Text, settings, words),
-        },
+        None if given.get_flag(JSON) => {
+            Run::Step(Stepped::Json(marks_of(given)), settings, words)
+        }
+        None if given.get_flag(NUMBERS) => Run::Number(settings, words),
+        None if given.get_flag(ECHO) => Run::Echo(settings, words),
+        None => Run::Step(Stepped::Text, settings, words),
     };
     Some(Asked { run, source })
 }

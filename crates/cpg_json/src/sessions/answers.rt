@@ -41,7 +41,12 @@ fn put_whose(text: &mut Vec<u8>, session: Option<u32>) -> Result<(), Refusal>
 }
 
 /// Puts an object of its kind that says only whose it is.
-fn put_alone(text: &mut Vec<u8>, head: &[u8], session: Option<u32>, name: &str) -> Result<(), Refusal>
+fn put_alone(
+    text: &mut Vec<u8>,
+    head: &[u8],
+    session: Option<u32>,
+    name: &str,
+) -> Result<(), Refusal>
     ensures ok { OnOk result (text.new.items ≡ text.old.items ++ object_line (head_of name.now head.now ∷ whose session)) }
     ensures memory { IsOkUnless result Refusal.Memory }
 {
@@ -50,7 +55,12 @@ fn put_alone(text: &mut Vec<u8>, head: &[u8], session: Option<u32>, name: &str) 
     put_end(text)
 }
 
-fn put_opened(text: &mut Vec<u8>, head: &[u8], session: Option<u32>, number: usize) -> Result<(), Refusal>
+fn put_opened(
+    text: &mut Vec<u8>,
+    head: &[u8],
+    session: Option<u32>,
+    number: usize,
+) -> Result<(), Refusal>
     ensures ok { OnOk result (text.new.items ≡ text.old.items ++ reply_json head.now session (replies.Opened number)) }
     ensures memory { IsOkUnless result Refusal.Memory }
 {
@@ -60,7 +70,12 @@ fn put_opened(text: &mut Vec<u8>, head: &[u8], session: Option<u32>, number: usi
 }
 
 #[tactic(auto, using(crate::proofs::Fields::more_append))]
-fn put_taken(text: &mut Vec<u8>, head: &[u8], session: Option<u32>, event: &Event) -> Result<(), Refusal>
+fn put_taken(
+    text: &mut Vec<u8>,
+    head: &[u8],
+    session: Option<u32>,
+    event: &Event,
+) -> Result<(), Refusal>
     ensures ok { OnOk result (text.new.items ≡ text.old.items ++ reply_json head.now session (replies.Took event.now)) }
     ensures memory { IsOkUnless result Refusal.Memory }
 {
@@ -87,7 +102,12 @@ fn put_members(
 }
 
 #[tactic(auto, using(crate::proofs::Fields::more_append))]
-fn put_names(text: &mut Vec<u8>, head: &[u8], session: Option<u32>, names: &[Name]) -> Result<(), Refusal>
+fn put_names(
+    text: &mut Vec<u8>,
+    head: &[u8],
+    session: Option<u32>,
+    names: &[Name],
+) -> Result<(), Refusal>
     ensures ok { OnOk result (text.new.items ≡ text.old.items ++ reply_json head.now session (replies.Groups names.now)) }
     ensures memory { IsOkUnless result Refusal.Memory }
 {
@@ -98,7 +118,13 @@ fn put_names(text: &mut Vec<u8>, head: &[u8], session: Option<u32>, names: &[Nam
 }
 
 #[tactic(auto, using(crate::proofs::Put::known_put))]
-fn put_records(text: &mut Vec<u8>, head: &[u8], board: &Board, seat: &Seat, count: u32) -> Result<(), Refusal>
+fn put_records(
+    text: &mut Vec<u8>,
+    head: &[u8],
+    board: &Board,
+    seat: &Seat,
+    count: u32,
+) -> Result<(), Refusal>
     requires seat { IsSeatOf board.now.cells seat.now }
     requires count { count ≡ length seat.now }
     ensures ok { OnOk result (text.new.items ≡ text.old.items ++ concat (records_json (λ place. head.now) (records_of seat.now))) }
@@ -150,7 +176,12 @@ fn put_reply(
 }
 
 #[tactic(auto, using(crate::proofs::Fields::more_append))]
-fn put_refused(text: &mut Vec<u8>, head: &[u8], session: Option<u32>, why: Refusal) -> Result<(), Refusal>
+fn put_refused(
+    text: &mut Vec<u8>,
+    head: &[u8],
+    session: Option<u32>,
+    why: Refusal,
+) -> Result<(), Refusal>
     ensures ok { OnOk result (text.new.items ≡ text.old.items ++ object_line (head_of (codes "refused") head.now ∷ whose session ++ refusal_fields why)) }
     ensures memory { IsOkUnless result Refusal.Memory }
 {
