@@ -29,6 +29,6 @@ pub use accepting::accept_json;
 pub use admitting::{print_json, print_json_echo};
 pub use cpg_script::Fault;
 pub use judging::judge_json;
-pub use laws::{strings_are_printable, strings_read_back};
+pub use laws::{strings_are_printable, strings_read_back, texts_are_printable};
 pub use marks::{Marks, number_at, put_event_word, put_look_word};
 pub use running::step_json;

@@ -2,8 +2,7 @@
 //!
 //! Proved: what is put is the definition in `specs/Marks.antt`.
 
-ghost use Rattle.std.specs.Prelude.{◌≡◌, ◌++◌, codes, map, decimal, length, slice_index, OnOk, IsOkUnless};
-ghost use Rattle.cpg_world_laws.specs.Worlds.{WorldValue};
+ghost use Rattle.std.specs.Prelude.{◌≡◌, ◌≤◌, ◌++◌, codes, map, decimal, slice_index, OnOk, IsOkUnless};
 ghost use Rattle.cpg_json.specs.Marks.{command_word, conn_word, echo_words, event_word, frames_between, line_fields, look_word, mark_fields, node_word, numbers_field};
 ghost use Rattle.cpg_json.specs.Objects.{after_comma, field, joined, more, word};
 
