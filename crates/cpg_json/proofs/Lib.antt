@@ -9,5 +9,6 @@ pub mod Listing
 pub mod Passed
 pub mod Put
 pub mod Recorded
+pub mod Texted
 pub mod Told
 pub mod WhyFields

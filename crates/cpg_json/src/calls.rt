@@ -5,6 +5,7 @@ ghost use Rattle.std.specs.List.{list_all};
 ghost use Rattle.cpg_print.specs.Rules.{effect_text, right_text};
 ghost use Rattle.cpg_json.specs.Calls.{by_fields, call_fields, call_name, carried_fields, group_field, hex_fields, message_fields, reason_name, reason_rule, rule_fields, text_fields, verdict_fields, who_object};
 ghost use Rattle.cpg_json.specs.Objects.{after_comma, field, more};
+ghost use Rattle.cpg_json.specs.Strings.{text_string};
 
 use crate::objects::{put_maybe, put_name, put_number, put_number_or_null, put_text, put_word};
 use crate::strings::{put_chars, put_hex};
@@ -47,18 +48,24 @@ fn put_bytes_if(line: &mut Vec<u8>, message: &[u8]) -> Result<(), Refusal>
     put_hex(line, message)
 }
 
-#[tactic(auto, unfolding(crate::specs::Objects::after_comma, crate::specs::Objects::field))]
+#[tactic(auto, using(crate::proofs::Texted::text_told, crate::proofs::Texted::text_untold))]
 fn put_chars_if(line: &mut Vec<u8>, message: &[u8]) -> Result<(), Refusal>
     ensures ok { OnOk result (line.new.items ≡ line.old.items ++ more (text_fields message.now)) }
     ensures memory { IsOkUnless result Refusal.Memory }
 {
     match str::from_utf8(message) {
         Err(_) => Ok(()),
-        Ok(text) => {
-            put_name(line, "text")?;
-            put_chars(line, text)
-        }
+        Ok(text) => put_characters(line, text),
     }
+}
+
+#[tactic(auto, unfolding(crate::specs::Objects::after_comma, crate::specs::Objects::field))]
+fn put_characters(line: &mut Vec<u8>, text: &str) -> Result<(), Refusal>
+    ensures ok { OnOk result (line.new.items ≡ line.old.items ++ after_comma (field (codes "text") (text_string text.now))) }
+    ensures memory { IsOkUnless result Refusal.Memory }
+{
+    put_name(line, "text")?;
+    put_chars(line, text)
 }
 
 fn has_ascii_alone(bytes: &[u8]) -> bool

@@ -154,7 +154,6 @@ fn write_record<W: Write>(
     ensures kept { OnOk result (IsKept kept.new) }
 {
     let number = line_of(numbers, place);
-    let past = &policy.records()[place as usize - 1];
-    put_record_kept(lines, number, place, past, kept)?;
+    put_record_kept(lines, number, place, &policy.records()[place as usize - 1], kept)?;
     write_much(writer, lines)
 }

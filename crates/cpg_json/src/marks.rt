@@ -158,7 +158,7 @@ fn put_numbers(head: &mut Vec<u8>, before: usize, last: usize) -> Result<(), Ref
     put(head, "]")
 }
 
-#[tactic(auto, using(crate::proofs::Heads::no_frames, crate::proofs::Heads::first_frame))]
+#[tactic(auto, using(crate::proofs::Heads::none_joined, crate::proofs::Heads::first_put))]
 fn put_joined_numbers(head: &mut Vec<u8>, before: usize, last: usize) -> Result<(), Refusal>
     ensures ok { OnOk result (head.new.items ≡ head.old.items ++ joined (map decimal (frames_between before last))) }
     ensures memory { IsOkUnless result Refusal.Memory }
@@ -170,7 +170,7 @@ fn put_joined_numbers(head: &mut Vec<u8>, before: usize, last: usize) -> Result<
     put_more_numbers(head, before + 1, last)
 }
 
-#[tactic(auto, unfolding(crate::specs::Objects::after_comma))]
+#[tactic(auto, using(crate::proofs::Heads::none_put))]
 fn put_more_numbers(head: &mut Vec<u8>, before: usize, last: usize) -> Result<(), Refusal>
     requires { before ≤ last }
     ensures ok { OnOk result (head.new.items ≡ head.old.items ++ more (map decimal (frames_between before last))) }

@@ -78,6 +78,13 @@ fn put_escaped_chars(line: &mut Vec<u8>, text: &str) -> Result<(), Refusal>
     if has_plain_alone(text.as_bytes()) {
         return put_bytes(line, text.as_bytes());
     }
+    put_each_char(line, text)
+}
+
+fn put_each_char(line: &mut Vec<u8>, text: &str) -> Result<(), Refusal>
+    ensures ok { OnOk result (line.new.items ≡ line.old.items ++ flat_map string_char (chars text.now)) }
+    ensures memory { IsOkUnless result Refusal.Memory }
+{
     for c in text.chars() {
         put_char(line, c)?;
     }
