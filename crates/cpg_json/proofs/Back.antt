@@ -121,7 +121,7 @@ char_printable c small = by_test (is_plain c) refl
 
 -- the code of a character
 few : (c : ℕ) → scalar c ≡ true → c < 1114112
-few c is = elim scalar_cases c is [
+few c is = elim (scalar_cases c is) [
   | inl low ↦ omega (arith, low)
   | inr high ↦ high.1
 ]

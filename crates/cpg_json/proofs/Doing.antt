@@ -1,11 +1,12 @@
 -- commands done, one after the other
-use Rattle.std.proofs.Common.{◌≡◌, ℕ, ◌+◌, ◌<◌, List, [], ◌∷◌, ◌++◌, length, take, drop, get_or, Option, refl, sym, ap, subst, ◌∙◌, append_assoc, append-nil, slice_index, arith}
+use Rattle.std.proofs.Common.{◌≡◌, ℕ, ◌+◌, ◌<◌, List, [], ◌∷◌, ◌++◌, length, take, drop, get_or, Option, Ok, inr, refl, sym, ap, subst, ◌∙◌, append_assoc, append-nil, slice_index, arith}
 use Rattle.std.specs.List.{concat}
 use Rattle.std.specs.Io.KnownBytes.{Appends}
 use Rattle.std.proofs.KnownBytes.{Appends-trans, Appends-nil}
 use Rattle.std.proofs.lemmas.List.{length-take-le, take_more}
 use Rattle.std.proofs.lemmas.List.Folds.{concat-append}
 use Rattle.cpg_cred.specs.declared.refusals.Refusal.{Refusal}
+use Rattle.cpg_cred.specs.declared.refusals.Refusal.TheVariants as refusal
 use Rattle.cpg_text.specs.Streams.{AppendsFront}
 use Rattle.cpg_script.proofs.Lined.{split_around}
 use Rattle.cpg_world_laws.specs.declared.events.WorldEvent.{WorldEvent}
@@ -21,7 +22,7 @@ use Rattle.cpg_json.specs.Marks.{event_word, heads_of, look_word, mark_fields, H
 use Rattle.cpg_json.specs.Objects.{more}
 use Rattle.cpg_json.specs.declared.marks.Marks.{Marks}
 use Rattle.cpg_step.specs.Running.{events_in, after}
-use Rattle.cpg_json.specs.Stepping.{step_json_lines, AreDone, IsWrittenInPart, LeavesOf, IsStopped}
+use Rattle.cpg_json.specs.Stepping.{step_json_lines, AreDone, IsWrittenInPart, Leaves, LeavesOf, IsStopped}
 use Rattle.cpg_json.specs.Steps.{IsDone}
 
 -- the head of an event's answer, by the frames that there were before and after it
@@ -129,7 +130,7 @@ done_more heads index w v u before more a b d first second = record {
 pub done_next : (heads : Heads) (w v u : WorldValue) (commands : List Command) (i : ℕ) (c : Command) (a b d : Option (List ℕ)) → i < length commands → get_or commands i c ≡ c
     → AreDone heads 0 w (take i commands) a b v → AreDone heads i v (c ∷ []) b d u → AreDone heads 0 w (take (i + 1) commands) a d u
 done_next heads w v u commands i c a b d within e first second =
-    let counted : length (take i commands) ≡ i = length-take-le i commands (omega (arith, within)) in
+    let counted : 0 + length (take i commands) ≡ i = omega (arith, length-take-le i commands (omega (arith, within))) in
     let at : AreDone heads (0 + length (take i commands)) v (c ∷ []) b d u = subst (λ n. AreDone heads n v (c ∷ []) b d u) (sym counted) second in
     subst (λ l. AreDone heads 0 w l a d u) (sym (take_more commands i c within ∙ ap (λ x. take i commands ++ x ∷ []) e)) (done_more heads 0 w v u (take i commands) (c ∷ []) a b d first at)
 
@@ -146,6 +147,13 @@ stopped_at refused heads w v u commands i c a b d within e first left = record {
   done = first;
   left = subst (λ n. LeavesOf refused heads n v c b d u) (sym (length-take-le i commands (omega (arith, within)))) left;
 }
+
+-- what such a command leaves
+pub stopped_leaves : (refused : Refusal) (heads : Heads) (w world : WorldValue) (commands : List Command) (a b : Option (List ℕ)) → IsStopped refused heads w commands a b world
+    → Leaves heads (Ok commands) refused w a b world
+stopped_leaves refusal.Memory heads w world commands a b stopped = inr stopped
+stopped_leaves refusal.Write heads w world commands a b stopped = stopped
+stopped_leaves _ heads w world commands a b stopped = absurd stopped.left
 
 -- commands leave as many nodes
 pub as_many_done : (heads : Heads) (index : ℕ) (w v : WorldValue) (commands : List Command) (a b : Option (List ℕ)) → AreDone heads index w commands a b v → length v.nodes ≡ length w.nodes

@@ -24,10 +24,12 @@ both false q all = absurd (cc)
 
 -- a byte that is ASCII is a character by itself
 one_char : (b : ℕ) (rest : List ℕ) → chars rest ≡ rest → chars_after zero b rest ≡ b ∷ rest
+unfolding chars
 one_char b [] same = refl
 one_char b (next ∷ rest) same = ap (λ cs. b ∷ cs) same
 
 plain_chars : (bytes : List ℕ) → list_all is_plain bytes ≡ true → chars bytes ≡ bytes
+unfolding chars
 plain_chars [] all = refl
 plain_chars (b ∷ bs) all =
     let parts = both (is_plain b) (list_all is_plain bs) all in

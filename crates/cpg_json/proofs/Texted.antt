@@ -12,15 +12,17 @@ fields : List ℕ → Bool → List (List ℕ)
 fields message test = if test then field (codes "text") (text_string message) ∷ [] else []
 
 pub text_told : (old new message text : List ℕ) → IsUtf8 message → text ≡ message → new ≡ old ++ after_comma (field (codes "text") (text_string text)) → new ≡ old ++ more (text_fields message)
+unfolding after_comma fields
 text_told old new message text are same put =
     put ∙ ap (λ t. old ++ after_comma (field (codes "text") (text_string t))) same
     ∙ ap (λ l. old ++ l) (sym (append-nil (after_comma (field (codes "text") (text_string message)))))
     ∙ ap (λ test. old ++ more (fields message test)) (sym (is_utf8-from_IsUtf8 message are))
 
-none : (message : List ℕ) (test : Bool) → is_utf8 message ≡ test → (IsUtf8 message → ⊥) → test ≡ false
-none message true is no = absurd (no (IsUtf8-from_is_utf8 message is))
-none message false is no = refl
+not_told : (message : List ℕ) (test : Bool) → is_utf8 message ≡ test → (IsUtf8 message → ⊥) → test ≡ false
+not_told message true is other = absurd (other (IsUtf8-from_is_utf8 message is))
+not_told message false is other = refl
 
 pub text_untold : (old message : List ℕ) → (IsUtf8 message → ⊥) → old ≡ old ++ more (text_fields message)
-text_untold old message no =
-    sym (append-nil old) ∙ ap (λ test. old ++ more (fields message test)) (sym (none message (is_utf8 message) refl no))
+unfolding fields
+text_untold old message other =
+    sym (append-nil old) ∙ ap (λ test. old ++ more (fields message test)) (sym (not_told message (is_utf8 message) refl other))

@@ -72,14 +72,29 @@ fn judge_whole<R: Read, W: Write>(
 {
     let script = read_whole(alloc, reader)?;
     let policy = judge_lines(alloc, script.as_slice())?;
-    let numbers = read_numbers(alloc, script.as_slice())?;
-    drop(script);
-    write_judgement(alloc, writer, policy, numbers.as_slice())
+    write_judgement(alloc, writer, policy, script)
 }
 
-/// Writes the lines of the judged entries.
+/// Writes the lines of the judged entries of that script.
 #[tactic(auto, using(cpg_script::proofs::Lined::none_written))]
 fn write_judgement<W: Write>(
+    alloc: Global,
+    writer: &mut W,
+    policy: Policy,
+    script: Vec<u8>,
+) -> Result<(), Refusal>
+    requires { length script.items ≤ MOST_BYTES }
+    ensures ok { OnOk result (Appends (W.contents writer.old) (W.contents writer.new) (concat (judge_json_lines (numbers_of script.items) policy))) }
+    ensures err { IfErr result (λ refusal. LeavesLines (judge_json_lines (numbers_of script.items) policy) refusal (W.contents writer.old) (W.contents writer.new)) }
+{
+    let numbers = read_numbers(alloc, script.as_slice())?;
+    drop(script);
+    write_numbered(alloc, writer, policy, numbers.as_slice())
+}
+
+/// The same, where the lines of the entries have those numbers.
+#[tactic(auto, using(cpg_script::proofs::Lined::none_written))]
+fn write_numbered<W: Write>(
     alloc: Global,
     writer: &mut W,
     policy: Policy,
@@ -154,6 +169,12 @@ fn write_record<W: Write>(
     ensures kept { OnOk result (IsKept kept.new) }
 {
     let number = line_of(numbers, place);
-    put_record_kept(lines, number, place, &policy.records()[place as usize - 1], kept)?;
+    put_record_kept(
+        lines,
+        number,
+        place,
+        &policy.records()[place as usize - 1],
+        kept,
+    )?;
     write_much(writer, lines)
 }

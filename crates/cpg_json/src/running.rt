@@ -51,6 +51,7 @@ pub fn step_json<R: Read, W: Write>(
     }
 }
 
+#[tactic(auto, using(crate::proofs::Doing::stopped_leaves))]
 fn run_whole<R: Read, W: Write>(
     alloc: Global,
     marks: Marks,
