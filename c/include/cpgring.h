@@ -192,9 +192,9 @@ uint32_t cpgring_open_conf(cpgring *handle, const cpgring_setup *setup, const ui
 /* Closes a handle, and gives all its memory back. CPGRING_CLOSED where it is not open. */
 uint32_t cpgring_close(cpgring *handle);
 
-/* Closes a handle, whose memory then is `keeper`'s, to be given back piece by piece by cpgring_shed: to give all of it back
- * at once takes a time that grows with its places. Nothing else of `keeper` changes; what it kept of an earlier handle is
- * given back at once. CPGRING_CLOSED where one of both is not open. */
+/* Closes a handle. The entries and records of its places then are `keeper`'s, to be given back by cpgring_shed: to give them
+ * back at once takes a time that grows with their number. All else of the handle is given back here, and so is what `keeper`
+ * still has of an earlier one. Nothing else of `keeper` changes. CPGRING_CLOSED where one of both is not open. */
 uint32_t cpgring_close_into(cpgring *handle, cpgring *keeper);
 
 /* Gives back what a handle that was closed into this one has of its last places, of `most` places or of all that are left.
