@@ -1,5 +1,5 @@
 -- commands done, one after the other, each line that they print behind its echo
-use Rattle.std.proofs.Common.{◌≡◌, ℕ, ◌+◌, ◌<◌, ◌≤◌, List, [], ◌∷◌, ◌++◌, length, drop, get_or, slice_index, refl, sym, ap, subst, ◌∙◌, append_assoc, append-nil, arith}
+use Rattle.std.proofs.Common.{◌≡◌, ℕ, ◌+◌, ◌<◌, ◌≤◌, List, [], ◌∷◌, ◌++◌, length, drop, get_or, slice_index, sym, ap, subst, ◌∙◌, append_assoc, append-nil}
 use Rattle.std.specs.List.{concat}
 use Rattle.std.proofs.lemmas.List.{drop_more, drop_all}
 use Rattle.cpg_world.proofs.Running.{as_many_nodes}
@@ -11,7 +11,8 @@ use Rattle.cpg_step.specs.declared.commands.Command.{Command}
 use Rattle.cpg_step.specs.declared.commands.Command.TheVariants.{Act, Look}
 use Rattle.cpg_step.specs.Lines.{answer_line, look_lines}
 use Rattle.cpg_cluster.specs.Lines.{echoed}
-use Rattle.cpg_console.specs.Echoing.{echo_of, echoed_lines, event_word, look_word, IsEchoed}
+use Rattle.cpg_json.specs.Marks.{event_word, look_word}
+use Rattle.cpg_console.specs.Echoing.{echo_of, echoed_lines, IsEchoed}
 use Rattle.cpg_console.specs.EchoSteps.{IsActed, ArePut, StandsBefore}
 
 -- an event's line stands before those that follow it

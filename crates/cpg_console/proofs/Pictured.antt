@@ -22,10 +22,10 @@ use Rattle.cpg_console.specs.Runs.{Draws, DrawsUpTo, FailsLate, IsDrawn, LeavesD
 use Rattle.cpg_console.specs.Starting.{IsStarted, IsNotStarted}
 
 no_memory : (kind : Picture) (commands : Result (List Command) ℕ) (w : WorldValue) (a : Option (List ℕ)) → LeavesDrawn kind commands refusal.Memory w a a
-no_memory picture.Svg (Ok commands) w a = Keeps-refl a
-no_memory picture.Svg (Err bad) w a = Keeps-refl a
-no_memory picture.Lines (Ok commands) w a = Keeps-refl a
-no_memory picture.Lines (Err bad) w a = Keeps-refl a
+no_memory (picture.Svg x) (Ok commands) w a = Keeps-refl a
+no_memory (picture.Svg x) (Err bad) w a = Keeps-refl a
+no_memory (picture.Lines x) (Ok commands) w a = Keeps-refl a
+no_memory (picture.Lines x) (Err bad) w a = Keeps-refl a
 no_memory picture.Numbered (Ok commands) w a = Keeps-refl a
 no_memory picture.Numbered (Err bad) w a = Keeps-refl a
 
@@ -55,10 +55,10 @@ all_drawn (Some lines) kind s (Some list) w a b e h =
     (h.0, subst (λ (v : WorldValue). IsDrawn kind (commands_of_script v.settings.nodes lines) v a b) e h.1)
 
 no_range : (kind : Picture) (commands : Result (List Command) ℕ) (w : WorldValue) (a b : Option (List ℕ)) → LeavesDrawn kind commands refusal.Range w a b → ⊥
-no_range picture.Svg (Ok commands) w a b h = h
-no_range picture.Svg (Err bad) w a b h = h
-no_range picture.Lines (Ok commands) w a b h = h
-no_range picture.Lines (Err bad) w a b h = h
+no_range (picture.Svg x) (Ok commands) w a b h = h
+no_range (picture.Svg x) (Err bad) w a b h = h
+no_range (picture.Lines x) (Ok commands) w a b h = h
+no_range (picture.Lines x) (Err bad) w a b h = h
 no_range picture.Numbered (Ok commands) w a b h = h
 no_range picture.Numbered (Err bad) w a b h = h
 

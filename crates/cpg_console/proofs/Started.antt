@@ -12,32 +12,33 @@ use Rattle.cpg_ring.specs.declared.settings.Settings.{Settings}
 use Rattle.cpg_world_laws.specs.Worlds.{WorldValue, new_world}
 use Rattle.cpg_step.specs.declared.commands.Command.{Command}
 use Rattle.cpg_step.specs.Running as step
-use Rattle.cpg_console.specs.declared.runs.Form.{Form}
-use Rattle.cpg_console.specs.declared.runs.Form.TheVariants.{Text, Json}
+use Rattle.cpg_console.specs.declared.runs.Stepped.{Stepped}
+use Rattle.cpg_console.specs.declared.runs.Stepped.TheVariants.{Text, Json}
 use Rattle.cpg_step.specs.Scripts.{commands_of_script}
+use Rattle.cpg_why.specs.Scripts.{numbers_of}
 use Rattle.cpg_console.specs.declared.failures.Failure.{Failure}
 use Rattle.cpg_console.specs.declared.failures.Failure.TheVariants.{BadWord, Fault, Missing}
 use Rattle.cpg_console.specs.Runs.{FailsLate, IsRun, LeavesRun, Steps, StepsUpTo}
 use Rattle.cpg_console.specs.Starting.{IsStarted, IsNotStarted}
 
-no_memory : (form : Form) (commands : Result (List Command) ℕ) (w : WorldValue) (a : Option (List ℕ)) → LeavesRun form commands refusal.Memory w a a w
-no_memory Text (Ok commands) w a = inl (Keeps-refl a, refl)
-no_memory Text (Err bad) w a = (Keeps-refl a, refl)
-no_memory Json (Ok commands) w a = inl (Keeps-refl a, refl)
-no_memory Json (Err bad) w a = (Keeps-refl a, refl)
+no_memory : (form : Stepped) (numbers : List ℕ) (commands : Result (List Command) ℕ) (w : WorldValue) (a : Option (List ℕ)) → LeavesRun form numbers commands refusal.Memory w a a w
+no_memory Text numbers (Ok commands) w a = inl (Keeps-refl a, refl)
+no_memory Text numbers (Err bad) w a = (Keeps-refl a, refl)
+no_memory (Json marks) numbers (Ok commands) w a = inl (Keeps-refl a, refl)
+no_memory (Json marks) numbers (Err bad) w a = (Keeps-refl a, refl)
 
-refused : (form : Form) (s : Settings) (list : Listed) (failure : Failure) (lines : List ℕ) (a : Option (List ℕ)) → IsNotStarted s (Some list) failure → Steps form s (Some list) lines (Some failure) a a
+refused : (form : Stepped) (s : Settings) (list : Listed) (failure : Failure) (lines : List ℕ) (a : Option (List ℕ)) → IsNotStarted s (Some list) failure → Steps form s (Some list) lines (Some failure) a a
 refused form s list failure lines a h = elim h [
-  | inl memory ↦ subst (λ (f : Failure). Steps form s (Some list) lines (Some f) a a) (sym memory) (refl, (new_world s list, no_memory form (commands_of_script s.nodes lines) (new_world s list) a))
+  | inl memory ↦ subst (λ (f : Failure). Steps form s (Some list) lines (Some f) a a) (sym memory) (refl, (new_world s list, no_memory form (numbers_of lines) (commands_of_script s.nodes lines) (new_world s list) a))
   | inr range ↦ subst (λ (f : Failure). Steps form s (Some list) lines (Some f) a a) (sym range.0) (refl, (range.1, Keeps-refl a))
 ]
 
-not_started : (form : Form) (s : Settings) (list : Option Listed) (failure : Failure) (lines : List ℕ) (a : Option (List ℕ)) → IsNotStarted s list failure → Steps form s list lines (Some failure) a a
+not_started : (form : Stepped) (s : Settings) (list : Option Listed) (failure : Failure) (lines : List ℕ) (a : Option (List ℕ)) → IsNotStarted s list failure → Steps form s list lines (Some failure) a a
 not_started form s None failure lines a h = (ap (λ f. Some f) h, Keeps-refl a)
 not_started form s (Some list) failure lines a h = refused form s list failure lines a h
 
 -- nothing is written where there is no world
-pub none_stepped : (known : Option (List ℕ)) (form : Form) (s : Settings) (list : Option Listed) (failure : Failure) (a : Option (List ℕ)) → IsNotStarted s list failure
+pub none_stepped : (known : Option (List ℕ)) (form : Stepped) (s : Settings) (list : Option Listed) (failure : Failure) (a : Option (List ℕ)) → IsNotStarted s list failure
     → IfSome known (λ lines. Steps form s list lines (Some failure) a a)
 none_stepped None form s list failure a h = tt
 none_stepped (Some lines) form s list failure a h = not_started form s list failure lines a h
@@ -53,33 +54,33 @@ none_late s list (Missing what) a h = Keeps-refl a
 none_late s list (Fault fault) a h = late_refl fault.refusal a
 
 -- the whole script was run over the new world
-pub all_stepped : (known : Option (List ℕ)) (form : Form) (s : Settings) (list : Option Listed) (w world : WorldValue) (a b : Option (List ℕ)) → IsStarted s list w
-    → IfSome known (λ lines. (length lines ≤ MOST_BYTES) × IsRun form (commands_of_script w.settings.nodes lines) w a b world)
+pub all_stepped : (known : Option (List ℕ)) (form : Stepped) (s : Settings) (list : Option Listed) (w world : WorldValue) (a b : Option (List ℕ)) → IsStarted s list w
+    → IfSome known (λ lines. (length lines ≤ MOST_BYTES) × IsRun form (numbers_of lines) (commands_of_script w.settings.nodes lines) w a b world)
     → IfSome known (λ lines. Steps form s list lines None a b)
 all_stepped known form s None w world a b e h = absurd e
 all_stepped None form s (Some list) w world a b e h = tt
 all_stepped (Some lines) form s (Some list) w world a b e h =
-    (h.0, world, subst (λ (v : WorldValue). IsRun form (commands_of_script v.settings.nodes lines) v a b world) e h.1)
+    (h.0, world, subst (λ (v : WorldValue). IsRun form (numbers_of lines) (commands_of_script v.settings.nodes lines) v a b world) e h.1)
 
-no_range : (form : Form) (commands : Result (List Command) ℕ) (w world : WorldValue) (a b : Option (List ℕ)) → LeavesRun form commands refusal.Range w a b world → ⊥
-no_range Text (Ok commands) w world a b h = h
-no_range Text (Err bad) w world a b h = h
-no_range Json (Ok commands) w world a b h = h
-no_range Json (Err bad) w world a b h = h
+no_range : (form : Stepped) (numbers : List ℕ) (commands : Result (List Command) ℕ) (w world : WorldValue) (a b : Option (List ℕ)) → LeavesRun form numbers commands refusal.Range w a b world → ⊥
+no_range Text numbers (Ok commands) w world a b h = h
+no_range Text numbers (Err bad) w world a b h = h
+no_range (Json marks) numbers (Ok commands) w world a b h = h
+no_range (Json marks) numbers (Err bad) w world a b h = h
 
-up_to : (form : Form) (s : Settings) (list : Listed) (lines : List ℕ) (refused : Refusal) (world : WorldValue) (a b : Option (List ℕ))
-    → LeavesRun form (commands_of_script s.nodes lines) refused (new_world s list) a b world → StepsUpTo form s list lines refused a b
-up_to form s list lines refusal.Range world a b h = absurd (no_range form (commands_of_script s.nodes lines) (new_world s list) world a b h)
+up_to : (form : Stepped) (s : Settings) (list : Listed) (lines : List ℕ) (refused : Refusal) (world : WorldValue) (a b : Option (List ℕ))
+    → LeavesRun form (numbers_of lines) (commands_of_script s.nodes lines) refused (new_world s list) a b world → StepsUpTo form s list lines refused a b
+up_to form s list lines refusal.Range world a b h = absurd (no_range form (numbers_of lines) (commands_of_script s.nodes lines) (new_world s list) world a b h)
 up_to form s list lines refused world a b h = (world, h)
 
 -- a fault of the script ended it
-pub part_stepped : (known : Option (List ℕ)) (form : Form) (s : Settings) (list : Option Listed) (w world : WorldValue) (fault : script.Fault) (a b : Option (List ℕ)) → IsStarted s list w → fault.part ≡ None
-    → IfSome known (λ lines. LeavesRun form (commands_of_script w.settings.nodes lines) fault.refusal w a b world)
+pub part_stepped : (known : Option (List ℕ)) (form : Stepped) (s : Settings) (list : Option Listed) (w world : WorldValue) (fault : script.Fault) (a b : Option (List ℕ)) → IsStarted s list w → fault.part ≡ None
+    → IfSome known (λ lines. LeavesRun form (numbers_of lines) (commands_of_script w.settings.nodes lines) fault.refusal w a b world)
     → IfSome known (λ lines. Steps form s list lines (Some (Fault fault)) a b)
 part_stepped known form s None w world fault a b e p h = absurd e
 part_stepped None form s (Some list) w world fault a b e p h = tt
 part_stepped (Some lines) form s (Some list) w world fault a b e p h =
-    (p, up_to form s list lines fault.refusal world a b (subst (λ (v : WorldValue). LeavesRun form (commands_of_script v.settings.nodes lines) fault.refusal v a b world) e h))
+    (p, up_to form s list lines fault.refusal world a b (subst (λ (v : WorldValue). LeavesRun form (numbers_of lines) (commands_of_script v.settings.nodes lines) fault.refusal v a b world) e h))
 
 late_of : (refused : Refusal) (w world : WorldValue) (a b : Option (List ℕ)) → step.EndsRunning refused w a b world → WritesLate refused a b
 late_of refusal.Read w world a b h = h.0

@@ -1,5 +1,5 @@
 -- steps of the functions that echo, which no contract of a public function cites
-use Rattle.std.specs.Prelude.{ℕ, ◌≡◌, ◌+◌, List, [], ◌∷◌, ◌++◌, slice_index}
+use Rattle.std.specs.Prelude.{ℕ, ◌≡◌, ◌+◌, List, ◌∷◌, ◌++◌}
 use Rattle.cpg_world_laws.specs.declared.events.WorldEvent.{WorldEvent}
 use Rattle.cpg_world_laws.specs.Worlds.{WorldValue, happens}
 use Rattle.cpg_world_laws.specs.Replies.{Answer, IsReply, AreReplies}
@@ -7,7 +7,8 @@ use Rattle.cpg_step.specs.declared.commands.Command.{Command}
 use Rattle.cpg_step.specs.Lines.{answer_line}
 use Rattle.cpg_step.specs.Running.{events_in}
 use Rattle.cpg_cluster.specs.Lines.{echoed}
-use Rattle.cpg_console.specs.Echoing.{echo_of, echoed_lines, event_word}
+use Rattle.cpg_json.specs.Marks.{event_word}
+use Rattle.cpg_console.specs.Echoing.{echo_of, echoed_lines}
 
 -- the event happened, and its line is put behind those words
 pub record IsActed (w : WorldValue) (number : ℕ) (e : WorldEvent) (old : List ℕ) (world : WorldValue) (new : List ℕ) : Type 0 where

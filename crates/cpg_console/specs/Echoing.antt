@@ -5,43 +5,14 @@ use Rattle.std.specs.Io.KnownBytes.{Appends, Keeps}
 use Rattle.cpg_cred.specs.declared.refusals.Refusal.{Refusal}
 use Rattle.cpg_cred.specs.declared.refusals.Refusal.TheVariants as refusal
 use Rattle.cpg_text.specs.Streams.{AppendsFront}
-use Rattle.cpg_world_laws.specs.declared.events.WorldEvent.{WorldEvent}
-use Rattle.cpg_world_laws.specs.declared.events.WorldEvent.TheVariants as event
 use Rattle.cpg_world_laws.specs.Worlds.{WorldValue, happens}
 use Rattle.cpg_world_laws.specs.Replies.{Answer, AreReplies}
 use Rattle.cpg_step.specs.declared.commands.Command.{Command}
 use Rattle.cpg_step.specs.declared.commands.Command.TheVariants.{Act, Look}
-use Rattle.cpg_step.specs.declared.commands.Look.{Look as LookValue}
-use Rattle.cpg_step.specs.declared.commands.Look.TheVariants as look
 use Rattle.cpg_step.specs.Lines.{answer_line, look_lines}
 use Rattle.cpg_step.specs.Running.{events_in}
 use Rattle.cpg_cluster.specs.Lines.{echoed}
-
--- a node, and a connection of it
-abbrev pub node_word : ℕ → List ℕ
-node_word node = codes "n" ++ decimal node
-
-abbrev pub conn_word : ℕ → ℕ → List ℕ
-conn_word node conn = decimal node ++ codes "." ++ decimal conn
-
--- what an event is of: the connection that it names, or else the node
-abbrev pub event_word : WorldEvent → List ℕ
-event_word (event.Connect node pid cred) = node_word node
-event_word (event.Submit node conn call) = conn_word node conn
-event_word (event.Disconnect node conn) = conn_word node conn
-event_word (event.Frame node number) = node_word node
-event_word (event.Timer node) = node_word node
-event_word (event.Deliver node) = node_word node
-event_word (event.Take node conn) = conn_word node conn
-event_word (event.List node conn group) = conn_word node conn
-event_word (event.Groups node conn) = conn_word node conn
-
--- what a look is of: the node, and of a frame nothing
-abbrev pub look_word : LookValue → List ℕ
-look_word (look.Show number) = codes "-"
-look_word (look.Audit node) = node_word node
-look_word (look.Rules node group) = node_word node
-look_word (look.Safe node) = node_word node
+use Rattle.cpg_json.specs.Marks.{event_word, look_word}
 
 -- the number of a line and a word, as they stand before each line that is printed of it
 abbrev pub echo_of : ℕ → List ℕ → List ℕ

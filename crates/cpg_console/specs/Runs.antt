@@ -22,6 +22,7 @@ use Rattle.cpg_draw.specs.PictureDrawing as svg
 use Rattle.cpg_step.specs.NumberedSteps as numbers
 use Rattle.cpg_json.specs.Judging as json
 use Rattle.cpg_json.specs.Accepting as json_accept
+use Rattle.cpg_json.specs.Marks.{heads_of}
 use Rattle.cpg_json.specs.Stepping as json_step
 use Rattle.cpg_why.specs.Forms as told
 use Rattle.cpg_why.specs.Scripts as why
@@ -44,6 +45,8 @@ use Rattle.cpg_console.specs.declared.runs.Form.{Form}
 use Rattle.cpg_console.specs.declared.runs.Form.TheVariants.{Text, Json}
 use Rattle.cpg_console.specs.declared.runs.Picture.{Picture}
 use Rattle.cpg_console.specs.declared.runs.Picture.TheVariants as picture
+use Rattle.cpg_console.specs.declared.runs.Stepped.{Stepped}
+use Rattle.cpg_console.specs.declared.runs.Stepped.TheVariants as stepped
 use Rattle.cpg_console.specs.declared.runs.Run.{Run}
 use Rattle.cpg_console.specs.declared.runs.Run.TheVariants.{Judge, JudgeOnly, Why, Accept, Step, StepWhy, Draw, Number, Echo, Cluster, ClusterWhy}
 
@@ -59,27 +62,27 @@ abbrev pub why_as : Form → told.Form
 why_as Text = told.as_text
 why_as Json = as_json
 
--- a script was run over a world, and all its lines are written
-abbrev pub IsRun : Form → Result (List Command) ℕ → WorldValue → Option (List ℕ) → Option (List ℕ) → WorldValue → Type 0
-IsRun Text commands w old new world = step.IsRun commands w old new world
-IsRun Json commands w old new world = json_step.IsRun commands w old new world
+-- a script, whose commands' lines have those numbers, was run over a world, and all its lines are written
+abbrev pub IsRun : Stepped → List ℕ → Result (List Command) ℕ → WorldValue → Option (List ℕ) → Option (List ℕ) → WorldValue → Type 0
+IsRun stepped.Text numbers commands w old new world = step.IsRun commands w old new world
+IsRun (stepped.Json marks) numbers commands w old new world = json_step.IsRun (heads_of marks numbers) commands w old new world
 
 -- what a refusal leaves of it
-abbrev pub LeavesRun : Form → Result (List Command) ℕ → Refusal → WorldValue → Option (List ℕ) → Option (List ℕ) → WorldValue → Type 0
-LeavesRun Text commands refused w old new world = step.Leaves commands refused w old new world
-LeavesRun Json commands refused w old new world = json_step.Leaves commands refused w old new world
+abbrev pub LeavesRun : Stepped → List ℕ → Result (List Command) ℕ → Refusal → WorldValue → Option (List ℕ) → Option (List ℕ) → WorldValue → Type 0
+LeavesRun stepped.Text numbers commands refused w old new world = step.Leaves commands refused w old new world
+LeavesRun (stepped.Json marks) numbers commands refused w old new world = json_step.Leaves (heads_of marks numbers) commands refused w old new world
 
 -- The script was run over a new world, and all its lines are written.
-abbrev pub StepsAll : Form → Settings → Listed → List ℕ → Option (List ℕ) → Option (List ℕ) → Type 0
-StepsAll form s list script old new = (length script ≤ MOST_BYTES) × (world : WorldValue) × IsRun form (commands_of_script s.nodes script) (new_world s list) old new world
+abbrev pub StepsAll : Stepped → Settings → Listed → List ℕ → Option (List ℕ) → Option (List ℕ) → Type 0
+StepsAll form s list script old new = (length script ≤ MOST_BYTES) × (world : WorldValue) × IsRun form (why.numbers_of script) (commands_of_script s.nodes script) (new_world s list) old new world
 
 -- What a refusal leaves written of a script that is run over a new world; Range tells that there is none of those settings.
-abbrev pub StepsUpTo : Form → Settings → Listed → List ℕ → Refusal → Option (List ℕ) → Option (List ℕ) → Type 0
+abbrev pub StepsUpTo : Stepped → Settings → Listed → List ℕ → Refusal → Option (List ℕ) → Option (List ℕ) → Type 0
 StepsUpTo form s list script Range old new = (¬ IsSettings s) × Keeps old new
-StepsUpTo form s list script refused old new = (world : WorldValue) × LeavesRun form (commands_of_script s.nodes script) refused (new_world s list) old new world
+StepsUpTo form s list script refused old new = (world : WorldValue) × LeavesRun form (why.numbers_of script) (commands_of_script s.nodes script) refused (new_world s list) old new world
 
 -- what `step` writes of a script, by the list that its words give
-abbrev pub Steps : Form → Settings → Option Listed → List ℕ → Option Failure → Option (List ℕ) → Option (List ℕ) → Type 0
+abbrev pub Steps : Stepped → Settings → Option Listed → List ℕ → Option Failure → Option (List ℕ) → Option (List ℕ) → Type 0
 Steps form s None script failure old new = (failure ≡ Some BadWord) × Keeps old new
 Steps form s (Some list) script None old new = StepsAll form s list script old new
 Steps form s (Some list) script (Some (Fault fault)) old new = (fault.part ≡ None) × StepsUpTo form s list script fault.refusal old new
@@ -102,16 +105,16 @@ TellsSteps form asked s (Some list) script (Some (Missing absent)) old new =
     × ((world : WorldValue) × told_steps.Leaves (why_as form) (commands_of_script s.nodes script) asked (why_fault.Missing absent.what) (new_world s list) old new world)
 TellsSteps form asked s (Some list) script (Some BadWord) old new = ⊥
 
--- the picture of a script's run, as one SVG or as lines for a terminal, is written, or its lines with the numbers of frames
+-- the picture of an excerpt of a script's run, as one SVG or as lines for a terminal, is written, or its lines with the numbers of frames
 abbrev pub IsDrawn : Picture → Result (List Command) ℕ → WorldValue → Option (List ℕ) → Option (List ℕ) → Type 0
-IsDrawn picture.Svg commands w old new = svg.IsDrawn commands w old new
-IsDrawn picture.Lines commands w old new = draw.IsDrawn commands w old new
+IsDrawn (picture.Svg x) commands w old new = svg.IsDrawn x commands w old new
+IsDrawn (picture.Lines x) commands w old new = draw.IsDrawn x commands w old new
 IsDrawn picture.Numbered commands w old new = numbers.IsStepped commands w old new
 
 -- what a refusal leaves of it
 abbrev pub LeavesDrawn : Picture → Result (List Command) ℕ → Refusal → WorldValue → Option (List ℕ) → Option (List ℕ) → Type 0
-LeavesDrawn picture.Svg commands refused w old new = svg.Leaves commands refused w old new
-LeavesDrawn picture.Lines commands refused w old new = draw.Leaves commands refused w old new
+LeavesDrawn (picture.Svg x) commands refused w old new = svg.Leaves x commands refused w old new
+LeavesDrawn (picture.Lines x) commands refused w old new = draw.Leaves x commands refused w old new
 LeavesDrawn picture.Numbered commands refused w old new = numbers.Leaves commands refused w old new
 
 -- What a refusal leaves written of the picture of a script's run; Range tells that there is no world of those settings.
@@ -142,12 +145,12 @@ Echoes s (Some list) script _ old new = ⊥
 -- the judgement of a script, as text or as JSON, is written
 abbrev pub IsJudged : Form → List ℕ → Option (List ℕ) → Option (List ℕ) → Type 0
 IsJudged Text script old new = judge.IsWritten (entries_of_script script) old new
-IsJudged Json script old new = json.IsWritten (entries_of_script script) old new
+IsJudged Json script old new = json.IsWritten (why.numbers_of script) (entries_of_script script) old new
 
 -- what a refusal leaves of it
 abbrev pub LeavesJudged : Form → List ℕ → Refusal → Option (List ℕ) → Option (List ℕ) → Type 0
 LeavesJudged Text script refused old new = judge.Leaves (entries_of_script script) refused old new
-LeavesJudged Json script refused old new = json.Leaves (entries_of_script script) refused old new
+LeavesJudged Json script refused old new = json.Leaves (why.numbers_of script) (entries_of_script script) refused old new
 
 -- the answers to a script's asks, as text or as JSON, are written
 abbrev pub AreAnswered : Form → List ℕ → Option (List ℕ) → Option (List ℕ) → Type 0

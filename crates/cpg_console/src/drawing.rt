@@ -68,8 +68,8 @@ fn draw<R: Read, W: Write>(
     ensures whole { IfErr result (λ fault. fault.part ≡ None) }
 {
     match picture {
-        Picture::Svg => draw_svg(alloc, reader, writer, world),
-        Picture::Lines => draw_script(alloc, reader, writer, world),
+        Picture::Svg(excerpt) => draw_svg(alloc, reader, writer, excerpt, world),
+        Picture::Lines(excerpt) => draw_script(alloc, reader, writer, excerpt, world),
         Picture::Numbered => step_numbered(alloc, reader, writer, world),
     }
 }

@@ -3,22 +3,24 @@
 //!
 //! Proved: the bytes, after success and after each fault.
 
-ghost use Rattle.std.specs.Prelude.{◌≡◌, ◌≤◌, ◌++◌, ◌↔◌, Err, Some, None, All, length, map, slice_index, OnOk, IfOk, IfErr, IfSome, IsOkUnless};
+ghost use Rattle.std.specs.Prelude.{◌≡◌, ◌≤◌, ◌++◌, ◌↔◌, Err, Some, None, All, length, map, OnOk, IfOk, IfErr, IfSome, IsOkUnless};
 ghost use Rattle.std.specs.List.{concat};
 ghost use Rattle.cpg_world_laws.specs.Worlds.{node_in};
 ghost use Rattle.cpg_step.specs.Commands.{IsWithin, LooksWithin};
 ghost use Rattle.cpg_step.specs.Lines.{look_lines};
 ghost use Rattle.cpg_step.specs.Scripts.{commands_of_script};
 ghost use Rattle.cpg_why.specs.Scripts.{numbers_of};
+ghost use Rattle.cpg_json.specs.Marks.{event_word, look_word};
 ghost use Rattle.cpg_cluster.specs.Lines.{echoed, echoed_line};
-ghost use Rattle.cpg_console.specs.Echoing.{conn_word, echo_of, event_word, look_word, node_word, IsEchoed, IsWritten, Leaves, EndsEchoing};
+ghost use Rattle.cpg_console.specs.Echoing.{echo_of, IsEchoed, IsWritten, Leaves, EndsEchoing};
 ghost use Rattle.cpg_console.specs.Runs.{Echoes, FailsLate};
 ghost use Rattle.cpg_console.specs.Words.{list_of_words};
 ghost use Rattle.cpg_console.specs.EchoSteps.{IsActed, ArePut, StandsBefore};
 
 use crate::failures::Failure;
 use crate::stepping::world_by;
-use cpg_cred::{NodeId, Refusal};
+use cpg_cred::Refusal;
+use cpg_json::{number_at, put_event_word, put_look_word};
 use cpg_ring::Settings;
 use cpg_script::{Fault, put, put_byte, put_bytes};
 use cpg_step::{Command, Look, answer_to, put_answer, put_look, read_commands};
@@ -136,16 +138,6 @@ fn step_commands(
     Ok(())
 }
 
-/// The number of that index.
-fn number_at(numbers: &[u32], index: usize) -> u32
-    ensures { result ≡ slice_index numbers.now index }
-{
-    match numbers.get(index) {
-        None => 0,
-        Some(number) => *number,
-    }
-}
-
 /// Does a command, whose line has the number of that index, and puts its lines.
 #[tactic(auto, using(crate::proofs::EchoedRuns::act_goes_on, crate::proofs::EchoedRuns::look_goes_on, crate::proofs::EchoedRuns::as_many_acted))]
 fn step_command(
@@ -228,54 +220,6 @@ fn put_look_echo(words: &mut Vec<u8>, number: u32, look: &Look) -> Result<(), Re
     put(words, " ")?;
     put_look_word(words, look)?;
     put(words, " ")
-}
-
-/// Puts what an event is of.
-fn put_event_word(words: &mut Vec<u8>, event: &WorldEvent) -> Result<(), Refusal>
-    ensures ok { OnOk result (words.new.items ≡ words.old.items ++ event_word event.now) }
-    ensures memory { IsOkUnless result Refusal.Memory }
-{
-    match event {
-        WorldEvent::Connect(node, _, _) => put_node(words, *node),
-        WorldEvent::Submit(node, conn, _) => put_conn(words, *node, *conn),
-        WorldEvent::Disconnect(node, conn) => put_conn(words, *node, *conn),
-        WorldEvent::Frame(node, _) => put_node(words, *node),
-        WorldEvent::Timer(node) => put_node(words, *node),
-        WorldEvent::Deliver(node) => put_node(words, *node),
-        WorldEvent::Take(node, conn) => put_conn(words, *node, *conn),
-        WorldEvent::List(node, conn, _) => put_conn(words, *node, *conn),
-        WorldEvent::Groups(node, conn) => put_conn(words, *node, *conn),
-    }
-}
-
-/// Puts what a look is of.
-fn put_look_word(words: &mut Vec<u8>, look: &Look) -> Result<(), Refusal>
-    ensures ok { OnOk result (words.new.items ≡ words.old.items ++ look_word look.now) }
-    ensures memory { IsOkUnless result Refusal.Memory }
-{
-    match look {
-        Look::Show(_) => put(words, "-"),
-        Look::Audit(node) => put_node(words, *node),
-        Look::Rules(node, _) => put_node(words, *node),
-        Look::Safe(node) => put_node(words, *node),
-    }
-}
-
-fn put_node(words: &mut Vec<u8>, node: NodeId) -> Result<(), Refusal>
-    ensures ok { OnOk result (words.new.items ≡ words.old.items ++ node_word node) }
-    ensures memory { IsOkUnless result Refusal.Memory }
-{
-    put(words, "n")?;
-    push_number(words, u64::from(node.get()))
-}
-
-fn put_conn(words: &mut Vec<u8>, node: NodeId, conn: u16) -> Result<(), Refusal>
-    ensures ok { OnOk result (words.new.items ≡ words.old.items ++ conn_word node conn) }
-    ensures memory { IsOkUnless result Refusal.Memory }
-{
-    push_number(words, u64::from(node.get()))?;
-    put(words, ".")?;
-    push_number(words, u64::from(conn))
 }
 
 /// Puts the line after the words at the text's end, and nothing where it is empty.

@@ -3,7 +3,7 @@
 //! Standard output is buffered, and what was gathered is handed on also after a fault. Proved: what is
 //! written to standard output and to standard error, and the status, whatever the streams do.
 
-ghost use Rattle.std.specs.Prelude.{◌≡◌, ◌⊎◌, ◌↔◌, [], false, Err, None, Some, map, OnOk, OnErr, IfErr, IfSome, IsSomeAnd, IsTrue};
+ghost use Rattle.std.specs.Prelude.{◌≡◌, ◌⊎◌, ◌↔◌, [], false, Err, None, Some, OnOk, OnErr, IfErr, IfSome, IsSomeAnd, IsTrue};
 ghost use Rattle.std.specs.Io.Buffered.{writer_buffer, writer_contents};
 ghost use Rattle.std.specs.Io.KnownBytes.{Appends, Keeps};
 ghost use Rattle.cpg_text.specs.Streams.{AppendsFront};
@@ -27,6 +27,8 @@ use crate::telling::tell_failure;
 use crate::tracing::KeepsEnds;
 use cpg_cluster::Manner;
 use cpg_cred::Refusal;
+use cpg_draw::Excerpt;
+use cpg_json::Marks;
 use cpg_judge::filter::{Filter, judge_filtered};
 use cpg_ring::Settings;
 use cpg_script::Fault;
@@ -46,13 +48,22 @@ pub enum Form {
     Json,
 }
 
+/// How the answers of `step` are written.
+#[derive(Debug, Clone, Copy)]
+pub enum Stepped {
+    /// As text.
+    Text,
+    /// As objects of JSON, one a line, with those marks.
+    Json(Marks),
+}
+
 /// How a picture is written.
 #[derive(Debug, Clone, Copy)]
 pub enum Picture {
-    /// As one SVG.
-    Svg,
-    /// As lines for a terminal.
-    Lines,
+    /// As one SVG, of which those rows are shown.
+    Svg(Excerpt),
+    /// As lines for a terminal, of which those rows are shown.
+    Lines(Excerpt),
     /// As the lines of `step`, with the numbers of the frames that each command sent.
     Numbered,
 }
@@ -70,7 +81,7 @@ pub enum Run<'a> {
     Accept(Form),
     /// `cpgring step`: a script of commands is run over a new world of those settings, whose nodes let in
     /// whom the words let in.
-    Step(Form, Settings, &'a [&'a str]),
+    Step(Stepped, Settings, &'a [&'a str]),
     /// `cpgring step --why`: it is told why entries that such a world delivered were answered as they were.
     StepWhy(Form, Asked, Settings, &'a [&'a str]),
     /// `cpgring draw`: the run of such a script over a new world is drawn.

@@ -6,14 +6,14 @@ ghost use Rattle.std.specs.Prelude.{◌≡◌, ◌≤◌, ◌↔◌, Err, Some, 
 ghost use Rattle.cpg_world_laws.specs.Worlds.{new_world};
 ghost use Rattle.cpg_step.specs.Running.{EndsRunning};
 ghost use Rattle.cpg_step.specs.Scripts.{commands_of_script};
-ghost use Rattle.cpg_why.specs.Scripts.{EndsWhy};
+ghost use Rattle.cpg_why.specs.Scripts.{numbers_of, EndsWhy};
 ghost use Rattle.cpg_why.specs.Explaining.{IsExplained, Leaves};
 ghost use Rattle.cpg_console.specs.Runs.{why_as, FailsLate, IsRun, LeavesRun, Steps, TellsSteps};
 ghost use Rattle.cpg_console.specs.Starting.{IsStarted, IsNotStarted};
 ghost use Rattle.cpg_console.specs.Words.{list_of_words};
 
 use crate::failures::{Failure, undelivered};
-use crate::runs::Form;
+use crate::runs::{Form, Stepped};
 use crate::words::read_list;
 use cpg_cred::AcceptList;
 use cpg_json::step_json;
@@ -37,7 +37,7 @@ use std::mem;
 #[tactic(auto, using(crate::proofs::Started::none_stepped, crate::proofs::Started::none_late, crate::proofs::Started::all_stepped, crate::proofs::Started::part_stepped, crate::proofs::Started::part_late))]
 pub fn step_over_world<R: Read, W: Write>(
     alloc: Global,
-    form: Form,
+    form: Stepped,
     settings: Settings,
     words: &[&str],
     reader: &mut R,
@@ -74,21 +74,21 @@ fn leave(world: World) {
 /// Runs the script over the world, and writes what it prints in that form.
 fn step<R: Read, W: Write>(
     alloc: Global,
-    form: Form,
+    form: Stepped,
     reader: &mut R,
     writer: &mut W,
     world: &mut World,
 ) -> Result<(), Fault>
     ensures ok { OnOk result (IfSome (R.remaining reader.old) (λ script.
-        (length script ≤ MOST_BYTES) × IsRun form (commands_of_script world.old.settings.nodes script) world.old (W.contents writer.old) (W.contents writer.new) world.new)) }
+        (length script ≤ MOST_BYTES) × IsRun form (numbers_of script) (commands_of_script world.old.settings.nodes script) world.old (W.contents writer.old) (W.contents writer.new) world.new)) }
     ensures err { IfErr result (λ fault. IfSome (R.remaining reader.old) (λ script.
-        LeavesRun form (commands_of_script world.old.settings.nodes script) fault.refusal world.old (W.contents writer.old) (W.contents writer.new) world.new)) }
+        LeavesRun form (numbers_of script) (commands_of_script world.old.settings.nodes script) fault.refusal world.old (W.contents writer.old) (W.contents writer.new) world.new)) }
     ensures ends { IfErr result (λ fault. EndsRunning fault.refusal world.old (W.contents writer.old) (W.contents writer.new) world.new) }
     ensures whole { IfErr result (λ fault. fault.part ≡ None) }
 {
     match form {
-        Form::Text => run_script(alloc, reader, writer, world),
-        Form::Json => step_json(alloc, reader, writer, world),
+        Stepped::Text => run_script(alloc, reader, writer, world),
+        Stepped::Json(marks) => step_json(alloc, marks, reader, writer, world),
     }
 }
 

@@ -1,10 +1,18 @@
 -- texts put one after the other
-use Rattle.std.proofs.Common.{◌≡◌, ℕ, List, ◌∷◌, ◌++◌, ap, ◌∙◌, append_assoc}
+use Rattle.std.proofs.Common.{◌≡◌, ℕ, Bool, true, false, List, append-nil, ◌∷◌, ◌++◌, ap, ◌∙◌, append_assoc}
 use Rattle.std.specs.List.{concat}
+use Rattle.cpg_draw.specs.Excerpts.{if_shown}
+use Rattle.cpg_draw.specs.Steps.{text_shown}
 
 -- a row, and the rows after it
-pub rows_joined : (old now whole line : List ℕ) (rows : List (List ℕ)) → now ≡ old ++ line → whole ≡ now ++ concat rows → whole ≡ old ++ concat (line ∷ rows)
+rows_joined : (old now whole line : List ℕ) (rows : List (List ℕ)) → now ≡ old ++ line → whole ≡ now ++ concat rows → whole ≡ old ++ concat (line ∷ rows)
 rows_joined old now whole line rows put rest = rest ∙ (ap (λ text. text ++ concat rows) put ∙ append_assoc old line (concat rows))
+
+-- a row, where it is shown, and the rows after it
+pub shown_joined : (here : Bool) (old now whole line : List ℕ) (rows : List (List ℕ)) → now ≡ old ++ text_shown here line → whole ≡ now ++ concat rows
+    → whole ≡ old ++ concat (if_shown here line ++ rows)
+shown_joined true old now whole line rows put rest = rows_joined old now whole line rows put rest
+shown_joined false old now whole line rows put rest = rest ∙ ap (λ text. text ++ concat rows) (put ∙ append-nil old)
 
 regrouped : (old r e b s t : List ℕ) → ((old ++ (r ++ e ++ b)) ++ s) ++ t ≡ old ++ (r ++ (e ++ b ++ s ++ t))
 regrouped old r e b s t = simp append_assoc

@@ -1,5 +1,6 @@
 pub mod Cut
 pub mod Drawn
+pub mod Front
 pub mod Joined
 pub mod Overtaken
 pub mod PictureDrawn

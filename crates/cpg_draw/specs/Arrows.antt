@@ -6,6 +6,7 @@ use Rattle.cpg_ring.specs.Worlds.{item, with_item}
 use Rattle.cpg_draw.specs.declared.arrows.Arrow.{Arrow}
 use Rattle.cpg_draw.specs.declared.arrows.Kind.{Kind}
 use Rattle.cpg_draw.specs.declared.arrows.Kind.TheVariants.{Data, Again, Token}
+use Rattle.cpg_draw.specs.declared.excerpts.Spot.{Spot}
 use Rattle.cpg_draw.specs.Sets.{with_node}
 
 -- What a frame is in a row that brought a token of that seq: the token; or data, served again where its place is not above that seq.
@@ -24,18 +25,18 @@ seq_of (frame.Token token) = token.seq
 seq_of (frame.Packet packet) = 0
 
 -- The arrow of the frame of that number: it begins at the row whose reply sent it, in the column of the node that sent it.
-abbrev pub arrow_of : ℕ → ℕ → ℕ → ℕ → Frame → Arrow
-arrow_of number row node seq f = record { number = number; row = row; node = node; kind = kind_of seq f; mark = mark_of f; came = 0 }
+abbrev pub arrow_of : ℕ → Spot → ℕ → ℕ → Frame → Arrow
+arrow_of number sent node seq f = record { number = number; sent = sent; node = node; kind = kind_of seq f; mark = mark_of f; came = 0 }
 
 -- the arrows of frames that one row sent, the first of which has that number
-abbrev pub arrows_of : ℕ → ℕ → ℕ → ℕ → List Frame → List Arrow
-arrows_of number row node seq [] = []
-arrows_of number row node seq (f ∷ later) = arrow_of number row node seq f ∷ arrows_of (number + 1) row node seq later
+abbrev pub arrows_of : ℕ → Spot → ℕ → ℕ → List Frame → List Arrow
+arrows_of number sent node seq [] = []
+arrows_of number sent node seq (f ∷ later) = arrow_of number sent node seq f ∷ arrows_of (number + 1) sent node seq later
 
 -- the arrow of a frame, if there is one
-abbrev pub made_at : ℕ → ℕ → ℕ → ℕ → Option Frame → Option Arrow
-made_at number row node seq None = None
-made_at number row node seq (Some f) = Some (arrow_of number row node seq f)
+abbrev pub made_at : ℕ → Spot → ℕ → ℕ → Option Frame → Option Arrow
+made_at number sent node seq None = None
+made_at number sent node seq (Some f) = Some (arrow_of number sent node seq f)
 
 -- an arrow, if there is one, as a list
 abbrev pub arrow_list : Option Arrow → List Arrow

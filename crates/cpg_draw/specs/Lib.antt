@@ -2,6 +2,7 @@ pub mod Arrows
 pub mod Columns
 pub mod Drawing
 pub mod Entries
+pub mod Excerpts
 pub mod Layout
 pub mod Misses
 pub mod Passed

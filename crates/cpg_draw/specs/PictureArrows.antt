@@ -1,5 +1,5 @@
 -- arrows as they are drawn
-use Rattle.std.specs.Prelude.{ℕ, Bool, nat_lt, ◌+◌, ◌/◌, List, [], ◌∷◌, ◌++◌, ◌==◌, min, codes, decimal, length, get_or, set, replicate, Option, Some, None, if◌then◌else◌}
+use Rattle.std.specs.Prelude.{ℕ, Bool, nat_lt, ◌+◌, ◌/◌, List, [], ◌∷◌, ◌++◌, ◌==◌, ◌&&◌, not, min, codes, decimal, length, get_or, set, replicate, Option, Some, None, if◌then◌else◌}
 use Rattle.cpg_ring.specs.Worlds.{item}
 use Rattle.cpg_world_laws.specs.Worlds.{WorldValue}
 use Rattle.cpg_draw.specs.declared.arrows.Arrow.{Arrow}
@@ -9,30 +9,43 @@ use Rattle.cpg_draw.specs.declared.svg.layout.TheConstants.{MARKS}
 use Rattle.cpg_draw.specs.Layout.{x_of, y_of, below, words_x, words_y, label_x, label_y, bend, mark_x, second_x}
 use Rattle.cpg_draw.specs.Shapes.{escaped, point, text_at, title_of}
 
--- An arrow goes from the row that sent the frame, in its sender's column, to the row that brings it, in that node's column.
+-- An arrow goes from the line of the row that sent the frame, in its sender's column, to that of the row that brings it, in that node's column.
 unfoldable pub path_of : Arrow → ℕ → ℕ → List ℕ
-path_of a row node =
-    codes "<path d='M" ++ point (x_of a.node) (y_of a.row)
-    ++ codes "Q" ++ point ((x_of a.node + x_of node) / 2 + bend a.node node) ((y_of a.row + y_of row) / 2)
-    ++ codes " " ++ point (x_of node) (y_of row) ++ codes "'/>"
+path_of a place node =
+    codes "<path d='M" ++ point (x_of a.node) (y_of a.sent.place)
+    ++ codes "Q" ++ point ((x_of a.node + x_of node) / 2 + bend a.node node) ((y_of a.sent.place + y_of place) / 2)
+    ++ codes " " ++ point (x_of node) (y_of place) ++ codes "'/>"
 
 -- its place or its hop, beside its end
 unfoldable pub label_of : Arrow → ℕ → ℕ → List ℕ
-label_of a row node = text_at (label_x a.node node) (label_y row) (arrow_text a)
+label_of a place node = text_at (label_x a.node node) (label_y place) (arrow_text a)
 
 -- the side of an arrow's end on which its label stands
 abbrev pub side_of : ℕ → ℕ → List ℕ
 side_of from to = if nat_lt from to then codes "right" else codes "left"
 
--- the arrow that ends in a row at a node, if there is one: its kind, its frame and its path
+-- an open diamond at a point
+abbrev pub foot_at : ℕ → ℕ → List ℕ
+foot_at x y = codes "<g class='way'><path d='M" ++ point x y ++ codes "m0-6l6 6-6 6-6-6 6-6'/></g>"
+
+-- the arrow comes from a row above all lines
+abbrev pub is_from_above : Arrow → Bool
+is_from_above a = a.sent.place == 0 && not (a.sent.row == 0)
+
+-- what an arrow begins with: that diamond, in its sender's column above all lines, where it comes from there
+abbrev pub foot_of : Arrow → List ℕ
+foot_of a = if is_from_above a then foot_at (x_of a.node) (y_of a.sent.place) else []
+
+-- the arrow that ends on a line at a node, if there is one: its kind, its frame, its path and its beginning
 abbrev pub arrow_shape : WorldValue → ℕ → ℕ → Option Arrow → List ℕ
-arrow_shape w row node None = []
-arrow_shape w row node (Some a) = codes "<g class='" ++ kind_text a.kind ++ codes "'>" ++ title_of (item w.sent a.number) ++ path_of a row node ++ codes "</g>"
+arrow_shape w place node None = []
+arrow_shape w place node (Some a) =
+    codes "<g class='" ++ kind_text a.kind ++ codes "'>" ++ title_of (item w.sent a.number) ++ path_of a place node ++ foot_of a ++ codes "</g>"
 
 -- and its label, with the frame
 abbrev pub label_shape : WorldValue → ℕ → ℕ → Option Arrow → List ℕ
-label_shape w row node None = []
-label_shape w row node (Some a) = codes "<g class='" ++ side_of a.node node ++ codes "'>" ++ title_of (item w.sent a.number) ++ label_of a row node ++ codes "</g>"
+label_shape w place node None = []
+label_shape w place node (Some a) = codes "<g class='" ++ side_of a.node node ++ codes "'>" ++ title_of (item w.sent a.number) ++ label_of a place node ++ codes "</g>"
 
 -- a cross where a stub ends, and an open diamond behind one that comes from the left and from the right
 unfoldable pub cross : List ℕ
@@ -55,14 +68,14 @@ fate_class lost = if lost then codes "lost'>" else codes "way'>"
 -- not come to that node.
 unfoldable pub mark_of : Miss → ℕ → List ℕ
 mark_of m place =
-    codes "<path d='M" ++ point (x_of m.arrow.node) (y_of m.arrow.row) ++ codes "H" ++ decimal (mark_x m.arrow.node m.node place) ++ end_of m.arrow.node m.node m.lost
+    codes "<path d='M" ++ point (x_of m.arrow.node) (y_of m.arrow.sent.place) ++ codes "H" ++ decimal (mark_x m.arrow.node m.node place) ++ end_of m.arrow.node m.node m.lost
 
 -- its place or its hop, beyond the node's column; only of the first two
 unfoldable pub mark_label : Miss → ℕ → List ℕ
 mark_label m place =
     if nat_lt 1 place then []
     else codes "<g class='" ++ side_of m.arrow.node m.node ++ codes "'>"
-    ++ text_at (if place == 0 then label_x m.arrow.node m.node else second_x m.arrow.node m.node) (label_y m.arrow.row) (arrow_text m.arrow) ++ codes "</g>"
+    ++ text_at (if place == 0 then label_x m.arrow.node m.node else second_x m.arrow.node m.node) (label_y m.arrow.sent.place) (arrow_text m.arrow) ++ codes "</g>"
 
 -- what is said of it in a line below so many rows
 unfoldable pub miss_line : ℕ → ℕ → ℕ → Miss → List ℕ
@@ -91,5 +104,5 @@ unplaced = replicate 256 (0, 0)
 abbrev pub miss_shapes : WorldValue → ℕ → ℕ → List (ℕ × ℕ) → List Miss → List ℕ
 miss_shapes w rows line table [] = []
 miss_shapes w rows line table (m ∷ later) =
-    let place = place_in (get_or table m.node (0, 0)) m.arrow.row in
-    miss_shape w (length w.nodes) rows line place m ++ miss_shapes w rows (line + 1) (placed table m.node m.arrow.row place) later
+    let place = place_in (get_or table m.node (0, 0)) m.arrow.sent.row in
+    miss_shape w (length w.nodes) rows line place m ++ miss_shapes w rows (line + 1) (placed table m.node m.arrow.sent.row place) later

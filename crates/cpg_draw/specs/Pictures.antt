@@ -5,8 +5,9 @@ use Rattle.cpg_world_laws.specs.Replies.{Answer, AreReplies}
 use Rattle.cpg_step.specs.declared.commands.Command.{Command}
 use Rattle.cpg_step.specs.Running.{events_in, after}
 use Rattle.cpg_draw.specs.declared.arrows.Arrow.{Arrow}
+use Rattle.cpg_draw.specs.declared.excerpts.Excerpt.{Excerpt}
 use Rattle.cpg_draw.specs.declared.misses.Miss.{Miss}
-use Rattle.cpg_draw.specs.Misses.{misses_in}
+use Rattle.cpg_draw.specs.Excerpts.{first_spot, shown_misses}
 use Rattle.cpg_draw.specs.Rows.{first_arrows}
 use Rattle.cpg_draw.specs.declared.svg.style.TheConstants.{STYLE}
 use Rattle.cpg_draw.specs.Layout.{x_of, y_of, below, width_of}
@@ -48,18 +49,18 @@ picture_of count under over w misses =
     head_of (length w.nodes) count (length misses) ++ under ++ miss_shapes w count 1 unplaced misses
     ++ codes "<g>\n" ++ over ++ codes "</g>\n</svg>\n"
 
--- the same of rows, and of the arrows after them
-abbrev pub picture_with : ℕ → List Row → WorldValue → List Arrow → List ℕ
-picture_with count rows w arrows = picture_of count (under_of rows) (over_of rows) w (misses_in (length w.nodes) arrows)
+-- the same of an excerpt's rows, the first of which lies above the others, and of the arrows after them
+abbrev pub picture_with : Excerpt → Row → List Row → WorldValue → List Arrow → List ℕ
+picture_with x top rows w arrows = picture_of (length rows) (under_of (top ∷ rows)) (over_of (top ∷ rows)) w (shown_misses x (length w.nodes) arrows)
 
--- the picture of commands, where that is what their events are answered
-abbrev pub picture : WorldValue → List Command → List Answer → List ℕ
-picture w commands answers =
-    picture_with (length commands) (start_row w ∷ rows_of 1 (first_arrows w) w commands answers) (after w commands)
-    (arrows_past 1 (first_arrows w) w commands)
+-- the picture of an excerpt of commands, where that is what their events are answered
+abbrev pub picture : Excerpt → WorldValue → List Command → List Answer → List ℕ
+picture x w commands answers =
+    picture_with x (start_row x w) (rows_of x first_spot (first_arrows w) w commands answers) (after w commands)
+    (arrows_past x first_spot (first_arrows w) w commands)
 
 -- The text is the picture of the commands, as the world answers their events.
-pub record IsPicture (w : WorldValue) (commands : List Command) (text : List ℕ) : Type 0 where
+pub record IsPicture (x : Excerpt) (w : WorldValue) (commands : List Command) (text : List ℕ) : Type 0 where
   pub answers : List Answer
   pub replies : AreReplies w (events_in commands) answers
-  pub drawn : text ≡ picture w commands answers
+  pub drawn : text ≡ picture x w commands answers

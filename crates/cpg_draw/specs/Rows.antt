@@ -1,5 +1,5 @@
 -- The picture of a run: a row for each command, from 1 on, and then a line for each frame that did not come to a node.
-use Rattle.std.specs.Prelude.{ℕ, ◌≡◌, ◌+◌, List, [], ◌∷◌, ◌++◌, drop, length, codes, decimal, Option, Some, None}
+use Rattle.std.specs.Prelude.{ℕ, ◌≡◌, ◌+◌, Bool, true, false, ◌||◌, nat_lt, List, [], ◌∷◌, ◌++◌, drop, length, codes, decimal, Option, Some, None}
 use Rattle.std.specs.List.{concat}
 use Rattle.cpg_ring.specs.States.{safe_mark}
 use Rattle.cpg_ring.specs.Worlds.{item}
@@ -15,10 +15,13 @@ use Rattle.cpg_step.specs.declared.commands.Look.TheVariants.{Show, Audit, Rules
 use Rattle.cpg_print.specs.Calls.{call_text}
 use Rattle.cpg_step.specs.Running.{events_in}
 use Rattle.cpg_draw.specs.declared.arrows.Arrow.{Arrow}
+use Rattle.cpg_draw.specs.declared.excerpts.Excerpt.{Excerpt}
+use Rattle.cpg_draw.specs.declared.excerpts.Spot.{Spot}
 use Rattle.cpg_draw.specs.Arrows.{arrows_of, seq_brought, with_brought}
 use Rattle.cpg_draw.specs.Columns.{columns, heads}
 use Rattle.cpg_draw.specs.Entries.{told_text}
-use Rattle.cpg_draw.specs.Words.{brought_text, sends_text, misses_text}
+use Rattle.cpg_draw.specs.Excerpts.{is_shown, start, first_spot, spot_of, after_row, if_shown}
+use Rattle.cpg_draw.specs.Words.{brought_text, sends_text, misses_text, start_text}
 
 -- the number of the frame that an event brings; 0 is no frame's
 abbrev pub brings : WorldEvent → ℕ
@@ -26,16 +29,25 @@ brings (Arrival n k) = k
 brings _ = 0
 
 -- the arrows that begin in a row: those of the frames that its reply sent
-abbrev pub sent_by : ℕ → WorldValue → WorldEvent → List Arrow
-sent_by row w e = arrows_of (length w.sent + 1) row (node_in e) (seq_brought (item w.sent (brings e))) (drop (length w.sent) (happens w e).sent)
+abbrev pub sent_by : Spot → WorldValue → WorldEvent → List Arrow
+sent_by spot w e = arrows_of (length w.sent + 1) spot (node_in e) (seq_brought (item w.sent (brings e))) (drop (length w.sent) (happens w e).sent)
 
 -- the arrows after a row: the one of the frame that it brings ends there, and those of the frames that it sends begin there
-abbrev pub arrows_after : ℕ → List Arrow → WorldValue → WorldEvent → List Arrow
-arrows_after row arrows w e = with_brought arrows (brings e) (node_in e) ++ sent_by row w e
+abbrev pub arrows_after : Spot → List Arrow → WorldValue → WorldEvent → List Arrow
+arrows_after spot arrows w e = with_brought arrows (brings e) (node_in e) ++ sent_by spot w e
+
+-- there is an arrow
+abbrev pub comes : Option Arrow → Bool
+comes None = false
+comes (Some a) = true
+
+-- the row of an event moves frames: an arrow ends in it, or some begin there
+abbrev pub moves : List Arrow → WorldValue → WorldEvent → Bool
+moves arrows w e = comes (item arrows (brings e)) || nat_lt (length w.sent) (length (happens w e).sent)
 
 -- the arrows before the first row, of the frames that were sent before the script: they begin outside the ring
 abbrev pub first_arrows : WorldValue → List Arrow
-first_arrows w = arrows_of 1 0 0 0 w.sent
+first_arrows w = arrows_of 1 start 0 0 w.sent
 
 -- a word, and a number
 abbrev pub numbered : List ℕ → ℕ → List ℕ
@@ -67,14 +79,14 @@ abbrev pub ended_text : Option NodeValue → Answer → List ℕ
 ended_text x a = state_text x ++ codes ": " ++ told_text x a
 
 -- what a row says of an event: what it brings, what it sends, the node after it, and its answer
-abbrev pub act_text : ℕ → List Arrow → WorldValue → WorldEvent → Answer → List ℕ
-act_text row arrows w e a =
-    event_text e ++ brought_text w (item arrows (brings e)) ++ sends_text (happens w e) (sent_by row w e)
+abbrev pub act_text : Spot → List Arrow → WorldValue → WorldEvent → Answer → List ℕ
+act_text spot arrows w e a =
+    event_text e ++ brought_text w (item arrows (brings e)) ++ sends_text (happens w e) (sent_by spot w e)
     ++ ended_text (item (happens w e).nodes (node_in e)) a
 
 -- the row of an event: its node, and the arrow of the frame that it brings
-abbrev pub act_row : ℕ → List Arrow → WorldValue → WorldEvent → Answer → List ℕ
-act_row row arrows w e a = columns (node_in e) (item arrows (brings e)) (length w.nodes) ++ row_text row ++ act_text row arrows w e a
+abbrev pub act_row : Spot → List Arrow → WorldValue → WorldEvent → Answer → List ℕ
+act_row spot arrows w e a = columns (node_in e) (item arrows (brings e)) (length w.nodes) ++ row_text spot.row ++ act_text spot arrows w e a
 
 -- the node of a command that only looks, 0 where it looks at none
 abbrev pub look_at : LookValue → ℕ
@@ -94,25 +106,30 @@ look_text arrows w (Safe n) = codes "safe" ++ state_text (item w.nodes n)
 abbrev pub look_row : ℕ → List Arrow → WorldValue → LookValue → List ℕ
 look_row row arrows w l = columns (look_at l) None (length w.nodes) ++ row_text row ++ look_text arrows w l ++ codes "\n"
 
--- The rows of commands from that row on, with the arrows so far, where that is what their events are answered;
--- and then what did not come.
-abbrev pub rows_of : ℕ → List Arrow → WorldValue → List Command → List Answer → List (List ℕ)
-rows_of row arrows w [] answers = misses_text (length w.nodes) arrows ∷ []
-rows_of row arrows w (Look l ∷ later) answers = look_row row arrows w l ∷ rows_of (row + 1) arrows w later answers
-rows_of row arrows w (Act e ∷ later) [] = []
-rows_of row arrows w (Act e ∷ later) (a ∷ answers) = act_row row arrows w e a ∷ rows_of (row + 1) (arrows_after row arrows w e) (happens w e) later answers
+-- The rows of an excerpt of commands, of which this is the next, with the arrows so far, where that is what their events are
+-- answered; and then what did not come.
+abbrev pub rows_of : Excerpt → Spot → List Arrow → WorldValue → List Command → List Answer → List (List ℕ)
+rows_of x next arrows w [] answers = misses_text x (length w.nodes) arrows ∷ []
+rows_of x next arrows w (Look l ∷ later) answers =
+    let here = is_shown x next.row false in
+    if_shown here (look_row next.row arrows w l) ++ rows_of x (after_row here next) arrows w later answers
+rows_of x next arrows w (Act e ∷ later) [] = []
+rows_of x next arrows w (Act e ∷ later) (a ∷ answers) =
+    let here = is_shown x next.row (moves arrows w e) in
+    let spot = spot_of x next in
+    if_shown here (act_row spot arrows w e a) ++ rows_of x (after_row here next) (arrows_after spot arrows w e) (happens w e) later answers
 
--- the lines before the rows: the numbers of nodes, and the frames that were sent before the script
-abbrev pub head_of : WorldValue → List Arrow → List ℕ
-head_of w arrows =
-    heads (length w.nodes) ++ codes "  row\n" ++ columns 0 None (length w.nodes) ++ codes "  0 start" ++ sends_text w arrows ++ codes "\n"
+-- the lines before the rows: the numbers of nodes, and what lies above the first row
+abbrev pub head_of : Excerpt → WorldValue → List Arrow → List ℕ
+head_of x w arrows =
+    heads (length w.nodes) ++ codes "  row\n" ++ columns 0 None (length w.nodes) ++ codes "  " ++ start_text x w arrows ++ codes "\n"
 
--- the picture of commands, where that is what their events are answered
-abbrev pub picture : WorldValue → List Command → List Answer → List ℕ
-picture w commands answers = head_of w (first_arrows w) ++ concat (rows_of 1 (first_arrows w) w commands answers)
+-- the picture of an excerpt of commands, where that is what their events are answered
+abbrev pub picture : Excerpt → WorldValue → List Command → List Answer → List ℕ
+picture x w commands answers = head_of x w (first_arrows w) ++ concat (rows_of x first_spot (first_arrows w) w commands answers)
 
 -- The text is the picture of the commands, as the world answers their events.
-pub record IsPicture (w : WorldValue) (commands : List Command) (text : List ℕ) : Type 0 where
+pub record IsPicture (x : Excerpt) (w : WorldValue) (commands : List Command) (text : List ℕ) : Type 0 where
   pub answers : List Answer
   pub replies : AreReplies w (events_in commands) answers
-  pub drawn : text ≡ picture w commands answers
+  pub drawn : text ≡ picture x w commands answers

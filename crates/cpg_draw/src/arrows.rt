@@ -4,6 +4,7 @@ ghost use Rattle.std.specs.Prelude.{◌≡◌};
 ghost use Rattle.cpg_ring.specs.Worlds.{item};
 ghost use Rattle.cpg_draw.specs.Arrows.{arrow_of, kind_of, mark_of, seq_of, with_brought};
 
+use crate::excerpts::Spot;
 use crate::sets::with;
 use cpg_entry::Frame;
 
@@ -23,8 +24,8 @@ pub enum Kind {
 pub struct Arrow {
     /// The frame's number, from 1.
     pub number: u64,
-    /// The row that sent it, from 1; 0 where it was sent before all rows.
-    pub row: u64,
+    /// The row that sent it, and where that is drawn.
+    pub sent: Spot,
     /// The node that sent it, from 1; 0 where it comes from outside the ring.
     pub node: u8,
     /// What it is.
@@ -36,12 +37,12 @@ pub struct Arrow {
 }
 
 /// The arrow of the frame of that number, that a node sent in a row that brought a token of that seq.
-pub(crate) fn make_arrow(number: u64, row: u64, node: u8, seq: u32, frame: &Frame) -> Arrow
-    ensures { result ≡ arrow_of number row node seq frame.now }
+pub(crate) fn make_arrow(number: u64, sent: Spot, node: u8, seq: u32, frame: &Frame) -> Arrow
+    ensures { result ≡ arrow_of number sent node seq frame.now }
 {
     Arrow {
         number,
-        row,
+        sent,
         node,
         kind: kind_in(seq, frame),
         mark: mark_in(frame),

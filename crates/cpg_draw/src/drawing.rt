@@ -8,14 +8,16 @@ ghost use Rattle.cpg_text.specs.Streams.{AppendsFront};
 ghost use Rattle.cpg_step.specs.Commands.{IsWithin};
 ghost use Rattle.cpg_step.specs.Scripts.{commands_of_script};
 ghost use Rattle.cpg_draw.specs.Drawing.{IsDrawn, Leaves, EndsDrawing};
+ghost use Rattle.cpg_draw.specs.Excerpts.{first_spot};
 ghost use Rattle.cpg_draw.specs.Rows.{head_of, IsPicture};
 ghost use Rattle.cpg_draw.specs.Steps.{AreRows};
 
 use crate::arrows::Arrow;
 use crate::columns::{put_columns, put_heads};
+use crate::excerpts::{Excerpt, after, before_script, cut, first_spot};
 use crate::frames::push_arrows;
 use crate::rows::draw_command;
-use crate::words::{put_misses, put_sent};
+use crate::words::{put_misses, put_start};
 use cpg_cred::Refusal;
 use cpg_script::{Fault, put};
 use cpg_step::{Command, read_commands};
@@ -24,7 +26,8 @@ use cpg_world::World;
 use std::alloc::Global;
 use std::io::{Read, Write};
 
-/// Runs the commands of a script over the world, and writes the picture of that run, as lines for a terminal.
+/// Runs the commands of a script over the world up to the last of the excerpt, and writes that excerpt's picture of the
+/// run, as lines for a terminal.
 ///
 /// The faults come in this order: `Read`, then `BadCommand` with the first bad line, then `Memory`, all with
 /// nothing written; and last `Write`, which leaves a front of the picture.
@@ -32,18 +35,19 @@ pub fn draw_script<R: Read, W: Write>(
     alloc: Global,
     reader: &mut R,
     writer: &mut W,
+    excerpt: Excerpt,
     world: World,
 ) -> Result<(), Fault>
     ensures ok { OnOk result (IfSome (R.remaining reader.old) (λ script.
-        (length script ≤ MOST_BYTES) × IsDrawn (commands_of_script world.settings.nodes script) world (W.contents writer.old) (W.contents writer.new))) }
+        (length script ≤ MOST_BYTES) × IsDrawn excerpt (commands_of_script world.settings.nodes script) world (W.contents writer.old) (W.contents writer.new))) }
     ensures err { IfErr result (λ fault. IfSome (R.remaining reader.old) (λ script.
-        Leaves (commands_of_script world.settings.nodes script) fault.refusal world (W.contents writer.old) (W.contents writer.new))) }
+        Leaves excerpt (commands_of_script world.settings.nodes script) fault.refusal world (W.contents writer.old) (W.contents writer.new))) }
 
     // Nothing is written before the picture is whole, even where the reader tells no bytes.
     ensures ends { IfErr result (λ fault. EndsDrawing fault.refusal (W.contents writer.old) (W.contents writer.new)) }
     ensures whole { IfErr result (λ fault. fault.part ≡ None) }
 {
-    match draw_whole(alloc, reader, writer, world) {
+    match draw_whole(alloc, reader, writer, excerpt, world) {
         Ok(()) => Ok(()),
         Err(refusal) => Err(Fault::from(refusal)),
     }
@@ -53,31 +57,38 @@ fn draw_whole<R: Read, W: Write>(
     alloc: Global,
     reader: &mut R,
     writer: &mut W,
+    excerpt: Excerpt,
     world: World,
 ) -> Result<(), Refusal>
     ensures ok { OnOk result (IfSome (R.remaining reader.old) (λ script.
-        (length script ≤ MOST_BYTES) × IsDrawn (commands_of_script world.settings.nodes script) world (W.contents writer.old) (W.contents writer.new))) }
+        (length script ≤ MOST_BYTES) × IsDrawn excerpt (commands_of_script world.settings.nodes script) world (W.contents writer.old) (W.contents writer.new))) }
     ensures err { IfErr result (λ refusal. IfSome (R.remaining reader.old) (λ script.
-        Leaves (commands_of_script world.settings.nodes script) refusal world (W.contents writer.old) (W.contents writer.new))) }
+        Leaves excerpt (commands_of_script world.settings.nodes script) refusal world (W.contents writer.old) (W.contents writer.new))) }
     ensures ends { IfErr result (λ refusal. EndsDrawing refusal (W.contents writer.old) (W.contents writer.new)) }
 {
     let script = read_whole(alloc, reader)?;
     let commands = read_commands(alloc, world.nodes(), script.as_slice())?;
-    let picture = draw_commands(alloc, world, commands.as_slice())?;
+    let shown = cut(excerpt, commands.as_slice());
+    let picture = draw_commands(alloc, excerpt, world, shown)?;
     write_whole(writer, picture.as_slice())
 }
 
 /// The picture of the commands' run over the world.
-fn draw_commands(alloc: Global, mut world: World, commands: &[Command]) -> Result<Vec<u8>, Refusal>
+fn draw_commands(
+    alloc: Global,
+    excerpt: Excerpt,
+    mut world: World,
+    commands: &[Command],
+) -> Result<Vec<u8>, Refusal>
     requires { All (λ command. IsWithin (length world.nodes) command) commands.now }
-    ensures ok { IfOk result (λ picture. IsPicture world commands.now picture.items) }
+    ensures ok { IfOk result (λ picture. IsPicture excerpt world commands.now picture.items) }
     ensures memory { IsOkUnless result Refusal.Memory }
 {
     let mut text = Vec::new(alloc);
     let mut arrows = Vec::new(alloc);
-    push_arrows(alloc, &mut arrows, &world, (0, 0, 0), 0)?;
-    put_head(alloc, &mut text, &world, arrows.as_slice())?;
-    draw_rows(alloc, &mut text, &mut arrows, &mut world, commands)?;
+    push_arrows(alloc, &mut arrows, &world, (before_script(), 0, 0), 0)?;
+    put_head(alloc, &mut text, excerpt, &world, arrows.as_slice())?;
+    draw_rows(alloc, &mut text, &mut arrows, excerpt, &mut world, commands)?;
     Ok(text)
 }
 
@@ -85,36 +96,38 @@ fn draw_commands(alloc: Global, mut world: World, commands: &[Command]) -> Resul
 fn put_head(
     alloc: Global,
     text: &mut Vec<u8>,
+    excerpt: Excerpt,
     world: &World,
     arrows: &[Arrow],
 ) -> Result<(), Refusal>
-    ensures ok { OnOk result (text.new.items ≡ text.old.items ++ head_of world.now arrows.now) }
+    ensures ok { OnOk result (text.new.items ≡ text.old.items ++ head_of excerpt world.now arrows.now) }
     ensures memory { IsOkUnless result Refusal.Memory }
 {
     put_heads(text, world.nodes())?;
     put(text, "  row\n")?;
     put_columns(text, world.nodes(), 0, None)?;
-    put(text, "  0 start")?;
-    put_sent(alloc, text, world, arrows)?;
+    put(text, "  ")?;
+    put_start(alloc, text, excerpt, world, arrows)?;
     put(text, "\n")
 }
 
-/// Does the commands one after the other, and puts their rows and then what did not come.
+/// Does the commands one after the other, and puts the rows that are shown and then what did not come.
 fn draw_rows(
     alloc: Global,
     text: &mut Vec<u8>,
     arrows: &mut Vec<Arrow>,
+    excerpt: Excerpt,
     world: &mut World,
     commands: &[Command],
 ) -> Result<(), Refusal>
     requires { All (λ command. IsWithin (length world.old.nodes) command) commands.now }
-    ensures ok { OnOk result (AreRows 1 arrows.old.items world.old commands.now text.old.items text.new.items) }
+    ensures ok { OnOk result (AreRows excerpt first_spot arrows.old.items world.old commands.now text.old.items text.new.items) }
     ensures memory { IsOkUnless result Refusal.Memory }
 {
-    let mut row = 0u64;
+    let mut next = first_spot();
     for command in commands {
-        row += 1;
-        draw_command(alloc, text, arrows, row, world, command)?;
+        let here = draw_command(alloc, text, arrows, (excerpt, next), world, command)?;
+        next = after(next, here);
     }
-    put_misses(alloc, text, world.nodes(), arrows.as_slice())
+    put_misses(alloc, text, excerpt, world.nodes(), arrows.as_slice())
 }

@@ -8,6 +8,7 @@ ghost use Rattle.cpg_ring.specs.Worlds.{item};
 ghost use Rattle.cpg_draw.specs.Arrows.{arrows_of, arrow_list, made_at, seq_brought};
 
 use crate::arrows::{Arrow, make_arrow, seq_in};
+use crate::excerpts::Spot;
 use cpg_cred::Refusal;
 use cpg_entry::Frame;
 use cpg_wire::decode;
@@ -50,16 +51,16 @@ pub(crate) fn seq_at(alloc: Global, world: &World, number: usize) -> Result<u32,
 fn arrow_for(
     alloc: Global,
     world: &World,
-    from: (u64, u8, u32),
+    from: (Spot, u8, u32),
     number: usize,
 ) -> Result<Option<Arrow>, Refusal>
     ensures ok { IfOk result (λ found. found ≡ made_at number from.0 from.1 from.2 (item world.now.sent number)) }
     ensures memory { IsOkUnless result Refusal.Memory }
 {
-    let (row, node, seq) = from;
+    let (sent, node, seq) = from;
     match frame_at(alloc, world, number)? {
         None => Ok(None),
-        Some(frame) => Ok(Some(make_arrow(number as u64, row, node, seq, &frame))),
+        Some(frame) => Ok(Some(make_arrow(number as u64, sent, node, seq, &frame))),
     }
 }
 
@@ -82,7 +83,7 @@ fn push_arrow(
     alloc: Global,
     arrows: &mut Vec<Arrow>,
     world: &World,
-    from: (u64, u8, u32),
+    from: (Spot, u8, u32),
     number: usize,
 ) -> Result<(), Refusal>
     ensures ok { OnOk result (arrows.new.items ≡ arrows.old.items ++ arrow_list (made_at number from.0 from.1 from.2 (item world.now.sent number))) }
@@ -99,7 +100,7 @@ pub fn push_arrows(
     alloc: Global,
     arrows: &mut Vec<Arrow>,
     world: &World,
-    from: (u64, u8, u32),
+    from: (Spot, u8, u32),
     before: usize,
 ) -> Result<(), Refusal>
     ensures ok { OnOk result (arrows.new.items ≡ arrows.old.items ++ arrows_of (before + 1) from.0 from.1 from.2 (drop before world.now.sent)) }

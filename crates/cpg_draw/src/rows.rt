@@ -6,16 +6,18 @@ ghost use Rattle.std.specs.Prelude.{◌≡◌, ◌≤◌, ◌++◌, codes, decim
 ghost use Rattle.cpg_ring.specs.Worlds.{item};
 ghost use Rattle.cpg_world_laws.specs.Worlds.{node_in};
 ghost use Rattle.cpg_step.specs.Commands.{IsWithin, LooksWithin};
+ghost use Rattle.cpg_step.specs.declared.commands.Command.TheVariants.{Act, Look as Seen};
 ghost use Rattle.cpg_draw.specs.Arrows.{arrows_of};
 ghost use Rattle.cpg_draw.specs.Columns.{columns};
-ghost use Rattle.cpg_draw.specs.Rows.{brings, numbered, event_text, state_text, ended_text, row_text, look_at, look_text, look_row};
-ghost use Rattle.cpg_draw.specs.Steps.{IsActed, StandsBefore};
+ghost use Rattle.cpg_draw.specs.Rows.{brings, comes, moves, numbered, event_text, state_text, ended_text, row_text, look_at, look_text, look_row};
+ghost use Rattle.cpg_draw.specs.Steps.{IsActed, StandsBefore, text_shown};
 ghost use Rattle.cpg_draw.specs.Telling.{IsTold};
 ghost use Rattle.cpg_draw.specs.Words.{brought_text, sends_text};
 
 use crate::arrows::{Arrow, find_arrow, note_brought};
 use crate::columns::put_columns;
 use crate::entries::put_told;
+use crate::excerpts::{Excerpt, Spot, shows, spot_at};
 use crate::frames::{push_arrows, seq_at};
 use crate::words::{put_brought, put_sent};
 use cpg_cred::Refusal;
@@ -34,6 +36,16 @@ pub fn brought_by(event: &WorldEvent) -> usize
     match event {
         WorldEvent::Frame(_, number) => *number,
         _ => 0,
+    }
+}
+
+/// Whether there is an arrow.
+fn is_there(arrow: Option<Arrow>) -> bool
+    ensures { result ≡ comes arrow }
+{
+    match arrow {
+        None => false,
+        Some(_) => true,
     }
 }
 
@@ -119,7 +131,8 @@ fn put_ended(
     put_told(alloc, text, node, answer)
 }
 
-/// Does an event, and puts what its row says; the arrow that it brings ends there, and those that it sends begin.
+/// Does an event, and puts what its row says; the arrow that it brings ends there, and those that it sends begin. Says
+/// whether there are any.
 ///
 /// The event's node is one of the world's. `Memory` is the only error.
 #[tactic(auto, using(crate::proofs::Drawn::row_told))]
@@ -127,47 +140,90 @@ pub fn tell_event(
     alloc: Global,
     text: &mut Vec<u8>,
     arrows: &mut Vec<Arrow>,
-    row: u64,
+    spot: Spot,
     world: &mut World,
     event: &WorldEvent,
-) -> Result<(), Refusal>
+) -> Result<bool, Refusal>
     requires { node_in event.now ≤ length world.old.nodes }
-    ensures ok { OnOk result (IsTold row arrows.old.items world.old event.now text.old.items arrows.new.items world.new text.new.items) }
+    ensures moved { IfOk result (λ moved. moved ≡ moves arrows.old.items world.old event.now) }
+    ensures ok { OnOk result (IsTold spot arrows.old.items world.old event.now text.old.items arrows.new.items world.new text.new.items) }
     ensures memory { IsOkUnless result Refusal.Memory }
 {
     let number = brought_by(event);
     let node = event.node();
     let arrow = find_arrow(arrows.as_slice(), number);
-    put_begun(alloc, text, row, world, event, arrow)?;
+    put_begun(alloc, text, spot.row, world, event, arrow)?;
     let seq = seq_at(alloc, world, number)?;
     let before = world.sent();
     let answer = answer_to(alloc, world, event)?;
     note_brought(arrows, number, node.get());
     let mut sent = Vec::new(alloc);
-    push_arrows(alloc, &mut sent, world, (row, node.get(), seq), before)?;
+    push_arrows(alloc, &mut sent, world, (spot, node.get(), seq), before)?;
     put_sent(alloc, text, world, sent.as_slice())?;
     put_ended(alloc, text, world.node(node), &answer)?;
     arrows.append(&mut sent)?;
-    Ok(())
+    Ok(is_there(arrow) || world.sent() > before)
 }
 
-/// Does an event, and puts its row.
+/// Does an event, and puts its row. Says whether arrows end or begin there.
 #[tactic(auto, using(crate::proofs::Drawn::told_acted))]
 fn draw_event(
     alloc: Global,
     text: &mut Vec<u8>,
     arrows: &mut Vec<Arrow>,
-    row: u64,
+    spot: Spot,
     world: &mut World,
     event: &WorldEvent,
-) -> Result<(), Refusal>
+) -> Result<bool, Refusal>
     requires { node_in event.now ≤ length world.old.nodes }
-    ensures ok { OnOk result (IsActed row arrows.old.items world.old event.now text.old.items arrows.new.items world.new text.new.items) }
+    ensures moved { IfOk result (λ moved. moved ≡ moves arrows.old.items world.old event.now) }
+    ensures ok { OnOk result (IsActed spot arrows.old.items world.old event.now text.old.items arrows.new.items world.new text.new.items) }
     ensures memory { IsOkUnless result Refusal.Memory }
 {
     let arrow = find_arrow(arrows.as_slice(), brought_by(event));
     put_columns(text, world.nodes(), event.node().get(), arrow)?;
-    tell_event(alloc, text, arrows, row, world, event)
+    tell_event(alloc, text, arrows, spot, world, event)
+}
+
+/// Puts the row, where it is shown.
+fn put_shown(text: &mut Vec<u8>, line: &mut Vec<u8>, here: bool) -> Result<(), Refusal>
+    ensures ok { OnOk result (text.new.items ≡ text.old.items ++ text_shown here line.old.items) }
+    ensures memory { IsOkUnless result Refusal.Memory }
+{
+    if here {
+        text.append(line)?;
+    }
+    Ok(())
+}
+
+/// Does an event, and puts its row, where that is shown, and says whether it is.
+#[tactic(auto, using(crate::proofs::Drawn::act_goes_on, crate::proofs::Drawn::as_many_acted))]
+fn draw_act(
+    alloc: Global,
+    text: &mut Vec<u8>,
+    arrows: &mut Vec<Arrow>,
+    from: (Excerpt, Spot),
+    world: &mut World,
+    event: &WorldEvent,
+) -> Result<bool, Refusal>
+    requires { node_in event.now ≤ length world.old.nodes }
+    ensures ok { IfOk result (λ here. StandsBefore from.0 from.1 arrows.old.items world.old (Act event.now) text.old.items here arrows.new.items world.new text.new.items) }
+    ensures nodes { OnOk result (length world.new.nodes ≡ length world.old.nodes) }
+    ensures memory { IsOkUnless result Refusal.Memory }
+{
+    let (excerpt, next) = from;
+    let mut line = Vec::new(alloc);
+    let moved = draw_event(
+        alloc,
+        &mut line,
+        arrows,
+        spot_at(excerpt, next),
+        world,
+        event,
+    )?;
+    let here = shows(excerpt, next.row, moved);
+    put_shown(text, &mut line, here)?;
+    Ok(here)
 }
 
 /// Puts what a row says of a command that only looks.
@@ -252,23 +308,45 @@ fn draw_look(
     put(text, "\n")
 }
 
-/// Does a command, and puts its row.
-#[tactic(auto, using(crate::proofs::Drawn::act_goes_on, crate::proofs::Drawn::look_goes_on, crate::proofs::Drawn::as_many_acted))]
+/// Puts the row of a command that only looks, where that is shown, and says whether it is.
+#[tactic(auto, using(crate::proofs::Drawn::look_goes_on))]
+fn draw_seen(
+    alloc: Global,
+    text: &mut Vec<u8>,
+    arrows: &[Arrow],
+    from: (Excerpt, Spot),
+    world: &World,
+    look: &Look,
+) -> Result<bool, Refusal>
+    requires { LooksWithin (length world.now.nodes) look.now }
+    ensures ok { IfOk result (λ here. StandsBefore from.0 from.1 arrows.now world.now (Seen look.now) text.old.items here arrows.now world.now text.new.items) }
+    ensures memory { IsOkUnless result Refusal.Memory }
+{
+    let (excerpt, next) = from;
+    let mut line = Vec::new(alloc);
+    draw_look(alloc, &mut line, arrows, next.row, world, look)?;
+    let here = shows(excerpt, next.row, false);
+    put_shown(text, &mut line, here)?;
+    Ok(here)
+}
+
+/// Does a command, and puts its row, where that is shown, and says whether it is. The row is the next of an excerpt, and
+/// its line the next free one.
 pub(crate) fn draw_command(
     alloc: Global,
     text: &mut Vec<u8>,
     arrows: &mut Vec<Arrow>,
-    row: u64,
+    from: (Excerpt, Spot),
     world: &mut World,
     command: &Command,
-) -> Result<(), Refusal>
+) -> Result<bool, Refusal>
     requires { IsWithin (length world.old.nodes) command.now }
-    ensures ok { OnOk result (StandsBefore row arrows.old.items world.old command.now text.old.items arrows.new.items world.new text.new.items) }
+    ensures ok { IfOk result (λ here. StandsBefore from.0 from.1 arrows.old.items world.old command.now text.old.items here arrows.new.items world.new text.new.items) }
     ensures nodes { OnOk result (length world.new.nodes ≡ length world.old.nodes) }
     ensures memory { IsOkUnless result Refusal.Memory }
 {
     match command {
-        Command::Act(event) => draw_event(alloc, text, arrows, row, world, event),
-        Command::Look(look) => draw_look(alloc, text, arrows.as_slice(), row, world, look),
+        Command::Act(event) => draw_act(alloc, text, arrows, from, world, event),
+        Command::Look(look) => draw_seen(alloc, text, arrows.as_slice(), from, world, look),
     }
 }

@@ -4,11 +4,12 @@
 
 ghost use Rattle.std.specs.Prelude.{◌≡◌, ◌++◌, codes, decimal, OnOk, IsOkUnless};
 ghost use Rattle.std.specs.List.{flat_map};
-ghost use Rattle.cpg_draw.specs.Words.{kind_text, arrow_text, brought_text, sent_text, sends_text, fate_text, for_text, miss_text, misses_text};
+ghost use Rattle.cpg_draw.specs.Words.{kind_text, arrow_text, brought_text, sent_text, sends_text, fate_text, for_text, miss_text, misses_text, start_text};
 
 use crate::arrows::{Arrow, Kind};
 use crate::entries::put_carried;
-use crate::misses::{Miss, find_misses, holds_token};
+use crate::excerpts::{Excerpt, find_shown, reaches};
+use crate::misses::{Miss, holds_token};
 use cpg_cred::Refusal;
 use cpg_script::put;
 use cpg_text::push_number;
@@ -52,7 +53,7 @@ pub(crate) fn put_brought(
             put(line, ", ")?;
             put_arrow(line, &arrow)?;
             put(line, " of row ")?;
-            push_number(line, arrow.row)?;
+            push_number(line, arrow.sent.row)?;
             put_carried(alloc, line, world, arrow.number)
         }
     }
@@ -91,6 +92,26 @@ pub fn put_sent(
     Ok(())
 }
 
+/// Puts what the line above the first row says: what was sent before the script, or which rows are not shown.
+pub(crate) fn put_start(
+    alloc: Global,
+    line: &mut Vec<u8>,
+    excerpt: Excerpt,
+    world: &World,
+    arrows: &[Arrow],
+) -> Result<(), Refusal>
+    ensures ok { OnOk result (line.new.items ≡ line.old.items ++ start_text excerpt world.now arrows.now) }
+    ensures memory { IsOkUnless result Refusal.Memory }
+{
+    if reaches(excerpt, 0) {
+        put(line, "0 start")?;
+        put_sent(alloc, line, world, arrows)
+    } else {
+        put(line, "rows before ")?;
+        push_number(line, excerpt.first)
+    }
+}
+
 /// Puts whether the frame is lost or under way.
 #[tactic(auto, unfolding(crate::specs::Words::fate_text))]
 fn put_fate(line: &mut Vec<u8>, lost: bool) -> Result<(), Refusal>
@@ -127,22 +148,23 @@ pub fn put_miss(line: &mut Vec<u8>, nodes: u8, miss: &Miss) -> Result<(), Refusa
     put(line, " ")?;
     put_arrow(line, &miss.arrow)?;
     put(line, " of row ")?;
-    push_number(line, miss.arrow.row)?;
+    push_number(line, miss.arrow.sent.row)?;
     put_waiting(line, nodes, miss)?;
     put(line, "\n")
 }
 
-/// Puts a line for each frame and each of so many nodes that it did not come to.
+/// Puts a line for each frame of a shown row and each of so many nodes that it did not come to.
 pub(crate) fn put_misses(
     alloc: Global,
     line: &mut Vec<u8>,
+    excerpt: Excerpt,
     nodes: u8,
     arrows: &[Arrow],
 ) -> Result<(), Refusal>
-    ensures ok { OnOk result (line.new.items ≡ line.old.items ++ misses_text nodes arrows.now) }
+    ensures ok { OnOk result (line.new.items ≡ line.old.items ++ misses_text excerpt nodes arrows.now) }
     ensures memory { IsOkUnless result Refusal.Memory }
 {
-    let misses = find_misses(alloc, nodes, arrows)?;
+    let misses = find_shown(alloc, excerpt, nodes, arrows)?;
     put_lines(line, nodes, misses.as_slice())
 }
 

@@ -1,12 +1,16 @@
 -- strings are read again
-use Rattle.std.proofs.Common.{◌≡◌, ℕ, zero, suc, ◌+◌, ◌*◌, ◌/◌, ◌%◌, ◌<◌, ◌≤◌, List, [], ◌∷◌, ◌++◌, length, length-append, codes, Bool, true, false, ◌&&◌, nat_lt, Some, option_map, refl, ap, ◌∙◌, append_assoc, arith}
+use Rattle.std.proofs.Common.{◌≡◌, ℕ, zero, suc, ◌+◌, ◌-◌, ◌*◌, ◌/◌, ◌%◌, ◌<◌, ◌≤◌, List, [], ◌∷◌, ◌++◌, length, length-append, codes, Bool, true, false, ◌&&◌, nat_lt, Some, option_map, inl, inr, refl, ap, ◌∙◌, append_assoc, arith}
 use Rattle.std.proofs.lemmas.Bool.Decides.{nat_tests}
-use Rattle.std.specs.Prelude.{◌==◌, if◌then◌else◌}
+use Rattle.std.specs.Prelude.{◌==◌, if◌then◌else◌, cond, IsUtf8}
 use Rattle.std.specs.List.{flat_map, list_all, AllByRecursion}
 use Rattle.std.specs.Char.{digit_value}
+use Rattle.std.specs.Char.Escape.{encode_utf16}
+use Rattle.std.specs.Str.{chars}
+use Rattle.std.proofs.Math.Utf8.{scalar, scalars, scalar_cases}
+use Rattle.std.proofs.lemmas.Str.{scalars-chars}
 use Rattle.std.specs.Fmt.{digit_glyph}
 use Rattle.cpg_json.specs.Reading.{bytes_in, is_printable, string_of}
-use Rattle.cpg_json.specs.Strings.{hex_byte, is_plain, json_string, string_byte}
+use Rattle.cpg_json.specs.Strings.{hex_byte, is_plain, json_string, string_byte, string_char, text_string, unit_escape}
 
 -- a glyph is the digit that it was written for
 glyph_value : (d : ℕ) → d < 16 → digit_value (digit_glyph false d) ≡ d
@@ -88,3 +92,49 @@ bytes_printable (b ∷ bs) small = list_all-append is_printable (string_byte b) 
 
 pub string_printable : (bytes : List ℕ) → AllByRecursion (λ b. b < 256) bytes → list_all is_printable (json_string bytes) ≡ true
 string_printable bytes small = list_all-append is_printable (flat_map string_byte bytes) (codes "\"") (bytes_printable bytes small) refl
+
+-- the same of characters
+unit_printable : (u : ℕ) → u < 65536 → list_all is_printable (unit_escape u) ≡ true
+unit_printable u small =
+    rw (glyph_printable (u / 256 / 16) (omega arith), glyph_printable (u / 256 % 16) (omega arith), glyph_printable (u % 256 / 16) (omega arith), glyph_printable (u % 256 % 16) (omega arith)) refl
+
+units_printable : (c : ℕ) → c < 1114112 → list_all is_printable (flat_map unit_escape (encode_utf16 c)) ≡ true
+units_printable c small = by_test (nat_lt c 65536) refl
+  where
+    two : ℕ → ℕ → List ℕ
+    two first second = unit_escape first ++ (unit_escape second ++ [])
+
+    by_test : (t : Bool) → nat_lt c 65536 ≡ t → list_all is_printable (flat_map unit_escape (cond t (c ∷ []) ((0xD800 + (c - 0x10000) / 0x400) ∷ (0xDC00 + (c - 0x10000) % 0x400) ∷ []))) ≡ true
+    by_test true e =
+        let low : c < 65536 = grind (arith, nat_tests) in
+        list_all-append is_printable (unit_escape c) [] (unit_printable c low) refl
+    by_test false e =
+        list_all-append is_printable (unit_escape (0xD800 + (c - 0x10000) / 0x400)) (unit_escape (0xDC00 + (c - 0x10000) % 0x400) ++ []) (unit_printable (0xD800 + (c - 0x10000) / 0x400) (omega (arith, small)))
+        (list_all-append is_printable (unit_escape (0xDC00 + (c - 0x10000) % 0x400)) [] (unit_printable (0xDC00 + (c - 0x10000) % 0x400) (omega arith)) refl)
+
+char_printable : (c : ℕ) → c < 1114112 → list_all is_printable (string_char c) ≡ true
+char_printable c small = by_test (is_plain c) refl
+  where
+    by_test : (p : Bool) → is_plain c ≡ p → list_all is_printable (if p then c ∷ [] else flat_map unit_escape (encode_utf16 c)) ≡ true
+    by_test true e = let here : is_printable c ≡ true = grind (arith, nat_tests) in rw here refl
+    by_test false e = units_printable c small
+
+-- the code of a character
+few : (c : ℕ) → scalar c ≡ true → c < 1114112
+few c is = elim (scalar_cases c is) [
+  | inl low ↦ omega (arith, low)
+  | inr high ↦ high.1
+]
+
+and_then : (p q : Bool) → (p && q) ≡ true → (p ≡ true) × (q ≡ true)
+and_then true q all = (refl, all)
+and_then false q all = absurd (cc)
+
+chars_printable : (cs : List ℕ) → scalars cs ≡ true → list_all is_printable (flat_map string_char cs) ≡ true
+chars_printable [] are = refl
+chars_printable (c ∷ cs) are =
+    let parts = and_then (scalar c) (scalars cs) are in
+    list_all-append is_printable (string_char c) (flat_map string_char cs) (char_printable c (few c parts.0)) (chars_printable cs parts.1)
+
+pub text_printable : (bytes : List ℕ) → IsUtf8 bytes → list_all is_printable (text_string bytes) ≡ true
+text_printable bytes are = list_all-append is_printable (flat_map string_char (chars bytes)) (codes "\"") (chars_printable (chars bytes) (scalars-chars bytes are)) refl

@@ -3,10 +3,13 @@ pub mod Between
 pub mod Doing
 pub mod Escaping
 pub mod Fields
+pub mod Heads
 pub mod Hearing
 pub mod Listing
 pub mod Passed
 pub mod Put
 pub mod Recorded
+pub mod Texted
 pub mod Told
+pub mod Whole
 pub mod WhyFields

@@ -12,39 +12,39 @@ use Rattle.cpg_json.specs.Records.{record_json}
 use Rattle.cpg_judge.proofs.Telling.{record_there}
 
 -- the lines of records, and then those of more records
-lines_parted : (records more : List Record) → records_json (records ++ more) ≡ records_json records ++ map (λ past. record_json past.0 past.1) (enumerate_from (1 + length records) more)
-lines_parted records more =
-    ap (map (λ past. record_json past.0 past.1)) (enumerate_from-append 1 records more)
-    ∙ map-append (λ past. record_json past.0 past.1) (enumerate_from 1 records) (enumerate_from (1 + length records) more)
+lines_parted : (heads : ℕ → List ℕ) (records more : List Record) → records_json heads (records ++ more) ≡ records_json heads records ++ map (λ past. record_json (heads past.0) past.0 past.1) (enumerate_from (1 + length records) more)
+lines_parted heads records more =
+    ap (map (λ past. record_json (heads past.0) past.0 past.1)) (enumerate_from-append 1 records more)
+    ∙ map-append (λ past. record_json (heads past.0) past.0 past.1) (enumerate_from 1 records) (enumerate_from (1 + length records) more)
 
 -- one record more is one line more
-pub records_more : (rs : List Record) (i : ℕ) (r : Record) → i < length rs → get_or rs i r ≡ r →
-    records_json (take (i + 1) rs) ≡ records_json (take i rs) ++ (record_json (i + 1) r ∷ [])
-records_more rs i r within e =
+pub records_more : (heads : ℕ → List ℕ) (rs : List Record) (i : ℕ) (r : Record) → i < length rs → get_or rs i r ≡ r →
+    records_json heads (take (i + 1) rs) ≡ records_json heads (take i rs) ++ (record_json (heads (i + 1)) (i + 1) r ∷ [])
+records_more heads rs i r within e =
     let cut : length (take i rs) ≡ i = length-take-le i rs (omega (arith, within)) in
     let place : 1 + length (take i rs) ≡ i + 1 = omega (arith, cut) in
-    ap records_json (take_more rs i r within ∙ ap (λ one. take i rs ++ (one ∷ [])) e)
-    ∙ lines_parted (take i rs) (r ∷ [])
-    ∙ ap (λ n. records_json (take i rs) ++ (record_json n r ∷ [])) place
+    ap (records_json heads) (take_more rs i r within ∙ ap (λ one. take i rs ++ (one ∷ [])) e)
+    ∙ lines_parted heads (take i rs) (r ∷ [])
+    ∙ ap (λ n. records_json heads (take i rs) ++ (record_json (heads n) n r ∷ [])) place
 
 -- all lines, around that of one record
-pub records_around : (rs : List Record) (i : ℕ) (r : Record) → i < length rs → get_or rs i r ≡ r →
-    records_json rs ≡ (records_json (take i rs) ++ (record_json (i + 1) r ∷ [])) ++ map (λ past. record_json past.0 past.1) (enumerate_from (1 + length (take (i + 1) rs)) (drop (i + 1) rs))
-records_around rs i r within e =
-    ap records_json (sym (take-append-drop (i + 1) rs))
-    ∙ lines_parted (take (i + 1) rs) (drop (i + 1) rs)
-    ∙ ap (λ l. l ++ map (λ past. record_json past.0 past.1) (enumerate_from (1 + length (take (i + 1) rs)) (drop (i + 1) rs))) (records_more rs i r within e)
+pub records_around : (heads : ℕ → List ℕ) (rs : List Record) (i : ℕ) (r : Record) → i < length rs → get_or rs i r ≡ r →
+    records_json heads rs ≡ (records_json heads (take i rs) ++ (record_json (heads (i + 1)) (i + 1) r ∷ [])) ++ map (λ past. record_json (heads past.0) past.0 past.1) (enumerate_from (1 + length (take (i + 1) rs)) (drop (i + 1) rs))
+records_around heads rs i r within e =
+    ap (records_json heads) (sym (take-append-drop (i + 1) rs))
+    ∙ lines_parted heads (take (i + 1) rs) (drop (i + 1) rs)
+    ∙ ap (λ l. l ++ map (λ past. record_json (heads past.0) past.0 past.1) (enumerate_from (1 + length (take (i + 1) rs)) (drop (i + 1) rs))) (records_more heads rs i r within e)
 
 -- the record that comes after the first ones, and its line among the others
-pub record NextRecord (rs : List Record) (i : ℕ) : Type 0 where
+pub record NextRecord (heads : ℕ → List ℕ) (rs : List Record) (i : ℕ) : Type 0 where
   pub past : Record
   pub stands : record_at rs (i + 1) ≡ Some past
-  pub more : records_json (take (i + 1) rs) ≡ records_json (take i rs) ++ (record_json (i + 1) past ∷ [])
+  pub more : records_json heads (take (i + 1) rs) ≡ records_json heads (take i rs) ++ (record_json (heads (i + 1)) (i + 1) past ∷ [])
   pub later : List (List ℕ)
-  pub around : records_json rs ≡ (records_json (take i rs) ++ (record_json (i + 1) past ∷ [])) ++ later
+  pub around : records_json heads rs ≡ (records_json heads (take i rs) ++ (record_json (heads (i + 1)) (i + 1) past ∷ [])) ++ later
 
-pub next_record : (rs : List Record) (i : ℕ) → i < length rs → NextRecord rs i
-next_record rs i within =
+pub next_record : (heads : ℕ → List ℕ) (rs : List Record) (i : ℕ) → i < length rs → NextRecord heads rs i
+next_record heads rs i within =
     let there = record_there rs i within in
     let found : get_or rs i there.0 ≡ there.0 =
     let both : Some (get_or rs i there.0) ≡ Some there.0 = sym (slice_get-get_or rs i there.0 within) ∙ there.1 in
@@ -52,7 +52,7 @@ next_record rs i within =
     record {
       past = there.0;
       stands = record_at-index rs (i + 1) (omega arith) ∙ ap (slice_get rs) (omega arith) ∙ there.1;
-      more = records_more rs i there.0 within found;
-      later = map (λ past. record_json past.0 past.1) (enumerate_from (1 + length (take (i + 1) rs)) (drop (i + 1) rs));
-      around = records_around rs i there.0 within found;
+      more = records_more heads rs i there.0 within found;
+      later = map (λ past. record_json (heads past.0) past.0 past.1) (enumerate_from (1 + length (take (i + 1) rs)) (drop (i + 1) rs));
+      around = records_around heads rs i there.0 within found;
     }

@@ -26,8 +26,8 @@ use Rattle.cpg_step.specs.declared.commands.Look.{Look}
 use Rattle.cpg_step.specs.declared.commands.Look.TheVariants.{Show, Audit, Rules, Safe}
 use Rattle.cpg_json.specs.Calls.{by_fields, call_name, carried_fields, group_field, rule_fields}
 use Rattle.cpg_json.specs.Events.{event_fields}
-use Rattle.cpg_json.specs.Objects.{array, field, kind, line, maybe, number, word}
-use Rattle.cpg_json.specs.Records.{caller_fields, count_json, process_array, records_json}
+use Rattle.cpg_json.specs.Objects.{array, field, head_of, kind, line, maybe, number, word}
+use Rattle.cpg_json.specs.Records.{caller_fields, counted_json, process_array}
 use Rattle.cpg_json.specs.Strings.{json_string}
 
 -- the number and the name of a refusal
@@ -69,8 +69,8 @@ refusal_fields refusal.Read = numbered 42 (codes "Read")
 refusal_fields refusal.Write = numbered 43 (codes "Write")
 
 -- a refusal alone
-abbrev pub refused_json : Refusal → List ℕ
-refused_json why = line (kind (codes "refused") ∷ refusal_fields why)
+abbrev pub refused_json : List ℕ → Refusal → List ℕ
+refused_json head why = line (head_of (codes "refused") head ∷ refusal_fields why)
 
 -- what lets credentials in
 abbrev pub via_name : Via → List ℕ
@@ -81,29 +81,29 @@ via_name Group = codes "group"
 
 -- whether credentials are let in, and by what
 abbrev pub accept_json : Option Via → List ℕ
-accept_json None = refused_json refusal.Access
+accept_json None = refused_json [] refusal.Access
 accept_json (Some via) = line (kind (codes "accepted") ∷ field (codes "via") (word (via_name via)) ∷ [])
 
 -- the event that was taken, or none
-abbrev pub took_json : Option Event → List ℕ
-took_json None = line (kind (codes "none") ∷ [])
-took_json (Some event) = line (kind (codes "event") ∷ event_fields event)
+abbrev pub took_json : List ℕ → Option Event → List ℕ
+took_json head None = line (head_of (codes "none") head ∷ [])
+took_json head (Some event) = line (head_of (codes "event") head ∷ event_fields event)
 
 -- a reply
-abbrev pub reply_json : Reply → List ℕ
-reply_json (Connected conn) = line (kind (codes "connected") ∷ number (codes "connection") conn ∷ [])
-reply_json Admitted = line (kind (codes "admitted") ∷ [])
-reply_json Closed = line (kind (codes "closed") ∷ [])
-reply_json (Sent count) = line (kind (codes "sent") ∷ number (codes "frames") count ∷ [])
-reply_json (Delivered place) = line (kind (codes "delivered") ∷ maybe (codes "place") place ∷ [])
-reply_json (Took event) = took_json event
-reply_json (Members processes) = line (kind (codes "members") ∷ field (codes "members") (array (map process_array processes)) ∷ [])
-reply_json (Groups names) = line (kind (codes "groups") ∷ field (codes "groups") (array (map json_string names)) ∷ [])
+abbrev pub reply_json : List ℕ → Reply → List ℕ
+reply_json head (Connected conn) = line (head_of (codes "connected") head ∷ number (codes "connection") conn ∷ [])
+reply_json head Admitted = line (head_of (codes "admitted") head ∷ [])
+reply_json head Closed = line (head_of (codes "closed") head ∷ [])
+reply_json head (Sent count) = line (head_of (codes "sent") head ∷ number (codes "frames") count ∷ [])
+reply_json head (Delivered place) = line (head_of (codes "delivered") head ∷ maybe (codes "place") place ∷ [])
+reply_json head (Took event) = took_json head event
+reply_json head (Members processes) = line (head_of (codes "members") head ∷ field (codes "members") (array (map process_array processes)) ∷ [])
+reply_json head (Groups names) = line (head_of (codes "groups") head ∷ field (codes "groups") (array (map json_string names)) ∷ [])
 
 -- a reply or a refusal
-abbrev pub answer_json : Answer → List ℕ
-answer_json (Ok reply) = reply_json reply
-answer_json (Err why) = refused_json why
+abbrev pub answer_json : List ℕ → Answer → List ℕ
+answer_json head (Ok reply) = reply_json head reply
+answer_json head (Err why) = refused_json head why
 
 -- the group that an op names
 abbrev pub named_group : Op → List (List ℕ)
@@ -125,34 +125,38 @@ token_fields token =
     ∷ maybe (codes "aru_id") token.aru_id ∷ field (codes "rtr") (array (map decimal token.rtr)) ∷ []
 
 -- a frame
-abbrev pub frame_json : Frame → List ℕ
-frame_json (frame.Packet packet) = line (kind (codes "data") ∷ packet_fields packet)
-frame_json (frame.Token token) = line (kind (codes "token") ∷ token_fields token)
+abbrev pub frame_json : List ℕ → Frame → List ℕ
+frame_json head (frame.Packet packet) = line (head_of (codes "data") head ∷ packet_fields packet)
+frame_json head (frame.Token token) = line (head_of (codes "token") head ∷ token_fields token)
 
 -- a frame that was sent, if there is one of that number
-abbrev pub show_json : Option Frame → List ℕ
-show_json (Some sent) = frame_json sent
-show_json None = refused_json refusal.NoFrame
+abbrev pub show_json : List ℕ → Option Frame → List ℕ
+show_json head (Some sent) = frame_json head sent
+show_json head None = refused_json head refusal.NoFrame
 
 -- a rule of a table, with its id
-abbrev pub rule_json : ℕ × Rule → List ℕ
-rule_json rule = line (kind (codes "rule") ∷ number (codes "id") rule.0 ∷ rule_fields rule.1)
+abbrev pub rule_json : List ℕ → ℕ × Rule → List ℕ
+rule_json head rule = line (head_of (codes "rule") head ∷ number (codes "id") rule.0 ∷ rule_fields rule.1)
+
+-- how many rules a table has
+abbrev pub rule_count_json : List ℕ → ℕ → List ℕ
+rule_count_json head count = line (head_of (codes "rules") head ∷ number (codes "rules") count ∷ [])
 
 -- a table's rules, and how many there are
-abbrev pub table_json : List (ℕ × Rule) → List (List ℕ)
-table_json table = map rule_json table ++ line (kind (codes "rules") ∷ number (codes "rules") (length table) ∷ []) ∷ []
+abbrev pub table_json : List ℕ → List (ℕ × Rule) → List (List ℕ)
+table_json head table = map (rule_json head) table ++ rule_count_json head (length table) ∷ []
 
 -- a node's records, and how many there are
-abbrev pub audit_json : NodeValue → List (List ℕ)
-audit_json x = records_json (records_of x) ++ count_json (length (records_of x)) ∷ []
+abbrev pub audit_json : List ℕ → NodeValue → List (List ℕ)
+audit_json head x = counted_json head (records_of x)
 
 -- a node's safe mark
-abbrev pub safe_json : ℕ → List ℕ
-safe_json place = line (kind (codes "safe") ∷ number (codes "place") place ∷ [])
+abbrev pub safe_json : List ℕ → ℕ → List ℕ
+safe_json head place = line (head_of (codes "safe") head ∷ number (codes "place") place ∷ [])
 
--- what a command that only looks writes
-abbrev pub look_json : WorldValue → Look → List (List ℕ)
-look_json w (Show k) = show_json (item w.sent k) ∷ []
-look_json w (Audit n) = lines_at audit_json (item w.nodes n)
-look_json w (Rules n g) = lines_at (λ x. table_json (rules_of (records_of x) g)) (item w.nodes n)
-look_json w (Safe n) = lines_at (λ x. safe_json (safe_mark x.ring.state.arus) ∷ []) (item w.nodes n)
+-- what a command that only looks writes, each line behind that head
+abbrev pub look_json : List ℕ → WorldValue → Look → List (List ℕ)
+look_json head w (Show k) = show_json head (item w.sent k) ∷ []
+look_json head w (Audit n) = lines_at (audit_json head) (item w.nodes n)
+look_json head w (Rules n g) = lines_at (λ x. table_json head (rules_of (records_of x) g)) (item w.nodes n)
+look_json head w (Safe n) = lines_at (λ x. safe_json head (safe_mark x.ring.state.arus) ∷ []) (item w.nodes n)

@@ -1,6 +1,7 @@
 -- the fields of calls, rules and verdicts
-use Rattle.std.specs.Prelude.{ℕ, List, [], ◌∷◌, codes, nat_le, if◌then◌else◌}
+use Rattle.std.specs.Prelude.{ℕ, List, [], ◌∷◌, ◌++◌, codes, nat_le, if◌then◌else◌}
 use Rattle.std.specs.List.{list_all}
+use Rattle.std.specs.Str.{is_utf8}
 use Rattle.cpg_cred.specs.declared.bases.By.{By}
 use Rattle.cpg_cred.specs.declared.bases.By.TheVariants as by
 use Rattle.cpg_rules.specs.declared.rules.Rule.{Rule}
@@ -14,7 +15,7 @@ use Rattle.cpg_record.specs.declared.verdicts.Verdict.{Verdict}
 use Rattle.cpg_record.specs.declared.verdicts.Verdict.TheVariants.{Allowed, Denied}
 use Rattle.cpg_print.specs.Rules.{effect_text, right_text}
 use Rattle.cpg_json.specs.Objects.{field, maybe, number, object, word}
-use Rattle.cpg_json.specs.Strings.{hex_string, json_string}
+use Rattle.cpg_json.specs.Strings.{hex_string, json_string, text_string}
 
 -- the name of a group
 abbrev pub group_field : List ℕ → List ℕ
@@ -24,9 +25,13 @@ group_field g = field (codes "group") (json_string g)
 abbrev pub hex_fields : List ℕ → List (List ℕ)
 hex_fields message = if list_all (λ byte. nat_le byte 127) message then [] else field (codes "hex") (hex_string message) ∷ []
 
+-- the characters of a message, where it is their UTF-8
+abbrev pub text_fields : List ℕ → List (List ℕ)
+text_fields message = if is_utf8 message then field (codes "text") (text_string message) ∷ [] else []
+
 -- a message
 abbrev pub message_fields : List ℕ → List (List ℕ)
-message_fields message = field (codes "message") (json_string message) ∷ hex_fields message
+message_fields message = field (codes "message") (json_string message) ∷ hex_fields message ++ text_fields message
 
 -- whom a rule speaks of: a condition that is not there is `null`
 abbrev pub who_object : Who → List ℕ

@@ -4,6 +4,7 @@ pub mod Answers
 pub mod Calls
 pub mod Events
 pub mod Judging
+pub mod Marks
 pub mod Objects
 pub mod Reading
 pub mod Records

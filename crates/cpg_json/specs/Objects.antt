@@ -39,6 +39,10 @@ number name value = field name (decimal value)
 abbrev pub kind : List ℕ → List ℕ
 kind name = field (codes "kind") (word name)
 
+-- the first fields of an object: what it is, and the text of those that stand at its head, each after a comma
+abbrev pub head_of : List ℕ → List ℕ → List ℕ
+head_of name head = kind name ++ head
+
 -- a number, or `null` where there is none
 abbrev pub number_or_null : Option ℕ → List ℕ
 number_or_null None = codes "null"

@@ -1,5 +1,5 @@
 -- the lines of records
-use Rattle.std.specs.Prelude.{ℕ, List, [], ◌∷◌, ◌++◌, map, codes, decimal, Option, Some, None}
+use Rattle.std.specs.Prelude.{ℕ, List, [], ◌∷◌, ◌++◌, length, map, codes, decimal, Option, Some, None}
 use Rattle.std.specs.List.{enumerate_from}
 use Rattle.cpg_entry.specs.declared.entries.Entry.{Entry}
 use Rattle.cpg_record.specs.declared.connections.ConnId.{ConnId}
@@ -7,7 +7,7 @@ use Rattle.cpg_record.specs.declared.memberships.Member.{Member}
 use Rattle.cpg_record.specs.declared.records.Record.{Record}
 use Rattle.cpg_record.specs.Connections.{conn_of}
 use Rattle.cpg_json.specs.Calls.{call_fields, group_field, verdict_fields}
-use Rattle.cpg_json.specs.Objects.{array, field, kind, line, number}
+use Rattle.cpg_json.specs.Objects.{array, field, head_of, line, number}
 
 -- a connection
 abbrev pub conn_fields : ConnId → List (List ℕ)
@@ -43,18 +43,22 @@ asked_fields place entry = number (codes "place") place ∷ caller_fields entry 
 abbrev pub outcome_fields : Record → List (List ℕ)
 outcome_fields past = verdict_fields past.verdict ++ group_fields past.group past.members
 
--- a record: an entry at its place, and what it was answered
-abbrev pub record_fields : ℕ → Record → List (List ℕ)
-record_fields place past = kind (codes "record") ∷ asked_fields place past.entry ++ outcome_fields past
+-- a record behind its head: an entry at its place, and what it was answered
+abbrev pub record_fields : List ℕ → ℕ → Record → List (List ℕ)
+record_fields head place past = head_of (codes "record") head ∷ asked_fields place past.entry ++ outcome_fields past
 
 -- its line
-abbrev pub record_json : ℕ → Record → List ℕ
-record_json place past = line (record_fields place past)
+abbrev pub record_json : List ℕ → ℕ → Record → List ℕ
+record_json head place past = line (record_fields head place past)
 
--- the lines of records, the first of which stands at place 1
-abbrev pub records_json : List Record → List (List ℕ)
-records_json records = map (λ past. record_json past.0 past.1) (enumerate_from 1 records)
+-- the lines of records, the first of which stands at place 1, each behind the head of its place
+abbrev pub records_json : (ℕ → List ℕ) → List Record → List (List ℕ)
+records_json heads records = map (λ past. record_json (heads past.0) past.0 past.1) (enumerate_from 1 records)
 
 -- how many records there are
-abbrev pub count_json : ℕ → List ℕ
-count_json count = line (kind (codes "count") ∷ number (codes "records") count ∷ [])
+abbrev pub count_json : List ℕ → ℕ → List ℕ
+count_json head count = line (head_of (codes "count") head ∷ number (codes "records") count ∷ [])
+
+-- the lines of records and of their count, each behind the same head
+abbrev pub counted_json : List ℕ → List Record → List (List ℕ)
+counted_json head records = records_json (λ place. head) records ++ count_json head (length records) ∷ []

@@ -1,12 +1,13 @@
 -- what commands of sessions are answered, as lines of JSON
-use Rattle.std.specs.Prelude.{ℕ, List, [], ◌∷◌, ◌++◌, length, map, codes, Option, Some, None, Ok, Err}
+use Rattle.std.specs.Prelude.{ℕ, List, [], ◌∷◌, ◌++◌, map, codes, Option, Some, None, Ok, Err}
 use Rattle.std.specs.List.{concat}
 use Rattle.cpg_record.specs.declared.records.Record.{Record}
 use Rattle.cpg_board.specs.Seats.{records_of}
 use Rattle.cpg_json.specs.Answers.{refusal_fields, safe_json}
 use Rattle.cpg_json.specs.Events.{event_fields}
-use Rattle.cpg_json.specs.Objects.{array, field, kind, line, number}
-use Rattle.cpg_json.specs.Records.{count_json, process_array, records_json}
+use Rattle.cpg_json.specs.Marks.{line_head}
+use Rattle.cpg_json.specs.Objects.{array, field, head_of, line, number}
+use Rattle.cpg_json.specs.Records.{counted_json, process_array}
 use Rattle.cpg_json.specs.Strings.{json_string}
 use Rattle.cpg_cluster.specs.declared.commands.Command.{Command}
 use Rattle.cpg_cluster.specs.declared.commands.Command.TheVariants as command
@@ -28,26 +29,26 @@ whose None = []
 whose (Some session) = number (codes "session") session ∷ []
 
 -- the lines of records, and how many there are
-abbrev pub audit_text : List Record → List ℕ
-audit_text records = concat (records_json records ++ count_json (length records) ∷ [])
+abbrev pub audit_text : List ℕ → List Record → List ℕ
+audit_text head records = concat (counted_json head records)
 
 -- a reply to a command for that session, if it is for one
-abbrev pub reply_json : Option ℕ → Reply → List ℕ
-reply_json session (Opened opened) = line (kind (codes "session") ∷ number (codes "session") opened ∷ [])
-reply_json session Admitted = line (kind (codes "admitted") ∷ whose session)
-reply_json session (Nothing seen) = line (kind (codes "none") ∷ whose session)
-reply_json session (Took event) = line (kind (codes "event") ∷ whose session ++ event_fields event)
-reply_json session (Members processes) = line (kind (codes "members") ∷ whose session ++ field (codes "members") (array (map process_array processes)) ∷ [])
-reply_json session (Groups names) = line (kind (codes "groups") ∷ whose session ++ field (codes "groups") (array (map json_string names)) ∷ [])
-reply_json session (Audit seat) = audit_text (records_of seat)
-reply_json session Closed = line (kind (codes "closed") ∷ whose session)
-reply_json session (Safe place) = safe_json place
+abbrev pub reply_json : List ℕ → Option ℕ → Reply → List ℕ
+reply_json head session (Opened opened) = line (head_of (codes "session") head ∷ number (codes "session") opened ∷ [])
+reply_json head session Admitted = line (head_of (codes "admitted") head ∷ whose session)
+reply_json head session (Nothing seen) = line (head_of (codes "none") head ∷ whose session)
+reply_json head session (Took event) = line (head_of (codes "event") head ∷ whose session ++ event_fields event)
+reply_json head session (Members processes) = line (head_of (codes "members") head ∷ whose session ++ field (codes "members") (array (map process_array processes)) ∷ [])
+reply_json head session (Groups names) = line (head_of (codes "groups") head ∷ whose session ++ field (codes "groups") (array (map json_string names)) ∷ [])
+reply_json head session (Audit seat) = audit_text head (records_of seat)
+reply_json head session Closed = line (head_of (codes "closed") head ∷ whose session)
+reply_json head session (Safe place) = safe_json head place
 
 -- a reply or a refusal
-abbrev pub answer_json : Option ℕ → Answer → List ℕ
-answer_json session (Ok reply) = reply_json session reply
-answer_json session (Err why) = line (kind (codes "refused") ∷ whose session ++ refusal_fields why)
+abbrev pub answer_json : List ℕ → Option ℕ → Answer → List ℕ
+answer_json head session (Ok reply) = reply_json head session reply
+answer_json head session (Err why) = line (head_of (codes "refused") head ∷ whose session ++ refusal_fields why)
 
 -- what is printed of the answer to a command of a script
 abbrev pub printed_json : Printed
-printed_json line answer = answer_json (session_of line.command) answer
+printed_json line answer = answer_json (line_head line.number) (session_of line.command) answer

@@ -16,6 +16,7 @@ use Rattle.cpg_step.specs.declared.commands.Command.{Command}
 use Rattle.cpg_step.specs.Running.{after, events_in}
 use Rattle.cpg_json.specs.Answers.{rule_json}
 use Rattle.cpg_json.specs.Events.{event_json}
+use Rattle.cpg_json.specs.Marks.{Heads}
 use Rattle.cpg_json.specs.Objects.{joined}
 use Rattle.cpg_json.specs.Records.{member_array}
 use Rattle.cpg_json.specs.Stepping.{step_json_lines}
@@ -44,20 +45,20 @@ abbrev pub IsInbox : Inbox → Type 0
 IsInbox inbox = AreTails inbox.tails.now (judged inbox.policy.now) (length (judged inbox.policy.now)) × (inbox.front.now ≡ front_of inbox.conn.now)
 
 -- The command is done, and this is the text of its lines.
-pub record IsDone (w : WorldValue) (command : Command) (text : List ℕ) (world : WorldValue) : Type 0 where
+pub record IsDone (heads : Heads) (index : ℕ) (w : WorldValue) (command : Command) (text : List ℕ) (world : WorldValue) : Type 0 where
   pub answers : List Answer
   pub replies : AreReplies w (events_in (command ∷ [])) answers
   pub world_after : world ≡ after w (command ∷ [])
-  pub said : text ≡ concat (step_json_lines w (command ∷ []) answers)
+  pub said : text ≡ concat (step_json_lines heads index w (command ∷ []) answers)
 
 -- the command is not done, or it is
 abbrev pub MayBeDone : WorldValue → Command → WorldValue → Type 0
 MayBeDone w command world = (world ≡ w) ⊎ (world ≡ after w (command ∷ []))
 
 -- the line of a rule, if there is one
-abbrev pub rule_json_of : Option (ℕ × Rule) → List ℕ
-rule_json_of None = []
-rule_json_of (Some rule) = rule_json rule
+abbrev pub rule_json_of : List ℕ → Option (ℕ × Rule) → List ℕ
+rule_json_of head None = []
+rule_json_of head (Some rule) = rule_json head rule
 
 -- what a refusal leaves of a text that is made whole before it is written
 abbrev pub LeavesText : List ℕ → Refusal → Option (List ℕ) → Option (List ℕ) → Type 0

@@ -1,7 +1,9 @@
 -- bytes as strings of JSON: each line is plain ASCII, whatever the bytes are
 use Rattle.std.specs.Prelude.{ℕ, ◌/◌, ◌%◌, List, [], ◌∷◌, ◌++◌, codes, Bool, false, ◌&&◌, ◌==◌, not, nat_le, if◌then◌else◌}
 use Rattle.std.specs.List.{flat_map}
+use Rattle.std.specs.Char.Escape.{encode_utf16}
 use Rattle.std.specs.Fmt.{digit_glyph}
+use Rattle.std.specs.Str.{chars}
 
 -- 0x20 to 0x7E other than `"` and `\`
 abbrev pub is_plain : ℕ → Bool
@@ -18,6 +20,18 @@ string_byte byte = if is_plain byte then byte ∷ [] else codes "\\u00" ++ hex_b
 -- bytes between quotes, each as itself or escaped
 abbrev pub json_string : List ℕ → List ℕ
 json_string bytes = codes "\"" ++ flat_map string_byte bytes ++ codes "\""
+
+-- a unit of UTF-16 as `\u` and its four hexadecimal digits
+abbrev pub unit_escape : ℕ → List ℕ
+unit_escape unit = codes "\\u" ++ hex_byte (unit / 256) ++ hex_byte (unit % 256)
+
+-- a character as itself, or its one or two units of UTF-16 escaped
+abbrev pub string_char : ℕ → List ℕ
+string_char c = if is_plain c then c ∷ [] else flat_map unit_escape (encode_utf16 c)
+
+-- the characters that bytes are the UTF-8 of between quotes, each as itself or escaped
+abbrev pub text_string : List ℕ → List ℕ
+text_string bytes = codes "\"" ++ flat_map string_char (chars bytes) ++ codes "\""
 
 -- bytes between quotes, each as two hexadecimal digits
 abbrev pub hex_string : List ℕ → List ℕ

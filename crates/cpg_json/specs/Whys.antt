@@ -40,15 +40,11 @@ use Rattle.cpg_why.specs.Without.{verdict_without}
 use Rattle.cpg_json.specs.Answers.{named_group}
 use Rattle.cpg_json.specs.Calls.{call_name, carried_fields, group_field, rule_fields, verdict_fields}
 use Rattle.cpg_json.specs.Events.{event_json}
+use Rattle.cpg_json.specs.Marks.{line_fields}
 use Rattle.cpg_json.specs.Objects.{array, field, kind, line, number, object, word}
 use Rattle.cpg_json.specs.Records.{caller_fields, conn_fields}
 
 -- ---- entries
-
--- the number of an entry's line, where it has one
-abbrev pub line_fields : Option ℕ → List (List ℕ)
-line_fields None = []
-line_fields (Some n) = number (codes "line") n ∷ []
 
 -- an op, and behind its name the group that it names
 abbrev pub op_fields : Op → List (List ℕ)

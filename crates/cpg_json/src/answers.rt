@@ -2,15 +2,15 @@
 
 ghost use Rattle.std.specs.Prelude.{◌≡◌, ◌++◌, ◌∷◌, [], codes, map, OnOk, IsOkUnless, Some};
 ghost use Rattle.std.specs.Option.{option_copied};
-ghost use Rattle.cpg_json.specs.Answers.{accept_json, answer_json, numbered, refusal_fields, refused_json, reply_json, rule_json, safe_json, took_json, via_name};
+ghost use Rattle.cpg_json.specs.Answers.{accept_json, answer_json, numbered, refusal_fields, refused_json, reply_json, rule_count_json, rule_json, safe_json, took_json, via_name};
 ghost use Rattle.cpg_json.specs.Calls.{by_fields};
-ghost use Rattle.cpg_json.specs.Objects.{after_comma, array, field, joined, kind, line as object_line, more, number};
+ghost use Rattle.cpg_json.specs.Objects.{after_comma, array, field, head_of, joined, line as object_line, more, number};
 ghost use Rattle.cpg_json.specs.Records.{process_array};
 ghost use Rattle.cpg_json.specs.Strings.{json_string};
 
 use crate::calls::{put_by, put_rule};
 use crate::events::put_event_fields;
-use crate::objects::{put_end, put_kind, put_maybe, put_name, put_number, put_word};
+use crate::objects::{put_end, put_head, put_kind, put_maybe, put_name, put_number, put_word};
 use crate::records::put_process;
 use crate::strings::put_string;
 use cpg_cred::{By, NodeId, Refusal, Via};
@@ -92,11 +92,11 @@ pub fn put_refusal(line: &mut Vec<u8>, refusal: Refusal) -> Result<(), Refusal>
 }
 
 /// Puts the line of a refusal at the lines' end.
-pub(crate) fn put_refused(line: &mut Vec<u8>, refusal: Refusal) -> Result<(), Refusal>
-    ensures ok { OnOk result (line.new.items ≡ line.old.items ++ refused_json refusal) }
+pub(crate) fn put_refused(line: &mut Vec<u8>, head: &[u8], refusal: Refusal) -> Result<(), Refusal>
+    ensures ok { OnOk result (line.new.items ≡ line.old.items ++ refused_json head.now refusal) }
     ensures memory { IsOkUnless result Refusal.Memory }
 {
-    put_kind(line, "refused")?;
+    put_head(line, "refused", head)?;
     put_refusal(line, refusal)?;
     put_end(line)
 }
@@ -127,55 +127,61 @@ pub fn put_accept(line: &mut Vec<u8>, answer: Option<Via>) -> Result<(), Refusal
     ensures memory { IsOkUnless result Refusal.Memory }
 {
     match answer {
-        None => put_refused(line, Refusal::Access),
+        None => put_refused(line, &[], Refusal::Access),
         Some(via) => put_accepted(line, via),
     }
 }
 
 /// Puts an object of its kind alone at the lines' end.
-fn put_alone(line: &mut Vec<u8>, name: &str) -> Result<(), Refusal>
-    ensures ok { OnOk result (line.new.items ≡ line.old.items ++ object_line (kind name.now ∷ [])) }
+fn put_alone(line: &mut Vec<u8>, head: &[u8], name: &str) -> Result<(), Refusal>
+    ensures ok { OnOk result (line.new.items ≡ line.old.items ++ object_line (head_of name.now head.now ∷ [])) }
     ensures memory { IsOkUnless result Refusal.Memory }
 {
-    put_kind(line, name)?;
+    put_head(line, name, head)?;
     put_end(line)
 }
 
 /// Puts an object of its kind and a number at the lines' end.
-fn put_counted(line: &mut Vec<u8>, name: &str, counted: &str, value: u64) -> Result<(), Refusal>
-    ensures ok { OnOk result (line.new.items ≡ line.old.items ++ object_line (kind name.now ∷ number counted.now value ∷ [])) }
+fn put_counted(
+    line: &mut Vec<u8>,
+    head: &[u8],
+    name: &str,
+    counted: &str,
+    value: u64,
+) -> Result<(), Refusal>
+    ensures ok { OnOk result (line.new.items ≡ line.old.items ++ object_line (head_of name.now head.now ∷ number counted.now value ∷ [])) }
     ensures memory { IsOkUnless result Refusal.Memory }
 {
-    put_kind(line, name)?;
+    put_head(line, name, head)?;
     put_number(line, counted, value)?;
     put_end(line)
 }
 
-fn put_delivered(line: &mut Vec<u8>, place: Option<u32>) -> Result<(), Refusal>
-    ensures ok { OnOk result (line.new.items ≡ line.old.items ++ reply_json (Reply.Delivered place)) }
+fn put_delivered(line: &mut Vec<u8>, head: &[u8], place: Option<u32>) -> Result<(), Refusal>
+    ensures ok { OnOk result (line.new.items ≡ line.old.items ++ reply_json head.now (Reply.Delivered place)) }
     ensures memory { IsOkUnless result Refusal.Memory }
 {
-    put_kind(line, "delivered")?;
+    put_head(line, "delivered", head)?;
     put_maybe(line, "place", place)?;
     put_end(line)
 }
 
-fn put_taken(line: &mut Vec<u8>, event: &Event) -> Result<(), Refusal>
-    ensures ok { OnOk result (line.new.items ≡ line.old.items ++ took_json (Some event.now)) }
+fn put_taken(line: &mut Vec<u8>, head: &[u8], event: &Event) -> Result<(), Refusal>
+    ensures ok { OnOk result (line.new.items ≡ line.old.items ++ took_json head.now (Some event.now)) }
     ensures memory { IsOkUnless result Refusal.Memory }
 {
-    put_kind(line, "event")?;
+    put_head(line, "event", head)?;
     put_event_fields(line, event)?;
     put_end(line)
 }
 
-fn put_took(line: &mut Vec<u8>, event: Option<&Event>) -> Result<(), Refusal>
-    ensures ok { OnOk result (line.new.items ≡ line.old.items ++ took_json (option_copied event.entry)) }
+fn put_took(line: &mut Vec<u8>, head: &[u8], event: Option<&Event>) -> Result<(), Refusal>
+    ensures ok { OnOk result (line.new.items ≡ line.old.items ++ took_json head.now (option_copied event.entry)) }
     ensures memory { IsOkUnless result Refusal.Memory }
 {
     match event {
-        None => put_alone(line, "none"),
-        Some(event) => put_taken(line, event),
+        None => put_alone(line, head, "none"),
+        Some(event) => put_taken(line, head, event),
     }
 }
 
@@ -216,11 +222,11 @@ fn put_more_processes(line: &mut Vec<u8>, processes: &[(NodeId, u32)]) -> Result
     Ok(())
 }
 
-fn put_listing(line: &mut Vec<u8>, processes: &[(NodeId, u32)]) -> Result<(), Refusal>
-    ensures ok { OnOk result (line.new.items ≡ line.old.items ++ reply_json (Reply.Members processes.now)) }
+fn put_listing(line: &mut Vec<u8>, head: &[u8], processes: &[(NodeId, u32)]) -> Result<(), Refusal>
+    ensures ok { OnOk result (line.new.items ≡ line.old.items ++ reply_json head.now (Reply.Members processes.now)) }
     ensures memory { IsOkUnless result Refusal.Memory }
 {
-    put_kind(line, "members")?;
+    put_head(line, "members", head)?;
     put_process_list(line, processes)?;
     put_end(line)
 }
@@ -262,65 +268,80 @@ fn put_more_names(line: &mut Vec<u8>, names: &[Name]) -> Result<(), Refusal>
     Ok(())
 }
 
-fn put_names_listing(line: &mut Vec<u8>, names: &[Name]) -> Result<(), Refusal>
-    ensures ok { OnOk result (line.new.items ≡ line.old.items ++ reply_json (Reply.Groups names.now)) }
+fn put_names_listing(line: &mut Vec<u8>, head: &[u8], names: &[Name]) -> Result<(), Refusal>
+    ensures ok { OnOk result (line.new.items ≡ line.old.items ++ reply_json head.now (Reply.Groups names.now)) }
     ensures memory { IsOkUnless result Refusal.Memory }
 {
-    put_kind(line, "groups")?;
+    put_head(line, "groups", head)?;
     put_groups(line, names)?;
     put_end(line)
 }
 
-fn put_reply(line: &mut Vec<u8>, reply: &Reply) -> Result<(), Refusal>
-    ensures ok { OnOk result (line.new.items ≡ line.old.items ++ reply_json reply.now) }
+fn put_reply(line: &mut Vec<u8>, head: &[u8], reply: &Reply) -> Result<(), Refusal>
+    ensures ok { OnOk result (line.new.items ≡ line.old.items ++ reply_json head.now reply.now) }
     ensures memory { IsOkUnless result Refusal.Memory }
 {
     match reply {
-        Reply::Connected(conn) => put_counted(line, "connected", "connection", u64::from(*conn)),
-        Reply::Admitted => put_alone(line, "admitted"),
-        Reply::Closed => put_alone(line, "closed"),
-        Reply::Sent(count) => put_counted(line, "sent", "frames", *count as u64),
-        Reply::Delivered(place) => put_delivered(line, *place),
-        Reply::Took(event) => put_took(line, event.as_ref()),
-        Reply::Members(processes) => put_listing(line, processes.as_slice()),
-        Reply::Groups(names) => put_names_listing(line, names.as_slice()),
+        Reply::Connected(conn) => put_counted(
+            line,
+            head,
+            "connected",
+            "connection",
+            u64::from(*conn),
+        ),
+        Reply::Admitted => put_alone(line, head, "admitted"),
+        Reply::Closed => put_alone(line, head, "closed"),
+        Reply::Sent(count) => put_counted(line, head, "sent", "frames", *count as u64),
+        Reply::Delivered(place) => put_delivered(line, head, *place),
+        Reply::Took(event) => put_took(line, head, event.as_ref()),
+        Reply::Members(processes) => put_listing(line, head, processes.as_slice()),
+        Reply::Groups(names) => put_names_listing(line, head, names.as_slice()),
     }
 }
 
 /// Puts the line of a reply or of a refusal at the lines' end.
-pub(crate) fn put_answer(line: &mut Vec<u8>, answer: &Result<Reply, Refusal>) -> Result<(), Refusal>
-    ensures ok { OnOk result (line.new.items ≡ line.old.items ++ answer_json answer.now) }
+pub(crate) fn put_answer(
+    line: &mut Vec<u8>,
+    head: &[u8],
+    answer: &Result<Reply, Refusal>,
+) -> Result<(), Refusal>
+    ensures ok { OnOk result (line.new.items ≡ line.old.items ++ answer_json head.now answer.now) }
     ensures memory { IsOkUnless result Refusal.Memory }
 {
     match answer {
-        Ok(reply) => put_reply(line, reply),
-        Err(refusal) => put_refused(line, *refusal),
+        Ok(reply) => put_reply(line, head, reply),
+        Err(refusal) => put_refused(line, head, *refusal),
     }
 }
 
 /// Puts the line of a table's rule, with its id, at the lines' end.
-pub(crate) fn put_rule_line(line: &mut Vec<u8>, id: u32, rule: Rule) -> Result<(), Refusal>
-    ensures ok { OnOk result (line.new.items ≡ line.old.items ++ rule_json (id, rule)) }
+pub(crate) fn put_rule_line(
+    line: &mut Vec<u8>,
+    head: &[u8],
+    id: u32,
+    rule: Rule,
+) -> Result<(), Refusal>
+    ensures ok { OnOk result (line.new.items ≡ line.old.items ++ rule_json head.now (id, rule)) }
     ensures memory { IsOkUnless result Refusal.Memory }
 {
-    put_kind(line, "rule")?;
+    put_head(line, "rule", head)?;
     put_number(line, "id", u64::from(id))?;
     put_rule(line, rule)?;
     put_end(line)
 }
 
 /// Puts the line that counts a table's rules at the lines' end.
-pub(crate) fn put_rule_count(line: &mut Vec<u8>, count: usize) -> Result<(), Refusal>
-    ensures ok { OnOk result (line.new.items ≡ line.old.items ++ object_line (kind (codes "rules") ∷ number (codes "rules") count ∷ [])) }
+pub(crate) fn put_rule_count(line: &mut Vec<u8>, head: &[u8], count: usize) -> Result<(), Refusal>
+    ensures ok { OnOk result (line.new.items ≡ line.old.items ++ rule_count_json head.now count) }
     ensures memory { IsOkUnless result Refusal.Memory }
 {
-    put_counted(line, "rules", "rules", count as u64)
+    put_counted(line, head, "rules", "rules", count as u64)
 }
 
 /// Puts the line of a safe mark at the lines' end.
-pub fn put_safe(line: &mut Vec<u8>, place: u32) -> Result<(), Refusal>
-    ensures ok { OnOk result (line.new.items ≡ line.old.items ++ safe_json place) }
+pub fn put_safe(line: &mut Vec<u8>, head: &[u8], place: u32) -> Result<(), Refusal>
+    ensures ok { OnOk result (line.new.items ≡ line.old.items ++ safe_json head.now place) }
     ensures memory { IsOkUnless result Refusal.Memory }
 {
-    put_counted(line, "safe", "place", u64::from(place))
+    put_counted(line, head, "safe", "place", u64::from(place))
 }

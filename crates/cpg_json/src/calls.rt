@@ -3,11 +3,12 @@
 ghost use Rattle.std.specs.Prelude.{◌≡◌, ◌++◌, codes, nat_le, OnOk, IsOkUnless};
 ghost use Rattle.std.specs.List.{list_all};
 ghost use Rattle.cpg_print.specs.Rules.{effect_text, right_text};
-ghost use Rattle.cpg_json.specs.Calls.{by_fields, call_fields, call_name, carried_fields, group_field, hex_fields, message_fields, reason_name, reason_rule, rule_fields, verdict_fields, who_object};
+ghost use Rattle.cpg_json.specs.Calls.{by_fields, call_fields, call_name, carried_fields, group_field, hex_fields, message_fields, reason_name, reason_rule, rule_fields, text_fields, verdict_fields, who_object};
 ghost use Rattle.cpg_json.specs.Objects.{after_comma, field, more};
+ghost use Rattle.cpg_json.specs.Strings.{text_string};
 
 use crate::objects::{put_maybe, put_name, put_number, put_number_or_null, put_text, put_word};
-use crate::strings::put_hex;
+use crate::strings::{put_chars, put_hex};
 use cpg_cred::{By, Refusal};
 use cpg_entry::{Call, Op};
 use cpg_print::node_number;
@@ -23,13 +24,16 @@ pub fn put_group(line: &mut Vec<u8>, group: &[u8]) -> Result<(), Refusal>
     put_text(line, "group", group)
 }
 
-/// Puts a message at the line's end, with its exact bytes where one of them is no ASCII.
+/// Puts a message at the line's end, with its exact bytes where one of them is no ASCII, and its characters where it is
+/// their UTF-8.
+#[tactic(auto, using(crate::proofs::Fields::more_append))]
 pub(crate) fn put_message(line: &mut Vec<u8>, message: &[u8]) -> Result<(), Refusal>
     ensures ok { OnOk result (line.new.items ≡ line.old.items ++ more (message_fields message.now)) }
     ensures memory { IsOkUnless result Refusal.Memory }
 {
     put_text(line, "message", message)?;
-    put_bytes_if(line, message)
+    put_bytes_if(line, message)?;
+    put_chars_if(line, message)
 }
 
 #[tactic(auto, unfolding(crate::specs::Objects::after_comma, crate::specs::Objects::field))]
@@ -42,6 +46,26 @@ fn put_bytes_if(line: &mut Vec<u8>, message: &[u8]) -> Result<(), Refusal>
     }
     put_name(line, "hex")?;
     put_hex(line, message)
+}
+
+#[tactic(auto, using(crate::proofs::Texted::text_told, crate::proofs::Texted::text_untold))]
+fn put_chars_if(line: &mut Vec<u8>, message: &[u8]) -> Result<(), Refusal>
+    ensures ok { OnOk result (line.new.items ≡ line.old.items ++ more (text_fields message.now)) }
+    ensures memory { IsOkUnless result Refusal.Memory }
+{
+    match str::from_utf8(message) {
+        Err(_) => Ok(()),
+        Ok(text) => put_characters(line, text),
+    }
+}
+
+#[tactic(auto, unfolding(crate::specs::Objects::after_comma, crate::specs::Objects::field))]
+fn put_characters(line: &mut Vec<u8>, text: &str) -> Result<(), Refusal>
+    ensures ok { OnOk result (line.new.items ≡ line.old.items ++ after_comma (field (codes "text") (text_string text.now))) }
+    ensures memory { IsOkUnless result Refusal.Memory }
+{
+    put_name(line, "text")?;
+    put_chars(line, text)
 }
 
 fn has_ascii_alone(bytes: &[u8]) -> bool

@@ -6,7 +6,7 @@ ghost use Rattle.cpg_json.specs.Calls.{call_name, carried_fields};
 ghost use Rattle.cpg_json.specs.Objects.{after_comma, array, field, joined, more, word};
 
 use crate::calls::{call_name, put_carried, put_group};
-use crate::objects::{put_end, put_kind, put_maybe, put_name, put_number, put_word};
+use crate::objects::{put_end, put_head, put_maybe, put_name, put_number, put_word};
 use crate::records::put_caller;
 use cpg_cred::Refusal;
 use cpg_entry::{Call, Frame, Op, Packet, Token};
@@ -95,31 +95,31 @@ fn put_more_places(line: &mut Vec<u8>, places: &[u32]) -> Result<(), Refusal>
     Ok(())
 }
 
-fn put_data_line(line: &mut Vec<u8>, packet: &Packet) -> Result<(), Refusal>
-    ensures ok { OnOk result (line.new.items ≡ line.old.items ++ frame_json (Frame.Packet packet.now)) }
+fn put_data_line(line: &mut Vec<u8>, head: &[u8], packet: &Packet) -> Result<(), Refusal>
+    ensures ok { OnOk result (line.new.items ≡ line.old.items ++ frame_json head.now (Frame.Packet packet.now)) }
     ensures memory { IsOkUnless result Refusal.Memory }
 {
-    put_kind(line, "data")?;
+    put_head(line, "data", head)?;
     put_packet(line, packet)?;
     put_end(line)
 }
 
-fn put_token_line(line: &mut Vec<u8>, token: &Token) -> Result<(), Refusal>
-    ensures ok { OnOk result (line.new.items ≡ line.old.items ++ frame_json (Frame.Token token.now)) }
+fn put_token_line(line: &mut Vec<u8>, head: &[u8], token: &Token) -> Result<(), Refusal>
+    ensures ok { OnOk result (line.new.items ≡ line.old.items ++ frame_json head.now (Frame.Token token.now)) }
     ensures memory { IsOkUnless result Refusal.Memory }
 {
-    put_kind(line, "token")?;
+    put_head(line, "token", head)?;
     put_token(line, token)?;
     put_end(line)
 }
 
 /// Puts the line of a frame at the lines' end.
-pub(crate) fn put_frame(line: &mut Vec<u8>, frame: &Frame) -> Result<(), Refusal>
-    ensures ok { OnOk result (line.new.items ≡ line.old.items ++ frame_json frame.now) }
+pub(crate) fn put_frame(line: &mut Vec<u8>, head: &[u8], frame: &Frame) -> Result<(), Refusal>
+    ensures ok { OnOk result (line.new.items ≡ line.old.items ++ frame_json head.now frame.now) }
     ensures memory { IsOkUnless result Refusal.Memory }
 {
     match frame {
-        Frame::Packet(packet) => put_data_line(line, packet),
-        Frame::Token(token) => put_token_line(line, token),
+        Frame::Packet(packet) => put_data_line(line, head, packet),
+        Frame::Token(token) => put_token_line(line, head, token),
     }
 }

@@ -13,7 +13,8 @@ ghost use Rattle.cpg_script.specs.Written.{LeavesLines, WritesLate};
 ghost use Rattle.cpg_judge.specs.Gathering.{Gathers};
 ghost use Rattle.cpg_judge.specs.Judging.{EndsJudging};
 ghost use Rattle.cpg_judge.specs.Scripts.{entries_of_script};
-ghost use Rattle.cpg_json.specs.Judging.{judge_json_lines, IsWritten, Leaves};
+ghost use Rattle.cpg_why.specs.Scripts.{numbers_of};
+ghost use Rattle.cpg_json.specs.Judging.{judge_json_lines, record_head, IsWritten, Leaves};
 ghost use Rattle.cpg_json.specs.Records.{record_json, records_json};
 ghost use Rattle.cpg_json.specs.Steps.{IsKept};
 ghost use Rattle.cpg_json.specs.Tails.{AreTails};
@@ -26,6 +27,7 @@ use cpg_group::Policy;
 use cpg_judge::{judge_lines, write_all, write_much};
 use cpg_script::Fault;
 use cpg_text::{MOST_BYTES, read_whole};
+use cpg_why::{line_of, read_numbers};
 use std::alloc::Global;
 use std::io::{Read, Write};
 
@@ -41,9 +43,9 @@ pub fn judge_json<R: Read, W: Write>(
     writer: &mut W,
 ) -> Result<(), Fault>
     ensures ok { OnOk result (IfSome (R.remaining reader.old) (λ script.
-        (length script ≤ MOST_BYTES) × IsWritten (entries_of_script script) (W.contents writer.old) (W.contents writer.new))) }
+        (length script ≤ MOST_BYTES) × IsWritten (numbers_of script) (entries_of_script script) (W.contents writer.old) (W.contents writer.new))) }
     ensures err { IfErr result (λ fault. IfSome (R.remaining reader.old) (λ script.
-        Leaves (entries_of_script script) fault.refusal (W.contents writer.old) (W.contents writer.new))) }
+        Leaves (numbers_of script) (entries_of_script script) fault.refusal (W.contents writer.old) (W.contents writer.new))) }
 
     // Nothing is written before the script was read and checked, even where the reader tells no bytes.
     ensures late { IfErr result (λ fault. WritesLate fault.refusal (W.contents writer.old) (W.contents writer.new)) }
@@ -62,29 +64,52 @@ fn judge_whole<R: Read, W: Write>(
     writer: &mut W,
 ) -> Result<(), Refusal>
     ensures ok { OnOk result (IfSome (R.remaining reader.old) (λ script.
-        (length script ≤ MOST_BYTES) × IsWritten (entries_of_script script) (W.contents writer.old) (W.contents writer.new))) }
+        (length script ≤ MOST_BYTES) × IsWritten (numbers_of script) (entries_of_script script) (W.contents writer.old) (W.contents writer.new))) }
     ensures err { IfErr result (λ refusal. IfSome (R.remaining reader.old) (λ script.
-        Leaves (entries_of_script script) refusal (W.contents writer.old) (W.contents writer.new))) }
+        Leaves (numbers_of script) (entries_of_script script) refusal (W.contents writer.old) (W.contents writer.new))) }
     ensures late { IfErr result (λ refusal. WritesLate refusal (W.contents writer.old) (W.contents writer.new)) }
     ensures faults { IfErr result EndsJudging }
 {
     let script = read_whole(alloc, reader)?;
     let policy = judge_lines(alloc, script.as_slice())?;
-    drop(script);
-    write_judgement(alloc, writer, policy)
+    write_judgement(alloc, writer, policy, script)
 }
 
-/// Writes the lines of the judged entries.
+/// Writes the lines of the judged entries of that script.
 #[tactic(auto, using(cpg_script::proofs::Lined::none_written))]
-fn write_judgement<W: Write>(alloc: Global, writer: &mut W, policy: Policy) -> Result<(), Refusal>
-    ensures ok { OnOk result (Appends (W.contents writer.old) (W.contents writer.new) (concat (judge_json_lines policy))) }
-    ensures err { IfErr result (λ refusal. LeavesLines (judge_json_lines policy) refusal (W.contents writer.old) (W.contents writer.new)) }
+fn write_judgement<W: Write>(
+    alloc: Global,
+    writer: &mut W,
+    policy: Policy,
+    script: Vec<u8>,
+) -> Result<(), Refusal>
+    requires { length script.items ≤ MOST_BYTES }
+    ensures ok { OnOk result (Appends (W.contents writer.old) (W.contents writer.new) (concat (judge_json_lines (numbers_of script.items) policy))) }
+    ensures err { IfErr result (λ refusal. LeavesLines (judge_json_lines (numbers_of script.items) policy) refusal (W.contents writer.old) (W.contents writer.new)) }
+{
+    let numbers = read_numbers(alloc, script.as_slice())?;
+    drop(script);
+    write_numbered(alloc, writer, policy, numbers.as_slice())
+}
+
+/// The same, where the lines of the entries have those numbers.
+#[tactic(auto, using(cpg_script::proofs::Lined::none_written))]
+fn write_numbered<W: Write>(
+    alloc: Global,
+    writer: &mut W,
+    policy: Policy,
+    numbers: &[u32],
+) -> Result<(), Refusal>
+    ensures ok { OnOk result (Appends (W.contents writer.old) (W.contents writer.new) (concat (judge_json_lines numbers.now policy))) }
+    ensures err { IfErr result (λ refusal. LeavesLines (judge_json_lines numbers.now policy) refusal (W.contents writer.old) (W.contents writer.new)) }
 {
     let tails = Tails::of(alloc, &policy)?;
     let mut lines = Vec::new(alloc);
     let mut front = Vec::new(alloc);
     let mut kept = KeptMembers::new(alloc);
-    write_lines(writer, &mut lines, &policy, &tails, &mut front, &mut kept)
+    write_lines(
+        writer, &mut lines, &policy, numbers, &tails, &mut front, &mut kept,
+    )
 }
 
 /// Writes the lines of the records, the count and the inboxes.
@@ -92,6 +117,7 @@ fn write_lines<W: Write>(
     writer: &mut W,
     lines: &mut Vec<u8>,
     policy: &Policy,
+    numbers: &[u32],
     tails: &Tails,
     front: &mut Vec<u8>,
     kept: &mut KeptMembers,
@@ -99,11 +125,11 @@ fn write_lines<W: Write>(
     requires none { lines.old.items ≡ [] }
     requires tails { AreTails tails.now (judged policy.now) (length (judged policy.now)) }
     requires kept { IsKept kept.old }
-    ensures ok { OnOk result (Appends (W.contents writer.old) (W.contents writer.new) (concat (judge_json_lines policy.now))) }
-    ensures err { IfErr result (λ refusal. LeavesLines (judge_json_lines policy.now) refusal (W.contents writer.old) (W.contents writer.new)) }
+    ensures ok { OnOk result (Appends (W.contents writer.old) (W.contents writer.new) (concat (judge_json_lines numbers.now policy.now))) }
+    ensures err { IfErr result (λ refusal. LeavesLines (judge_json_lines numbers.now policy.now) refusal (W.contents writer.old) (W.contents writer.new)) }
 {
-    write_records(writer, lines, policy, kept)?;
-    put_count(lines, policy.len() as u32)?;
+    write_records(writer, lines, policy, numbers, kept)?;
+    put_count(lines, &[], policy.len() as u32)?;
     write_inboxes(writer, lines, policy, tails, front, policy.connections())?;
     write_all(writer, lines)
 }
@@ -113,13 +139,14 @@ fn write_records<W: Write>(
     writer: &mut W,
     lines: &mut Vec<u8>,
     policy: &Policy,
+    numbers: &[u32],
     kept: &mut KeptMembers,
 ) -> Result<(), Refusal>
     requires { IsKept kept.old }
-    ensures { Gathers result (W.contents writer.old) lines.old.items (W.contents writer.new) lines.new.items (records_json (judged policy.now)) }
+    ensures { Gathers result (W.contents writer.old) lines.old.items (W.contents writer.new) lines.new.items (records_json (record_head numbers.now) (judged policy.now)) }
 {
     for index in 0..policy.len() {
-        match write_record(writer, lines, policy, index as u32 + 1, kept) {
+        match write_record(writer, lines, policy, numbers, index as u32 + 1, kept) {
             Ok(()) => {}
             Err(refusal) => return Err(refusal),
         }
@@ -132,14 +159,22 @@ fn write_record<W: Write>(
     writer: &mut W,
     lines: &mut Vec<u8>,
     policy: &Policy,
+    numbers: &[u32],
     place: u32,
     kept: &mut KeptMembers,
 ) -> Result<(), Refusal>
     requires place { (1 ≤ place) × (place ≤ length policy.now) }
     requires kept { IsKept kept.old }
-    ensures lines { (past : Record) → record_at (judged policy.now) place ≡ Some past → Gathers result (W.contents writer.old) lines.old.items (W.contents writer.new) lines.new.items (record_json place past ∷ []) }
+    ensures lines { (past : Record) → record_at (judged policy.now) place ≡ Some past → Gathers result (W.contents writer.old) lines.old.items (W.contents writer.new) lines.new.items (record_json (record_head numbers.now place) place past ∷ []) }
     ensures kept { OnOk result (IsKept kept.new) }
 {
-    put_record_kept(lines, place, &policy.records()[place as usize - 1], kept)?;
+    let number = line_of(numbers, place);
+    put_record_kept(
+        lines,
+        number,
+        place,
+        &policy.records()[place as usize - 1],
+        kept,
+    )?;
     write_much(writer, lines)
 }

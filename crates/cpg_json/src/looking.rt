@@ -31,40 +31,47 @@ use std::alloc::Global;
 pub(crate) fn put_look(
     alloc: Global,
     lines: &mut Vec<u8>,
+    head: &[u8],
     world: &World,
     look: &Look,
 ) -> Result<(), Refusal>
     requires { LooksWithin (length world.now.nodes) look.now }
-    ensures ok { OnOk result (lines.new.items ≡ lines.old.items ++ concat (look_json world.now look.now)) }
+    ensures ok { OnOk result (lines.new.items ≡ lines.old.items ++ concat (look_json head.now world.now look.now)) }
     ensures memory { IsOkUnless result Refusal.Memory }
 {
     match look {
-        Look::Show(number) => put_shown(alloc, lines, world, *number),
-        Look::Audit(node) => put_audit_of(lines, world.node(*node)),
-        Look::Rules(node, group) => put_table_of(lines, world.node(*node), group.as_slice()),
-        Look::Safe(node) => put_safe(lines, world.node(*node).safe()),
+        Look::Show(number) => put_shown(alloc, lines, head, world, *number),
+        Look::Audit(node) => put_audit_of(lines, head, world.node(*node)),
+        Look::Rules(node, group) => put_table_of(lines, head, world.node(*node), group.as_slice()),
+        Look::Safe(node) => put_safe(lines, head, world.node(*node).safe()),
     }
 }
 
 /// Puts the line of the frame of that number, or of its refusal, at the lines' end.
-fn put_shown(alloc: Global, line: &mut Vec<u8>, world: &World, number: u64) -> Result<(), Refusal>
-    ensures ok { OnOk result (line.new.items ≡ line.old.items ++ show_json (item world.now.sent number)) }
+fn put_shown(
+    alloc: Global,
+    line: &mut Vec<u8>,
+    head: &[u8],
+    world: &World,
+    number: u64,
+) -> Result<(), Refusal>
+    ensures ok { OnOk result (line.new.items ≡ line.old.items ++ show_json head.now (item world.now.sent number)) }
     ensures memory { IsOkUnless result Refusal.Memory }
 {
     match world.sent_frame(number as usize) {
-        None => put_refused(line, Refusal::NoFrame),
-        Some(bytes) => put_spelled(alloc, line, bytes),
+        None => put_refused(line, head, Refusal::NoFrame),
+        Some(bytes) => put_spelled(alloc, line, head, bytes),
     }
 }
 
 /// Puts the line of the frame that the bytes spell at the lines' end.
-fn put_spelled(alloc: Global, line: &mut Vec<u8>, bytes: &[u8]) -> Result<(), Refusal>
+fn put_spelled(alloc: Global, line: &mut Vec<u8>, head: &[u8], bytes: &[u8]) -> Result<(), Refusal>
     requires { IsSome (frame_of bytes.now) }
-    ensures ok { OnOk result (line.new.items ≡ line.old.items ++ show_json (frame_of bytes.now)) }
+    ensures ok { OnOk result (line.new.items ≡ line.old.items ++ show_json head.now (frame_of bytes.now)) }
     ensures memory { IsOkUnless result Refusal.Memory }
 {
     let frame = read_spelled(alloc, bytes)?;
-    put_frame(line, &frame)
+    put_frame(line, head, &frame)
 }
 
 /// The frame that the bytes spell.
@@ -78,65 +85,65 @@ fn read_spelled(alloc: Global, bytes: &[u8]) -> Result<Frame, Refusal>
 
 /// Puts the audit lines and the count of a node's records at the lines' end.
 #[tactic(auto, using(crate::proofs::Listing::lines_and_last))]
-fn put_audit_of(lines: &mut Vec<u8>, node: &Node) -> Result<(), Refusal>
-    ensures ok { OnOk result (lines.new.items ≡ lines.old.items ++ concat (audit_json node.now)) }
+fn put_audit_of(lines: &mut Vec<u8>, head: &[u8], node: &Node) -> Result<(), Refusal>
+    ensures ok { OnOk result (lines.new.items ≡ lines.old.items ++ concat (audit_json head.now node.now)) }
     ensures memory { IsOkUnless result Refusal.Memory }
 {
     let count = node.delivered();
-    put_records(lines, node.audit())?;
-    put_count(lines, count)
+    put_records(lines, head, node.audit())?;
+    put_count(lines, head, count)
 }
 
-fn put_records(lines: &mut Vec<u8>, records: &[Record]) -> Result<(), Refusal>
+fn put_records(lines: &mut Vec<u8>, head: &[u8], records: &[Record]) -> Result<(), Refusal>
     requires { length records.now ≤ most_places }
-    ensures ok { OnOk result (lines.new.items ≡ lines.old.items ++ concat (records_json records.now)) }
+    ensures ok { OnOk result (lines.new.items ≡ lines.old.items ++ concat (records_json (λ place. head.now) records.now)) }
     ensures memory { IsOkUnless result Refusal.Memory }
 {
     let mut place = 0u32;
     for past in records {
         place += 1;
-        put_record(lines, place, past)?;
+        put_record(lines, head, place, past)?;
     }
     Ok(())
 }
 
 /// Puts the rules of a group's table, and their count, at the lines' end.
-fn put_table_of(lines: &mut Vec<u8>, node: &Node, group: &[u8]) -> Result<(), Refusal>
-    ensures ok { OnOk result (lines.new.items ≡ lines.old.items ++ concat (table_json (rules_of (records_of node.now) group.now))) }
+fn put_table_of(lines: &mut Vec<u8>, head: &[u8], node: &Node, group: &[u8]) -> Result<(), Refusal>
+    ensures ok { OnOk result (lines.new.items ≡ lines.old.items ++ concat (table_json head.now (rules_of (records_of node.now) group.now))) }
     ensures memory { IsOkUnless result Refusal.Memory }
 {
     match node.table(group) {
-        None => put_rule_count(lines, 0),
-        Some(table) => put_table(lines, table),
+        None => put_rule_count(lines, head, 0),
+        Some(table) => put_table(lines, head, table),
     }
 }
 
 #[tactic(auto, using(crate::proofs::Listing::lines_and_last))]
-fn put_table(lines: &mut Vec<u8>, table: &Table) -> Result<(), Refusal>
-    ensures ok { OnOk result (lines.new.items ≡ lines.old.items ++ concat (table_json table.now)) }
+fn put_table(lines: &mut Vec<u8>, head: &[u8], table: &Table) -> Result<(), Refusal>
+    ensures ok { OnOk result (lines.new.items ≡ lines.old.items ++ concat (table_json head.now table.now)) }
     ensures memory { IsOkUnless result Refusal.Memory }
 {
-    put_rules(lines, table)?;
-    put_rule_count(lines, table.len())
+    put_rules(lines, head, table)?;
+    put_rule_count(lines, head, table.len())
 }
 
 #[tactic(auto, using(crate::proofs::Listing::rule_put))]
-fn put_rules(lines: &mut Vec<u8>, table: &Table) -> Result<(), Refusal>
-    ensures ok { OnOk result (lines.new.items ≡ lines.old.items ++ concat (map rule_json table.now)) }
+fn put_rules(lines: &mut Vec<u8>, head: &[u8], table: &Table) -> Result<(), Refusal>
+    ensures ok { OnOk result (lines.new.items ≡ lines.old.items ++ concat (map (rule_json head.now) table.now)) }
     ensures memory { IsOkUnless result Refusal.Memory }
 {
     for index in 0..table.len() {
-        put_rule_at(lines, table, index)?;
+        put_rule_at(lines, head, table, index)?;
     }
     Ok(())
 }
 
-fn put_rule_at(lines: &mut Vec<u8>, table: &Table, index: usize) -> Result<(), Refusal>
-    ensures ok { OnOk result (lines.new.items ≡ lines.old.items ++ rule_json_of (slice_get table.now index)) }
+fn put_rule_at(lines: &mut Vec<u8>, head: &[u8], table: &Table, index: usize) -> Result<(), Refusal>
+    ensures ok { OnOk result (lines.new.items ≡ lines.old.items ++ rule_json_of head.now (slice_get table.now index)) }
     ensures memory { IsOkUnless result Refusal.Memory }
 {
     match table.get(index) {
         None => Ok(()),
-        Some((id, rule)) => put_rule_line(lines, id, rule),
+        Some((id, rule)) => put_rule_line(lines, head, id, rule),
     }
 }

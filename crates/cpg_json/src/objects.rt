@@ -1,12 +1,12 @@
 //! Fields of objects, each put after a comma.
 
 ghost use Rattle.std.specs.Prelude.{◌≡◌, ◌++◌, codes, OnOk, IsOkUnless};
-ghost use Rattle.cpg_json.specs.Objects.{after_comma, field, kind, maybe, number, number_or_null, word};
+ghost use Rattle.cpg_json.specs.Objects.{after_comma, field, head_of, kind, maybe, number, number_or_null, word};
 ghost use Rattle.cpg_json.specs.Strings.{json_string};
 
 use crate::strings::put_string;
 use cpg_cred::Refusal;
-use cpg_script::put;
+use cpg_script::{put, put_bytes};
 use cpg_text::push_number;
 
 /// Puts a comma and the name of a field at the line's end.
@@ -85,6 +85,16 @@ pub fn put_kind(line: &mut Vec<u8>, name: &str) -> Result<(), Refusal>
     put(line, "{\"kind\":\"")?;
     put(line, name)?;
     put(line, "\"")
+}
+
+/// Puts the brace, the kind of an object and what stands at its head at the lines' end.
+#[inline(always)]
+pub fn put_head(line: &mut Vec<u8>, name: &str, head: &[u8]) -> Result<(), Refusal>
+    ensures ok { OnOk result (line.new.items ≡ line.old.items ++ codes "{" ++ head_of name.now head.now) }
+    ensures memory { IsOkUnless result Refusal.Memory }
+{
+    put_kind(line, name)?;
+    put_bytes(line, head)
 }
 
 /// Puts the end of an object that stands alone on its line at the lines' end.

@@ -3,12 +3,14 @@
 ghost use Rattle.std.specs.Prelude.{◌≡◌, ◌++◌, codes, map, OnOk, IsOkUnless};
 ghost use Rattle.std.specs.Option.{option_copied};
 ghost use Rattle.cpg_record.specs.Connections.{conn_of};
-ghost use Rattle.cpg_json.specs.Objects.{after_comma, joined, more};
+ghost use Rattle.cpg_json.specs.Marks.{line_fields};
+ghost use Rattle.cpg_json.specs.Objects.{after_comma, head_of, joined, more};
 ghost use Rattle.cpg_json.specs.Records.{asked_fields, caller_fields, conn_fields, count_json, group_fields, member_array, members_field, outcome_fields, process_array, record_json};
 ghost use Rattle.cpg_json.specs.Steps.{IsKept};
 
 use crate::calls::{put_call, put_group, put_verdict};
-use crate::objects::{put_end, put_kind, put_name, put_number};
+use crate::marks::put_line_number;
+use crate::objects::{put_end, put_head, put_kind, put_name, put_number};
 use cpg_cred::{NodeId, Refusal};
 use cpg_entry::{Entry, Name};
 use cpg_record::{ConnId, Member, Members, Record};
@@ -214,42 +216,51 @@ fn put_outcome_kept(
 }
 
 /// Puts the line of a record, which stands at that place, at the lines' end.
-#[tactic(auto, using(crate::proofs::Fields::more_append))]
-pub fn put_record(line: &mut Vec<u8>, place: u32, past: &Record) -> Result<(), Refusal>
-    ensures ok { OnOk result (line.new.items ≡ line.old.items ++ record_json place past.now) }
+pub fn put_record(line: &mut Vec<u8>, head: &[u8], place: u32, past: &Record) -> Result<(), Refusal>
+    ensures ok { OnOk result (line.new.items ≡ line.old.items ++ record_json head.now place past.now) }
     ensures memory { IsOkUnless result Refusal.Memory }
 {
-    put_kind(line, "record")?;
+    put_head(line, "record", head)?;
     put_asked(line, place, past.entry())?;
     put_outcome(line, past)?;
     put_end(line)
 }
 
-/// The same, by the kept text of the members.
-#[tactic(auto, using(crate::proofs::Fields::more_append))]
+/// Puts the brace, the kind of an object and the number of a line, where there is one, at the lines' end.
+fn put_numbered(line: &mut Vec<u8>, name: &str, number: Option<u32>) -> Result<(), Refusal>
+    ensures ok { OnOk result (line.new.items ≡ line.old.items ++ codes "{" ++ head_of name.now (more (line_fields number))) }
+    ensures memory { IsOkUnless result Refusal.Memory }
+{
+    put_kind(line, name)?;
+    put_line_number(line, number)
+}
+
+/// The same behind the number of its entry's line, where it has one, by the kept text of the members.
+#[tactic(auto, using(crate::proofs::Fields::two_put))]
 pub(crate) fn put_record_kept(
     line: &mut Vec<u8>,
+    number: Option<u32>,
     place: u32,
     past: &Record,
     kept: &mut KeptMembers,
 ) -> Result<(), Refusal>
     requires { IsKept kept.old }
-    ensures ok { OnOk result (line.new.items ≡ line.old.items ++ record_json place past.now) }
+    ensures ok { OnOk result (line.new.items ≡ line.old.items ++ record_json (more (line_fields number)) place past.now) }
     ensures kept { OnOk result (IsKept kept.new) }
     ensures memory { IsOkUnless result Refusal.Memory }
 {
-    put_kind(line, "record")?;
+    put_numbered(line, "record", number)?;
     put_asked(line, place, past.entry())?;
     put_outcome_kept(line, past, kept)?;
     put_end(line)
 }
 
 /// Puts the line of the count of records at the lines' end.
-pub fn put_count(line: &mut Vec<u8>, count: u32) -> Result<(), Refusal>
-    ensures ok { OnOk result (line.new.items ≡ line.old.items ++ count_json count) }
+pub fn put_count(line: &mut Vec<u8>, head: &[u8], count: u32) -> Result<(), Refusal>
+    ensures ok { OnOk result (line.new.items ≡ line.old.items ++ count_json head.now count) }
     ensures memory { IsOkUnless result Refusal.Memory }
 {
-    put_kind(line, "count")?;
+    put_head(line, "count", head)?;
     put_number(line, "records", u64::from(count))?;
     put_end(line)
 }

@@ -1,5 +1,5 @@
 -- what the command line asks for, and what is said of one that asks for nothing that can be run
-use Rattle.std.specs.Prelude.{◌≡◌, ◌⊎◌, ℕ, Bool, true, false, List, [], ◌∷◌, codes, map, slice_get, if◌then◌else◌, Option, Some, None, option_map}
+use Rattle.std.specs.Prelude.{◌≡◌, ◌⊎◌, ℕ, Bool, true, false, List, [], ◌∷◌, codes, map, slice_get, Option, Some, None, option_map}
 use Rattle.std.specs.Io.KnownBytes.{Keeps}
 use Rattle.std.specs.Str.Parse.{digits_value, without_leading_plus}
 use Rattle.clap.specs.declared.parser.matches.Found.{Found}
@@ -21,12 +21,17 @@ use Rattle.cpg_console.specs.declared.speaking.Spoken.{Spoken}
 use Rattle.cpg_console.specs.declared.speaking.Spoken.TheVariants as spoken
 use Rattle.cpgring.specs.declared.asking.Asked.{Asked}
 use Rattle.cpgring.specs.declared.asking.AskedShell.{AskedShell}
-use Rattle.cpgring.specs.Filtering.{is_filtered, IsFilterGiven}
+use Rattle.cpgring.specs.Filtering.{is_filtered, rows_given, IsFilterGiven}
 use Rattle.cpgring.specs.Questions.{entry_named, question_named, words_for}
 use Rattle.cpgring.specs.Sources.{accept_words, but_input, path_of, script_file}
 use Rattle.cpg_console.specs.declared.runs.Run.TheVariants.{Judge, JudgeOnly, Accept, Why, Step, StepWhy, Draw, Number, Echo, Cluster, ClusterWhy}
+use Rattle.cpg_draw.specs.declared.excerpts.Excerpt.{Excerpt}
 use Rattle.cpg_console.specs.declared.runs.Form.{Form}
 use Rattle.cpg_console.specs.declared.runs.Form.TheVariants.{Text, Json}
+use Rattle.cpg_console.specs.declared.runs.Stepped.{Stepped}
+use Rattle.cpg_console.specs.declared.runs.Stepped.TheVariants as stepped
+use Rattle.cpg_json.specs.declared.marks.Marks.{Marks}
+use Rattle.cpg_json.specs.declared.marks.Marks.TheVariants as marks
 use Rattle.cpg_console.specs.declared.runs.Picture.{Picture}
 use Rattle.cpg_console.specs.declared.runs.Picture.TheVariants.{Svg, Lines}
 use Rattle.cpg_why.specs.declared.asking.Asked.{Asked as Question}
@@ -107,9 +112,36 @@ IsUnused found name = (one_text found name ≡ Some (codes "false")) ⊎ (one_te
 abbrev pub IsFormGiven : Found → Form → Type 0
 IsFormGiven found form = (IsUsed found (codes "json") → form ≡ Json) × (IsUnused found (codes "json") → form ≡ Text)
 
+-- the rows of a picture are those that the option's word says, and those with frames alone where an option asks for that
+pub record IsExcerptGiven (found : Found) (excerpt : Excerpt) : Type 0 where
+  pub rows : rows_given (first_value found (codes "rows")) ≡ Some (excerpt.first, excerpt.last)
+  pub frames : IsUsed found (codes "frames-only") → excerpt.frames ≡ true
+  pub all : IsUnused found (codes "frames-only") → excerpt.frames ≡ false
+
+-- the picture is one of lines, of those rows
+abbrev pub IsLinesGiven : Found → Picture → Type 0
+IsLinesGiven found (Lines excerpt) = IsExcerptGiven found excerpt
+IsLinesGiven found _ = ⊥
+
+-- or an SVG of them
+abbrev pub IsSvgGiven : Found → Picture → Type 0
+IsSvgGiven found (Svg excerpt) = IsExcerptGiven found excerpt
+IsSvgGiven found _ = ⊥
+
+-- what stands in the objects of `step` is what the options ask for: at most one of both is used
+pub record AreMarksGiven (found : Found) (given : Marks) : Type 0 where
+  pub numbers : IsUsed found (codes "numbers") → given ≡ marks.Numbers
+  pub echo : IsUnused found (codes "numbers") → IsUsed found (codes "echo") → given ≡ marks.Echo
+  pub none : IsUnused found (codes "numbers") → IsUnused found (codes "echo") → given ≡ marks.Line
+
+-- the answers of `step` are objects with those marks where the option asks for JSON, and else text
+abbrev pub IsSteppedGiven : Found → Stepped → Type 0
+IsSteppedGiven found stepped.Text = IsFormGiven found Text
+IsSteppedGiven found (stepped.Json given) = IsFormGiven found Json × AreMarksGiven found given
+
 -- the picture is one of lines where the option asks for it, and else an SVG
 abbrev pub IsPictureGiven : Found → Picture → Type 0
-IsPictureGiven found picture = (IsUsed found (codes "text") → picture ≡ Lines) × (IsUnused found (codes "text") → picture ≡ Svg)
+IsPictureGiven found picture = (IsUsed found (codes "text") → IsLinesGiven found picture) × (IsUnused found (codes "text") → IsSvgGiven found picture)
 
 -- the entry that is asked of is the one that the first word names, and whom it told, where a connection is named
 abbrev pub IsEntryAsked : Form → Option (List ℕ) → List (List ℕ) → Run → Type 0
@@ -184,7 +216,7 @@ IsGivenBy found (Judge form) = IsFormGiven found form × (is_filtered found ≡ 
 IsGivenBy found (JudgeOnly filter) = IsFilterGiven found filter
 IsGivenBy found (Accept form) = IsFormGiven found form
 IsGivenBy found (Why form asked) = IsWhyGiven form found (Why form asked)
-IsGivenBy found (Step form settings words) = (first_value found (codes "why") ≡ None) × IsFormGiven found form × AreGiven found settings (map (λ word. word.now) words.now)
+IsGivenBy found (Step form settings words) = (first_value found (codes "why") ≡ None) × IsSteppedGiven found form × AreGiven found settings (map (λ word. word.now) words.now)
 IsGivenBy found (Draw picture settings words) = IsPictureGiven found picture × AreGiven found settings (map (λ word. word.now) words.now)
 IsGivenBy found (StepWhy form asked settings words) =
     (question_asked (first_value found (codes "to")) (first_value found (codes "why")) ≡ Some asked) × IsFormGiven found form × AreGiven found settings (map (λ word. word.now) words.now)

@@ -1,5 +1,5 @@
 -- the filter that the options of `judge` give
-use Rattle.std.specs.Prelude.{ℕ, ◌≡◌, ◌==◌, ◌||◌, ◌⊎◌, Bool, is_some, List, codes, length, if◌then◌else◌, Option, Some, None, option_map}
+use Rattle.std.specs.Prelude.{ℕ, ◌≡◌, ◌==◌, ◌||◌, ◌⊎◌, Bool, is_some, nat_le, List, codes, length, if◌then◌else◌, Option, Some, None, option_map}
 use Rattle.std.specs.Str.{bytes_eq}
 use Rattle.clap.specs.declared.parser.matches.Found.{Found}
 use Rattle.clap.specs.Words.{first_value}
@@ -54,6 +54,19 @@ places_named word = places_in word (cut_at 46 word)
 abbrev pub places_given : Option (List ℕ) → Option (ℕ × ℕ)
 places_given None = Some (1, 4294967295)
 places_given (Some word) = places_named word
+
+-- the first and the last row, where the first is not behind the last
+abbrev pub in_order : ℕ × ℕ → Option (ℕ × ℕ)
+in_order rows = if nat_le rows.0 rows.1 then Some rows else None
+
+-- the rows of a picture: A..B, A.., ..B or A
+abbrev pub rows_named : List ℕ → Option (ℕ × ℕ)
+rows_named word = places_named word >>= in_order
+
+-- the rows that are asked for: all, where none are
+abbrev pub rows_given : Option (List ℕ) → Option (ℕ × ℕ)
+rows_given None = Some (1, 4294967295)
+rows_given (Some word) = rows_named word
 
 -- one of the options was used
 abbrev pub is_filtered : Found → Bool

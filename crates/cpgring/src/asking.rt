@@ -8,11 +8,12 @@ ghost use Rattle.clap.specs.Words.{found_of, first_value, subcommand_name_of};
 ghost use Rattle.clap.specs.Values.{kind_of};
 ghost use Rattle.cpg_console.specs.Pipes.{stream_of};
 ghost use Rattle.cpg_console.specs.declared.runs.Run.TheVariants.{Why};
-ghost use Rattle.cpgring.specs.Filtering.{is_filtered, IsBadFilter};
+ghost use Rattle.cpgring.specs.Filtering.{is_filtered, rows_given, IsBadFilter};
 ghost use Rattle.cpgring.specs.Sources.{but_input, path_of};
-ghost use Rattle.cpgring.specs.Asking.{name_of, words_found, AreChancesGiven, AreSettingsGiven, IsAskedFor, IsFormGiven, IsInquiryGiven, IsMannerGiven, IsPictureGiven, IsShellGiven, IsShownGiven, IsSpokenGiven, patience_given, IsEntryAsked, words_before, IsStatusOf, IsUnused, IsUsed, SaysByKind, is_echoed, is_numbered};
+ghost use Rattle.cpgring.specs.Asking.{name_of, words_found, AreChancesGiven, AreMarksGiven, AreSettingsGiven, IsAskedFor, IsFormGiven, IsInquiryGiven, IsMannerGiven, IsPictureGiven, IsShellGiven, IsShownGiven, IsSpokenGiven, patience_given, IsEntryAsked, words_before, IsStatusOf, IsUnused, IsUsed, SaysByKind, is_echoed, is_numbered};
 
 use crate::commands::{build_command, command_for};
+use crate::excerpts::excerpt_of;
 use crate::faults::{fault_of, fault_of_shell};
 use crate::filtering::{filter_of, is_filtered};
 use crate::options::{
@@ -25,8 +26,8 @@ use crate::versions::write_commit;
 use clap::error::ErrorKind;
 use clap::{ArgMatches, Command, Error};
 use cpg_console::{
-    Asked as Question, Chances, Form, Inquiry, Known, Manner, Noted, Patience, Picture, Piped, Run,
-    Shown, Spoken, tell_fault,
+    Asked as Question, Chances, Form, Inquiry, Known, Manner, Marks, Noted, Patience, Picture,
+    Piped, Run, Shown, Spoken, Stepped, tell_fault,
 };
 use cpg_cred::Refusal;
 use cpg_ring::Settings;
@@ -127,15 +128,30 @@ pub fn form_of(given: &ArgMatches<'_>) -> Form
     }
 }
 
-/// The picture that the option asks for.
-fn picture_of(given: &ArgMatches<'_>) -> Picture
-    ensures { IsPictureGiven (found_of given.now) result }
+/// What stands in the objects of `step` that the options ask for.
+fn marks_of(given: &ArgMatches<'_>) -> Marks
+    ensures { AreMarksGiven (found_of given.now) result }
 {
-    if given.get_flag(TEXT) {
-        Picture::Lines
+    if given.get_flag(NUMBERS) {
+        Marks::Numbers
+    } else if given.get_flag(ECHO) {
+        Marks::Echo
     } else {
-        Picture::Svg
+        Marks::Line
     }
+}
+
+/// The picture that the options ask for, where their words say one.
+fn picture_of(given: &ArgMatches<'_>) -> Option<Picture>
+    ensures given { IfSome result (IsPictureGiven (found_of given.now)) }
+    ensures none { (result ≡ None) ↔ (rows_given (first_value (found_of given.now) (codes "rows")) ≡ None) }
+{
+    let excerpt = excerpt_of(given)?;
+    Some(if given.get_flag(TEXT) {
+        Picture::Lines(excerpt)
+    } else {
+        Picture::Svg(excerpt)
+    })
 }
 
 /// The judgement of a script, in the form and through the filter that are asked for.
@@ -238,17 +254,17 @@ fn step_of<'a>(given: &'a ArgMatches<'_>) -> Option<Asked<'a>>
 {
     let settings = settings_of(given)?;
     let (source, words) = split_words(words_of(given));
-    let form = form_of(given);
     let run = match given.get_str(WHY) {
         Some(word) => {
             let question = read_question(given.get_str(TO), word.as_bytes())?;
-            Run::StepWhy(form, question, settings, words)
+            Run::StepWhy(form_of(given), question, settings, words)
         }
-        None => match form {
-            Form::Text if given.get_flag(NUMBERS) => Run::Number(settings, words),
-            Form::Text if given.get_flag(ECHO) => Run::Echo(settings, words),
-            form => Run::Step(form, settings, words),
-        },
+        None if given.get_flag(JSON) => {
+            Run::Step(Stepped::Json(marks_of(given)), settings, words)
+        }
+        None if given.get_flag(NUMBERS) => Run::Number(settings, words),
+        None if given.get_flag(ECHO) => Run::Echo(settings, words),
+        None => Run::Step(Stepped::Text, settings, words),
     };
     Some(Asked { run, source })
 }
@@ -260,7 +276,7 @@ fn draw_of<'a>(given: &'a ArgMatches<'_>) -> Option<Asked<'a>>
     let settings = settings_of(given)?;
     let (source, words) = split_words(words_of(given));
     Some(Asked {
-        run: Run::Draw(picture_of(given), settings, words),
+        run: Run::Draw(picture_of(given)?, settings, words),
         source,
     })
 }

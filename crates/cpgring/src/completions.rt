@@ -19,7 +19,7 @@ _cpgring() {
             accept) words='--json -v --verbose' ;;
             admit) words='--conf --names --passwd --group --json --echo -v --verbose' ;;
             step) words="$ring --json --numbers --echo --why --to --checked -v --verbose" ;;
-            draw) words="$ring --text -v --verbose" ;;
+            draw) words="$ring --text --rows --frames-only -v --verbose" ;;
             run) words="$ring --lose --repeat --seed --json --wait --echo --trace --why --to --checked -v --verbose" ;;
             shell) words="$ring --lose --repeat --seed --json --wait --echo --trace --checked -v --verbose" ;;
             completions) words='bash zsh fish' ;;
@@ -61,7 +61,7 @@ _cpgring() {
         admit) _arguments '--conf=:file:_files' '--names=:file:_files' '--passwd=:file:_files' '--group=:file:_files' \
             '--json' '--echo' '-v' '--verbose' '--help' ;;
         step) _arguments $ring '--json' '--numbers' '--echo' '--why=:place' '--to=:connection' '--checked' $more ;;
-        draw) _arguments $ring '--text' $more ;;
+        draw) _arguments $ring '--text' '--rows=:rows' '--frames-only' $more ;;
         run) _arguments $ring $loss '--json' '--wait=:milliseconds' '--echo' '--trace=:file:_files' '--why=:place' \
             '--to=:connection' '--checked' $more ;;
         shell) _arguments $ring $loss '--json' '--wait=:milliseconds' '--echo' '--trace=:file:_files' '--checked' \
@@ -93,6 +93,8 @@ complete -c cpgring -n '__fish_seen_subcommand_from step draw run shell' -l node
 complete -c cpgring -n '__fish_seen_subcommand_from step draw run shell' -l hops -x
 complete -c cpgring -n '__fish_seen_subcommand_from step' -l numbers
 complete -c cpgring -n '__fish_seen_subcommand_from draw' -l text
+complete -c cpgring -n '__fish_seen_subcommand_from draw' -l rows -x
+complete -c cpgring -n '__fish_seen_subcommand_from draw' -l frames-only
 complete -c cpgring -n '__fish_seen_subcommand_from step run' -l why -x
 complete -c cpgring -n '__fish_seen_subcommand_from why step run' -l to -x
 complete -c cpgring -n '__fish_seen_subcommand_from run shell' -l lose -x

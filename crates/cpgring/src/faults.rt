@@ -5,8 +5,9 @@
 
 use crate::asking::read_patience;
 use crate::commands::{Subcommand, build_command, command_alone};
+use crate::excerpts::rows_of;
 use crate::filtering::{kind_of, places_of};
-use crate::options::{CONNECTION, GROUP, ONLY, PLACE, PLACES, TO, WAIT, WHY};
+use crate::options::{CONNECTION, GROUP, ONLY, PLACE, PLACES, ROWS, TO, WAIT, WHY};
 use crate::questions::{read_conn, read_entry, read_question};
 use clap::error::ErrorKind;
 use clap::{ArgMatches, Error};
@@ -38,6 +39,7 @@ pub fn fault_of(alloc: Global, matches: &ArgMatches<'_>) -> Result<Error, AllocE
         Some(("judge", given)) => say(alloc, Subcommand::Judge, wrong_of_judge(given)),
         Some(("why", given)) => fault_of_why(alloc, given),
         Some(("step", given)) => say(alloc, Subcommand::Step, wrong_question(given)),
+        Some(("draw", given)) => say(alloc, Subcommand::Draw, wrong_rows(given)),
         Some(("run", given)) => say(alloc, Subcommand::Run, wrong_of_run(given)),
         _ => build_command(alloc)?.error(
             ErrorKind::MissingSubcommand,
@@ -168,6 +170,19 @@ fn wrong_to<'a>(given: &'a ArgMatches<'_>, question: &str) -> Option<Wrong<'a>> 
         word,
         wanted,
     })
+}
+
+/// Rows of a picture that are none.
+fn wrong_rows<'a>(given: &'a ArgMatches<'_>) -> Option<Wrong<'a>> {
+    let word = given.get_str(ROWS)?;
+    match rows_of(word.as_bytes()) {
+        Some(_) => None,
+        None => Some(Wrong {
+            taken_by: "--rows <A..B>",
+            word,
+            wanted: "A..B, A.., ..B or A, each a number from 1 to 4294967295, A not behind B",
+        }),
+    }
 }
 
 fn wrong_wait<'a>(given: &'a ArgMatches<'_>) -> Option<Wrong<'a>> {

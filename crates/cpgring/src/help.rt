@@ -302,13 +302,14 @@ NODE.CONN PID UID GID CALL; for audit the lines of `cpgring judge` and records C
 RIGHT WHO of each and rules COUNT; and safe PLACE. With --numbers, frames K K ... stand behind `sent COUNT`,
 the numbers by which later commands bring them; with --echo each line stands behind the number of its script line
 and what its command is of, a connection `7 1.2 `, a node `7 n1 ` or nothing `7 - `; by either all is printed once
-the script is done. With --json each line is an object (docs/CLI.md). With --why=PLACE none of this is printed, but
-why the entry at that place was answered as it was, as `cpgring why` tells it, by what the node that delivered most
-delivered; --why=NODE.CONN:EVENT tells it of the entry that told the connection that event, --why=all of each denied
-entry, --why=NODE.CONN the way of a connection. With --checked a line `=> TEXT` behind a command says that TEXT is the
-next line that it prints, and `=>` alone that it prints no more; where lines are said of a command, they are all that it
-prints. What is not so is told on standard error, `cpgring: line 3: wanted \"sent 2\", printed \"sent 3\"`, and the
-script goes on. A command that is refused prints the refusal, as in `refused 10 Stale`, and the script goes on:
+the script is done. With --json each line is an object (docs/CLI.md), and either is a field of it. With --why=PLACE
+none of this is printed, but why the entry at that place was answered as it was, as `cpgring why` tells it, by what the
+node that delivered most delivered; --why=NODE.CONN:EVENT tells it of the entry that told the connection that event,
+--why=all of each denied entry, --why=NODE.CONN the way of a connection. With --checked a line `=> TEXT` behind a
+command says that TEXT is the next line that it prints, and `=>` alone that it prints no more; where lines are said of
+a command, they are all that it prints. What is not so is told on standard error,
+`cpgring: line 3: wanted \"sent 2\", printed \"sent 3\"`, and the script goes on. A command that is refused prints the
+refusal, as in `refused 10 Stale`, and the script goes on:
 
   2 Access           nobody lets the credentials in
   3 NoConnection     the node has no open connection of that number
@@ -366,6 +367,10 @@ not come to goes a stub, which ends in a cross where the frame is lost, and in a
 the first two of a row for a node have their place or hop beyond that node's column. The title of an arrow or a stub
 is the frame as `show` of `cpgring step` prints it. The nodes' numbers come again every 40 rows. Right of the columns
 stands what a row of --text has, cut after 112 letters; its title then has all of it.
+
+--rows=A..B draws the commands A to B alone, as if the script ended with B: a frame that comes later is then under way.
+Rows above A are not shown, nor what became of their frames; an arrow from there begins with an open diamond below the
+nodes' numbers. --frames-only folds away each row that neither sends a frame nor brings one. Rows keep their numbers.
 
 With --text, in a row `*` is the node that the command is at, and an arrow comes in from the node that sent the frame
 that the row brings, marked `o`: --> is data, ==> data that is sent again, ..> the token. The first token, which was

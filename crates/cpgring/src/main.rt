@@ -8,6 +8,7 @@ mod admitting;
 mod asking;
 mod commands;
 mod completions;
+mod excerpts;
 mod faults;
 mod filtering;
 mod folders;
@@ -22,8 +23,7 @@ mod versions;
 
 use admitting::{admit_manner_of, asks_of, files_of};
 use asking::{
-    AskedShell, explain, form_of, is_verbose, match_words, read_asked, read_shell, read_words,
-    words_of,
+    AskedShell, explain, is_verbose, match_words, read_asked, read_shell, read_words, words_of,
 };
 use clap::{ArgMatches, Error};
 use completions::completion_of;

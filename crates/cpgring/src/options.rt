@@ -22,6 +22,12 @@ pub const FILE: &str = "file";
 /// The option that asks for a picture as lines for a terminal.
 pub const TEXT: &str = "text";
 
+/// The option that asks for some rows of a picture.
+pub const ROWS: &str = "rows";
+
+/// The option that asks for the rows of a picture that have frames.
+pub const FRAMES_ONLY: &str = "frames-only";
+
 /// The option that asks for objects of JSON.
 pub const JSON: &str = "json";
 
@@ -398,13 +404,13 @@ pub const STEP_OPTIONS: [Given; 8] = [
         ECHO,
         Takes::Nothing,
         "Print before each line the number of its script line and the node or connection that its command is of",
-        &[JSON, NUMBERS, WHY],
+        &[NUMBERS, WHY],
     ),
     Given(
         NUMBERS,
         Takes::Nothing,
         "Print the numbers of the frames that each command sent",
-        &[JSON],
+        &[],
     ),
     Given(
         WHY,
@@ -428,11 +434,23 @@ pub const STEP_OPTIONS: [Given; 8] = [
     SCRIPT_AND_ACCEPT,
 ];
 
-pub const DRAW_OPTIONS: [Given; 3] = [
+pub const DRAW_OPTIONS: [Given; 5] = [
     Given(
         TEXT,
         Takes::Nothing,
         "Draw lines for a terminal, in place of an SVG",
+        &[],
+    ),
+    Given(
+        ROWS,
+        Takes::Word("A..B"),
+        "Draw rows A to B alone, which are the commands of the script, counted from 1; A.., ..B and A, too",
+        &[],
+    ),
+    Given(
+        FRAMES_ONLY,
+        Takes::Nothing,
+        "Draw rows alone that send a frame or bring one",
         &[],
     ),
     WITH_HINTS,

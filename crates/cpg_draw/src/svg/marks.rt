@@ -70,7 +70,11 @@ fn put_mark(text: &mut Vec<u8>, miss: &Miss, place: u64) -> Result<(), Refusal>
 {
     let arrow = miss.arrow;
     put(text, "<path d='M")?;
-    put_point(text, column_at(u16::from(arrow.node)), row_at(arrow.row))?;
+    put_point(
+        text,
+        column_at(u16::from(arrow.node)),
+        row_at(arrow.sent.place),
+    )?;
     put(text, "H")?;
     push_number(text, mark_across(arrow.node, miss.node, place))?;
     put_end(text, miss)
@@ -94,7 +98,7 @@ fn put_mark_label(text: &mut Vec<u8>, miss: &Miss, place: u64) -> Result<(), Ref
     put(text, "<g class='")?;
     put_side(text, arrow.node, miss.node)?;
     put(text, "'>")?;
-    put_place(text, across, label_down(arrow.row))?;
+    put_place(text, across, label_down(arrow.sent.place))?;
     put_arrow(text, &arrow)?;
     put(text, "</text></g>")
 }
@@ -156,9 +160,9 @@ fn place(last: (u64, u64), row: u64) -> u64
 /// The place of the frame among those of its row that did not come to the node.
 fn place_of(table: &[(u64, u64)], miss: &Miss) -> u64
     requires { length table.now ≡ 256 }
-    ensures { result ≡ place_in (get_or table.now miss.now.node (0, 0)) miss.now.arrow.row }
+    ensures { result ≡ place_in (get_or table.now miss.now.node (0, 0)) miss.now.arrow.sent.row }
 {
-    place(table[usize::from(miss.node)], miss.arrow.row)
+    place(table[usize::from(miss.node)], miss.arrow.sent.row)
 }
 
 /// Notes in the table that the node's next frame of that row has the place after that one.
@@ -195,7 +199,7 @@ pub(crate) fn draw_misses(
         line += 1;
         let place = place_of(table.as_slice(), miss);
         put_shape(alloc, text, world, rows, line, place, miss)?;
-        note_place(table.as_mut_slice(), miss.node, miss.arrow.row, place);
+        note_place(table.as_mut_slice(), miss.node, miss.arrow.sent.row, place);
     }
     Ok(())
 }

@@ -4,7 +4,7 @@ ghost use Rattle.std.specs.Prelude.{◌≡◌, ◌++◌, ◌∷◌, Ok, codes, l
 ghost use Rattle.std.specs.List.{concat};
 ghost use Rattle.cpg_board.specs.Seats.{IsSeatOf, records_of};
 ghost use Rattle.cpg_json.specs.Answers.{refusal_fields};
-ghost use Rattle.cpg_json.specs.Objects.{kind, line as object_line, more};
+ghost use Rattle.cpg_json.specs.Objects.{head_of, line as object_line, more};
 ghost use Rattle.cpg_json.specs.Records.{records_json};
 ghost use Rattle.cpg_cluster.specs.Steps.{SeatsOn};
 ghost use Rattle.cpg_cluster.specs.declared.replies.Reply.TheVariants as replies;
@@ -12,7 +12,7 @@ ghost use Rattle.cpg_json.specs.SessionAnswers.{answer_json, audit_text, reply_j
 
 use crate::answers::{put_groups, put_process_list, put_refusal, put_safe};
 use crate::events::put_event_fields;
-use crate::objects::{put_end, put_kind, put_number};
+use crate::objects::{put_end, put_head, put_number};
 use crate::records::{put_count, put_record};
 use cpg_board::{Board, Seat};
 use cpg_cluster::{Command, Reply};
@@ -41,30 +41,45 @@ fn put_whose(text: &mut Vec<u8>, session: Option<u32>) -> Result<(), Refusal>
 }
 
 /// Puts an object of its kind that says only whose it is.
-fn put_alone(text: &mut Vec<u8>, session: Option<u32>, name: &str) -> Result<(), Refusal>
-    ensures ok { OnOk result (text.new.items ≡ text.old.items ++ object_line (kind name.now ∷ whose session)) }
+fn put_alone(
+    text: &mut Vec<u8>,
+    head: &[u8],
+    session: Option<u32>,
+    name: &str,
+) -> Result<(), Refusal>
+    ensures ok { OnOk result (text.new.items ≡ text.old.items ++ object_line (head_of name.now head.now ∷ whose session)) }
     ensures memory { IsOkUnless result Refusal.Memory }
 {
-    put_kind(text, name)?;
+    put_head(text, name, head)?;
     put_whose(text, session)?;
     put_end(text)
 }
 
-fn put_opened(text: &mut Vec<u8>, session: Option<u32>, number: usize) -> Result<(), Refusal>
-    ensures ok { OnOk result (text.new.items ≡ text.old.items ++ reply_json session (replies.Opened number)) }
+fn put_opened(
+    text: &mut Vec<u8>,
+    head: &[u8],
+    session: Option<u32>,
+    number: usize,
+) -> Result<(), Refusal>
+    ensures ok { OnOk result (text.new.items ≡ text.old.items ++ reply_json head.now session (replies.Opened number)) }
     ensures memory { IsOkUnless result Refusal.Memory }
 {
-    put_kind(text, "session")?;
+    put_head(text, "session", head)?;
     put_number(text, "session", number as u64)?;
     put_end(text)
 }
 
 #[tactic(auto, using(crate::proofs::Fields::more_append))]
-fn put_taken(text: &mut Vec<u8>, session: Option<u32>, event: &Event) -> Result<(), Refusal>
-    ensures ok { OnOk result (text.new.items ≡ text.old.items ++ reply_json session (replies.Took event.now)) }
+fn put_taken(
+    text: &mut Vec<u8>,
+    head: &[u8],
+    session: Option<u32>,
+    event: &Event,
+) -> Result<(), Refusal>
+    ensures ok { OnOk result (text.new.items ≡ text.old.items ++ reply_json head.now session (replies.Took event.now)) }
     ensures memory { IsOkUnless result Refusal.Memory }
 {
-    put_kind(text, "event")?;
+    put_head(text, "event", head)?;
     put_whose(text, session)?;
     put_event_fields(text, event)?;
     put_end(text)
@@ -73,38 +88,50 @@ fn put_taken(text: &mut Vec<u8>, session: Option<u32>, event: &Event) -> Result<
 #[tactic(auto, using(crate::proofs::Fields::more_append))]
 fn put_members(
     text: &mut Vec<u8>,
+    head: &[u8],
     session: Option<u32>,
     processes: &[(NodeId, u32)],
 ) -> Result<(), Refusal>
-    ensures ok { OnOk result (text.new.items ≡ text.old.items ++ reply_json session (replies.Members processes.now)) }
+    ensures ok { OnOk result (text.new.items ≡ text.old.items ++ reply_json head.now session (replies.Members processes.now)) }
     ensures memory { IsOkUnless result Refusal.Memory }
 {
-    put_kind(text, "members")?;
+    put_head(text, "members", head)?;
     put_whose(text, session)?;
     put_process_list(text, processes)?;
     put_end(text)
 }
 
 #[tactic(auto, using(crate::proofs::Fields::more_append))]
-fn put_names(text: &mut Vec<u8>, session: Option<u32>, names: &[Name]) -> Result<(), Refusal>
-    ensures ok { OnOk result (text.new.items ≡ text.old.items ++ reply_json session (replies.Groups names.now)) }
+fn put_names(
+    text: &mut Vec<u8>,
+    head: &[u8],
+    session: Option<u32>,
+    names: &[Name],
+) -> Result<(), Refusal>
+    ensures ok { OnOk result (text.new.items ≡ text.old.items ++ reply_json head.now session (replies.Groups names.now)) }
     ensures memory { IsOkUnless result Refusal.Memory }
 {
-    put_kind(text, "groups")?;
+    put_head(text, "groups", head)?;
     put_whose(text, session)?;
     put_groups(text, names)?;
     put_end(text)
 }
 
 #[tactic(auto, using(crate::proofs::Put::known_put))]
-fn put_records(text: &mut Vec<u8>, board: &Board, seat: &Seat, count: u32) -> Result<(), Refusal>
+fn put_records(
+    text: &mut Vec<u8>,
+    head: &[u8],
+    board: &Board,
+    seat: &Seat,
+    count: u32,
+) -> Result<(), Refusal>
     requires seat { IsSeatOf board.now.cells seat.now }
     requires count { count ≡ length seat.now }
-    ensures ok { OnOk result (text.new.items ≡ text.old.items ++ concat (records_json (records_of seat.now))) }
+    ensures ok { OnOk result (text.new.items ≡ text.old.items ++ concat (records_json (λ place. head.now) (records_of seat.now))) }
     ensures memory { IsOkUnless result Refusal.Memory }
 {
     for index in 0..count {
-        put_record(text, index + 1, board.known(seat, index + 1))?;
+        put_record(text, head, index + 1, board.known(seat, index + 1))?;
     }
     Ok(())
 }
@@ -112,66 +139,73 @@ fn put_records(text: &mut Vec<u8>, board: &Board, seat: &Seat, count: u32) -> Re
 /// Puts the records that the seat knows, and their count, at the text's end. A board has at most 1,048,576 places, so
 /// the count fits.
 #[tactic(auto, using(crate::proofs::Put::seat_put))]
-fn put_seat(text: &mut Vec<u8>, board: &Board, seat: &Seat) -> Result<(), Refusal>
+fn put_seat(text: &mut Vec<u8>, head: &[u8], board: &Board, seat: &Seat) -> Result<(), Refusal>
     requires { IsSeatOf board.now.cells seat.now }
-    ensures ok { OnOk result (text.new.items ≡ text.old.items ++ audit_text (records_of seat.now)) }
+    ensures ok { OnOk result (text.new.items ≡ text.old.items ++ audit_text head.now (records_of seat.now)) }
     ensures memory { IsOkUnless result Refusal.Memory }
 {
     let Ok(count) = u32::try_from(seat.len()) else {
         return Err(Refusal::Memory);
     };
-    put_records(text, board, seat, count)?;
-    put_count(text, count)
+    put_records(text, head, board, seat, count)?;
+    put_count(text, head, count)
 }
 
 fn put_reply(
     text: &mut Vec<u8>,
     board: &Board,
+    head: &[u8],
     session: Option<u32>,
     reply: &Reply,
 ) -> Result<(), Refusal>
     requires { SeatsOn board.now.cells (Ok reply.now) }
-    ensures ok { OnOk result (text.new.items ≡ text.old.items ++ reply_json session reply.now) }
+    ensures ok { OnOk result (text.new.items ≡ text.old.items ++ reply_json head.now session reply.now) }
     ensures memory { IsOkUnless result Refusal.Memory }
 {
     match reply {
-        Reply::Opened(number) => put_opened(text, session, *number),
-        Reply::Admitted => put_alone(text, session, "admitted"),
-        Reply::Took(event) => put_taken(text, session, event),
-        Reply::Nothing(_) => put_alone(text, session, "none"),
-        Reply::Members(processes) => put_members(text, session, processes.as_slice()),
-        Reply::Groups(names) => put_names(text, session, names.as_slice()),
-        Reply::Audit(seat) => put_seat(text, board, seat),
-        Reply::Closed => put_alone(text, session, "closed"),
-        Reply::Safe(place) => put_safe(text, *place),
+        Reply::Opened(number) => put_opened(text, head, session, *number),
+        Reply::Admitted => put_alone(text, head, session, "admitted"),
+        Reply::Took(event) => put_taken(text, head, session, event),
+        Reply::Nothing(_) => put_alone(text, head, session, "none"),
+        Reply::Members(processes) => put_members(text, head, session, processes.as_slice()),
+        Reply::Groups(names) => put_names(text, head, session, names.as_slice()),
+        Reply::Audit(seat) => put_seat(text, head, board, seat),
+        Reply::Closed => put_alone(text, head, session, "closed"),
+        Reply::Safe(place) => put_safe(text, head, *place),
     }
 }
 
 #[tactic(auto, using(crate::proofs::Fields::more_append))]
-fn put_refused(text: &mut Vec<u8>, session: Option<u32>, why: Refusal) -> Result<(), Refusal>
-    ensures ok { OnOk result (text.new.items ≡ text.old.items ++ object_line (kind (codes "refused") ∷ whose session ++ refusal_fields why)) }
+fn put_refused(
+    text: &mut Vec<u8>,
+    head: &[u8],
+    session: Option<u32>,
+    why: Refusal,
+) -> Result<(), Refusal>
+    ensures ok { OnOk result (text.new.items ≡ text.old.items ++ object_line (head_of (codes "refused") head.now ∷ whose session ++ refusal_fields why)) }
     ensures memory { IsOkUnless result Refusal.Memory }
 {
-    put_kind(text, "refused")?;
+    put_head(text, "refused", head)?;
     put_whose(text, session)?;
     put_refusal(text, why)?;
     put_end(text)
 }
 
-/// Puts the lines of an answer to a command for that session, if it is for one, at the text's end. A seat of the
-/// answer is of that board.
+/// Puts the lines of an answer to a command for that session, if it is for one, behind that head at the text's
+/// end. A seat of the answer is of that board.
 pub fn put_answer_json(
     text: &mut Vec<u8>,
     board: &Board,
+    head: &[u8],
     session: Option<u32>,
     answer: &Result<Reply, Refusal>,
 ) -> Result<(), Refusal>
     requires { SeatsOn board.now.cells answer.now }
-    ensures ok { OnOk result (text.new.items ≡ text.old.items ++ answer_json session answer.now) }
+    ensures ok { OnOk result (text.new.items ≡ text.old.items ++ answer_json head.now session answer.now) }
     ensures memory { IsOkUnless result Refusal.Memory }
 {
     match answer {
-        Ok(reply) => put_reply(text, board, session, reply),
-        Err(refusal) => put_refused(text, session, *refusal),
+        Ok(reply) => put_reply(text, board, head, session, reply),
+        Err(refusal) => put_refused(text, head, session, *refusal),
     }
 }

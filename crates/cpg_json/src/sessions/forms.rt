@@ -2,6 +2,7 @@
 //!
 //! Proved: what is put is the definition in `specs/SessionAnswers.antt`.
 
+use crate::marks::put_line_number;
 use crate::sessions::answers::{find_session, put_answer_json};
 use cpg_board::Board;
 use cpg_cluster::{Numbered, PutsAnswer, Reply};
@@ -19,12 +20,15 @@ impl PutsAnswer for AnswersAsJson {
 
     fn put(
         &self,
-        _alloc: Global,
+        alloc: Global,
         text: &mut Vec<u8>,
         board: &Board,
         line: &Numbered,
         answer: &Result<Reply, Refusal>,
     ) -> Result<(), Refusal> {
-        put_answer_json(text, board, find_session(&line.command), answer)
+        let mut head = Vec::new(alloc);
+        put_line_number(&mut head, Some(line.number))?;
+        let session = find_session(&line.command);
+        put_answer_json(text, board, head.as_slice(), session, answer)
     }
 }

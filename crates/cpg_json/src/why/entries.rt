@@ -5,10 +5,11 @@ ghost use Rattle.std.specs.Option.{option_copied};
 ghost use Rattle.cpg_record.specs.Places.{record_at};
 ghost use Rattle.cpg_json.specs.Calls.{verdict_fields};
 ghost use Rattle.cpg_json.specs.Objects.{after_comma, field, more, object};
-ghost use Rattle.cpg_json.specs.Whys.{after_place, entry_at, entry_fields, judged_by, judged_fields, line_fields, since_value};
+ghost use Rattle.cpg_json.specs.Whys.{after_place, entry_at, entry_fields, judged_by, judged_fields, since_value};
 
 use crate::calls::put_verdict;
 use crate::frames::put_whole_call;
+use crate::marks::put_line_number;
 use crate::objects::{put_name, put_number};
 use crate::records::put_caller;
 use cpg_cred::Refusal;
@@ -17,16 +18,6 @@ use cpg_record::Record;
 use cpg_script::put;
 use cpg_text::push_number;
 use cpg_why::{find_record, line_of};
-
-fn put_line_number(line: &mut Vec<u8>, number: Option<u32>) -> Result<(), Refusal>
-    ensures ok { OnOk result (line.new.items ≡ line.old.items ++ more (line_fields number)) }
-    ensures memory { IsOkUnless result Refusal.Memory }
-{
-    match number {
-        None => Ok(()),
-        Some(number) => put_number(line, "line", u64::from(number)),
-    }
-}
 
 /// Puts what follows the place of an entry at the line's end.
 #[tactic(auto, using(crate::proofs::Fields::more_append))]

@@ -1,7 +1,8 @@
 use Rattle.std.proofs.Common.{◌++◌, ap, ◌∙◌}
 use Rattle.cpg_step.specs.Lines.{answer_line}
 use Rattle.cpg_cluster.specs.Lines.{echoed}
-use Rattle.cpg_console.specs.Echoing.{echo_of, event_word}
+use Rattle.cpg_json.specs.Marks.{event_word}
+use Rattle.cpg_console.specs.Echoing.{echo_of}
 use Rattle.cpg_console.proofs.EchoedRuns.{event_put}
 use Rattle.cpg_console.proofs.echoing.step_event.Goals as goal
 

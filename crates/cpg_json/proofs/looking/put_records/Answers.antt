@@ -7,8 +7,8 @@ pub loop-past-preserved : goal.loop-past-preserved
 loop-past-preserved c =
     let i = c.loop-past.past-index in
     let counted = ap (λ n. n + 1) c.loop-past.invariant.counted in
-    let put = subst (λ n. c.put_record.new.line.items ≡ c.loop-past.lines.items ++ record_json n c.past-item.result) counted c.in_ok-put_record.ensures.ok in
+    let put = subst (λ n. c.put_record.new.line.items ≡ c.loop-past.lines.items ++ record_json c.args.head.now n c.past-item.result) counted c.in_ok-put_record.ensures.ok in
     record {
       counted = counted;
-      put = record_put c.args.lines.now.items c.loop-past.lines.items c.put_record.new.line.items c.args.records.now i c.past-item.result c.loop-past-test.true (sym c.past-item.is) c.loop-past.invariant.put put;
+      put = record_put c.args.head.now c.args.lines.now.items c.loop-past.lines.items c.put_record.new.line.items c.args.records.now i c.past-item.result c.loop-past-test.true (sym c.past-item.is) c.loop-past.invariant.put put;
     }

@@ -1,5 +1,6 @@
-use Rattle.std.proofs.Common.{◌<◌, ◌≤◌, ◌+◌, length, sym, ap, subst, ◌∙◌, arith}
-use Rattle.cpg_draw.specs.PictureSteps.{StandsBefore}
+use Rattle.std.proofs.Common.{◌<◌, ◌≤◌, ◌+◌, length, drop, sym, ap, subst, ◌∙◌, arith}
+use Rattle.cpg_draw.specs.declared.excerpts.Spot.{Spot}
+use Rattle.cpg_draw.specs.PictureSteps.{AreRows}
 use Rattle.cpg_draw.proofs.PictureDrawn.{step_rows, last_rows}
 use Rattle.cpg_draw.proofs.svg.drawing.draw_rows.Goals as goal
 
@@ -7,16 +8,18 @@ pub loop-command-preserved : goal.loop-command-preserved
 loop-command-preserved c =
     let i = c.loop-command.command-index in
     let within : i < length c.args.commands.now = omega arith in
-    let counted = ap (λ n. n + 1) c.loop-command.invariant.counted in
-    let goes = subst (λ n. StandsBefore n c.loop-command.arrows.items c.loop-command.world c.command-item.result c.loop-command.sheet c.draw_command.new.arrows.items c.draw_command.new.world c.draw_command.new.sheet) counted c.in_ok-draw_command.ensures.ok in
+    let placed = c.after-next.ensures.value in
     record {
-      counted = counted;
-      drawn = step_rows c.args.commands.now i c.command-item.result c.loop-command.arrows.items c.draw_command.new.arrows.items c.args.arrows.now.items c.loop-command.world c.draw_command.new.world c.args.world.now c.loop-command.sheet c.draw_command.new.sheet c.args.sheet.now within (sym c.command-item.is) c.loop-command.invariant.drawn goes;
-      nodes = c.in_ok-draw_command.ensures.nodes ∙ c.loop-command.invariant.nodes;
+      counted = ap (λ (s : Spot). s.row) placed ∙ ap (λ n. n + 1) c.loop-command.invariant.counted;
+      some = c.after-next.ensures.line;
+      few = c.after-next.ensures.order;
+      drawn = λ free last world whole rest. step_rows c.args.excerpt c.args.commands.now i c.command-item.result c.loop-command.next c.in_ok-here.here c.loop-command.arrows.items c.draw_command.new.arrows.items c.args.arrows.now.items c.loop-command.world c.draw_command.new.world c.args.world.now c.loop-command.sheet c.draw_command.new.sheet c.args.sheet.now within (sym c.command-item.is) c.loop-command.invariant.drawn c.in_ok-here.ensures.ok
+          free last world whole (subst (λ n. AreRows c.args.excerpt n c.draw_command.new.arrows.items c.draw_command.new.world (drop (i + 1) c.args.commands.now) c.draw_command.new.sheet free last world whole) placed rest);
+      nodes = c.in_ok-here.ensures.nodes ∙ c.loop-command.invariant.nodes;
     }
 
 pub returns-clause-ok : goal.returns-clause-ok
 returns-clause-ok c =
     let i = c.loop-command.command-index in
     let all : length c.args.commands.now ≤ i = omega arith in
-    last_rows c.args.commands.now i c.loop-command.arrows.items c.args.arrows.now.items c.loop-command.world c.args.world.now c.loop-command.sheet c.args.sheet.now all c.loop-command.invariant.drawn
+    last_rows c.args.excerpt c.args.commands.now i c.loop-command.next c.loop-command.arrows.items c.args.arrows.now.items c.loop-command.world c.args.world.now c.loop-command.sheet c.args.sheet.now all c.loop-command.invariant.drawn

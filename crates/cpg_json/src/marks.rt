@@ -1,0 +1,184 @@
+//! What stands at the head of an object: the number of its script line, and what is asked for beside it.
+//!
+//! Proved: what is put is the definition in `specs/Marks.antt`.
+
+ghost use Rattle.std.specs.Prelude.{◌≡◌, ◌≤◌, ◌++◌, codes, map, decimal, slice_index, OnOk, IsOkUnless};
+ghost use Rattle.cpg_json.specs.Marks.{command_word, conn_word, echo_words, event_word, frames_between, line_fields, look_word, mark_fields, node_word, numbers_field};
+ghost use Rattle.cpg_json.specs.Objects.{after_comma, field, joined, more, word};
+
+use crate::objects::{put_name, put_number};
+use cpg_cred::{NodeId, Refusal};
+use cpg_script::put;
+use cpg_step::{Command, Look};
+use cpg_text::push_number;
+use cpg_world::WorldEvent;
+
+/// What stands in the objects of `step` behind their kind.
+#[derive(Debug, Clone, Copy)]
+pub enum Marks {
+    /// The number of the script's line.
+    Line,
+    /// That number, and what `step --echo` has before a line.
+    Echo,
+    /// That number, and the numbers of the frames that the command sent.
+    Numbers,
+}
+
+/// The marks of a script's answers, and the numbers of the lines of its commands.
+#[derive(Debug, Clone, Copy)]
+pub(crate) struct Heading<'a> {
+    pub(crate) marks: Marks,
+    pub(crate) numbers: &'a [u32],
+}
+
+/// Puts the number of a line, where there is one, at the head's end.
+pub(crate) fn put_line_number(head: &mut Vec<u8>, number: Option<u32>) -> Result<(), Refusal>
+    ensures ok { OnOk result (head.new.items ≡ head.old.items ++ more (line_fields number)) }
+    ensures memory { IsOkUnless result Refusal.Memory }
+{
+    match number {
+        None => Ok(()),
+        Some(number) => put_number(head, "line", u64::from(number)),
+    }
+}
+
+/// The number of that index, which is that of a command among those of its script.
+pub fn number_at(numbers: &[u32], index: usize) -> u32
+    ensures { result ≡ slice_index numbers.now index }
+{
+    match numbers.get(index) {
+        None => 0,
+        Some(number) => *number,
+    }
+}
+
+/// Puts the marks of a command's answers at the head's end: so many frames were sent before it, and so many after it.
+pub(crate) fn put_marks(
+    head: &mut Vec<u8>,
+    heading: &Heading<'_>,
+    index: usize,
+    command: &Command,
+    before: usize,
+    last: usize,
+) -> Result<(), Refusal>
+    ensures ok { OnOk result (head.new.items ≡ head.old.items ++ more (mark_fields heading.now.marks (slice_index heading.now.numbers.now index) (command_word command.now) before last)) }
+    ensures memory { IsOkUnless result Refusal.Memory }
+{
+    let number = number_at(heading.numbers, index);
+    put_number(head, "line", u64::from(number))?;
+    match heading.marks {
+        Marks::Line => Ok(()),
+        Marks::Echo => put_echo(head, number, command),
+        Marks::Numbers => put_numbers(head, before, last),
+    }
+}
+
+/// Puts the number of a line and what its command is of at the head's end, as a field.
+#[tactic(auto, unfolding(crate::specs::Objects::after_comma, crate::specs::Objects::field, crate::specs::Objects::word))]
+fn put_echo(head: &mut Vec<u8>, number: u32, command: &Command) -> Result<(), Refusal>
+    ensures ok { OnOk result (head.new.items ≡ head.old.items ++ after_comma (field (codes "echo") (word (echo_words number (command_word command.now))))) }
+    ensures memory { IsOkUnless result Refusal.Memory }
+{
+    put_name(head, "echo")?;
+    put(head, "\"")?;
+    push_number(head, u64::from(number))?;
+    put(head, " ")?;
+    put_command_word(head, command)?;
+    put(head, "\"")
+}
+
+/// Puts what a command is of.
+fn put_command_word(words: &mut Vec<u8>, command: &Command) -> Result<(), Refusal>
+    ensures ok { OnOk result (words.new.items ≡ words.old.items ++ command_word command.now) }
+    ensures memory { IsOkUnless result Refusal.Memory }
+{
+    match command {
+        Command::Act(event) => put_event_word(words, event),
+        Command::Look(look) => put_look_word(words, look),
+    }
+}
+
+/// Puts what an event is of.
+pub fn put_event_word(words: &mut Vec<u8>, event: &WorldEvent) -> Result<(), Refusal>
+    ensures ok { OnOk result (words.new.items ≡ words.old.items ++ event_word event.now) }
+    ensures memory { IsOkUnless result Refusal.Memory }
+{
+    match event {
+        WorldEvent::Connect(node, _, _) => put_node(words, *node),
+        WorldEvent::Submit(node, conn, _) => put_conn(words, *node, *conn),
+        WorldEvent::Disconnect(node, conn) => put_conn(words, *node, *conn),
+        WorldEvent::Frame(node, _) => put_node(words, *node),
+        WorldEvent::Timer(node) => put_node(words, *node),
+        WorldEvent::Deliver(node) => put_node(words, *node),
+        WorldEvent::Take(node, conn) => put_conn(words, *node, *conn),
+        WorldEvent::List(node, conn, _) => put_conn(words, *node, *conn),
+        WorldEvent::Groups(node, conn) => put_conn(words, *node, *conn),
+    }
+}
+
+/// Puts what a look is of.
+pub fn put_look_word(words: &mut Vec<u8>, look: &Look) -> Result<(), Refusal>
+    ensures ok { OnOk result (words.new.items ≡ words.old.items ++ look_word look.now) }
+    ensures memory { IsOkUnless result Refusal.Memory }
+{
+    match look {
+        Look::Show(_) => put(words, "-"),
+        Look::Audit(node) => put_node(words, *node),
+        Look::Rules(node, _) => put_node(words, *node),
+        Look::Safe(node) => put_node(words, *node),
+    }
+}
+
+fn put_node(words: &mut Vec<u8>, node: NodeId) -> Result<(), Refusal>
+    ensures ok { OnOk result (words.new.items ≡ words.old.items ++ node_word node) }
+    ensures memory { IsOkUnless result Refusal.Memory }
+{
+    put(words, "n")?;
+    push_number(words, u64::from(node.get()))
+}
+
+fn put_conn(words: &mut Vec<u8>, node: NodeId, conn: u16) -> Result<(), Refusal>
+    ensures ok { OnOk result (words.new.items ≡ words.old.items ++ conn_word node conn) }
+    ensures memory { IsOkUnless result Refusal.Memory }
+{
+    push_number(words, u64::from(node.get()))?;
+    put(words, ".")?;
+    push_number(words, u64::from(conn))
+}
+
+/// Puts the numbers of the frames that were sent after so many, up to so many, at the head's end, as a field.
+#[tactic(auto, unfolding(crate::specs::Objects::after_comma, crate::specs::Objects::field))]
+fn put_numbers(head: &mut Vec<u8>, before: usize, last: usize) -> Result<(), Refusal>
+    ensures ok { OnOk result (head.new.items ≡ head.old.items ++ after_comma (numbers_field before last)) }
+    ensures memory { IsOkUnless result Refusal.Memory }
+{
+    put_name(head, "numbers")?;
+    put(head, "[")?;
+    put_joined_numbers(head, before, last)?;
+    put(head, "]")
+}
+
+#[tactic(auto, using(crate::proofs::Heads::none_joined, crate::proofs::Heads::first_put))]
+fn put_joined_numbers(head: &mut Vec<u8>, before: usize, last: usize) -> Result<(), Refusal>
+    ensures ok { OnOk result (head.new.items ≡ head.old.items ++ joined (map decimal (frames_between before last))) }
+    ensures memory { IsOkUnless result Refusal.Memory }
+{
+    if last <= before {
+        return Ok(());
+    }
+    push_number(head, before as u64 + 1)?;
+    put_more_numbers(head, before + 1, last)
+}
+
+#[tactic(auto, using(crate::proofs::Heads::none_put))]
+fn put_more_numbers(head: &mut Vec<u8>, before: usize, last: usize) -> Result<(), Refusal>
+    requires { before ≤ last }
+    ensures ok { OnOk result (head.new.items ≡ head.old.items ++ more (map decimal (frames_between before last))) }
+    ensures memory { IsOkUnless result Refusal.Memory }
+{
+    for index in before..last {
+        put(head, ",")?;
+        push_number(head, index as u64 + 1)?;
+    }
+    Ok(())
+}
