@@ -18,7 +18,6 @@ use Rattle.cpg_step.specs.Running as step
 use Rattle.cpg_step.specs.Scripts.{commands_of_script}
 use Rattle.cpg_step.specs.declared.commands.Command.{Command}
 use Rattle.cpg_draw.specs.Drawing as draw
-use Rattle.cpg_draw.specs.PictureDrawing as svg
 use Rattle.cpg_step.specs.NumberedSteps as numbers
 use Rattle.cpg_json.specs.Judging as json
 use Rattle.cpg_json.specs.Accepting as json_accept
@@ -107,14 +106,14 @@ TellsSteps form asked s (Some list) script (Some BadWord) old new = ⊥
 
 -- the picture of an excerpt of a script's run, as one SVG or as lines for a terminal, is written, or its lines with the numbers of frames
 abbrev pub IsDrawn : Picture → Result (List Command) ℕ → WorldValue → Option (List ℕ) → Option (List ℕ) → Type 0
-IsDrawn (picture.Svg x) commands w old new = svg.IsDrawn x commands w old new
-IsDrawn (picture.Lines x) commands w old new = draw.IsDrawn x commands w old new
+IsDrawn (picture.Svg x) commands w old new = draw.IsDrawn commands old new
+IsDrawn (picture.Lines x) commands w old new = draw.IsDrawn commands old new
 IsDrawn picture.Numbered commands w old new = numbers.IsStepped commands w old new
 
 -- what a refusal leaves of it
 abbrev pub LeavesDrawn : Picture → Result (List Command) ℕ → Refusal → WorldValue → Option (List ℕ) → Option (List ℕ) → Type 0
-LeavesDrawn (picture.Svg x) commands refused w old new = svg.Leaves x commands refused w old new
-LeavesDrawn (picture.Lines x) commands refused w old new = draw.Leaves x commands refused w old new
+LeavesDrawn (picture.Svg x) commands refused w old new = draw.Leaves commands refused old new
+LeavesDrawn (picture.Lines x) commands refused w old new = draw.Leaves commands refused old new
 LeavesDrawn picture.Numbered commands refused w old new = numbers.Leaves commands refused w old new
 
 -- What a refusal leaves written of the picture of a script's run; Range tells that there is no world of those settings.

@@ -12,8 +12,7 @@ ghost use Rattle.cpg_console.specs.Words.{list_of_words};
 use crate::failures::Failure;
 use crate::runs::Picture;
 use crate::stepping::world_by;
-use cpg_draw::draw_script;
-use cpg_draw::svg::draw_svg;
+use cpg_draw::{Shape, draw_script};
 use cpg_ring::Settings;
 use cpg_script::Fault;
 use cpg_step::numbers::step_numbered;
@@ -68,8 +67,12 @@ fn draw<R: Read, W: Write>(
     ensures whole { IfErr result (λ fault. fault.part ≡ None) }
 {
     match picture {
-        Picture::Svg(excerpt) => draw_svg(alloc, reader, writer, excerpt, world),
-        Picture::Lines(excerpt) => draw_script(alloc, reader, writer, excerpt, world),
+        Picture::Svg(excerpt) => {
+            draw_script(alloc, reader, writer, Shape::Svg, excerpt, world)
+        }
+        Picture::Lines(excerpt) => {
+            draw_script(alloc, reader, writer, Shape::Lines, excerpt, world)
+        }
         Picture::Numbered => step_numbered(alloc, reader, writer, world),
     }
 }

@@ -1,26 +1,27 @@
--- what `draw` writes of a script, and what its faults leave
-use Rattle.std.specs.Prelude.{ℕ, ◌≡◌, ⊤, List, take, Option, Result, Ok, Err}
+-- how drawing ends, and what it leaves; the letters and shapes are in no definition
+use Rattle.std.specs.Prelude.{ℕ, ◌≡◌, ⊤, List, Option, Result, Ok, Err}
 use Rattle.std.specs.Io.KnownBytes.{Appends, Keeps}
 use Rattle.cpg_cred.specs.declared.refusals.Refusal.{Refusal}
 use Rattle.cpg_cred.specs.declared.refusals.Refusal.TheVariants as refusal
 use Rattle.cpg_text.specs.Streams.{AppendsFront}
-use Rattle.cpg_world_laws.specs.Worlds.{WorldValue}
 use Rattle.cpg_step.specs.declared.commands.Command.{Command}
-use Rattle.cpg_draw.specs.declared.excerpts.Excerpt.{Excerpt}
-use Rattle.cpg_draw.specs.Rows.{IsPicture}
 
--- the picture of an excerpt of a script's commands is written: of those up to the last that has a row
-abbrev pub IsDrawn : Excerpt → Result (List Command) ℕ → WorldValue → Option (List ℕ) → Option (List ℕ) → Type 0
-IsDrawn x (Ok commands) w old new = (text : List ℕ) × IsPicture x w (take x.last commands) text × Appends old new text
-IsDrawn x (Err line) w old new = ⊥
+-- what was written before stays, and something may stand behind it
+abbrev pub Grows : Option (List ℕ) → Option (List ℕ) → Type 0
+Grows old new = (text : List ℕ) × Appends old new text
 
--- What a refusal leaves: nothing; and of a writer that fails a front of the picture. A bad line is the first.
-abbrev pub Leaves : Excerpt → Result (List Command) ℕ → Refusal → WorldValue → Option (List ℕ) → Option (List ℕ) → Type 0
-Leaves x (Err bad) (refusal.BadCommand line) w old new = (line ≡ bad) × Keeps old new
-Leaves x script refusal.Read w old new = Keeps old new
-Leaves x script refusal.Memory w old new = Keeps old new
-Leaves x (Ok commands) refusal.Write w old new = (text : List ℕ) × IsPicture x w (take x.last commands) text × AppendsFront old new text
-Leaves x _ _ w old new = ⊥
+-- a picture is written of a script without bad lines
+abbrev pub IsDrawn : Result (List Command) ℕ → Option (List ℕ) → Option (List ℕ) → Type 0
+IsDrawn (Ok commands) old new = Grows old new
+IsDrawn (Err line) old new = ⊥
+
+-- What a refusal leaves: nothing; only a writer that fails may have taken some. A bad line is the first.
+abbrev pub Leaves : Result (List Command) ℕ → Refusal → Option (List ℕ) → Option (List ℕ) → Type 0
+Leaves (Err bad) (refusal.BadCommand line) old new = (line ≡ bad) × Keeps old new
+Leaves script refusal.Read old new = Keeps old new
+Leaves script refusal.Memory old new = Keeps old new
+Leaves (Ok commands) refusal.Write old new = (text : List ℕ) × AppendsFront old new text
+Leaves _ _ old new = ⊥
 
 -- the refusals, and what they leave whatever the reader tells: nothing before the picture is whole
 abbrev pub EndsDrawing : Refusal → Option (List ℕ) → Option (List ℕ) → Type 0

@@ -67,7 +67,7 @@ pub(crate) fn reaches(excerpt: Excerpt, row: u64) -> bool
 }
 
 /// Whether a row is shown, which moves frames or does not.
-pub(crate) fn shows(excerpt: Excerpt, row: u64, moves: bool) -> bool
+pub(crate) fn is_shown(excerpt: Excerpt, row: u64, moves: bool) -> bool
     ensures { result ≡ is_shown excerpt row moves }
 {
     reaches(excerpt, row) && (!excerpt.frames || moves)

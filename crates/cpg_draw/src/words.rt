@@ -1,93 +1,82 @@
-//! What is said of arrows.
-//!
-//! Proved: what is put at the line's end is the definition of `specs/Words.antt`.
+//! What is said of rows and of arrows.
 
-ghost use Rattle.std.specs.Prelude.{◌≡◌, ◌++◌, codes, decimal, OnOk, IsOkUnless};
-ghost use Rattle.std.specs.List.{flat_map};
-ghost use Rattle.cpg_draw.specs.Words.{kind_text, arrow_text, brought_text, sent_text, sends_text, fate_text, for_text, miss_text, misses_text, start_text};
+ghost use Rattle.std.specs.Prelude.{IsOkUnless};
 
-use crate::arrows::{Arrow, Kind};
-use crate::entries::put_carried;
-use crate::excerpts::{Excerpt, find_shown, reaches};
+use crate::arrows::{Arrow, Kind, find_arrow};
+use crate::entries::{put_carried, put_told};
+use crate::excerpts::{Excerpt, reaches};
 use crate::misses::{Miss, holds_token};
-use cpg_cred::Refusal;
+use crate::pictures::Picture;
+use crate::rows::Row;
+use cpg_cred::{NodeId, Refusal};
+use cpg_print::put_call;
 use cpg_script::put;
+use cpg_step::{Command, Look};
 use cpg_text::push_number;
-use cpg_world::World;
+use cpg_world::{World, WorldEvent};
 use std::alloc::Global;
 
-/// Puts what an arrow stands for. `Memory` is the only error.
-pub fn put_kind(line: &mut Vec<u8>, kind: Kind) -> Result<(), Refusal>
-    ensures ok { OnOk result (line.new.items ≡ line.old.items ++ kind_text kind) }
+/// Puts what an arrow stands for.
+pub(crate) fn put_kind(line: &mut Vec<u8>, kind: Kind) -> Result<(), Refusal>
     ensures memory { IsOkUnless result Refusal.Memory }
 {
-    match kind {
-        Kind::Data => put(line, "data "),
-        Kind::Again => put(line, "again "),
-        Kind::Token => put(line, "token "),
-    }
+    put(
+        line,
+        match kind {
+            Kind::Data => "data ",
+            Kind::Again => "again ",
+            Kind::Token => "token ",
+        },
+    )
 }
 
-/// Puts what the arrow stands for, with its place or its hop. `Memory` is the only error.
-pub fn put_arrow(line: &mut Vec<u8>, arrow: &Arrow) -> Result<(), Refusal>
-    ensures ok { OnOk result (line.new.items ≡ line.old.items ++ arrow_text arrow.now) }
+/// Puts what the arrow stands for, with its place or its hop.
+pub(crate) fn put_arrow(line: &mut Vec<u8>, arrow: &Arrow) -> Result<(), Refusal>
     ensures memory { IsOkUnless result Refusal.Memory }
 {
     put_kind(line, arrow.kind)?;
     push_number(line, arrow.mark)
 }
 
-/// Puts what the frame is that a row brings, the row that sent it, and the entry that it carries.
-pub(crate) fn put_brought(
+/// Puts what the frame is that a row brings or shows, the row that sent it, and the entry that it carries.
+fn put_brought(
     alloc: Global,
     line: &mut Vec<u8>,
     world: &World,
     arrow: Option<Arrow>,
 ) -> Result<(), Refusal>
-    ensures ok { OnOk result (line.new.items ≡ line.old.items ++ brought_text world.now arrow) }
     ensures memory { IsOkUnless result Refusal.Memory }
 {
-    match arrow {
-        None => Ok(()),
-        Some(arrow) => {
-            put(line, ", ")?;
-            put_arrow(line, &arrow)?;
-            put(line, " of row ")?;
-            push_number(line, arrow.sent.row)?;
-            put_carried(alloc, line, world, arrow.number)
-        }
-    }
-}
-
-/// Puts the number of a frame that a row sent, with what it is and the entry that it carries.
-fn put_one_sent(
-    alloc: Global,
-    line: &mut Vec<u8>,
-    world: &World,
-    arrow: &Arrow,
-) -> Result<(), Refusal>
-    ensures ok { OnOk result (line.new.items ≡ line.old.items ++ sent_text world.now arrow.now) }
-    ensures memory { IsOkUnless result Refusal.Memory }
-{
-    put(line, ", sends ")?;
-    push_number(line, arrow.number)?;
-    put(line, " ")?;
-    put_arrow(line, arrow)?;
+    let Some(arrow) = arrow else {
+        return Ok(());
+    };
+    put(line, ", ")?;
+    put_arrow(line, &arrow)?;
+    put(line, " of row ")?;
+    push_number(line, arrow.sent.row)?;
     put_carried(alloc, line, world, arrow.number)
 }
 
-/// Puts the frames that a row sent. `Memory` is the only error.
-pub fn put_sent(
+/// Puts the frames behind the first so many up to so many: the number of each, what it is, and the entry that it
+/// carries.
+fn put_sent(
     alloc: Global,
     line: &mut Vec<u8>,
     world: &World,
     arrows: &[Arrow],
+    before: usize,
+    after: usize,
 ) -> Result<(), Refusal>
-    ensures ok { OnOk result (line.new.items ≡ line.old.items ++ sends_text world.now arrows.now) }
     ensures memory { IsOkUnless result Refusal.Memory }
 {
-    for arrow in arrows {
-        put_one_sent(alloc, line, world, arrow)?;
+    for number in before..after {
+        if let Some(arrow) = find_arrow(arrows, number + 1) {
+            put(line, ", sends ")?;
+            push_number(line, arrow.number)?;
+            put(line, " ")?;
+            put_arrow(line, &arrow)?;
+            put_carried(alloc, line, world, arrow.number)?;
+        }
     }
     Ok(())
 }
@@ -98,82 +87,127 @@ pub(crate) fn put_start(
     line: &mut Vec<u8>,
     excerpt: Excerpt,
     world: &World,
-    arrows: &[Arrow],
+    picture: &Picture,
 ) -> Result<(), Refusal>
-    ensures ok { OnOk result (line.new.items ≡ line.old.items ++ start_text excerpt world.now arrows.now) }
     ensures memory { IsOkUnless result Refusal.Memory }
 {
     if reaches(excerpt, 0) {
         put(line, "0 start")?;
-        put_sent(alloc, line, world, arrows)
+        put_sent(
+            alloc,
+            line,
+            world,
+            picture.arrows.as_slice(),
+            0,
+            picture.before,
+        )
     } else {
         put(line, "rows before ")?;
         push_number(line, excerpt.first)
     }
 }
 
-/// Puts whether the frame is lost or under way.
-#[tactic(auto, unfolding(crate::specs::Words::fate_text))]
-fn put_fate(line: &mut Vec<u8>, lost: bool) -> Result<(), Refusal>
-    ensures ok { OnOk result (line.new.items ≡ line.old.items ++ fate_text lost) }
+fn put_numbered(line: &mut Vec<u8>, word: &str, number: u64) -> Result<(), Refusal>
     ensures memory { IsOkUnless result Refusal.Memory }
 {
-    if lost {
-        put(line, "lost ")
-    } else {
-        put(line, "under way ")
+    put(line, word)?;
+    put(line, " ")?;
+    push_number(line, number)
+}
+
+/// Puts an event, as a row names it.
+fn put_event(line: &mut Vec<u8>, event: &WorldEvent) -> Result<(), Refusal>
+    ensures memory { IsOkUnless result Refusal.Memory }
+{
+    match event {
+        WorldEvent::Connect(_, _, _) => put(line, "connect"),
+        WorldEvent::Submit(_, conn, call) => {
+            put_numbered(line, "call", u64::from(*conn))?;
+            put_call(line, call)
+        }
+        WorldEvent::Disconnect(_, conn) => put_numbered(line, "disconnect", u64::from(*conn)),
+        WorldEvent::Frame(_, number) => put_numbered(line, "frame", *number as u64),
+        WorldEvent::Timer(_) => put(line, "timer"),
+        WorldEvent::Deliver(_) => put(line, "deliver"),
+        WorldEvent::Take(_, conn) => put_numbered(line, "take", u64::from(*conn)),
+        WorldEvent::List(_, conn, _) => put_numbered(line, "list", u64::from(*conn)),
+        WorldEvent::Groups(_, conn) => put_numbered(line, "groups", u64::from(*conn)),
     }
 }
 
-/// Puts the node that the frame did not come to, where several of so many nodes wait for it.
-#[tactic(auto, unfolding(crate::specs::Words::for_text))]
-fn put_waiting(line: &mut Vec<u8>, nodes: u8, miss: &Miss) -> Result<(), Refusal>
-    ensures ok { OnOk result (line.new.items ≡ line.old.items ++ for_text nodes miss.now) }
+/// Puts a command, as a row names it.
+fn put_command(line: &mut Vec<u8>, command: &Command) -> Result<(), Refusal>
     ensures memory { IsOkUnless result Refusal.Memory }
 {
-    if holds_token(miss.arrow.kind) || nodes <= 2 {
+    match command {
+        Command::Act(event) => put_event(line, event),
+        Command::Look(Look::Show(number)) => put_numbered(line, "show", *number),
+        Command::Look(Look::Audit(_)) => put(line, "audit"),
+        Command::Look(Look::Rules(_, _)) => put(line, "rules"),
+        Command::Look(Look::Safe(_)) => put(line, "safe"),
+    }
+}
+
+/// Puts what the row of one of the commands says: the command, the frames that it brings and sends, its node then, and
+/// its answer with a line's end, where it has one.
+pub(crate) fn put_row_words(
+    alloc: Global,
+    line: &mut Vec<u8>,
+    world: &World,
+    commands: &[Command],
+    picture: &Picture,
+    row: &Row,
+) -> Result<(), Refusal>
+    ensures memory { IsOkUnless result Refusal.Memory }
+{
+    put(line, "  ")?;
+    push_number(line, row.spot.row)?;
+    put(line, " ")?;
+    if let Some(command) = commands.get((row.spot.row as usize).saturating_sub(1)) {
+        put_command(line, command)?;
+    }
+    put_brought(alloc, line, world, row.arrow)?;
+    let arrows = picture.arrows.as_slice();
+    put_sent(alloc, line, world, arrows, row.sent_before, row.sent_after)?;
+    if let Some(state) = row.state {
+        put(line, ", waiting ")?;
+        push_number(line, state.waiting as u64)?;
+        put(line, ", safe ")?;
+        push_number(line, u64::from(state.safe))?;
+    }
+    put_answer(alloc, line, world, row)
+}
+
+/// Puts the answer of an event.
+fn put_answer(alloc: Global, line: &mut Vec<u8>, world: &World, row: &Row) -> Result<(), Refusal>
+    ensures memory { IsOkUnless result Refusal.Memory }
+{
+    let Some(answer) = &row.answer else {
         return Ok(());
+    };
+    put(line, ": ")?;
+    match NodeId::new(row.node) {
+        Some(node) if node.get() <= world.nodes() => {
+            put_told(alloc, line, world.node(node).audit(), answer)
+        }
+        _ => put_told(alloc, line, &[], answer),
     }
-    put(line, " for node ")?;
-    push_number(line, u64::from(miss.node))
 }
 
-/// Puts the line of a frame that did not come to one of so many nodes. `Memory` is the only error.
-pub fn put_miss(line: &mut Vec<u8>, nodes: u8, miss: &Miss) -> Result<(), Refusal>
-    ensures ok { OnOk result (line.new.items ≡ line.old.items ++ miss_text nodes miss.now) }
+/// Puts the line of a frame that did not come to one of so many nodes.
+pub(crate) fn put_miss(line: &mut Vec<u8>, nodes: u8, miss: &Miss) -> Result<(), Refusal>
     ensures memory { IsOkUnless result Refusal.Memory }
 {
-    put_fate(line, miss.lost)?;
+    put(line, if miss.lost { "lost " } else { "under way " })?;
     push_number(line, miss.arrow.number)?;
     put(line, " ")?;
     put_arrow(line, &miss.arrow)?;
     put(line, " of row ")?;
     push_number(line, miss.arrow.sent.row)?;
-    put_waiting(line, nodes, miss)?;
-    put(line, "\n")
-}
-
-/// Puts a line for each frame of a shown row and each of so many nodes that it did not come to.
-pub(crate) fn put_misses(
-    alloc: Global,
-    line: &mut Vec<u8>,
-    excerpt: Excerpt,
-    nodes: u8,
-    arrows: &[Arrow],
-) -> Result<(), Refusal>
-    ensures ok { OnOk result (line.new.items ≡ line.old.items ++ misses_text excerpt nodes arrows.now) }
-    ensures memory { IsOkUnless result Refusal.Memory }
-{
-    let misses = find_shown(alloc, excerpt, nodes, arrows)?;
-    put_lines(line, nodes, misses.as_slice())
-}
-
-fn put_lines(line: &mut Vec<u8>, nodes: u8, misses: &[Miss]) -> Result<(), Refusal>
-    ensures ok { OnOk result (line.new.items ≡ line.old.items ++ flat_map (miss_text nodes) misses.now) }
-    ensures memory { IsOkUnless result Refusal.Memory }
-{
-    for miss in misses {
-        put_miss(line, nodes, miss)?;
+    // Where there are two nodes, or it is the token, it goes to one alone.
+    if !holds_token(miss.arrow.kind) && nodes > 2 {
+        put(line, " for node ")?;
+        push_number(line, u64::from(miss.node))?;
     }
-    Ok(())
+    put(line, "\n")
 }

@@ -1,47 +1,56 @@
 //! The pieces that pictures are made of.
-//!
-//! Proved: what is put at the text's end is the definition of `specs/Shapes.antt`.
 
-ghost use Rattle.std.specs.Prelude.{◌≡◌, ◌++◌, codes, decimal, Some, OnOk, IsOkUnless};
-ghost use Rattle.cpg_ring.specs.Worlds.{item};
-ghost use Rattle.cpg_draw.specs.Shapes.{escaped_byte, escaped, point, text_at, title_of};
+ghost use Rattle.std.specs.Prelude.{◌<◌, ◌^◌, IsOkUnless};
 
 use crate::frames::frame_at;
+use crate::svg::layout::{line_at, width};
 use cpg_cred::Refusal;
-use cpg_entry::Frame;
 use cpg_script::{put, put_byte};
 use cpg_step::put_frame;
 use cpg_text::push_number;
 use cpg_world::World;
 use std::alloc::Global;
 
-fn put_escaped_byte(text: &mut Vec<u8>, byte: u8) -> Result<(), Refusal>
-    ensures ok { OnOk result (text.new.items ≡ text.old.items ++ escaped_byte byte) }
+/// Puts the beginning of a picture of so many nodes and rows, with so many lines below them.
+pub(crate) fn put_opening(
+    text: &mut Vec<u8>,
+    nodes: u8,
+    rows: u64,
+    lines: u64,
+) -> Result<(), Refusal>
     ensures memory { IsOkUnless result Refusal.Memory }
 {
-    match byte {
-        b'&' => put(text, "&amp;"),
-        b'<' => put(text, "&lt;"),
-        b'>' => put(text, "&gt;"),
-        b'\n' => Ok(()),
-        _ => put_byte(text, byte),
-    }
+    let (width, height) = (width(nodes), line_at(rows, lines.saturating_add(1)));
+    put(
+        text,
+        "<svg xmlns='http://www.w3.org/2000/svg' viewBox='0 0 ",
+    )?;
+    put_point(text, width, height)?;
+    put(text, "' width='")?;
+    push_number(text, width)?;
+    put(text, "' height='")?;
+    push_number(text, height)?;
+    put(text, "'>\n")
 }
 
-/// Puts the words, as they stand in XML.
+/// Puts the words, as they stand in XML; a line's end stays out.
 pub(crate) fn put_escaped(text: &mut Vec<u8>, words: &[u8]) -> Result<(), Refusal>
-    ensures ok { OnOk result (text.new.items ≡ text.old.items ++ escaped words.now) }
     ensures memory { IsOkUnless result Refusal.Memory }
 {
     for byte in words {
-        put_escaped_byte(text, *byte)?;
+        match *byte {
+            b'&' => put(text, "&amp;")?,
+            b'<' => put(text, "&lt;")?,
+            b'>' => put(text, "&gt;")?,
+            b'\n' => {}
+            byte => put_byte(text, byte)?,
+        }
     }
     Ok(())
 }
 
 /// Puts a point of a path.
 pub(crate) fn put_point(text: &mut Vec<u8>, x: u64, y: u64) -> Result<(), Refusal>
-    ensures ok { OnOk result (text.new.items ≡ text.old.items ++ point x y) }
     ensures memory { IsOkUnless result Refusal.Memory }
 {
     push_number(text, x)?;
@@ -51,7 +60,6 @@ pub(crate) fn put_point(text: &mut Vec<u8>, x: u64, y: u64) -> Result<(), Refusa
 
 /// Puts what stands before the words of a text at a point.
 pub(crate) fn put_place(text: &mut Vec<u8>, x: u64, y: u64) -> Result<(), Refusal>
-    ensures ok { OnOk result (text.new.items ≡ text.old.items ++ (codes "<text x='" ++ decimal x ++ codes "' y='" ++ decimal y ++ codes "'>")) }
     ensures memory { IsOkUnless result Refusal.Memory }
 {
     put(text, "<text x='")?;
@@ -63,7 +71,6 @@ pub(crate) fn put_place(text: &mut Vec<u8>, x: u64, y: u64) -> Result<(), Refusa
 
 /// Puts words at a point.
 pub(crate) fn put_words(text: &mut Vec<u8>, x: u64, y: u64, words: &[u8]) -> Result<(), Refusal>
-    ensures ok { OnOk result (text.new.items ≡ text.old.items ++ text_at x y (escaped words.now)) }
     ensures memory { IsOkUnless result Refusal.Memory }
 {
     put_place(text, x, y)?;
@@ -71,29 +78,28 @@ pub(crate) fn put_words(text: &mut Vec<u8>, x: u64, y: u64, words: &[u8]) -> Res
     put(text, "</text>")
 }
 
-fn put_frame_title(alloc: Global, text: &mut Vec<u8>, frame: &Frame) -> Result<(), Refusal>
-    ensures ok { OnOk result (text.new.items ≡ text.old.items ++ title_of (Some frame.now)) }
+/// Puts what is shown under the pointer: the words.
+pub(crate) fn put_title(text: &mut Vec<u8>, words: &[u8]) -> Result<(), Refusal>
     ensures memory { IsOkUnless result Refusal.Memory }
 {
-    let mut line = Vec::new(alloc);
-    put_frame(&mut line, frame)?;
     put(text, "<title>")?;
-    put_escaped(text, line.as_slice())?;
+    put_escaped(text, words)?;
     put(text, "</title>")
 }
 
-/// Puts the frame of that number, as it is shown under the pointer.
-pub(crate) fn put_title(
+/// The same: the frame of that number, as `show` prints it.
+pub(crate) fn put_frame_title(
     alloc: Global,
     text: &mut Vec<u8>,
     world: &World,
     number: u64,
 ) -> Result<(), Refusal>
-    ensures ok { OnOk result (text.new.items ≡ text.old.items ++ title_of (item world.now.sent number)) }
     ensures memory { IsOkUnless result Refusal.Memory }
 {
-    match frame_at(alloc, world, number as usize)? {
-        None => Ok(()),
-        Some(frame) => put_frame_title(alloc, text, &frame),
-    }
+    let Some(frame) = frame_at(alloc, world, number as usize)? else {
+        return Ok(());
+    };
+    let mut line = Vec::new(alloc);
+    put_frame(&mut line, &frame)?;
+    put_title(text, line.as_slice())
 }

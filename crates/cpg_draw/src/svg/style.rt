@@ -4,7 +4,7 @@
 ///
 /// The three kinds of arrows differ without their colors: data is solid, data that is served again is dashed and
 /// thick, the token is dotted.
-pub const STYLE: &str = "<title>A schedule of cpgring</title>
+pub(crate) const STYLE: &str = "<title>A schedule of cpgring</title>
 <style>
 text{font:12px ui-monospace,Menlo,Consolas,'DejaVu Sans Mono',monospace;fill:#222}
 rect{fill:#fff}
