@@ -17,7 +17,7 @@ use cpg_print::{put_audit, put_count};
 use cpg_record::Record;
 use cpg_script::put;
 use cpg_text::{push_number, write_whole};
-use cpg_trace::{recorded_by, write_trace};
+use cpg_cluster::trace::{recorded_by, write_trace};
 use std::alloc::Global;
 use std::io::{Lines, StdinLock, Write};
 use std::sync::Wait;

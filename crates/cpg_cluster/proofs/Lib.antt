@@ -3,9 +3,15 @@ pub mod Doing
 pub mod Echoed
 pub mod Fronts
 pub mod Lengths
+pub mod Ordered
 pub mod Pieces
+pub mod Played
+pub mod Playing
 pub mod Put
 pub mod ReadLines
+pub mod Said
 pub mod Scripted
 pub mod Seen
 pub mod Shelling
+pub mod Whole
+pub mod Written

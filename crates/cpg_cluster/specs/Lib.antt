@@ -7,4 +7,6 @@ pub mod Scripts
 pub mod ShellSteps
 pub mod Shelled
 pub mod Steps
+pub mod TraceLines
+pub mod TraceScripts
 pub mod Typed

@@ -20,6 +20,7 @@ mod running;
 mod scripts;
 mod sessions;
 pub mod shell;
+pub mod trace;
 
 pub use acting::{answer_with_memory, do_command};
 pub use asking::{MOST_POLLS, limits};

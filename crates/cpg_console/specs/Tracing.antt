@@ -13,7 +13,7 @@ use Rattle.cpg_cred.specs.declared.refusals.Refusal.{Refusal}
 use Rattle.cpg_history.specs.Members.{HaveSeen, MemberValue}
 use Rattle.cpg_history.specs.declared.traces.Recorded.{Recorded}
 use Rattle.cpg_text.specs.Streams.{AppendsFront}
-use Rattle.cpg_trace.specs.Scripts.{IsRecording, trace_text}
+use Rattle.cpg_cluster.specs.TraceScripts.{IsRecording, trace_text}
 
 -- a word between two texts
 abbrev pub between : List ℕ → List ℕ → List ℕ → List ℕ

@@ -67,9 +67,7 @@ fn draw<R: Read, W: Write>(
     ensures whole { IfErr result (λ fault. fault.part ≡ None) }
 {
     match picture {
-        Picture::Svg(excerpt) => {
-            draw_script(alloc, reader, writer, Shape::Svg, excerpt, world)
-        }
+        Picture::Svg(excerpt) => { draw_script(alloc, reader, writer, Shape::Svg, excerpt, world) }
         Picture::Lines(excerpt) => {
             draw_script(alloc, reader, writer, Shape::Lines, excerpt, world)
         }

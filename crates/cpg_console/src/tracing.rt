@@ -8,12 +8,12 @@ ghost use Rattle.cpg_history.specs.Members.{HaveSeen};
 ghost use Rattle.cpg_console.specs.Tracing.{IsTraced, IsPartlyTraced, WasKept, between, each_between, heading_text, option_word, step_words, words_text};
 
 use cpg_cluster::hand_on;
+use cpg_cluster::trace::{recorded_by, write_trace};
 use cpg_cred::Refusal;
 use cpg_daemon::{Cluster, Front, Gate, HistoryName, Member};
 use cpg_ring::Settings;
 use cpg_script::put;
 use cpg_text::push_number;
-use cpg_trace::{recorded_by, write_trace};
 use std::alloc::Global;
 use std::io::Write;
 use std::sync::Wait;

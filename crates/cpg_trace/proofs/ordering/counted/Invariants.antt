@@ -1,5 +1,0 @@
-use Rattle.cpg_trace.proofs.Ordered.{CountedTo}
-use Rattle.cpg_trace.proofs.ordering.counted.Given as goal
-
-abbrev pub invariant-loop-index : goal.invariant-loop-index
-invariant-loop-index l = CountedTo l.entries l.index

@@ -1,5 +1,0 @@
-use Rattle.cpg_trace.proofs.Ordered.{NumbersTo}
-use Rattle.cpg_trace.proofs.scripts.first_numbers.Given as goal
-
-abbrev pub invariant-loop-entry : goal.invariant-loop-entry
-invariant-loop-entry l = NumbersTo l.script l.numbers.items l.entry-index l.next
