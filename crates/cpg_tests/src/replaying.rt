@@ -3,11 +3,11 @@
 ghost use Rattle.cpg_history.specs.Members.{HaveSeen};
 
 use crate::playing::settings_of;
+use cpg_cluster::trace::recorded_by;
 use cpg_cred::{AcceptList, NodeId, Refusal};
 use cpg_daemon::{Front, HistoryName, Member};
 use cpg_history::Recorded;
 use cpg_record::Record;
-use cpg_cluster::trace::recorded_by;
 use cpg_world::{World, WorldEvent};
 use std::alloc::Global;
 

@@ -1,5 +1,5 @@
 use Rattle.cpg_world_laws.specs.Worlds.{new_world}
-use Rattle.cpg_thread_tests.proofs.threads.three_go.Given as goal
+use Rattle.cpg_tests.proofs.threads.three_go.Given as goal
 
 abbrev pub ghosts-three_on-B-BoardName : goal.ghosts-three_on-B-BoardName
 ghosts-three_on-B-BoardName g a = record { cells = a.board.cells }

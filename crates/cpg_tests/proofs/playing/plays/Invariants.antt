@@ -1,5 +1,5 @@
 use Rattle.cpg_world_laws.specs.Worlds.{new_world}
-use Rattle.cpg_thread_tests.proofs.playing.plays.Given as goal
+use Rattle.cpg_tests.proofs.playing.plays.Given as goal
 
 abbrev pub ghosts-played_on-B-BoardName : goal.ghosts-played_on-B-BoardName
 ghosts-played_on-B-BoardName g a = record { cells = a.board.cells }
