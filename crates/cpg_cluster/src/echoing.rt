@@ -76,9 +76,9 @@ fn put_line(text: &mut Vec<u8>, words: &[u8], line: &[u8]) -> Result<(), Refusal
     }
 }
 
-/// Puts each line of the answer after the words at the text's end.
+/// Puts each line of the answer after the words at the text's end. `Memory` is the only error.
 #[tactic(auto, using(crate::proofs::Echoed::one_line_on, crate::proofs::Echoed::no_line_left))]
-fn put_echoed(text: &mut Vec<u8>, words: &[u8], answer: &[u8]) -> Result<(), Refusal>
+pub fn put_echoed(text: &mut Vec<u8>, words: &[u8], answer: &[u8]) -> Result<(), Refusal>
     ensures ok { OnOk result (text.new.items ≡ text.old.items ++ echoed words.now answer.now) }
     ensures memory { IsOkUnless result Refusal.Memory }
 {

@@ -26,6 +26,7 @@ pub use acting::{answer_with_memory, do_command};
 pub use asking::{MOST_POLLS, limits};
 pub use commands::{Ask, Command, Numbered};
 pub use cpg_script::Fault;
+pub use echoing::put_echoed;
 pub use forms::{Manner, Noted, PLAIN, Patience, PutsAnswer, Shown};
 pub use noting::Known;
 pub use printing::put_answer;

@@ -11,7 +11,7 @@ ghost use Rattle.cpg_step.specs.Lines.{look_lines};
 ghost use Rattle.cpg_step.specs.Scripts.{commands_of_script};
 ghost use Rattle.cpg_why.specs.Scripts.{numbers_of};
 ghost use Rattle.cpg_json.specs.Marks.{event_word, look_word};
-ghost use Rattle.cpg_cluster.specs.Lines.{echoed, echoed_line};
+ghost use Rattle.cpg_cluster.specs.Lines.{echoed};
 ghost use Rattle.cpg_console.specs.Echoing.{echo_of, IsEchoed, IsWritten, Leaves, EndsEchoing};
 ghost use Rattle.cpg_console.specs.Runs.{Echoes, FailsLate};
 ghost use Rattle.cpg_console.specs.Words.{list_of_words};
@@ -19,12 +19,13 @@ ghost use Rattle.cpg_console.specs.EchoSteps.{IsActed, ArePut, StandsBefore};
 
 use crate::failures::Failure;
 use crate::stepping::world_by;
+use cpg_cluster::put_echoed;
 use cpg_cred::Refusal;
 use cpg_json::{number_at, put_event_word, put_look_word};
 use cpg_ring::Settings;
-use cpg_script::{Fault, put, put_byte, put_bytes};
+use cpg_script::{Fault, put};
 use cpg_step::{Command, Look, answer_to, put_answer, put_look, read_commands};
-use cpg_text::{Lines, MOST_BYTES, push_number, read_whole, write_whole};
+use cpg_text::{MOST_BYTES, push_number, read_whole, write_whole};
 use cpg_why::read_numbers;
 use cpg_world::{World, WorldEvent};
 use std::alloc::Global;
@@ -220,31 +221,4 @@ fn put_look_echo(words: &mut Vec<u8>, number: u32, look: &Look) -> Result<(), Re
     put(words, " ")?;
     put_look_word(words, look)?;
     put(words, " ")
-}
-
-/// Puts the line after the words at the text's end, and nothing where it is empty.
-fn put_line(text: &mut Vec<u8>, words: &[u8], line: &[u8]) -> Result<(), Refusal>
-    ensures ok { OnOk result (text.new.items ≡ text.old.items ++ echoed_line words.now line.now) }
-    ensures memory { IsOkUnless result Refusal.Memory }
-{
-    match line {
-        [] => Ok(()),
-        [_, ..] => {
-            put_bytes(text, words)?;
-            put_bytes(text, line)?;
-            put_byte(text, b'\n')
-        }
-    }
-}
-
-/// Puts each line of the answer after the words at the text's end.
-#[tactic(auto, using(cpg_cluster::proofs::Echoed::one_line_on, cpg_cluster::proofs::Echoed::no_line_left))]
-fn put_echoed(text: &mut Vec<u8>, words: &[u8], answer: &[u8]) -> Result<(), Refusal>
-    ensures ok { OnOk result (text.new.items ≡ text.old.items ++ echoed words.now answer.now) }
-    ensures memory { IsOkUnless result Refusal.Memory }
-{
-    for line in Lines::of(answer) {
-        put_line(text, words, line)?;
-    }
-    Ok(())
 }
