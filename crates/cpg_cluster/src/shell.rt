@@ -10,6 +10,7 @@ mod lines;
 mod shells;
 mod typed;
 
+pub use answering::put_bad;
 pub use help::HELP;
 pub use lines::{MOST_LINE, limits, read_line};
 pub use shells::shell_lines;

@@ -13,9 +13,9 @@ ghost use Rattle.cpg_play.specs.Walking.{IsLinePlayed, IsScriptPlayed};
 use crate::checking::Printed;
 use crate::telling::tell_difference;
 use cpg_cluster::hand_on;
-use cpg_cluster::shell::{MOST_LINE, read_line};
+use cpg_cluster::shell::{MOST_LINE, put_bad, read_line};
 use cpg_cred::Refusal;
-use cpg_script::{Fault, is, put, put_fault, strip_name};
+use cpg_script::{is, strip_name};
 use cpg_text::{Lines, is_ignored, read_whole, trim, write_whole};
 use std::alloc::Global;
 use std::io::{Read, Write};
@@ -253,9 +253,7 @@ pub fn play_script<P: Plays, R: Read, W: Write, E: Write>(
 /// Tells a line of that number that says nothing, as the shell does.
 fn tell_bad<E: Write>(alloc: Global, errors: &mut E, number: u32) -> Result<(), Refusal> {
     let mut text = Vec::new(alloc);
-    put(&mut text, "cpgring: ")?;
-    put_fault(alloc, &mut text, &Fault::from(Refusal::BadCommand(number)))?;
-    put(&mut text, "\n")?;
+    put_bad(alloc, &mut text, number)?;
     write_whole(errors, text.as_slice())?;
     hand_on(errors)
 }

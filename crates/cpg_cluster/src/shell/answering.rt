@@ -43,8 +43,8 @@ fn put_help(text: &mut Vec<u8>) -> Result<(), Refusal>
     put(text, HELP)
 }
 
-/// Puts what is told of a bad line of that number at the text's end.
-fn put_bad(alloc: Global, text: &mut Vec<u8>, number: u32) -> Result<(), Refusal>
+/// Puts what is told of a bad line of that number at the text's end. `Memory` is the only error.
+pub fn put_bad(alloc: Global, text: &mut Vec<u8>, number: u32) -> Result<(), Refusal>
     ensures ok { OnOk result (text.new.items ≡ text.old.items ++ bad_line number) }
     ensures memory { IsOkUnless result Refusal.Memory }
 {
