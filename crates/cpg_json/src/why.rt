@@ -17,7 +17,7 @@ use cpg_record::{ConnId, Event, Record};
 use cpg_script::put;
 use cpg_text::push_number;
 use cpg_why::{
-    Decided, Finding, Findings, Kind, PassedRule, Ruled, Stand, Standing, Tells, Unmet, Unruled,
+    Decided, Finding, Findings, PassedRule, Ruled, Stand, Standing, Tells, Unmet, Unruled,
     find_record, is_told, line_of,
 };
 use std::alloc::Global;
@@ -177,29 +177,13 @@ fn put_decided(
 ) -> Result<(), Refusal>
     ensures { IsOkUnless result Refusal.Memory }
 {
-    put_by(line, name_of(decided))?;
+    put_by(line, decided.name())?;
     put_facts(line, told, past, decided)?;
     put(line, "}")?;
     match decided {
         Decided::Rule(ruled) => put_around(line, told, ruled),
         Decided::Default(unruled) => put_passed(line, unruled.passed.as_slice()),
         _ => Ok(()),
-    }
-}
-
-fn name_of(decided: &Decided) -> &'static str {
-    match decided {
-        Decided::Root => "root",
-        Decided::Free => "free",
-        Decided::Rule(_) => "rule",
-        Decided::Default(_) => "default",
-        Decided::Closed { .. } => "closed",
-        Decided::Joined { .. } => "joined",
-        Decided::Twice { .. } => "twice",
-        Decided::Full { .. } => "full",
-        Decided::Position { .. } => "position",
-        Decided::TableFull { .. } => "tablefull",
-        Decided::Absent => "absent",
     }
 }
 
@@ -341,19 +325,11 @@ fn put_unmet(line: &mut Vec<u8>, unmet: Unmet) -> Result<(), Refusal>
     ensures { IsOkUnless result Refusal.Memory }
 {
     put(line, "{\"condition\":\"")?;
-    put(line, kind_name(unmet.kind))?;
+    put(line, unmet.kind.name())?;
     put(line, "\"")?;
     put_number(line, "has", u64::from(unmet.has))?;
     put_number(line, "wanted", u64::from(unmet.wanted))?;
     put(line, "}")
-}
-
-fn kind_name(kind: Kind) -> &'static str {
-    match kind {
-        Kind::Uid => "uid",
-        Kind::Gid => "gid",
-        Kind::Node => "node",
-    }
 }
 
 /// Puts the object of an entry, its verdict, whether the connection is told of it, and what decided that, on its line.
@@ -384,7 +360,7 @@ fn put_stand(line: &mut Vec<u8>, told: &Told, stand: &Stand) -> Result<(), Refus
 fn put_standing(line: &mut Vec<u8>, told: &Told, stand: &Stand) -> Result<(), Refusal>
     ensures { IsOkUnless result Refusal.Memory }
 {
-    put_by(line, standing_name(stand.standing))?;
+    put_by(line, stand.standing.name())?;
     put_conn(line, &stand.conn)?;
     match stand.standing {
         Standing::Maker | Standing::Denied | Standing::Groupless => Ok(()),
@@ -393,17 +369,6 @@ fn put_standing(line: &mut Vec<u8>, told: &Told, stand: &Stand) -> Result<(), Re
             put_whereabouts(line, told, stand)?;
             put_tried(line, told, stand.tried)
         }
-    }
-}
-
-fn standing_name(standing: Standing) -> &'static str {
-    match standing {
-        Standing::Maker => "maker",
-        Standing::Denied => "denied",
-        Standing::Groupless => "groupless",
-        Standing::Member => "member",
-        Standing::Elsewhere => "elsewhere",
-        Standing::Outside => "outside",
     }
 }
 

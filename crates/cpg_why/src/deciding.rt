@@ -135,7 +135,7 @@ fn decide_by_table(
 }
 
 /// The right that an op needs, if it needs one.
-pub fn find_right(op: &Op) -> Option<Right>
+fn find_right(op: &Op) -> Option<Right>
     ensures { result ≡ right_needed op.now }
 {
     match op {

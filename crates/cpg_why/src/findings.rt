@@ -10,7 +10,7 @@ use std::alloc::Global;
 use std::marker::Model;
 
 /// A rule of the right that stands before the one that decides.
-#[derive(Debug, Clone, Copy)]
+#[derive(Debug, Drop)]
 pub struct PassedRule {
     /// Where it stands in the table, from 0.
     pub index: usize,
@@ -111,6 +111,25 @@ pub enum Decided {
     TableFull { rules: usize },
     /// The group's table has no such rule.
     Absent,
+}
+
+impl Decided {
+    /// Its name.
+    pub fn name(&self) -> &'static str {
+        match self {
+            Decided::Root => "root",
+            Decided::Free => "free",
+            Decided::Rule(_) => "rule",
+            Decided::Default(_) => "default",
+            Decided::Closed { .. } => "closed",
+            Decided::Joined { .. } => "joined",
+            Decided::Twice { .. } => "twice",
+            Decided::Full { .. } => "full",
+            Decided::Position { .. } => "position",
+            Decided::TableFull { .. } => "tablefull",
+            Decided::Absent => "absent",
+        }
+    }
 }
 
 /// How a connection stands to the entry of a place, and where it is before it.

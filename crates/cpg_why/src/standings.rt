@@ -3,7 +3,7 @@
 //! Proved: who stands so is told something exactly where that is said (`laws`); what is found is the definition of
 //! `specs/Standings.antt`.
 
-ghost use Rattle.std.specs.Prelude.{◌≡◌, ◌≤◌, ◌++◌, length, map, IfOk, IfSome, OnOk, IsOkUnless};
+ghost use Rattle.std.specs.Prelude.{◌≡◌, ◌≤◌, ◌++◌, length, map, IfOk, OnOk, IsOkUnless};
 ghost use Rattle.std.specs.Option.{option_copied};
 ghost use Rattle.cpg_record.specs.Events.{events};
 ghost use Rattle.cpg_record.specs.Judging.{judged};
@@ -36,6 +36,20 @@ pub enum Standing {
     Elsewhere,
     /// It is in no group.
     Outside,
+}
+
+impl Standing {
+    /// Its name.
+    pub fn name(self) -> &'static str {
+        match self {
+            Standing::Maker => "maker",
+            Standing::Denied => "denied",
+            Standing::Groupless => "groupless",
+            Standing::Member => "member",
+            Standing::Elsewhere => "elsewhere",
+            Standing::Outside => "outside",
+        }
+    }
 }
 
 /// Whether who stands so is told something.

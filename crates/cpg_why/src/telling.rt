@@ -143,7 +143,10 @@ fn find_conn(alloc: Global, entries: &[Entry], conn: &ConnId) -> Result<Findings
     ensures err { IfErr result (TellsNot (Ok entries.now) (Asked.Connection conn.now)) }
 {
     let walk = pass_all(alloc, entries)?;
-    check_conn(&walk.policy, conn)?;
+    match check_conn(&walk.policy, conn) {
+        Ok(()) => {}
+        Err(fault) => return Err(fault),
+    }
     let mut list = Vec::new(alloc);
     find_way(&mut list, &walk.policy, conn)?;
     Ok(walk.found(list))
@@ -203,7 +206,10 @@ fn find_process(
 {
     check_place(entries, place)?;
     let walk = pass_all(alloc, entries)?;
-    check_process(&walk.policy, pid, place)?;
+    match check_process(&walk.policy, pid, place) {
+        Ok(()) => {}
+        Err(fault) => return Err(fault),
+    }
     let mut list = Vec::new(alloc);
     stand_process(&mut list, &walk.policy, pid, place)?;
     Ok(walk.found(list))

@@ -8,7 +8,7 @@ use crate::findings::{Decided, Finding, Findings, PassedRule, Ruled, Stand, Unru
 use crate::forms::Tells;
 use crate::numbers::{find_record, line_of};
 use crate::standings::{Standing, is_told};
-use crate::unmet::{Kind, Unmet};
+use crate::unmet::Unmet;
 use cpg_cred::Refusal;
 use cpg_entry::{Call, Entry, Name, Op};
 use cpg_print::{put_conn, put_entry, put_event, put_rule, put_verdict};
@@ -133,37 +133,26 @@ fn put_decided(
     ensures { IsOkUnless result Refusal.Memory }
 {
     put(text, "decided: ")?;
+    put(text, decided.name())?;
     match decided {
-        Decided::Root => put(text, "root: user 0 edits every table\n"),
+        Decided::Root => put(text, ": user 0 edits every table\n"),
         Decided::Free => put_free(text, &past.entry().op),
         Decided::Rule(ruled) => put_ruled(text, told, past, ruled),
         Decided::Default(unruled) => put_unruled(text, past, unruled),
-        Decided::Closed { since } => put_state(
-            text,
-            told,
-            past,
-            ("closed: ", " is in no group"),
-            *since,
-        ),
-        Decided::Joined { since } => put_state(
-            text,
-            told,
-            past,
-            ("joined: ", " is in a group"),
-            *since,
-        ),
+        Decided::Closed { since } => put_state(text, told, past, " is in no group", *since),
+        Decided::Joined { since } => put_state(text, told, past, " is in a group", *since),
         Decided::Twice { by, since } => put_twice(text, told, past, by, *since),
         Decided::Full { members } => put_counted(
             text,
             past,
-            ("full: ", " has ", " members\n"),
+            (": ", " has ", " members\n"),
             *members,
         ),
         Decided::Position { rules } => put_past_end(text, past, *rules),
         Decided::TableFull { rules } => put_counted(
             text,
             past,
-            ("tablefull: ", " has ", " rules\n"),
+            (": ", " has ", " rules\n"),
             *rules,
         ),
         Decided::Absent => put_absent(text, past),
@@ -174,8 +163,8 @@ fn put_free(text: &mut Vec<u8>, op: &Op) -> Result<(), Refusal>
     ensures { IsOkUnless result Refusal.Memory }
 {
     match op {
-        Op::Gone => put(text, "free: the end of a connection needs no right\n"),
-        Op::Act(_) => put(text, "free: a leave needs no right\n"),
+        Op::Gone => put(text, ": the end of a connection needs no right\n"),
+        Op::Act(_) => put(text, ": a leave needs no right\n"),
     }
 }
 
@@ -202,7 +191,7 @@ fn put_ruled(text: &mut Vec<u8>, told: &Told, past: &Record, ruled: &Ruled) -> R
 fn put_unruled(text: &mut Vec<u8>, past: &Record, unruled: &Unruled) -> Result<(), Refusal>
     ensures { IsOkUnless result Refusal.Memory }
 {
-    put(text, "default of ")?;
+    put(text, " of ")?;
     put(text, right_name(unruled.right))?;
     put(text, " in ")?;
     put_group(text, past.group.as_ref())?;
@@ -232,7 +221,7 @@ fn put_group(text: &mut Vec<u8>, group: Option<&Name>) -> Result<(), Refusal>
 fn put_placed(text: &mut Vec<u8>, id: u32, index: usize) -> Result<(), Refusal>
     ensures { IsOkUnless result Refusal.Memory }
 {
-    put(text, "rule ")?;
+    put(text, " ")?;
     push_number(text, u64::from(id))?;
     put(text, " at ")?;
     push_number(text, index as u64)
@@ -243,7 +232,7 @@ fn put_passed(text: &mut Vec<u8>, rules: &[PassedRule]) -> Result<(), Refusal>
     ensures { IsOkUnless result Refusal.Memory }
 {
     for passed in rules {
-        put(text, "passed: ")?;
+        put(text, "passed: rule")?;
         put_placed(text, passed.id, passed.index)?;
         put(text, ": ")?;
         put_rule(text, passed.rule)?;
@@ -260,33 +249,27 @@ fn put_unmet(text: &mut Vec<u8>, unmet: Option<Unmet>) -> Result<(), Refusal>
     let Some(unmet) = unmet else {
         return Ok(());
     };
-    put(text, kind_name(unmet.kind))?;
+    put(text, ": ")?;
+    put(text, unmet.kind.name())?;
+    put(text, " ")?;
     push_number(text, u64::from(unmet.has))?;
     put(text, " is not ")?;
     push_number(text, u64::from(unmet.wanted))
 }
 
-fn kind_name(kind: Kind) -> &'static str {
-    match kind {
-        Kind::Uid => ": uid ",
-        Kind::Gid => ": gid ",
-        Kind::Node => ": node ",
-    }
-}
-
-/// Puts the state of the connection of the record since its last move, between texts.
+/// Puts the state of the connection of the record since its last move.
 fn put_state(
     text: &mut Vec<u8>,
     told: &Told,
     past: &Record,
-    names: (&str, &str),
+    state: &str,
     since: Option<u32>,
 ) -> Result<(), Refusal>
     ensures { IsOkUnless result Refusal.Memory }
 {
-    put(text, names.0)?;
+    put(text, ": ")?;
     put_conn(text, &ConnId::of(past.entry()))?;
-    put(text, names.1)?;
+    put(text, state)?;
     put_since(text, told, since)
 }
 
@@ -313,7 +296,7 @@ fn put_twice(
 ) -> Result<(), Refusal>
     ensures { IsOkUnless result Refusal.Memory }
 {
-    put(text, "twice: ")?;
+    put(text, ": ")?;
     push_number(text, u64::from(past.entry().node.get()))?;
     put_byte(text, b'/')?;
     push_number(text, u64::from(past.entry().pid))?;
@@ -342,7 +325,7 @@ fn put_counted(
 fn put_past_end(text: &mut Vec<u8>, past: &Record, rules: usize) -> Result<(), Refusal>
     ensures { IsOkUnless result Refusal.Memory }
 {
-    put(text, "position: index ")?;
+    put(text, ": index ")?;
     if let Op::Act(Call::Insert(_, index, _)) = &past.entry().op {
         push_number(text, u64::from(*index))?;
     }
@@ -358,7 +341,7 @@ fn put_past_end(text: &mut Vec<u8>, past: &Record, rules: usize) -> Result<(), R
 fn put_absent(text: &mut Vec<u8>, past: &Record) -> Result<(), Refusal>
     ensures { IsOkUnless result Refusal.Memory }
 {
-    put(text, "absent: ")?;
+    put(text, ": ")?;
     put_group(text, past.group.as_ref())?;
     put(text, " has no rule ")?;
     if let Op::Act(Call::Remove(_, id)) = &past.entry().op {
@@ -386,26 +369,21 @@ fn put_stand(text: &mut Vec<u8>, told: &Told, stand: &Stand) -> Result<(), Refus
         },
     )?;
     put(text, "decided: ")?;
+    put(text, stand.standing.name())?;
     match stand.standing {
-        Standing::Maker => put(text, "maker: who makes an entry is told its verdict\n"),
-        Standing::Denied => put(text, "denied: of a denied entry its maker alone is told\n"),
-        Standing::Groupless => put(text, "groupless: its maker was in no group\n"),
-        Standing::Member => put_whereabouts(text, told, "member: ", stand),
-        Standing::Elsewhere => put_whereabouts(text, told, "elsewhere: ", stand),
+        Standing::Maker => put(text, ": who makes an entry is told its verdict\n"),
+        Standing::Denied => put(text, ": of a denied entry its maker alone is told\n"),
+        Standing::Groupless => put(text, ": its maker was in no group\n"),
+        Standing::Member | Standing::Elsewhere => put_whereabouts(text, told, stand),
         Standing::Outside => put_outside(text, told, stand),
     }
 }
 
 /// Puts in which group the connection is, or that it is in none, since its last move.
-fn put_whereabouts(
-    text: &mut Vec<u8>,
-    told: &Told,
-    name: &str,
-    stand: &Stand,
-) -> Result<(), Refusal>
+fn put_whereabouts(text: &mut Vec<u8>, told: &Told, stand: &Stand) -> Result<(), Refusal>
     ensures { IsOkUnless result Refusal.Memory }
 {
-    put(text, name)?;
+    put(text, ": ")?;
     put_conn(text, &stand.conn)?;
     put(
         text,
@@ -423,7 +401,7 @@ fn put_whereabouts(
 fn put_outside(text: &mut Vec<u8>, told: &Told, stand: &Stand) -> Result<(), Refusal>
     ensures { IsOkUnless result Refusal.Memory }
 {
-    put_whereabouts(text, told, "outside: ", stand)?;
+    put_whereabouts(text, told, stand)?;
     match stand.tried {
         None => Ok(()),
         Some(place) => {

@@ -19,6 +19,17 @@ pub enum Kind {
     Node,
 }
 
+impl Kind {
+    /// Its name.
+    pub fn name(self) -> &'static str {
+        match self {
+            Kind::Uid => "uid",
+            Kind::Gid => "gid",
+            Kind::Node => "node",
+        }
+    }
+}
+
 /// A condition that an asker does not meet: it has one number and another is wanted.
 #[derive(Debug, Clone, Copy, PartialEq, Eq)]
 pub struct Unmet {

@@ -104,6 +104,39 @@ fn find_next(list: &mut Vec<Finding>, walk: &Walk, next: &Record) -> Result<(), 
     Ok(())
 }
 
+/// Judges one entry more, and gives why it is answered as it is.
+fn pass_explained(alloc: Global, walk: &mut Walk, entry: &Entry) -> Result<Vec<Finding>, Refusal>
+    requires room { length walk.old.policy < most_places }
+    requires moves { AreLastMoves walk.old.moves.kept.entries (judged walk.old.policy) }
+    ensures ok { OnOk result (walk.new.policy ≡ walk.old.policy ++ entry.now ∷ []) }
+    ensures list { IfOk result (λ list. list.items ≡ why_by (judged walk.old.policy) (length walk.old.policy + 1) (Some (record_of (judged walk.old.policy) entry.now))) }
+    ensures memory { IsOkUnless result Refusal.Memory }
+{
+    let next = walk.policy.judge(entry)?;
+    let mut list = Vec::new(alloc);
+    find_next(&mut list, walk, &next)?;
+    take_in(walk, next)?;
+    Ok(list)
+}
+
+/// Judges the entry of that index, where those before it are judged, and gives why it is answered as it is.
+fn pass_at(
+    alloc: Global,
+    walk: &mut Walk,
+    entries: &[Entry],
+    index: usize,
+) -> Result<Vec<Finding>, Refusal>
+    requires few { length entries.now ≤ most_places }
+    requires within { index < length entries.now }
+    requires passed { walk.old.policy ≡ take index entries.now }
+    requires moves { AreLastMoves walk.old.moves.kept.entries (judged walk.old.policy) }
+    ensures ok { OnOk result (walk.new.policy ≡ take (index + 1) entries.now) }
+    ensures list { IfOk result (λ list. list.items ≡ why_at (judged entries.now) (index + 1)) }
+    ensures memory { IsOkUnless result Refusal.Memory }
+{
+    pass_explained(alloc, walk, &entries[index])
+}
+
 /// Why the entry of that index was answered as it was, over the records up to it.
 pub(crate) fn find_why(alloc: Global, entries: &[Entry], index: usize) -> Result<Findings, Refusal>
     requires few { length entries.now ≤ most_places }
@@ -113,10 +146,7 @@ pub(crate) fn find_why(alloc: Global, entries: &[Entry], index: usize) -> Result
     ensures memory { IsOkUnless result Refusal.Memory }
 {
     let mut walk = pass_all(alloc, &entries[..index])?;
-    let next = walk.policy.judge(&entries[index])?;
-    let mut list = Vec::new(alloc);
-    find_next(&mut list, &walk, &next)?;
-    take_in(&mut walk, next)?;
+    let list = pass_at(alloc, &mut walk, entries, index)?;
     Ok(walk.found(list))
 }
 
