@@ -14,7 +14,7 @@ use Rattle.cpg_ring.specs.declared.settings.Settings.{Settings}
 use Rattle.cpg_why.specs.declared.asking.Asked.{Asked}
 use Rattle.cpg_why.specs.declared.asking.WhyFault.{WhyFault}
 use Rattle.cpg_why.specs.declared.asking.WhyFault.TheVariants as why
-use Rattle.cpg_why.specs.Forms as told
+use Rattle.cpg_why.specs.Forms.{Form, plain}
 use Rattle.cpg_why.specs.Scripts.{IsWritten, EndsBy, EndsWhy}
 use Rattle.cpg_record.specs.Judging.{entries_of}
 use Rattle.cpg_board.specs.Seats.{SeatValue, IsSeatOf, records_of}
@@ -26,87 +26,86 @@ use Rattle.cpg_cluster.specs.Scripts.{commands_of_script}
 use Rattle.cpg_why.specs.Sessions.{RunsUnprinted, StopsUnprinted, LeavesSeated, AreRun, IsTold, Leaves}
 use Rattle.cpg_console.specs.declared.failures.Failure.{Failure}
 use Rattle.cpg_console.specs.declared.failures.Failure.TheVariants.{BadWord, Fault}
-use Rattle.cpg_console.specs.declared.runs.Form.{Form}
-use Rattle.cpg_console.specs.Runs.{failure_of_delivered, why_as, AuditedUpTo, TellsSessions}
+use Rattle.cpg_console.specs.Runs.{failure_of_delivered, AuditedUpTo, TellsSessions}
 
 -- nothing is written after a wrong word
-pub none_of_words : (known : Option (List ℕ)) (form : Form) (asked : Asked) (s : Settings) (list : Option Listed) (a : Option (List ℕ)) → list ≡ None
-    → IfSome known (λ lines. TellsSessions form asked s list lines (Some BadWord) a a)
-none_of_words None form asked s list a is = tt
-none_of_words (Some lines) form asked s list a is = subst (λ (l : Option Listed). TellsSessions form asked s l lines (Some BadWord) a a) (sym is) (refl, Keeps-refl a)
+pub none_of_words : (known : Option (List ℕ)) (asked : Asked) (s : Settings) (list : Option Listed) (a : Option (List ℕ)) → list ≡ None
+    → IfSome known (λ lines. TellsSessions asked s list lines (Some BadWord) a a)
+none_of_words None asked s list a is = tt
+none_of_words (Some lines) asked s list a is = subst (λ (l : Option Listed). TellsSessions asked s l lines (Some BadWord) a a) (sym is) (refl, Keeps-refl a)
 
 none_stopped : (start : WorldValue) (commands : Result (List Numbered) ℕ) → StopsUnprinted start commands refusal.Memory no_sessions no_sessions
 none_stopped start (Ok lines) = (Some [], inl (Keeps-refl (Some []), refl))
 none_stopped start (Err bad) = (Some [], (Keeps-refl (Some []), refl))
 
-no_memory : (form : told.Form) (start : WorldValue) (commands : Result (List Numbered) ℕ) (asked : Asked) (a : Option (List ℕ)) → Leaves form [] start commands asked (why.Script (whole_fault refusal.Memory)) a a
+no_memory : (form : Form) (start : WorldValue) (commands : Result (List Numbered) ℕ) (asked : Asked) (a : Option (List ℕ)) → Leaves form [] start commands asked (why.Script (whole_fault refusal.Memory)) a a
 no_memory form start commands asked a = record { left = no_sessions; seat = []; read = refl; leaves = inl (refl, none_stopped start commands, Keeps-refl a) }
 
-untold : (known : Option (List ℕ)) (form : Form) (asked : Asked) (s : Settings) (list : Listed) (a : Option (List ℕ))
-    → IfSome known (λ lines. TellsSessions form asked s (Some list) lines (Some (Fault (whole_fault refusal.Memory))) a a)
-untold None form asked s list a = tt
-untold (Some lines) form asked s list a = (refl, ([], no_memory (why_as form) (new_world s list) (commands_of_script s.nodes lines) asked a))
+untold : (known : Option (List ℕ)) (asked : Asked) (s : Settings) (list : Listed) (a : Option (List ℕ))
+    → IfSome known (λ lines. TellsSessions asked s (Some list) lines (Some (Fault (whole_fault refusal.Memory))) a a)
+untold None asked s list a = tt
+untold (Some lines) asked s list a = (refl, ([], no_memory plain (new_world s list) (commands_of_script s.nodes lines) asked a))
 
 -- where memory was refused before there was a cluster
-pub none_of_memory : (known : Option (List ℕ)) (form : Form) (asked : Asked) (s : Settings) (list : Listed) (refused : Refusal) (failure : Failure) (a : Option (List ℕ))
+pub none_of_memory : (known : Option (List ℕ)) (asked : Asked) (s : Settings) (list : Listed) (refused : Refusal) (failure : Failure) (a : Option (List ℕ))
     → failure ≡ Fault (record { part = None; refusal = refused }) → refused ≡ refusal.Memory
-    → IfSome known (λ lines. TellsSessions form asked s (Some list) lines (Some failure) a a)
-none_of_memory known form asked s list refused failure a is e =
-    subst (λ (f : Failure). IfSome known (λ lines. TellsSessions form asked s (Some list) lines (Some f) a a)) (sym (is ∙ ap (λ (r : Refusal). Fault (whole_fault r)) e))
-    (untold known form asked s list a)
+    → IfSome known (λ lines. TellsSessions asked s (Some list) lines (Some failure) a a)
+none_of_memory known asked s list refused failure a is e =
+    subst (λ (f : Failure). IfSome known (λ lines. TellsSessions asked s (Some list) lines (Some f) a a)) (sym (is ∙ ap (λ (r : Refusal). Fault (whole_fault r)) e))
+    (untold known asked s list a)
 
 -- the same of a list that words give
-pub none_of_words_memory : (known : Option (List ℕ)) (form : Form) (asked : Asked) (s : Settings) (words : Option Listed) (refused : Refusal) (failure : Failure) (a : Option (List ℕ))
+pub none_of_words_memory : (known : Option (List ℕ)) (asked : Asked) (s : Settings) (words : Option Listed) (refused : Refusal) (failure : Failure) (a : Option (List ℕ))
     → IsSome words → failure ≡ Fault (record { part = None; refusal = refused }) → refused ≡ refusal.Memory
-    → IfSome known (λ lines. TellsSessions form asked s words lines (Some failure) a a)
-none_of_words_memory known form asked s None refused failure a some is e = absurd (false≢true some)
-none_of_words_memory known form asked s (Some list) refused failure a some is e = none_of_memory known form asked s list refused failure a is e
+    → IfSome known (λ lines. TellsSessions asked s words lines (Some failure) a a)
+none_of_words_memory known asked s None refused failure a some is e = absurd (false≢true some)
+none_of_words_memory known asked s (Some list) refused failure a some is e = none_of_memory known asked s list refused failure a is e
 
 -- and after settings out of their ranges
-pub none_of_settings : (known : Option (List ℕ)) (form : Form) (asked : Asked) (s : Settings) (list : Listed) (a : Option (List ℕ)) → ¬ IsSettings s
-    → IfSome known (λ lines. TellsSessions form asked s (Some list) lines (Some (Fault (whole_fault refusal.Range))) a a)
-none_of_settings None form asked s list a out = tt
-none_of_settings (Some lines) form asked s list a out = (refl, (out, Keeps-refl a))
+pub none_of_settings : (known : Option (List ℕ)) (asked : Asked) (s : Settings) (list : Listed) (a : Option (List ℕ)) → ¬ IsSettings s
+    → IfSome known (λ lines. TellsSessions asked s (Some list) lines (Some (Fault (whole_fault refusal.Range))) a a)
+none_of_settings None asked s list a out = tt
+none_of_settings (Some lines) asked s list a out = (refl, (out, Keeps-refl a))
 
 -- the whole script was run over the new cluster, and what is asked is told of its board
-pub all_told : (known : Option (List ℕ)) (form : Form) (asked : Asked) (s : Settings) (list : Listed) (cluster : ClusterValue) (start : WorldValue) (board : List ℕ) (a b : Option (List ℕ))
+pub all_told : (known : Option (List ℕ)) (asked : Asked) (s : Settings) (list : Listed) (cluster : ClusterValue) (start : WorldValue) (board : List ℕ) (a b : Option (List ℕ))
     → cluster ≡ record { nodes = s.nodes; list = list } → new_world s list ≡ start → length board ≡ s.places
-    → IfSome known (λ lines. (length lines ≤ MOST_BYTES) × AreRun start (commands_of_script cluster.nodes lines)) → IsTold (why_as form) board asked a b
-    → IfSome known (λ lines. TellsSessions form asked s (Some list) lines None a b)
-all_told None form asked s list cluster start board a b started named places ran is = tt
-all_told (Some lines) form asked s list cluster start board a b started named places ran is =
+    → IfSome known (λ lines. (length lines ≤ MOST_BYTES) × AreRun start (commands_of_script cluster.nodes lines)) → IsTold plain board asked a b
+    → IfSome known (λ lines. TellsSessions asked s (Some list) lines None a b)
+all_told None asked s list cluster start board a b started named places ran is = tt
+all_told (Some lines) asked s list cluster start board a b started named places ran is =
     (ran.0, subst (λ (w : WorldValue). AreRun w (commands_of_script s.nodes lines)) (sym named) (subst (λ (c : ClusterValue). AreRun start (commands_of_script c.nodes lines)) started ran.1), (board, places, is))
 
-up_to : (refused : Refusal) (form : Form) (asked : Asked) (s : Settings) (list : Listed) (lines : List ℕ) (fault : script.Fault) (board : List ℕ) (a b : Option (List ℕ))
-    → EndsBy refused a b → Leaves (why_as form) board (new_world s list) (commands_of_script s.nodes lines) asked (why.Script fault) a b → AuditedUpTo refused form asked s list lines fault a b
-up_to refusal.Range form asked s list lines fault board a b ends h = absurd ends
-up_to _ form asked s list lines fault board a b ends h = (board, h)
+up_to : (refused : Refusal) (asked : Asked) (s : Settings) (list : Listed) (lines : List ℕ) (fault : script.Fault) (board : List ℕ) (a b : Option (List ℕ))
+    → EndsBy refused a b → Leaves plain board (new_world s list) (commands_of_script s.nodes lines) asked (why.Script fault) a b → AuditedUpTo refused asked s list lines fault a b
+up_to refusal.Range asked s list lines fault board a b ends h = absurd ends
+up_to _ asked s list lines fault board a b ends h = (board, h)
 
-part : (form : Form) (asked : Asked) (s : Settings) (list : Listed) (lines : List ℕ) (fault : WhyFault) (board : List ℕ) (a b : Option (List ℕ)) → EndsWhy asked fault a b
-    → Leaves (why_as form) board (new_world s list) (commands_of_script s.nodes lines) asked fault a b → TellsSessions form asked s (Some list) lines (Some (failure_of_delivered fault)) a b
-part form asked s list lines (why.Script fault) board a b ends h = (ends.0, up_to fault.refusal form asked s list lines fault board a b ends.1 h)
-part form asked s list lines (why.Missing what) board a b ends h = (refl, (board, h))
+part : (asked : Asked) (s : Settings) (list : Listed) (lines : List ℕ) (fault : WhyFault) (board : List ℕ) (a b : Option (List ℕ)) → EndsWhy asked fault a b
+    → Leaves plain board (new_world s list) (commands_of_script s.nodes lines) asked fault a b → TellsSessions asked s (Some list) lines (Some (failure_of_delivered fault)) a b
+part asked s list lines (why.Script fault) board a b ends h = (ends.0, up_to fault.refusal asked s list lines fault board a b ends.1 h)
+part asked s list lines (why.Missing what) board a b ends h = (refl, (board, h))
 
 -- a fault ended it
-pub part_told : (known : Option (List ℕ)) (form : Form) (asked : Asked) (s : Settings) (list : Listed) (cluster : ClusterValue) (start : WorldValue) (board : List ℕ) (fault : WhyFault) (failure : Failure) (a b : Option (List ℕ))
+pub part_told : (known : Option (List ℕ)) (asked : Asked) (s : Settings) (list : Listed) (cluster : ClusterValue) (start : WorldValue) (board : List ℕ) (fault : WhyFault) (failure : Failure) (a b : Option (List ℕ))
     → cluster ≡ record { nodes = s.nodes; list = list } → new_world s list ≡ start → failure ≡ failure_of_delivered fault → EndsWhy asked fault a b
-    → IfSome known (λ lines. Leaves (why_as form) board start (commands_of_script cluster.nodes lines) asked fault a b)
-    → IfSome known (λ lines. TellsSessions form asked s (Some list) lines (Some failure) a b)
-part_told None form asked s list cluster start board fault failure a b started named is ends h = tt
-part_told (Some lines) form asked s list cluster start board fault failure a b started named is ends h =
-    subst (λ (f : Failure). TellsSessions form asked s (Some list) lines (Some f) a b) (sym is)
-    (part form asked s list lines fault board a b ends
-    (subst (λ (w : WorldValue). Leaves (why_as form) board w (commands_of_script s.nodes lines) asked fault a b) (sym named)
-    (subst (λ (c : ClusterValue). Leaves (why_as form) board start (commands_of_script c.nodes lines) asked fault a b) started h)))
+    → IfSome known (λ lines. Leaves plain board start (commands_of_script cluster.nodes lines) asked fault a b)
+    → IfSome known (λ lines. TellsSessions asked s (Some list) lines (Some failure) a b)
+part_told None asked s list cluster start board fault failure a b started named is ends h = tt
+part_told (Some lines) asked s list cluster start board fault failure a b started named is ends h =
+    subst (λ (f : Failure). TellsSessions asked s (Some list) lines (Some f) a b) (sym is)
+    (part asked s list lines fault board a b ends
+    (subst (λ (w : WorldValue). Leaves plain board w (commands_of_script s.nodes lines) asked fault a b) (sym named)
+    (subst (λ (c : ClusterValue). Leaves plain board start (commands_of_script c.nodes lines) asked fault a b) started h)))
 
 -- a script that was run, with the sessions and the seat that are left
 pub ran_unprinted : (start : WorldValue) (script : Result (List Numbered) ℕ) (first left : SessionsValue) → first ≡ no_sessions → RunsUnprinted start script first left → AreRun start script
 ran_unprinted start script first left none ran = (left, subst (λ (s : SessionsValue). RunsUnprinted start script s left) none ran)
 
-pub told_seated : (form : told.Form) (board : List ℕ) (seat : SeatValue) (asked : Asked) (a b : Option (List ℕ)) → IsSeatOf board seat → IsWritten form (Ok (entries_of (records_of seat))) [] asked a b → IsTold form board asked a b
+pub told_seated : (form : Form) (board : List ℕ) (seat : SeatValue) (asked : Asked) (a b : Option (List ℕ)) → IsSeatOf board seat → IsWritten form (Ok (entries_of (records_of seat))) [] asked a b → IsTold form board asked a b
 told_seated form board seat asked a b read written = record { seat = seat; read = read; written = written }
 
-pub left_seated : (form : told.Form) (board : List ℕ) (start : WorldValue) (script : Result (List Numbered) ℕ) (asked : Asked) (fault : WhyFault) (first left : SessionsValue) (seat : SeatValue) (a b : Option (List ℕ)) → first ≡ no_sessions
+pub left_seated : (form : Form) (board : List ℕ) (start : WorldValue) (script : Result (List Numbered) ℕ) (asked : Asked) (fault : WhyFault) (first left : SessionsValue) (seat : SeatValue) (a b : Option (List ℕ)) → first ≡ no_sessions
     → IsSeatOf board seat → LeavesSeated form start script asked fault first left seat a b → Leaves form board start script asked fault a b
 left_seated form board start script asked fault first left seat a b none read leaves =
     record { left = left; seat = seat; read = read; leaves = subst (λ (s : SessionsValue). LeavesSeated form start script asked fault s left seat a b) none leaves }

@@ -14,67 +14,66 @@ use Rattle.cpg_step.specs.Scripts.{commands_of_script}
 use Rattle.cpg_why.specs.declared.asking.Asked.{Asked}
 use Rattle.cpg_why.specs.declared.asking.WhyFault.{WhyFault}
 use Rattle.cpg_why.specs.declared.asking.WhyFault.TheVariants as why
-use Rattle.cpg_why.specs.Forms as told
+use Rattle.cpg_why.specs.Forms.{Form, plain}
 use Rattle.cpg_why.specs.Scripts.{EndsBy, EndsWhy}
 use Rattle.cpg_why.specs.Explaining.{IsExplained, Leaves, LeavesBy}
 use Rattle.cpg_console.specs.declared.failures.Failure.{Failure}
-use Rattle.cpg_console.specs.declared.runs.Form.{Form}
-use Rattle.cpg_console.specs.Runs.{failure_of_delivered, why_as, FailsLate, TellsSteps, ToldUpTo}
+use Rattle.cpg_console.specs.Runs.{failure_of_delivered, FailsLate, TellsSteps, ToldUpTo}
 use Rattle.cpg_console.specs.Starting.{IsStarted, IsNotStarted}
 
-no_memory : (form : told.Form) (commands : Result (List Command) ℕ) (asked : Asked) (w : WorldValue) (a : Option (List ℕ)) → LeavesBy form commands asked refusal.Memory w a a w
+no_memory : (form : Form) (commands : Result (List Command) ℕ) (asked : Asked) (w : WorldValue) (a : Option (List ℕ)) → LeavesBy form commands asked refusal.Memory w a a w
 no_memory form (Ok commands) asked w a = (Keeps-refl a, (0, refl))
 no_memory form (Err bad) asked w a = (Keeps-refl a, refl)
 
-refused : (form : Form) (asked : Asked) (s : Settings) (list : Listed) (failure : Failure) (lines : List ℕ) (a : Option (List ℕ)) → IsNotStarted s (Some list) failure → TellsSteps form asked s (Some list) lines (Some failure) a a
-refused form asked s list failure lines a h = elim h [
-  | inl memory ↦ subst (λ (f : Failure). TellsSteps form asked s (Some list) lines (Some f) a a) (sym memory) (refl, (new_world s list, no_memory (why_as form) (commands_of_script s.nodes lines) asked (new_world s list) a))
-  | inr range ↦ subst (λ (f : Failure). TellsSteps form asked s (Some list) lines (Some f) a a) (sym range.0) (refl, (range.1, Keeps-refl a))
+refused : (asked : Asked) (s : Settings) (list : Listed) (failure : Failure) (lines : List ℕ) (a : Option (List ℕ)) → IsNotStarted s (Some list) failure → TellsSteps asked s (Some list) lines (Some failure) a a
+refused asked s list failure lines a h = elim h [
+  | inl memory ↦ subst (λ (f : Failure). TellsSteps asked s (Some list) lines (Some f) a a) (sym memory) (refl, (new_world s list, no_memory plain (commands_of_script s.nodes lines) asked (new_world s list) a))
+  | inr range ↦ subst (λ (f : Failure). TellsSteps asked s (Some list) lines (Some f) a a) (sym range.0) (refl, (range.1, Keeps-refl a))
 ]
 
-not_started : (form : Form) (asked : Asked) (s : Settings) (list : Option Listed) (failure : Failure) (lines : List ℕ) (a : Option (List ℕ)) → IsNotStarted s list failure → TellsSteps form asked s list lines (Some failure) a a
-not_started form asked s None failure lines a h = (ap (λ f. Some f) h, Keeps-refl a)
-not_started form asked s (Some list) failure lines a h = refused form asked s list failure lines a h
+not_started : (asked : Asked) (s : Settings) (list : Option Listed) (failure : Failure) (lines : List ℕ) (a : Option (List ℕ)) → IsNotStarted s list failure → TellsSteps asked s list lines (Some failure) a a
+not_started asked s None failure lines a h = (ap (λ f. Some f) h, Keeps-refl a)
+not_started asked s (Some list) failure lines a h = refused asked s list failure lines a h
 
 -- nothing is written where there is no world
-pub none_told : (known : Option (List ℕ)) (form : Form) (asked : Asked) (s : Settings) (list : Option Listed) (failure : Failure) (a : Option (List ℕ)) → IsNotStarted s list failure
-    → IfSome known (λ lines. TellsSteps form asked s list lines (Some failure) a a)
-none_told None form asked s list failure a h = tt
-none_told (Some lines) form asked s list failure a h = not_started form asked s list failure lines a h
+pub none_told : (known : Option (List ℕ)) (asked : Asked) (s : Settings) (list : Option Listed) (failure : Failure) (a : Option (List ℕ)) → IsNotStarted s list failure
+    → IfSome known (λ lines. TellsSteps asked s list lines (Some failure) a a)
+none_told None asked s list failure a h = tt
+none_told (Some lines) asked s list failure a h = not_started asked s list failure lines a h
 
 -- the whole script was run over the new world, and what is asked is told
-pub all_told : (known : Option (List ℕ)) (form : Form) (asked : Asked) (s : Settings) (list : Option Listed) (w world : WorldValue) (a b : Option (List ℕ)) → IsStarted s list w
-    → IfSome known (λ lines. (length lines ≤ MOST_BYTES) × IsExplained (why_as form) (commands_of_script w.settings.nodes lines) asked w a b world)
-    → IfSome known (λ lines. TellsSteps form asked s list lines None a b)
-all_told known form asked s None w world a b e h = absurd e
-all_told None form asked s (Some list) w world a b e h = tt
-all_told (Some lines) form asked s (Some list) w world a b e h =
-    (h.0, (world, subst (λ (v : WorldValue). IsExplained (why_as form) (commands_of_script v.settings.nodes lines) asked v a b world) e h.1))
+pub all_told : (known : Option (List ℕ)) (asked : Asked) (s : Settings) (list : Option Listed) (w world : WorldValue) (a b : Option (List ℕ)) → IsStarted s list w
+    → IfSome known (λ lines. (length lines ≤ MOST_BYTES) × IsExplained plain (commands_of_script w.settings.nodes lines) asked w a b world)
+    → IfSome known (λ lines. TellsSteps asked s list lines None a b)
+all_told known asked s None w world a b e h = absurd e
+all_told None asked s (Some list) w world a b e h = tt
+all_told (Some lines) asked s (Some list) w world a b e h =
+    (h.0, (world, subst (λ (v : WorldValue). IsExplained plain (commands_of_script v.settings.nodes lines) asked v a b world) e h.1))
 
-no_range : (form : told.Form) (commands : Result (List Command) ℕ) (asked : Asked) (w world : WorldValue) (a b : Option (List ℕ)) → LeavesBy form commands asked refusal.Range w a b world → ⊥
+no_range : (form : Form) (commands : Result (List Command) ℕ) (asked : Asked) (w world : WorldValue) (a b : Option (List ℕ)) → LeavesBy form commands asked refusal.Range w a b world → ⊥
 no_range form (Ok commands) asked w world a b h = h
 no_range form (Err bad) asked w world a b h = h
 
-up_to : (form : Form) (asked : Asked) (s : Settings) (list : Listed) (lines : List ℕ) (refused : Refusal) (world : WorldValue) (a b : Option (List ℕ))
-    → LeavesBy (why_as form) (commands_of_script s.nodes lines) asked refused (new_world s list) a b world → ToldUpTo form asked s list lines refused a b
-up_to form asked s list lines refusal.Range world a b h = absurd (no_range (why_as form) (commands_of_script s.nodes lines) asked (new_world s list) world a b h)
-up_to form asked s list lines refused world a b h = (world, h)
+up_to : (asked : Asked) (s : Settings) (list : Listed) (lines : List ℕ) (refused : Refusal) (world : WorldValue) (a b : Option (List ℕ))
+    → LeavesBy plain (commands_of_script s.nodes lines) asked refused (new_world s list) a b world → ToldUpTo asked s list lines refused a b
+up_to asked s list lines refusal.Range world a b h = absurd (no_range plain (commands_of_script s.nodes lines) asked (new_world s list) world a b h)
+up_to asked s list lines refused world a b h = (world, h)
 
-part : (form : Form) (asked : Asked) (s : Settings) (list : Listed) (lines : List ℕ) (fault : WhyFault) (world : WorldValue) (a b : Option (List ℕ))
-    → Leaves (why_as form) (commands_of_script s.nodes lines) asked fault (new_world s list) a b world → TellsSteps form asked s (Some list) lines (Some (failure_of_delivered fault)) a b
-part form asked s list lines (why.Script fault) world a b h = (h.0, up_to form asked s list lines fault.refusal world a b h.1)
-part form asked s list lines (why.Missing what) world a b h = (refl, (world, h))
+part : (asked : Asked) (s : Settings) (list : Listed) (lines : List ℕ) (fault : WhyFault) (world : WorldValue) (a b : Option (List ℕ))
+    → Leaves plain (commands_of_script s.nodes lines) asked fault (new_world s list) a b world → TellsSteps asked s (Some list) lines (Some (failure_of_delivered fault)) a b
+part asked s list lines (why.Script fault) world a b h = (h.0, up_to asked s list lines fault.refusal world a b h.1)
+part asked s list lines (why.Missing what) world a b h = (refl, (world, h))
 
 -- a fault ended it
-pub part_told : (known : Option (List ℕ)) (form : Form) (asked : Asked) (s : Settings) (list : Option Listed) (w world : WorldValue) (fault : WhyFault) (failure : Failure) (a b : Option (List ℕ)) → IsStarted s list w
+pub part_told : (known : Option (List ℕ)) (asked : Asked) (s : Settings) (list : Option Listed) (w world : WorldValue) (fault : WhyFault) (failure : Failure) (a b : Option (List ℕ)) → IsStarted s list w
     → failure ≡ failure_of_delivered fault
-    → IfSome known (λ lines. Leaves (why_as form) (commands_of_script w.settings.nodes lines) asked fault w a b world)
-    → IfSome known (λ lines. TellsSteps form asked s list lines (Some failure) a b)
-part_told known form asked s None w world fault failure a b e is h = absurd e
-part_told None form asked s (Some list) w world fault failure a b e is h = tt
-part_told (Some lines) form asked s (Some list) w world fault failure a b e is h =
-    subst (λ (f : Failure). TellsSteps form asked s (Some list) lines (Some f) a b) (sym is)
-    (part form asked s list lines fault world a b (subst (λ (v : WorldValue). Leaves (why_as form) (commands_of_script v.settings.nodes lines) asked fault v a b world) e h))
+    → IfSome known (λ lines. Leaves plain (commands_of_script w.settings.nodes lines) asked fault w a b world)
+    → IfSome known (λ lines. TellsSteps asked s list lines (Some failure) a b)
+part_told known asked s None w world fault failure a b e is h = absurd e
+part_told None asked s (Some list) w world fault failure a b e is h = tt
+part_told (Some lines) asked s (Some list) w world fault failure a b e is h =
+    subst (λ (f : Failure). TellsSteps asked s (Some list) lines (Some f) a b) (sym is)
+    (part asked s list lines fault world a b (subst (λ (v : WorldValue). Leaves plain (commands_of_script v.settings.nodes lines) asked fault v a b world) e h))
 
 late_by : (refused : Refusal) (a b : Option (List ℕ)) → EndsBy refused a b → WritesLate refused a b
 late_by refusal.Read a b h = h

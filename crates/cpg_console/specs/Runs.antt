@@ -23,9 +23,8 @@ use Rattle.cpg_json.specs.Judging as json
 use Rattle.cpg_json.specs.Accepting as json_accept
 use Rattle.cpg_json.specs.Marks.{heads_of}
 use Rattle.cpg_json.specs.Stepping as json_step
-use Rattle.cpg_why.specs.Forms as told
+use Rattle.cpg_why.specs.Forms.{plain}
 use Rattle.cpg_why.specs.Scripts as why
-use Rattle.cpg_json.specs.Whys.{as_json}
 use Rattle.cpg_why.specs.Explaining as told_steps
 use Rattle.cpg_why.specs.Sessions as audit
 use Rattle.cpg_why.specs.declared.asking.Asked.{Asked}
@@ -56,11 +55,6 @@ status_after (Some (Fault fault)) = 1
 status_after (Some BadWord) = 2
 status_after (Some (Missing absent)) = 2
 
--- how `why` tells what it tells
-abbrev pub why_as : Form → told.Form
-why_as Text = told.as_text
-why_as Json = as_json
-
 -- a script, whose commands' lines have those numbers, was run over a world, and all its lines are written
 abbrev pub IsRun : Stepped → List ℕ → Result (List Command) ℕ → WorldValue → Option (List ℕ) → Option (List ℕ) → WorldValue → Type 0
 IsRun stepped.Text numbers commands w old new world = step.IsRun commands w old new world
@@ -88,21 +82,21 @@ Steps form s (Some list) script (Some (Fault fault)) old new = (fault.part ≡ N
 Steps form s (Some list) script _ old new = ⊥
 
 -- what a refusal leaves of what is told of what a world delivered; Range tells that there is no world of those settings
-abbrev pub ToldUpTo : Form → Asked → Settings → Listed → List ℕ → Refusal → Option (List ℕ) → Option (List ℕ) → Type 0
-ToldUpTo form asked s list script Range old new = (¬ IsSettings s) × Keeps old new
-ToldUpTo form asked s list script refused old new =
-    (world : WorldValue) × told_steps.LeavesBy (why_as form) (commands_of_script s.nodes script) asked refused (new_world s list) old new world
+abbrev pub ToldUpTo : Asked → Settings → Listed → List ℕ → Refusal → Option (List ℕ) → Option (List ℕ) → Type 0
+ToldUpTo asked s list script Range old new = (¬ IsSettings s) × Keeps old new
+ToldUpTo asked s list script refused old new =
+    (world : WorldValue) × told_steps.LeavesBy plain (commands_of_script s.nodes script) asked refused (new_world s list) old new world
 
 -- what `step --why` writes of a script, by the list that its words give: what is told of what a new world delivered by its commands
-abbrev pub TellsSteps : Form → Asked → Settings → Option Listed → List ℕ → Option Failure → Option (List ℕ) → Option (List ℕ) → Type 0
-TellsSteps form asked s None script failure old new = (failure ≡ Some BadWord) × Keeps old new
-TellsSteps form asked s (Some list) script None old new =
-    (length script ≤ MOST_BYTES) × ((world : WorldValue) × told_steps.IsExplained (why_as form) (commands_of_script s.nodes script) asked (new_world s list) old new world)
-TellsSteps form asked s (Some list) script (Some (Fault fault)) old new = (fault.part ≡ None) × ToldUpTo form asked s list script fault.refusal old new
-TellsSteps form asked s (Some list) script (Some (Missing absent)) old new =
+abbrev pub TellsSteps : Asked → Settings → Option Listed → List ℕ → Option Failure → Option (List ℕ) → Option (List ℕ) → Type 0
+TellsSteps asked s None script failure old new = (failure ≡ Some BadWord) × Keeps old new
+TellsSteps asked s (Some list) script None old new =
+    (length script ≤ MOST_BYTES) × ((world : WorldValue) × told_steps.IsExplained plain (commands_of_script s.nodes script) asked (new_world s list) old new world)
+TellsSteps asked s (Some list) script (Some (Fault fault)) old new = (fault.part ≡ None) × ToldUpTo asked s list script fault.refusal old new
+TellsSteps asked s (Some list) script (Some (Missing absent)) old new =
     (absent.among ≡ Delivered)
-    × ((world : WorldValue) × told_steps.Leaves (why_as form) (commands_of_script s.nodes script) asked (why_fault.Missing absent.what) (new_world s list) old new world)
-TellsSteps form asked s (Some list) script (Some BadWord) old new = ⊥
+    × ((world : WorldValue) × told_steps.Leaves plain (commands_of_script s.nodes script) asked (why_fault.Missing absent.what) (new_world s list) old new world)
+TellsSteps asked s (Some list) script (Some BadWord) old new = ⊥
 
 -- the picture of an excerpt of a script's run, as one SVG or as lines for a terminal, is written, or its lines with the numbers of frames
 abbrev pub IsDrawn : Picture → Result (List Command) ℕ → WorldValue → Option (List ℕ) → Option (List ℕ) → Type 0
@@ -171,12 +165,12 @@ failure_of_delivered (why_fault.Script fault) = Fault fault
 failure_of_delivered (why_fault.Missing what) = Missing (record { what = what; among = Delivered })
 
 -- what `why` writes of a script: what it tells of what is asked, or after a fault what that fault leaves
-abbrev pub Explains : Form → Asked → List ℕ → Option Failure → Option (List ℕ) → Option (List ℕ) → Type 0
-Explains form asked script None old new = (length script ≤ MOST_BYTES) × why.IsWritten (why_as form) (entries_of_script script) (why.numbers_of script) asked old new
-Explains form asked script (Some (Fault fault)) old new = why.Leaves (why_as form) (entries_of_script script) (why.numbers_of script) asked (why_fault.Script fault) old new
-Explains form asked script (Some (Missing absent)) old new =
-    (absent.among ≡ Script) × why.Leaves (why_as form) (entries_of_script script) (why.numbers_of script) asked (why_fault.Missing absent.what) old new
-Explains form asked script (Some BadWord) old new = ⊥
+abbrev pub Explains : Asked → List ℕ → Option Failure → Option (List ℕ) → Option (List ℕ) → Type 0
+Explains asked script None old new = (length script ≤ MOST_BYTES) × why.IsWritten plain (entries_of_script script) (why.numbers_of script) asked old new
+Explains asked script (Some (Fault fault)) old new = why.Leaves plain (entries_of_script script) (why.numbers_of script) asked (why_fault.Script fault) old new
+Explains asked script (Some (Missing absent)) old new =
+    (absent.among ≡ Script) × why.Leaves plain (entries_of_script script) (why.numbers_of script) asked (why_fault.Missing absent.what) old new
+Explains asked script (Some BadWord) old new = ⊥
 
 -- The script was run over a cluster of so many nodes whose history starts so, and all its text is written.
 abbrev pub ClustersAll : Printed → ℕ → WorldValue → List ℕ → Option (List ℕ) → Option (List ℕ) → Type 0
@@ -195,26 +189,26 @@ Clusters printed s (Some list) script (Some (Fault fault)) old new = (fault.part
 Clusters printed s (Some list) script _ old new = ⊥
 
 -- what is asked is told of the entries that stand on a board of so many places
-abbrev pub IsAudited : Form → Asked → ℕ → Option (List ℕ) → Option (List ℕ) → Type 0
-IsAudited form asked places old new = (board : List ℕ) × (length board ≡ places) × audit.IsTold (why_as form) board asked old new
+abbrev pub IsAudited : Asked → ℕ → Option (List ℕ) → Option (List ℕ) → Type 0
+IsAudited asked places old new = (board : List ℕ) × (length board ≡ places) × audit.IsTold plain board asked old new
 
 -- what a fault leaves of that, by its refusal; Range tells that there is no cluster of those settings
-abbrev pub AuditedUpTo : Refusal → Form → Asked → Settings → Listed → List ℕ → script_faults.Fault → Option (List ℕ) → Option (List ℕ) → Type 0
-AuditedUpTo Range form asked s list script fault old new = (¬ IsSettings s) × Keeps old new
-AuditedUpTo refused form asked s list script fault old new =
-    (board : List ℕ) × audit.Leaves (why_as form) board (new_world s list) (clustered.commands_of_script s.nodes script) asked (why_fault.Script fault) old new
+abbrev pub AuditedUpTo : Refusal → Asked → Settings → Listed → List ℕ → script_faults.Fault → Option (List ℕ) → Option (List ℕ) → Type 0
+AuditedUpTo Range asked s list script fault old new = (¬ IsSettings s) × Keeps old new
+AuditedUpTo refused asked s list script fault old new =
+    (board : List ℕ) × audit.Leaves plain board (new_world s list) (clustered.commands_of_script s.nodes script) asked (why_fault.Script fault) old new
 
 -- what `run --why` writes of a script, by the list that its words give: what is told of what stands on a new cluster's board after its commands
-abbrev pub TellsSessions : Form → Asked → Settings → Option Listed → List ℕ → Option Failure → Option (List ℕ) → Option (List ℕ) → Type 0
-TellsSessions form asked s None script failure old new = (failure ≡ Some BadWord) × Keeps old new
-TellsSessions form asked s (Some list) script None old new =
-    (length script ≤ MOST_BYTES) × audit.AreRun (new_world s list) (clustered.commands_of_script s.nodes script) × IsAudited form asked s.places old new
-TellsSessions form asked s (Some list) script (Some (Fault fault)) old new =
-    (fault.part ≡ None) × AuditedUpTo fault.refusal form asked s list script fault old new
-TellsSessions form asked s (Some list) script (Some (Missing absent)) old new =
+abbrev pub TellsSessions : Asked → Settings → Option Listed → List ℕ → Option Failure → Option (List ℕ) → Option (List ℕ) → Type 0
+TellsSessions asked s None script failure old new = (failure ≡ Some BadWord) × Keeps old new
+TellsSessions asked s (Some list) script None old new =
+    (length script ≤ MOST_BYTES) × audit.AreRun (new_world s list) (clustered.commands_of_script s.nodes script) × IsAudited asked s.places old new
+TellsSessions asked s (Some list) script (Some (Fault fault)) old new =
+    (fault.part ≡ None) × AuditedUpTo fault.refusal asked s list script fault old new
+TellsSessions asked s (Some list) script (Some (Missing absent)) old new =
     (absent.among ≡ Delivered)
-    × ((board : List ℕ) × audit.Leaves (why_as form) board (new_world s list) (clustered.commands_of_script s.nodes script) asked (why_fault.Missing absent.what) old new)
-TellsSessions form asked s (Some list) script (Some BadWord) old new = ⊥
+    × ((board : List ℕ) × audit.Leaves plain board (new_world s list) (clustered.commands_of_script s.nodes script) asked (why_fault.Missing absent.what) old new)
+TellsSessions asked s (Some list) script (Some BadWord) old new = ⊥
 
 -- a word of the run's command line lets nobody in
 abbrev pub HasWrongWord : Run → Type 0
@@ -236,17 +230,17 @@ Prints (Judge form) script None old new = (length script ≤ MOST_BYTES) × IsJu
 Prints (Judge form) script (Some (Fault fault)) old new = (fault.part ≡ None) × LeavesJudged form script fault.refusal old new
 Prints (JudgeOnly filter) script None old new = (length script ≤ MOST_BYTES) × filtered.IsWritten filter (entries_of_script script) old new
 Prints (JudgeOnly filter) script (Some (Fault fault)) old new = (fault.part ≡ None) × filtered.Leaves filter (entries_of_script script) fault.refusal old new
-Prints (Why form asked) script failure old new = Explains form asked script failure old new
+Prints (Why form asked) script failure old new = Explains asked script failure old new
 Prints (Accept form) script None old new = (length script ≤ MOST_BYTES) × AreAnswered form script old new
 Prints (Accept form) script (Some (Fault fault)) old new = LeavesAnswered form script fault old new
 Prints (Step form settings words) script failure old new = Steps form settings (list_of_words (map (λ word. word.now) words.now)) script failure old new
-Prints (StepWhy form asked settings words) script failure old new = TellsSteps form asked settings (list_of_words (map (λ word. word.now) words.now)) script failure old new
+Prints (StepWhy form asked settings words) script failure old new = TellsSteps asked settings (list_of_words (map (λ word. word.now) words.now)) script failure old new
 Prints (Draw kind settings words) script failure old new = Draws kind settings (list_of_words (map (λ word. word.now) words.now)) script failure old new
 Prints (Number settings words) script failure old new = Draws picture.Numbered settings (list_of_words (map (λ word. word.now) words.now)) script failure old new
 Prints (Echo settings words) script failure old new = Echoes settings (list_of_words (map (λ word. word.now) words.now)) script failure old new
 Prints (Cluster manner chances settings words) script failure old new = Clusters (spoken_as manner.form) settings (list_of_words (map (λ word. word.now) words.now)) script failure old new
 Prints (ClusterWhy inquiry settings words) script failure old new =
-    TellsSessions inquiry.form inquiry.asked settings (list_of_words (map (λ word. word.now) words.now)) script failure old new
+    TellsSessions inquiry.asked settings (list_of_words (map (λ word. word.now) words.now)) script failure old new
 Prints _ script _ old new = ⊥
 
 -- nothing is written before the words were found right, and the script read and checked

@@ -4,10 +4,11 @@
 //! Proved: the words of the command line come first, then the settings, then the script; and what is written.
 
 ghost use Rattle.std.specs.Prelude.{◌≡◌, ◌≢◌, ◌≤◌, ◌↔◌, Err, Some, None, length, map, OnOk, IfErr, IfSome};
+ghost use Rattle.cpg_why.specs.Forms.{plain};
 ghost use Rattle.cpg_why.specs.Scripts.{EndsWhy};
 ghost use Rattle.cpg_cluster.specs.Scripts.{commands_of_script};
 ghost use Rattle.cpg_why.specs.Sessions.{AreRun, IsTold, Leaves};
-ghost use Rattle.cpg_console.specs.Runs.{why_as, FailsLate, TellsSessions};
+ghost use Rattle.cpg_console.specs.Runs.{FailsLate, TellsSessions};
 ghost use Rattle.cpg_console.specs.Words.{list_of_words};
 ghost use Rattle.cpg_world_laws.specs.Worlds.{new_world};
 
@@ -65,9 +66,9 @@ where
     R: Read,
     W: Write,
     ensures ok { OnOk result (IfSome (R.remaining reader.old) (λ script.
-        TellsSessions (inquiry.now).form (inquiry.now).asked settings (list_of_words (map (λ word. word.now) words.now)) script None (W.contents writer.old) (W.contents writer.new))) }
+        TellsSessions (inquiry.now).asked settings (list_of_words (map (λ word. word.now) words.now)) script None (W.contents writer.old) (W.contents writer.new))) }
     ensures err { IfErr result (λ failure. IfSome (R.remaining reader.old) (λ script.
-        TellsSessions (inquiry.now).form (inquiry.now).asked settings (list_of_words (map (λ word. word.now) words.now)) script (Some failure) (W.contents writer.old) (W.contents writer.new))) }
+        TellsSessions (inquiry.now).asked settings (list_of_words (map (λ word. word.now) words.now)) script (Some failure) (W.contents writer.old) (W.contents writer.new))) }
     ensures late { IfErr result (λ failure. FailsLate failure (W.contents writer.old) (W.contents writer.new)) }
     ensures word { (result ≡ Err Failure.BadWord) ↔ (list_of_words (map (λ word. word.now) words.now) ≡ None) }
 {
@@ -94,9 +95,9 @@ where
     R: Read,
     W: Write,
     ensures ok { OnOk result (IfSome (R.remaining reader.old) (λ script.
-        TellsSessions (inquiry.now).form (inquiry.now).asked settings (Some list) script None (W.contents writer.old) (W.contents writer.new))) }
+        TellsSessions (inquiry.now).asked settings (Some list) script None (W.contents writer.old) (W.contents writer.new))) }
     ensures err { IfErr result (λ failure. IfSome (R.remaining reader.old) (λ script.
-        TellsSessions (inquiry.now).form (inquiry.now).asked settings (Some list) script (Some failure) (W.contents writer.old) (W.contents writer.new))) }
+        TellsSessions (inquiry.now).asked settings (Some list) script (Some failure) (W.contents writer.old) (W.contents writer.new))) }
     ensures late { IfErr result (λ failure. FailsLate failure (W.contents writer.old) (W.contents writer.new)) }
     ensures word { result ≢ Err Failure.BadWord }
 {
@@ -131,9 +132,9 @@ where
     requires name { (board.cells ≡ B.cells) × (board.table ≡ B.table) × (new_world settings list.now ≡ B.start) }
     requires places { length B.cells ≡ settings.places }
     ensures ok { OnOk result (IfSome (R.remaining reader.old) (λ script.
-        TellsSessions (inquiry.now).form (inquiry.now).asked settings (Some list.now) script None (W.contents writer.old) (W.contents writer.new))) }
+        TellsSessions (inquiry.now).asked settings (Some list.now) script None (W.contents writer.old) (W.contents writer.new))) }
     ensures err { IfErr result (λ failure. IfSome (R.remaining reader.old) (λ script.
-        TellsSessions (inquiry.now).form (inquiry.now).asked settings (Some list.now) script (Some failure) (W.contents writer.old) (W.contents writer.new))) }
+        TellsSessions (inquiry.now).asked settings (Some list.now) script (Some failure) (W.contents writer.old) (W.contents writer.new))) }
     ensures late { IfErr result (λ failure. FailsLate failure (W.contents writer.old) (W.contents writer.new)) }
     ensures word { result ≢ Err Failure.BadWord }
 {
@@ -162,9 +163,9 @@ where
     W: Write,
     ensures ok { OnOk result (IfSome (R.remaining reader.old) (λ script.
         (length script ≤ MOST_BYTES) × AreRun B.start (commands_of_script cluster.nodes script))) }
-    ensures told { OnOk result (IsTold (why_as (inquiry.now).form) B.cells (inquiry.now).asked (W.contents writer.old) (W.contents writer.new)) }
+    ensures told { OnOk result (IsTold plain B.cells (inquiry.now).asked (W.contents writer.old) (W.contents writer.new)) }
     ensures err { IfErr result (λ fault. IfSome (R.remaining reader.old) (λ script.
-        Leaves (why_as (inquiry.now).form) B.cells B.start (commands_of_script cluster.nodes script) (inquiry.now).asked fault (W.contents writer.old) (W.contents writer.new))) }
+        Leaves plain B.cells B.start (commands_of_script cluster.nodes script) (inquiry.now).asked fault (W.contents writer.old) (W.contents writer.new))) }
     ensures ends { IfErr result (λ fault. EndsWhy (inquiry.now).asked fault (W.contents writer.old) (W.contents writer.new)) }
 {
     let done = explain(&rt, alloc, inquiry, reader, writer, &cluster);
@@ -188,9 +189,9 @@ where
     W: Write,
     ensures ok { OnOk result (IfSome (R.remaining reader.old) (λ script.
         (length script ≤ MOST_BYTES) × AreRun B.start (commands_of_script running.now.nodes script))) }
-    ensures told { OnOk result (IsTold (why_as (inquiry.now).form) B.cells (inquiry.now).asked (W.contents writer.old) (W.contents writer.new)) }
+    ensures told { OnOk result (IsTold plain B.cells (inquiry.now).asked (W.contents writer.old) (W.contents writer.new)) }
     ensures err { IfErr result (λ fault. IfSome (R.remaining reader.old) (λ script.
-        Leaves (why_as (inquiry.now).form) B.cells B.start (commands_of_script running.now.nodes script) (inquiry.now).asked fault (W.contents writer.old) (W.contents writer.new))) }
+        Leaves plain B.cells B.start (commands_of_script running.now.nodes script) (inquiry.now).asked fault (W.contents writer.old) (W.contents writer.new))) }
     ensures ends { IfErr result (λ fault. EndsWhy (inquiry.now).asked fault (W.contents writer.old) (W.contents writer.new)) }
 {
     match inquiry.form {

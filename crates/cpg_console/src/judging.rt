@@ -3,17 +3,18 @@
 ghost use Rattle.std.specs.Prelude.{◌≡◌, ◌≤◌, None, length, OnOk, IfErr, IfSome};
 ghost use Rattle.cpg_script.specs.Written.{WritesLate};
 ghost use Rattle.cpg_judge.specs.Scripts.{entries_of_script};
+ghost use Rattle.cpg_why.specs.Forms.{plain};
 ghost use Rattle.cpg_why.specs.Scripts.{numbers_of, EndsWhy, IsWritten, Leaves};
-ghost use Rattle.cpg_console.specs.Runs.{why_as, AreAnswered, IsJudged, LeavesAnswered, LeavesJudged};
+ghost use Rattle.cpg_console.specs.Runs.{AreAnswered, IsJudged, LeavesAnswered, LeavesJudged};
 
 use crate::runs::Form;
 use cpg_accept::accept_script;
-use cpg_json::why::why_json;
+use cpg_json::why::AsJson;
 use cpg_json::{accept_json, judge_json};
 use cpg_judge::judge_script;
 use cpg_script::Fault;
 use cpg_text::MOST_BYTES;
-use cpg_why::{Asked, WhyFault, why_script};
+use cpg_why::{AsText, Asked, WhyFault, why_script};
 use std::alloc::Global;
 use std::io::{Read, Write};
 
@@ -65,13 +66,13 @@ pub fn explain<R: Read, W: Write>(
     writer: &mut W,
 ) -> Result<(), WhyFault>
     ensures ok { OnOk result (IfSome (R.remaining reader.old) (λ script.
-        (length script ≤ MOST_BYTES) × IsWritten (why_as form) (entries_of_script script) (numbers_of script) asked (W.contents writer.old) (W.contents writer.new))) }
+        (length script ≤ MOST_BYTES) × IsWritten plain (entries_of_script script) (numbers_of script) asked (W.contents writer.old) (W.contents writer.new))) }
     ensures err { IfErr result (λ fault. IfSome (R.remaining reader.old) (λ script.
-        Leaves (why_as form) (entries_of_script script) (numbers_of script) asked fault (W.contents writer.old) (W.contents writer.new))) }
+        Leaves plain (entries_of_script script) (numbers_of script) asked fault (W.contents writer.old) (W.contents writer.new))) }
     ensures ends { IfErr result (λ fault. EndsWhy asked fault (W.contents writer.old) (W.contents writer.new)) }
 {
     match form {
-        Form::Text => why_script(alloc, reader, writer, asked),
-        Form::Json => why_json(alloc, reader, writer, asked),
+        Form::Text => why_script::<AsText, R, W>(alloc, reader, writer, asked),
+        Form::Json => why_script::<AsJson, R, W>(alloc, reader, writer, asked),
     }
 }

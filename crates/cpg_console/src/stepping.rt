@@ -6,9 +6,10 @@ ghost use Rattle.std.specs.Prelude.{◌≡◌, ◌≤◌, ◌↔◌, Err, Some, 
 ghost use Rattle.cpg_world_laws.specs.Worlds.{new_world};
 ghost use Rattle.cpg_step.specs.Running.{EndsRunning};
 ghost use Rattle.cpg_step.specs.Scripts.{commands_of_script};
+ghost use Rattle.cpg_why.specs.Forms.{plain};
 ghost use Rattle.cpg_why.specs.Scripts.{numbers_of, EndsWhy};
 ghost use Rattle.cpg_why.specs.Explaining.{IsExplained, Leaves};
-ghost use Rattle.cpg_console.specs.Runs.{why_as, FailsLate, IsRun, LeavesRun, Steps, TellsSteps};
+ghost use Rattle.cpg_console.specs.Runs.{FailsLate, IsRun, LeavesRun, Steps, TellsSteps};
 ghost use Rattle.cpg_console.specs.Starting.{IsStarted, IsNotStarted};
 ghost use Rattle.cpg_console.specs.Words.{list_of_words};
 
@@ -107,9 +108,9 @@ pub fn explain_over_world<R: Read, W: Write>(
     writer: &mut W,
 ) -> Result<(), Failure>
     ensures ok { OnOk result (IfSome (R.remaining reader.old) (λ script.
-        TellsSteps form asked settings (list_of_words (map (λ word. word.now) words.now)) script None (W.contents writer.old) (W.contents writer.new))) }
+        TellsSteps asked settings (list_of_words (map (λ word. word.now) words.now)) script None (W.contents writer.old) (W.contents writer.new))) }
     ensures err { IfErr result (λ failure. IfSome (R.remaining reader.old) (λ script.
-        TellsSteps form asked settings (list_of_words (map (λ word. word.now) words.now)) script (Some failure) (W.contents writer.old) (W.contents writer.new))) }
+        TellsSteps asked settings (list_of_words (map (λ word. word.now) words.now)) script (Some failure) (W.contents writer.old) (W.contents writer.new))) }
     ensures late { IfErr result (λ failure. FailsLate failure (W.contents writer.old) (W.contents writer.new)) }
     ensures word { (result ≡ Err Failure.BadWord) ↔ (list_of_words (map (λ word. word.now) words.now) ≡ None) }
 {
@@ -132,9 +133,9 @@ fn explain<R: Read, W: Write>(
     world: &mut World,
 ) -> Result<(), WhyFault>
     ensures ok { OnOk result (IfSome (R.remaining reader.old) (λ script.
-        (length script ≤ MOST_BYTES) × IsExplained (why_as form) (commands_of_script world.old.settings.nodes script) asked world.old (W.contents writer.old) (W.contents writer.new) world.new)) }
+        (length script ≤ MOST_BYTES) × IsExplained plain (commands_of_script world.old.settings.nodes script) asked world.old (W.contents writer.old) (W.contents writer.new) world.new)) }
     ensures err { IfErr result (λ fault. IfSome (R.remaining reader.old) (λ script.
-        Leaves (why_as form) (commands_of_script world.old.settings.nodes script) asked fault world.old (W.contents writer.old) (W.contents writer.new) world.new)) }
+        Leaves plain (commands_of_script world.old.settings.nodes script) asked fault world.old (W.contents writer.old) (W.contents writer.new) world.new)) }
     ensures ends { IfErr result (λ fault. EndsWhy asked fault (W.contents writer.old) (W.contents writer.new)) }
 {
     match form {

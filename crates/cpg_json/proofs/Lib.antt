@@ -6,10 +6,8 @@ pub mod Fields
 pub mod Heads
 pub mod Hearing
 pub mod Listing
-pub mod Passed
 pub mod Put
 pub mod Recorded
 pub mod Texted
 pub mod Told
 pub mod Whole
-pub mod WhyFields

@@ -13,5 +13,3 @@ pub mod Stepping
 pub mod Steps
 pub mod Strings
 pub mod Tails
-pub mod WhySteps
-pub mod Whys

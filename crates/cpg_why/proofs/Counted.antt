@@ -19,7 +19,7 @@ use Rattle.cpg_record.specs.Receiving.{place_of}
 use Rattle.cpg_record.proofs.Denials.{each_entry_is_judged}
 use Rattle.cpg_record.proofs.Inboxes.{places_tell_at_most_two}
 use Rattle.cpg_record.proofs.Told.{news_place}
-use Rattle.cpg_why.specs.Forms.{event_place}
+use Rattle.cpg_why.specs.Findings.{event_place}
 use Rattle.cpg_why.specs.declared.asking.Asked.{Asked}
 use Rattle.cpg_why.specs.declared.asking.Missing.{Missing}
 use Rattle.cpg_why.specs.declared.asking.Missing.TheVariants as missing

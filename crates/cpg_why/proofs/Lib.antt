@@ -5,7 +5,6 @@ pub mod Chosen
 pub mod Conditions
 pub mod Conns
 pub mod Counted
-pub mod Deciding
 pub mod Denied
 pub mod Done
 pub mod Few
@@ -15,6 +14,7 @@ pub mod Moved
 pub mod Naming
 pub mod Numbered
 pub mod Pieces
+pub mod Removal
 pub mod Seated
 pub mod Tabled
 pub mod Tried

@@ -17,10 +17,10 @@ pieces_more f a n =
     let next : n + 1 ≡ suc n = omega arith in
     ap (λ k. flat_map f (range_with_len a k)) next ∙ pieces_suc f a n
 
--- a text that grows by the next piece
-pub piece_put : (f : ℕ → List ℕ) (n : ℕ) (front old new : List ℕ) → old ≡ front ++ flat_map f (range_with_len 1 n) → new ≡ old ++ f (n + 1)
+-- a list that grows by the next piece
+pub piece_put : {X : Type 0} (f : ℕ → List X) (n : ℕ) (front old new : List X) → old ≡ front ++ flat_map f (range_with_len 1 n) → new ≡ old ++ f (n + 1)
     → new ≡ front ++ flat_map f (range_with_len 1 (n + 1))
-piece_put f n front old new before put =
+piece_put {X} f n front old new before put =
     let next : 1 + n ≡ n + 1 = omega arith in
-    put ∙ ap (λ (xs : List ℕ). xs ++ f (n + 1)) before ∙ append_assoc front (flat_map f (range_with_len 1 n)) (f (n + 1))
-    ∙ ap (λ (xs : List ℕ). front ++ xs) (sym (pieces_more f 1 n ∙ ap (λ k. flat_map f (range_with_len 1 n) ++ f k) next))
+    put ∙ ap (λ (xs : List X). xs ++ f (n + 1)) before ∙ append_assoc front (flat_map f (range_with_len 1 n)) (f (n + 1))
+    ∙ ap (λ (xs : List X). front ++ xs) (sym (pieces_more f 1 n ∙ ap (λ k. flat_map f (range_with_len 1 n) ++ f k) next))

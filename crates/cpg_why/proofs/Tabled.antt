@@ -10,7 +10,8 @@ use Rattle.cpg_rules.specs.declared.rules.Right.{Right}
 use Rattle.cpg_rules.specs.declared.rules.Rule.{Rule}
 use Rattle.cpg_rules.specs.Tables.{Rules}
 use Rattle.cpg_record.proofs.Growing.{enumerate_from-push}
-use Rattle.cpg_why.specs.Texts.{passed_line, passed_text}
+use Rattle.cpg_why.specs.declared.findings.PassedRule.{PassedRule}
+use Rattle.cpg_why.specs.Deciding.{passed_one, passed_rules}
 
 -- ---- the first that passes a test
 
@@ -52,13 +53,13 @@ take_at rules index e is =
 
 -- one rule more
 pub passed_more : (right : Right) (asker : Asker) (rules : Rules) (index : ℕ) (e : ℕ × Rule) → slice_get rules index ≡ Some e →
-    passed_text right asker rules (index + 1) ≡ passed_text right asker rules index ++ passed_line right asker (index, e)
+    passed_rules right asker rules (index + 1) ≡ passed_rules right asker rules index ++ passed_one right asker (index, e)
 passed_more right asker rules index e is =
-    let f : ℕ × (ℕ × Rule) → List ℕ = passed_line right asker in
+    let f : ℕ × (ℕ × Rule) → List PassedRule = passed_one right asker in
     let within : index < length rules = slice_get_within rules index e is in
     let count : 0 + length (take index rules) ≡ index = omega (arith, length-take index rules) in
     ap (λ (es : Rules). flat_map f (enumerate_from 0 es)) (take_at rules index e is)
     ∙ ap (flat_map f) (enumerate_from-push 0 (take index rules) e)
     ∙ flat_map-append f (enumerate_from 0 (take index rules)) ((0 + length (take index rules), e) ∷ [])
-    ∙ ap (λ xs. passed_text right asker rules index ++ xs) (append-nil (f (0 + length (take index rules), e)))
-    ∙ ap (λ n. passed_text right asker rules index ++ f (n, e)) count
+    ∙ ap (λ xs. passed_rules right asker rules index ++ xs) (append-nil (f (0 + length (take index rules), e)))
+    ∙ ap (λ n. passed_rules right asker rules index ++ f (n, e)) count

@@ -1,9 +1,7 @@
 -- the judged entries with one more, and the record of the one that comes next
 use Rattle.std.proofs.Common.{◌≡◌, ℕ, ◌+◌, ◌<◌, List, [], ◌∷◌, ◌++◌, length, take, slice_get, Some, sym, ap, subst, ◌∙◌, add-one, arith}
-use Rattle.std.specs.Prelude.{Result, Ok, Err, OnOk}
 use Rattle.std.proofs.lemmas.List.{length-take}
 use Rattle.std.proofs.lemmas.List.Sums.{fold_push}
-use Rattle.cpg_cred.specs.declared.refusals.Refusal.{Refusal}
 use Rattle.std.proofs.lemmas.Option.{same_Some, slice_get_within}
 use Rattle.cpg_entry.specs.declared.entries.Entry.{Entry}
 use Rattle.cpg_record.specs.declared.records.Record.{Record}
@@ -12,7 +10,7 @@ use Rattle.cpg_record.specs.Places.{record_at, records_before}
 use Rattle.cpg_record.proofs.Denials.{each_entry_is_judged, prefixes_are_judged_alike}
 use Rattle.cpg_record.proofs.Told.{each_is_judged_by_those_before}
 use Rattle.cpg_why.specs.Moves.{kept_move, moved, KeptMoves, AreLastMoves}
-use Rattle.cpg_why.specs.Forms.{Form, block_by, why_told}
+use Rattle.cpg_why.specs.Findings.{why_at, why_by}
 use Rattle.cpg_why.proofs.Moved.{moves_push}
 use Rattle.cpg_why.proofs.Tabled.{stands_at}
 
@@ -30,9 +28,9 @@ moves_after old new entries entry r place are is at taken =
     (λ conn. taken conn ∙ ap (λ (x : Record). moved conn (kept_move old conn) (place, x)) is ∙ ap (λ (n : ℕ). moved conn (kept_move old conn) (n, next)) here))
 
 -- why the entry of a place was answered as it was, from the entries before it
-pub why_next : (form : Form) (numbers : List ℕ) (entries : List Entry) (index : ℕ) (entry : Entry) → slice_get entries index ≡ Some entry →
-    why_told form numbers (judged entries) (index + 1) ≡ block_by form numbers (judged (take index entries)) (index + 1) (Some (record_of (judged (take index entries)) entry))
-why_next form numbers entries index entry is =
+pub why_next : (entries : List Entry) (index : ℕ) (entry : Entry) → slice_get entries index ≡ Some entry →
+    why_at (judged entries) (index + 1) ≡ why_by (judged (take index entries)) (index + 1) (Some (record_of (judged (take index entries)) entry))
+why_next entries index entry is =
     let records = judged entries in
     let within : index < length records = omega (arith, slice_get_within entries index entry is, (each_entry_is_judged entries).0) in
     let at = stands_at records index within in
@@ -43,19 +41,16 @@ why_next form numbers entries index entry is =
     told.1 ∙ ap (λ (rs : List Record). record_of rs at.0.entry) front ∙ ap (record_of (judged (take index entries))) same in
     let before : records_before records (index + 1) ≡ judged (take index entries) = ap (λ n. take n records) (omega arith) ∙ front in
     let stands : record_at records (index + 1) ≡ Some (record_of (judged (take index entries)) entry) = ap (record_at records) (add-one index) ∙ at.1 ∙ ap Some next in
-    ap (λ (rs : List Record). block_by form numbers rs (index + 1) (record_at records (index + 1))) before
-    ∙ ap (block_by form numbers (judged (take index entries)) (index + 1)) stands
+    ap (λ (rs : List Record). why_by rs (index + 1) (record_at records (index + 1))) before
+    ∙ ap (why_by (judged (take index entries)) (index + 1)) stands
 
--- the same, where the entries before it were judged and the text was put
-pub why_passed : (form : Form) (result : Result (Unit {0}) Refusal) (old new : List ℕ) (numbers : List ℕ) (passed entries : List Entry) (index : ℕ) (entry : Entry) →
-    slice_get entries index ≡ Some entry → passed ≡ take index entries
-    → OnOk result (new ≡ old ++ block_by form numbers (judged passed) (length passed + 1) (Some (record_of (judged passed) entry)))
-    → OnOk result (new ≡ old ++ why_told form numbers (judged entries) (index + 1))
-why_passed form (Err why) old new numbers passed entries index entry is front put = tt
-why_passed form (Ok x) old new numbers passed entries index entry is front put =
+-- the same, where the entries before it were judged
+pub why_passed : (passed entries : List Entry) (index : ℕ) (entry : Entry) (r : Record) → slice_get entries index ≡ Some entry → passed ≡ take index entries
+    → r ≡ record_of (judged passed) entry → why_by (judged passed) (length passed + 1) (Some r) ≡ why_at (judged entries) (index + 1)
+why_passed passed entries index entry r is front so =
     let within : index < length entries = slice_get_within entries index entry is in
     let count : length passed ≡ index = omega (arith, ap length front, length-take index entries) in
-    put
-    ∙ ap (λ (es : List Entry). old ++ block_by form numbers (judged es) (length passed + 1) (Some (record_of (judged es) entry))) front
-    ∙ ap (λ n. old ++ block_by form numbers (judged (take index entries)) (n + 1) (Some (record_of (judged (take index entries)) entry))) count
-    ∙ ap (λ xs. old ++ xs) (sym (why_next form numbers entries index entry is))
+    ap (λ (x : Record). why_by (judged passed) (length passed + 1) (Some x)) so
+    ∙ ap (λ (es : List Entry). why_by (judged es) (length passed + 1) (Some (record_of (judged es) entry))) front
+    ∙ ap (λ n. why_by (judged (take index entries)) (n + 1) (Some (record_of (judged (take index entries)) entry))) count
+    ∙ sym (why_next entries index entry is)

@@ -1,4 +1,6 @@
+pub mod Deciding
 pub mod Explaining
+pub mod Findings
 pub mod Forms
 pub mod Laws
 pub mod Moves
@@ -6,6 +8,6 @@ pub mod Processes
 pub mod Scripts
 pub mod Sessions
 pub mod Standings
-pub mod Texts
 pub mod Unmet
+pub mod Ways
 pub mod Without

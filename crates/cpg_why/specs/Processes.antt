@@ -1,4 +1,4 @@
--- Which connections are of a process, by its pid, and why each is told of an entry, or is not.
+-- Which connections are of a process, by its pid, and how each stands to an entry.
 use Rattle.std.specs.Prelude.{ℕ, Bool, false, ◌==◌, List, [], slice_get, Option, Some, None, option_map, if◌then◌else◌}
 use Rattle.std.specs.List.{flat_map, list_any}
 use Rattle.cpg_entry.specs.declared.entries.Entry.{Entry}
@@ -8,7 +8,8 @@ use Rattle.cpg_record.specs.Connections.{conns_of}
 use Rattle.cpg_record.specs.Judging.{judged}
 use Rattle.cpg_record.specs.Nexts.{is_made_by}
 use Rattle.cpg_record.specs.Places.{places_of, record_at}
-use Rattle.cpg_why.specs.Forms.{Form, stand_told}
+use Rattle.cpg_why.specs.declared.findings.Finding.{Finding}
+use Rattle.cpg_why.specs.Standings.{stand_at}
 
 -- the place of the connection's first entry
 abbrev pub first_own : List Record → ConnId → Option ℕ
@@ -32,10 +33,10 @@ is_of records pid conn = is_pid pid (pid_at records (first_own records conn))
 abbrev pub has_process : List Entry → ℕ → Bool
 has_process entries pid = list_any (is_of (judged entries) pid) (conns_of entries)
 
--- why the connection is told of the entry of a place, or is not, where it is of the process
-abbrev pub stand_if : Form → List ℕ → List Record → ℕ → ℕ → ConnId → List ℕ
-stand_if form numbers records pid place conn = if is_of records pid conn then stand_told form numbers records conn place else []
+-- how the connection stands to the entry of a place, where it is of the process
+abbrev pub stand_if : List Record → ℕ → ℕ → ConnId → List Finding
+stand_if records pid place conn = if is_of records pid conn then stand_at records conn place else []
 
 -- the same of each connection of the process
-abbrev pub process_told : Form → List ℕ → List Record → List ConnId → ℕ → ℕ → List ℕ
-process_told form numbers records conns pid place = flat_map (stand_if form numbers records pid place) conns
+abbrev pub process_stands : List Record → List ConnId → ℕ → ℕ → List Finding
+process_stands records conns pid place = flat_map (stand_if records pid place) conns

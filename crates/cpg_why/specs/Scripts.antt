@@ -1,15 +1,15 @@
 -- what is asked of a script, and what is written
-use Rattle.std.specs.Prelude.{ℕ, ◌≡◌, ◌≤◌, ⊤, Bool, false, IsTrue, List, length, map, Option, Some, None, Result, Ok, Err}
+use Rattle.std.specs.Prelude.{ℕ, ◌≡◌, ◌≤◌, ◌-◌, ⊤, Bool, false, IsTrue, List, length, map, slice_get, Option, Some, None, Result, Ok, Err}
 use Rattle.std.specs.List.{list_any}
-use Rattle.std.specs.Io.KnownBytes.{Appends, Keeps}
+use Rattle.std.specs.Io.KnownBytes.{Keeps}
 use Rattle.cpg_cred.specs.declared.refusals.Refusal.{Refusal}
 use Rattle.cpg_cred.specs.declared.refusals.Refusal.TheVariants as refusal
 use Rattle.cpg_entry.specs.declared.entries.Entry.{Entry}
 use Rattle.cpg_record.specs.declared.connections.ConnId.{ConnId}
+use Rattle.cpg_record.specs.declared.records.Record.{Record}
 use Rattle.cpg_record.specs.Connections.{conns_of, is_conn}
 use Rattle.cpg_record.specs.Events.{inbox}
 use Rattle.cpg_record.specs.Judging.{judged}
-use Rattle.cpg_text.specs.Streams.{AppendsFront}
 use Rattle.cpg_script.specs.Commands.{commands_of}
 use Rattle.cpg_script.specs.Reading.{FailsAs}
 use Rattle.cpg_why.specs.declared.asking.Asked.{Asked}
@@ -18,12 +18,18 @@ use Rattle.cpg_why.specs.declared.asking.Missing as absent
 use Rattle.cpg_why.specs.declared.asking.Missing.TheVariants as missing
 use Rattle.cpg_why.specs.declared.asking.WhyFault.{WhyFault}
 use Rattle.cpg_why.specs.declared.asking.WhyFault.TheVariants.{Script, Missing}
-use Rattle.cpg_why.specs.Forms.{Form, denials_told, event_told, stand_told, way_told, why_told}
-use Rattle.cpg_why.specs.Processes.{has_process, process_told}
+use Rattle.cpg_why.specs.declared.findings.Finding.{Finding}
+use Rattle.cpg_why.specs.Findings.{findings_of, records_told}
+use Rattle.cpg_why.specs.Forms.{Form, IsText, Writes, WritesFront}
+use Rattle.cpg_why.specs.Processes.{has_process}
 
 -- the numbers of the lines of a script's entries
 abbrev pub numbers_of : List ℕ → List ℕ
 numbers_of script = map (λ line. line.0) (commands_of script)
+
+-- the number of the line of the entry at a place, of the numbers of the entries' lines; entries that stand in no script have no lines
+abbrev pub line_at : List ℕ → ℕ → Option ℕ
+line_at numbers place = slice_get numbers (place - 1)
 
 -- a number counts one of so many, from 1
 abbrev pub Stands : ℕ → ℕ → Type 0
@@ -46,18 +52,13 @@ CanTell (Told conn event) entries = Stands event (events_told entries conn)
 CanTell (Connection conn) entries = IsTrue (has_entry entries conn)
 CanTell Denials entries = ⊤
 
--- what is told in a form of entries whose lines have those numbers
-abbrev pub asked_told : Form → List ℕ → List Entry → Asked → List ℕ
-asked_told form numbers entries (Place place) = why_told form numbers (judged entries) place
-asked_told form numbers entries Denials = denials_told form numbers (judged entries)
-asked_told form numbers entries (Connection conn) = way_told form numbers (judged entries) conn
-asked_told form numbers entries (To place conn) = stand_told form numbers (judged entries) conn place
-asked_told form numbers entries (ToProcess place pid) = process_told form numbers (judged entries) (conns_of entries) pid place
-asked_told form numbers entries (Told conn event) = event_told form numbers (judged entries) conn event
+-- what is found of what is asked
+abbrev pub IsFound : List Entry → Asked → List Record → List Finding → Type 0
+IsFound entries asked records found = CanTell asked entries × (records ≡ records_told entries asked) × (found ≡ findings_of entries asked)
 
--- it is what is told of a script that has a meaning
+-- the text tells what is asked of a script that has a meaning
 abbrev pub IsTold : Form → Result (List Entry) ℕ → List ℕ → Asked → List ℕ → Type 0
-IsTold form (Ok entries) numbers asked text = CanTell asked entries × (text ≡ asked_told form numbers entries asked)
+IsTold form (Ok entries) numbers asked text = CanTell asked entries × IsText form numbers entries asked text
 IsTold form (Err line) numbers asked text = ⊥
 
 -- the place that is asked of, if one is
@@ -92,7 +93,7 @@ TellsNot script asked (Missing what) = IsMissingIn script asked what
 
 -- the text is written where the script has a meaning and what is asked of can be told
 abbrev pub IsWritten : Form → Result (List Entry) ℕ → List ℕ → Asked → Option (List ℕ) → Option (List ℕ) → Type 0
-IsWritten form (Ok entries) numbers asked old new = CanTell asked entries × Appends old new (asked_told form numbers entries asked)
+IsWritten form (Ok entries) numbers asked old new = CanTell asked entries × Writes form numbers entries asked old new
 IsWritten form (Err line) numbers asked old new = ⊥
 
 -- what a refusal leaves: nothing; and of a writer that fails a front of the text. A bad line is the first
@@ -100,7 +101,7 @@ abbrev pub LeavesBy : Form → Result (List Entry) ℕ → List ℕ → Asked �
 LeavesBy form (Err bad) numbers asked (refusal.BadCommand line) old new = (line ≡ bad) × Keeps old new
 LeavesBy form script numbers asked refusal.Read old new = Keeps old new
 LeavesBy form script numbers asked refusal.Memory old new = Keeps old new
-LeavesBy form (Ok entries) numbers asked refusal.Write old new = CanTell asked entries × AppendsFront old new (asked_told form numbers entries asked)
+LeavesBy form (Ok entries) numbers asked refusal.Write old new = CanTell asked entries × WritesFront form numbers entries asked old new
 LeavesBy _ _ _ _ _ old new = ⊥
 
 -- the same of a fault; what is not there is told, and nothing is left
@@ -131,7 +132,7 @@ EndsWhy asked (Missing what) old new = IsAskedOf asked what × Keeps old new
 -- what a refusal leaves of what is told of entries: want of memory nothing, and a writer that fails a front of it
 abbrev pub LeavesTold : Form → List ℕ → List Entry → Asked → Refusal → Option (List ℕ) → Option (List ℕ) → Type 0
 LeavesTold form numbers entries asked refusal.Memory old new = Keeps old new
-LeavesTold form numbers entries asked refusal.Write old new = CanTell asked entries × AppendsFront old new (asked_told form numbers entries asked)
+LeavesTold form numbers entries asked refusal.Write old new = CanTell asked entries × WritesFront form numbers entries asked old new
 LeavesTold _ _ _ _ _ old new = ⊥
 
 -- the same of a fault; what is not there leaves nothing

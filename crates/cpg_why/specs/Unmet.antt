@@ -1,5 +1,5 @@
 -- which condition of a rule an asker does not meet
-use Rattle.std.specs.Prelude.{ℕ, ◌==◌, List, ◌++◌, codes, decimal, Option, Some, None, if◌then◌else◌}
+use Rattle.std.specs.Prelude.{ℕ, ◌==◌, Option, Some, None, if◌then◌else◌}
 use Rattle.cpg_rules.specs.declared.rules.Asker.{Asker}
 use Rattle.cpg_rules.specs.declared.rules.Who.{Who}
 use Rattle.cpg_why.specs.declared.unmet.Kind.{Kind}
@@ -33,14 +33,3 @@ unfoldable pub unmet : Who → Asker → Option Unmet
 unmet who asker =
     first_of_two (lacking Uid asker.cred.uid who.uid)
     (first_of_two (lacking Gid asker.cred.gid who.gid) (lacking Node asker.node who.node))
-
--- the name of a kind
-abbrev pub kind_text : Kind → List ℕ
-kind_text Uid = codes "uid "
-kind_text Gid = codes "gid "
-kind_text Node = codes "node "
-
--- `: KIND HAS is not WANTED`
-unfoldable pub unmet_text : Option Unmet → List ℕ
-unmet_text None = codes ""
-unmet_text (Some found) = codes ": " ++ kind_text found.kind ++ decimal found.has ++ codes " is not " ++ decimal found.wanted

@@ -2,7 +2,7 @@
 
 ghost use Rattle.std.specs.Prelude.{◌≡◌, ◌≤◌, ◌↔◌, ◌+◌, true, Ok, Some, length, OnOk, IfOk, IfErr, IsOkUnless};
 ghost use Rattle.cpg_record.specs.Judging.{judged, most_places};
-ghost use Rattle.cpg_why.specs.Forms.{event_place, event_told};
+ghost use Rattle.cpg_why.specs.Findings.{event_place};
 ghost use Rattle.cpg_why.specs.Scripts.{Stands, TellsNot, events_told};
 
 use crate::asking::{Asked, Missing, WhyFault};

@@ -1,12 +1,13 @@
 //! What follows from the definitions. Each function has nothing to do: its contract is the law.
 
-ghost use Rattle.cpg_why.specs.Laws.{NamedDecides, NamedIsTheVerdicts, PassedDoNotMatch, RemovalTellsWhatDecides, TellsTheUnmet, TellsVerdictsUnder, TellsVerdictsWithout, TellsWhereNotMatched};
+ghost use Rattle.cpg_why.specs.Laws.{NamedIsTheVerdicts, PassedDoNotMatch, RemovalTellsWhatDecides, TellsDefaults, TellsRules, TellsTheUnmet, TellsVerdictsUnder, TellsVerdictsWithout, TellsWhereNotMatched};
 ghost use Rattle.cpg_why.specs.Standings.{ToldByStanding};
 
-/// The rule that is named is the one that decides, and where none is named the default does; where a verdict is by a
-/// rule, that one is named.
+/// The rule that is told as what decided is the one that decides, and where the default is told no rule speaks; where a
+/// verdict is by a rule, that one is told.
 pub fn named_decides()
-    ensures decides { NamedDecides }
+    ensures rules { TellsRules }
+    ensures defaults { TellsDefaults }
     ensures verdicts { NamedIsTheVerdicts }
 {}
 

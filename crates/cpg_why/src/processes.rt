@@ -1,14 +1,15 @@
-//! Which connections are of a process, by its pid, and why each is told of an entry, or is not.
+//! Which connections are of a process, by its pid, and how each stands to an entry.
 //!
-//! Proved: what is put at the line's end is the definition of `specs/Processes.antt`.
+//! Proved: it is the definition of `specs/Processes.antt`.
 
 ghost use Rattle.std.specs.Prelude.{◌≡◌, ◌≤◌, ◌++◌, length, OnOk, IsOkUnless};
 ghost use Rattle.cpg_record.specs.Connections.{conns_of};
 ghost use Rattle.cpg_record.specs.Judging.{judged};
-ghost use Rattle.cpg_why.specs.Processes.{first_own, has_process, is_of, is_pid, pid_at, process_told, stand_if};
+ghost use Rattle.cpg_why.specs.Processes.{has_process, is_of, is_pid, pid_at, process_stands, stand_if};
 
-use crate::forms::Tells;
+use crate::findings::Finding;
 use crate::numbers::find_record;
+use crate::standings::stand_at;
 use cpg_cred::Refusal;
 use cpg_group::Policy;
 use cpg_record::{ConnId, Record};
@@ -51,56 +52,53 @@ pub(crate) fn has_process(policy: &Policy, pid: u32) -> bool
         .any(|conn| is_of(policy, pid, conn))
 }
 
-/// Puts why the connection is told of the entry of that place, or is not, where it is of the process.
-fn put_stand_if<F: Tells>(
-    line: &mut Vec<u8>,
-    numbers: &[u32],
+/// Puts how the connection stands to the entry of that place last, where it is of the process.
+fn stand_if(
+    list: &mut Vec<Finding>,
     policy: &Policy,
     pid: u32,
     place: u32,
     conn: &ConnId,
 ) -> Result<(), Refusal>
     requires { (1 ≤ place) × (place ≤ length policy.now) }
-    ensures ok { OnOk result (line.new.items ≡ line.old.items ++ stand_if F.form numbers.now (judged policy.now) pid place conn.now) }
+    ensures ok { OnOk result (list.new.items ≡ list.old.items ++ stand_if (judged policy.now) pid place conn.now) }
     ensures memory { IsOkUnless result Refusal.Memory }
 {
     if is_of(policy, pid, conn) {
-        F::put_stand_at(line, numbers, policy, conn, place)
+        stand_at(list, policy, conn, place)
     } else {
         Ok(())
     }
 }
 
-/// Puts why each of the connections that is of the process is told of the entry of that place, or is not.
-fn put_each<F: Tells>(
-    line: &mut Vec<u8>,
-    numbers: &[u32],
+/// Puts how each of the connections that is of the process stands to the entry of that place last.
+fn stand_each(
+    list: &mut Vec<Finding>,
     policy: &Policy,
     pid: u32,
     place: u32,
     conns: &[ConnId],
 ) -> Result<(), Refusal>
     requires { (1 ≤ place) × (place ≤ length policy.now) }
-    ensures ok { OnOk result (line.new.items ≡ line.old.items ++ process_told F.form numbers.now (judged policy.now) conns.now pid place) }
+    ensures ok { OnOk result (list.new.items ≡ list.old.items ++ process_stands (judged policy.now) conns.now pid place) }
     ensures memory { IsOkUnless result Refusal.Memory }
 {
     for conn in conns {
-        put_stand_if::<F>(line, numbers, policy, pid, place, conn)?;
+        stand_if(list, policy, pid, place, conn)?;
     }
     Ok(())
 }
 
-/// Puts why each connection of the process is told of the entry of that place, or is not.
-pub(crate) fn put_process<F: Tells>(
-    line: &mut Vec<u8>,
-    numbers: &[u32],
+/// Puts how each connection of the process stands to the entry of that place last.
+pub(crate) fn stand_process(
+    list: &mut Vec<Finding>,
     policy: &Policy,
     pid: u32,
     place: u32,
 ) -> Result<(), Refusal>
     requires { (1 ≤ place) × (place ≤ length policy.now) }
-    ensures ok { OnOk result (line.new.items ≡ line.old.items ++ process_told F.form numbers.now (judged policy.now) (conns_of policy.now) pid place) }
+    ensures ok { OnOk result (list.new.items ≡ list.old.items ++ process_stands (judged policy.now) (conns_of policy.now) pid place) }
     ensures memory { IsOkUnless result Refusal.Memory }
 {
-    put_each::<F>(line, numbers, policy, pid, place, policy.connections())
+    stand_each(list, policy, pid, place, policy.connections())
 }

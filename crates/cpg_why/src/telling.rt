@@ -1,24 +1,26 @@
 //! A script of entries is read and checked whole, and what is asked of it is told.
 //!
-//! Proved: the bytes, after success and after each fault.
+//! Proved: what is found, and that a text which tells it is written; and what each fault leaves.
 
 ghost use Rattle.std.specs.Prelude.{◌≡◌, ◌≤◌, Ok, Some, length, OnOk, IfOk, IfErr, IfSome};
 ghost use Rattle.std.specs.List.{list_any};
 ghost use Rattle.cpg_record.specs.Connections.{is_conn};
 ghost use Rattle.cpg_record.specs.Judging.{judged, most_places};
 ghost use Rattle.cpg_judge.specs.Scripts.{entries_of_script};
-ghost use Rattle.cpg_why.specs.Forms.{as_text, event_place};
-ghost use Rattle.cpg_why.specs.Scripts.{asked_told, numbers_of, CanTell, EndsWhy, IsTold, IsWritten, Leaves, Stands, TellsNot};
+ghost use Rattle.cpg_why.specs.Findings.{event_place};
+ghost use Rattle.cpg_why.specs.Forms.{IsText};
+ghost use Rattle.cpg_why.specs.Scripts.{numbers_of, place_asked, CanTell, EndsWhy, IsFound, IsTold, IsWritten, Leaves, Stands, TellsNot};
 
 use crate::asking::{Asked, Missing, WhyFault};
-use crate::forms::{AsText, Tells};
+use crate::findings::Findings;
+use crate::forms::Tells;
 use crate::inboxes::{find_told, stands};
 use crate::numbers::read_numbers;
-use crate::processes::{has_process, put_process};
+use crate::processes::{has_process, stand_process};
 use crate::scripts::read_entries;
-use crate::standings::put_stand_in;
-use crate::walk::{pass_all, put_denials, put_why_of};
-use crate::way::put_way;
+use crate::standings::stand_at;
+use crate::walk::{find_denials, find_why, pass_all};
+use crate::way::find_way;
 use cpg_entry::Entry;
 use cpg_group::Policy;
 use cpg_record::ConnId;
@@ -26,30 +28,12 @@ use cpg_text::{MOST_BYTES, read_whole, write_whole};
 use std::alloc::Global;
 use std::io::{Read, Write};
 
-/// Judges the entries of a script, and writes what is asked of them, as lines of text.
+/// Judges the entries of a script, and writes what is asked of them in a form.
 ///
 /// The faults come in this order: `Read`, then `BadCommand` with the first bad line, then that what is asked of
 /// is not there, with how many entries or events there are; `Memory` may come at any time; all with nothing written.
 /// Last is `Write`, which leaves a front of the text.
-pub fn why_script<R: Read, W: Write>(
-    alloc: Global,
-    reader: &mut R,
-    writer: &mut W,
-    asked: Asked,
-) -> Result<(), WhyFault>
-    ensures ok { OnOk result (IfSome (R.remaining reader.old) (λ script.
-        (length script ≤ MOST_BYTES) × IsWritten as_text (entries_of_script script) (numbers_of script) asked (W.contents writer.old) (W.contents writer.new))) }
-    ensures err { IfErr result (λ fault. IfSome (R.remaining reader.old) (λ script.
-        Leaves as_text (entries_of_script script) (numbers_of script) asked fault (W.contents writer.old) (W.contents writer.new))) }
-
-    // Nothing is written before the text is whole, even where the reader tells no bytes.
-    ensures ends { IfErr result (λ fault. EndsWhy asked fault (W.contents writer.old) (W.contents writer.new)) }
-{
-    why_in_form::<AsText, R, W>(alloc, reader, writer, asked)
-}
-
-/// The same in a form.
-pub fn why_in_form<F: Tells, R: Read, W: Write>(
+pub fn why_script<F: Tells, R: Read, W: Write>(
     alloc: Global,
     reader: &mut R,
     writer: &mut W,
@@ -59,6 +43,8 @@ pub fn why_in_form<F: Tells, R: Read, W: Write>(
         (length script ≤ MOST_BYTES) × IsWritten F.form (entries_of_script script) (numbers_of script) asked (W.contents writer.old) (W.contents writer.new))) }
     ensures err { IfErr result (λ fault. IfSome (R.remaining reader.old) (λ script.
         Leaves F.form (entries_of_script script) (numbers_of script) asked fault (W.contents writer.old) (W.contents writer.new))) }
+
+    // Nothing is written before the text is whole, even where the reader tells no bytes.
     ensures ends { IfErr result (λ fault. EndsWhy asked fault (W.contents writer.old) (W.contents writer.new)) }
 {
     let script = read_whole(alloc, reader)?;
@@ -86,86 +72,88 @@ pub(crate) fn tell_entries<F: Tells>(
     asked: Asked,
 ) -> Result<Vec<u8>, WhyFault>
     requires { length entries.now ≤ most_places }
-    ensures ok { IfOk result (λ text. CanTell asked entries.now × (text.items ≡ asked_told F.form numbers.now entries.now asked)) }
+    ensures ok { IfOk result (λ text. CanTell asked entries.now × IsText F.form numbers.now entries.now asked text.items) }
+    ensures err { IfErr result (TellsNot (Ok entries.now) asked) }
+{
+    let found = find(alloc, entries, asked)?;
+    match F::text_of(alloc, numbers, &found) {
+        Ok(text) => Ok(text),
+        Err(refusal) => Err(WhyFault::from(refusal)),
+    }
+}
+
+/// What is found of what is asked of entries, and the records that it speaks of. Where what is asked of is not there, that
+/// is told, with how many entries or events there are.
+pub fn find(alloc: Global, entries: &[Entry], asked: Asked) -> Result<Findings, WhyFault>
+    requires { length entries.now ≤ most_places }
+    ensures ok { IfOk result (λ found. IsFound entries.now asked found.records.items found.list.items) }
     ensures err { IfErr result (TellsNot (Ok entries.now) asked) }
 {
     match asked {
-        Asked::Place(place) => tell_place::<F>(alloc, numbers, entries, place),
-        Asked::Denials => tell_denials::<F>(alloc, numbers, entries),
-        Asked::Connection(conn) => tell_way::<F>(alloc, numbers, entries, &conn),
-        Asked::To(place, conn) => tell_stand::<F>(alloc, numbers, entries, &conn, place),
-        Asked::ToProcess(place, pid) => tell_process::<F>(alloc, numbers, entries, pid, place),
-        Asked::Told(conn, event) => tell_event::<F>(alloc, numbers, entries, &conn, event),
+        Asked::Place(place) => find_place(alloc, entries, place),
+        Asked::Denials => find_all(alloc, entries),
+        Asked::Connection(conn) => find_conn(alloc, entries, &conn),
+        Asked::To(place, conn) => find_stand(alloc, entries, &conn, place),
+        Asked::ToProcess(place, pid) => find_process(alloc, entries, pid, place),
+        Asked::Told(conn, event) => find_event(alloc, entries, &conn, event),
     }
+}
+
+/// That an entry stands at the place; else how many there are.
+fn check_place(entries: &[Entry], place: u32) -> Result<(), WhyFault>
+    requires { length entries.now ≤ most_places }
+    ensures ok { OnOk result (Stands place (length entries.now)) }
+    ensures err { IfErr result (λ fault. (asked : Asked) → place_asked asked ≡ Some place → TellsNot (Ok entries.now) asked fault) }
+{
+    let count = entries.len() as u32;
+    if stands(place, count) {
+        return Ok(());
+    }
+    Err(WhyFault::Missing(Missing::Entry {
+        place,
+        entries: count,
+    }))
 }
 
 /// Why the entry of a place was answered as it was.
-fn tell_place<F: Tells>(
-    alloc: Global,
-    numbers: &[u32],
-    entries: &[Entry],
-    place: u32,
-) -> Result<Vec<u8>, WhyFault>
+fn find_place(alloc: Global, entries: &[Entry], place: u32) -> Result<Findings, WhyFault>
     requires { length entries.now ≤ most_places }
-    ensures ok { IfOk result (λ text. CanTell (Asked.Place place) entries.now × (text.items ≡ asked_told F.form numbers.now entries.now (Asked.Place place))) }
+    ensures ok { IfOk result (λ found. IsFound entries.now (Asked.Place place) found.records.items found.list.items) }
     ensures err { IfErr result (TellsNot (Ok entries.now) (Asked.Place place)) }
 {
-    let count = entries.len() as u32;
-    if !stands(place, count) {
-        return Err(WhyFault::Missing(Missing::Entry {
-            place,
-            entries: count,
-        }));
-    }
-    let mut text = Vec::new(alloc);
-    match put_why_of::<F>(&mut text, numbers, entries, place as usize - 1) {
-        Ok(()) => Ok(text),
-        Err(refusal) => Err(WhyFault::from(refusal)),
-    }
+    check_place(entries, place)?;
+    let found = find_why(alloc, entries, place as usize - 1)?;
+    Ok(found)
 }
 
 /// Why each denied entry was answered as it was.
-fn tell_denials<F: Tells>(
-    alloc: Global,
-    numbers: &[u32],
-    entries: &[Entry],
-) -> Result<Vec<u8>, WhyFault>
+fn find_all(alloc: Global, entries: &[Entry]) -> Result<Findings, WhyFault>
     requires { length entries.now ≤ most_places }
-    ensures ok { IfOk result (λ text. text.items ≡ asked_told F.form numbers.now entries.now Asked.Denials) }
+    ensures ok { IfOk result (λ found. IsFound entries.now Asked.Denials found.records.items found.list.items) }
     ensures err { IfErr result (TellsNot (Ok entries.now) Asked.Denials) }
 {
-    let mut text = Vec::new(alloc);
-    match put_denials::<F>(&mut text, numbers, entries) {
-        Ok(()) => Ok(text),
-        Err(refusal) => Err(WhyFault::from(refusal)),
-    }
+    let found = find_denials(alloc, entries)?;
+    Ok(found)
 }
 
 /// The way of a connection.
-fn tell_way<F: Tells>(
-    alloc: Global,
-    numbers: &[u32],
-    entries: &[Entry],
-    conn: &ConnId,
-) -> Result<Vec<u8>, WhyFault>
+fn find_conn(alloc: Global, entries: &[Entry], conn: &ConnId) -> Result<Findings, WhyFault>
     requires { length entries.now ≤ most_places }
-    ensures ok { IfOk result (λ text. CanTell (Asked.Connection conn.now) entries.now × (text.items ≡ asked_told F.form numbers.now entries.now (Asked.Connection conn.now))) }
+    ensures ok { IfOk result (λ found. IsFound entries.now (Asked.Connection conn.now) found.records.items found.list.items) }
     ensures err { IfErr result (TellsNot (Ok entries.now) (Asked.Connection conn.now)) }
 {
     let walk = pass_all(alloc, entries)?;
-    match find_conn(&walk.policy, conn) {
+    match check_conn(&walk.policy, conn) {
         Ok(()) => {}
         Err(fault) => return Err(fault),
     }
-    let mut text = Vec::new(alloc);
-    match put_way::<F>(&mut text, numbers, &walk.policy, conn) {
-        Ok(()) => Ok(text),
-        Err(refusal) => Err(WhyFault::from(refusal)),
-    }
+    let mut list = Vec::new(alloc);
+    find_way(&mut list, &walk.policy, conn)?;
+    Ok(walk.found(list))
 }
 
 /// That the connection made one of the judged entries; else how many connections made one.
-fn find_conn(policy: &Policy, conn: &ConnId) -> Result<(), WhyFault>
+fn check_conn(policy: &Policy, conn: &ConnId) -> Result<(), WhyFault>
     requires { length policy.now ≤ most_places }
     ensures ok { OnOk result (CanTell (Asked.Connection conn.now) policy.now) }
     ensures err { IfErr result (TellsNot (Ok policy.now) (Asked.Connection conn.now)) }
@@ -187,81 +175,74 @@ fn has_conn(conns: &[ConnId], conn: &ConnId) -> bool
     conns.iter().any(|other| conn.is(other))
 }
 
-/// Why the connection is told of the entry of a place, or is not.
-fn tell_stand<F: Tells>(
+/// How the connection stands to the entry of a place, and what it is told there.
+fn find_stand(
     alloc: Global,
-    numbers: &[u32],
     entries: &[Entry],
     conn: &ConnId,
     place: u32,
-) -> Result<Vec<u8>, WhyFault>
+) -> Result<Findings, WhyFault>
     requires { length entries.now ≤ most_places }
-    ensures ok { IfOk result (λ text. CanTell (Asked.To place conn.now) entries.now × (text.items ≡ asked_told F.form numbers.now entries.now (Asked.To place conn.now))) }
+    ensures ok { IfOk result (λ found. IsFound entries.now (Asked.To place conn.now) found.records.items found.list.items) }
     ensures err { IfErr result (TellsNot (Ok entries.now) (Asked.To place conn.now)) }
 {
-    let count = entries.len() as u32;
-    if !stands(place, count) {
-        return Err(WhyFault::Missing(Missing::Entry {
-            place,
-            entries: count,
-        }));
-    }
-    let mut text = Vec::new(alloc);
-    match put_stand_in::<F>(&mut text, numbers, entries, conn, place) {
-        Ok(()) => Ok(text),
-        Err(refusal) => Err(WhyFault::from(refusal)),
-    }
+    check_place(entries, place)?;
+    let walk = pass_all(alloc, entries)?;
+    let mut list = Vec::new(alloc);
+    stand_at(&mut list, &walk.policy, conn, place)?;
+    Ok(walk.found(list))
 }
 
-/// Why each connection of the process is told of the entry of a place, or is not.
-fn tell_process<F: Tells>(
+/// The same of each connection of the process.
+fn find_process(
     alloc: Global,
-    numbers: &[u32],
     entries: &[Entry],
     pid: u32,
     place: u32,
-) -> Result<Vec<u8>, WhyFault>
+) -> Result<Findings, WhyFault>
     requires { length entries.now ≤ most_places }
-    ensures ok { IfOk result (λ text. CanTell (Asked.ToProcess place pid) entries.now × (text.items ≡ asked_told F.form numbers.now entries.now (Asked.ToProcess place pid))) }
+    ensures ok { IfOk result (λ found. IsFound entries.now (Asked.ToProcess place pid) found.records.items found.list.items) }
     ensures err { IfErr result (TellsNot (Ok entries.now) (Asked.ToProcess place pid)) }
 {
-    let count = entries.len() as u32;
-    if !stands(place, count) {
-        return Err(WhyFault::Missing(Missing::Entry {
-            place,
-            entries: count,
-        }));
-    }
+    check_place(entries, place)?;
     let walk = pass_all(alloc, entries)?;
-    if !has_process(&walk.policy, pid) {
-        let conns = walk.policy.connections().len() as u32;
-        return Err(WhyFault::Missing(Missing::Process { pid, conns }));
+    match check_process(&walk.policy, pid, place) {
+        Ok(()) => {}
+        Err(fault) => return Err(fault),
     }
-    let mut text = Vec::new(alloc);
-    match put_process::<F>(&mut text, numbers, &walk.policy, pid, place) {
-        Ok(()) => Ok(text),
-        Err(refusal) => Err(WhyFault::from(refusal)),
+    let mut list = Vec::new(alloc);
+    stand_process(&mut list, &walk.policy, pid, place)?;
+    Ok(walk.found(list))
+}
+
+/// That a connection of the process made one of the judged entries; else how many connections made one.
+fn check_process(policy: &Policy, pid: u32, place: u32) -> Result<(), WhyFault>
+    requires few { length policy.now ≤ most_places }
+    requires place { Stands place (length policy.now) }
+    ensures ok { OnOk result (CanTell (Asked.ToProcess place pid) policy.now) }
+    ensures err { IfErr result (TellsNot (Ok policy.now) (Asked.ToProcess place pid)) }
+{
+    if has_process(policy, pid) {
+        return Ok(());
     }
+    let conns = policy.connections().len() as u32;
+    Err(WhyFault::Missing(Missing::Process { pid, conns }))
 }
 
 /// Why the entry was answered as it was that told the connection its event of that number.
-fn tell_event<F: Tells>(
+fn find_event(
     alloc: Global,
-    numbers: &[u32],
     entries: &[Entry],
     conn: &ConnId,
     event: u32,
-) -> Result<Vec<u8>, WhyFault>
+) -> Result<Findings, WhyFault>
     requires { length entries.now ≤ most_places }
-    ensures ok { IfOk result (λ text. CanTell (Asked.Told conn.now event) entries.now × (text.items ≡ asked_told F.form numbers.now entries.now (Asked.Told conn.now event))) }
+    ensures ok { IfOk result (λ found. IsFound entries.now (Asked.Told conn.now event) found.records.items found.list.items) }
     ensures err { IfErr result (TellsNot (Ok entries.now) (Asked.Told conn.now event)) }
 {
     let place = place_told(alloc, entries, conn, event)?;
-    let mut text = Vec::new(alloc);
-    match put_why_of::<F>(&mut text, numbers, entries, place as usize - 1) {
-        Ok(()) => Ok(text),
-        Err(refusal) => Err(WhyFault::from(refusal)),
-    }
+    let found = find_why(alloc, entries, place as usize - 1)?;
+    Ok(found)
 }
 
 /// The place of the entry that told the connection its event of that number.

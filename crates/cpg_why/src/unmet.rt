@@ -1,14 +1,12 @@
 //! Which condition of a rule an asker does not meet.
 
-ghost use Rattle.std.specs.Prelude.{◌≡◌, ◌++◌, ◌&&◌, codes, OnOk, IsOkUnless};
+ghost use Rattle.std.specs.Prelude.{◌≡◌, ◌&&◌};
 ghost use Rattle.cpg_rules.specs.Decision.{agrees, matches, same_right};
-ghost use Rattle.cpg_why.specs.Unmet.{kind_text, lacking, unmet, unmet_text};
+ghost use Rattle.cpg_why.specs.Unmet.{lacking, unmet};
 
-use cpg_cred::{NodeId, Refusal};
+use cpg_cred::NodeId;
 use cpg_print::node_number;
 use cpg_rules::{Asker, Right, Rule, Who};
-use cpg_script::put;
-use cpg_text::push_number;
 
 /// What a condition of a rule is on.
 #[derive(Debug, Clone, Copy, PartialEq, Eq)]
@@ -19,6 +17,17 @@ pub enum Kind {
     Gid,
     /// The node of the asker.
     Node,
+}
+
+impl Kind {
+    /// Its name.
+    pub fn name(self) -> &'static str {
+        match self {
+            Kind::Uid => "uid",
+            Kind::Gid => "gid",
+            Kind::Node => "node",
+        }
+    }
 }
 
 /// A condition that an asker does not meet: it has one number and another is wanted.
@@ -93,40 +102,4 @@ pub(crate) fn speaks_of(rule: &Rule, right: Right, asker: &Asker) -> bool
         && holds(rule.who.uid, asker.cred.uid)
         && holds(rule.who.gid, asker.cred.gid)
         && holds_at(rule.who.node, asker.node)
-}
-
-fn kind_name(kind: Kind) -> &'static str
-    ensures { result.now ≡ kind_text kind }
-{
-    match kind {
-        Kind::Uid => "uid ",
-        Kind::Gid => "gid ",
-        Kind::Node => "node ",
-    }
-}
-
-/// Puts a condition that is not met, if one is there.
-#[tactic(auto, unfolding(crate::specs::Unmet::unmet_text))]
-fn put_found(line: &mut Vec<u8>, found: Option<Unmet>) -> Result<(), Refusal>
-    ensures ok { OnOk result (line.new.items ≡ line.old.items ++ unmet_text found) }
-    ensures memory { IsOkUnless result Refusal.Memory }
-{
-    match found {
-        None => put(line, ""),
-        Some(found) => {
-            put(line, ": ")?;
-            put(line, kind_name(found.kind))?;
-            push_number(line, u64::from(found.has))?;
-            put(line, " is not ")?;
-            push_number(line, u64::from(found.wanted))
-        }
-    }
-}
-
-/// Puts the first condition that the asker does not meet, if there is one.
-pub(crate) fn put_unmet(line: &mut Vec<u8>, who: &Who, asker: &Asker) -> Result<(), Refusal>
-    ensures ok { OnOk result (line.new.items ≡ line.old.items ++ unmet_text (unmet who.now asker.now)) }
-    ensures memory { IsOkUnless result Refusal.Memory }
-{
-    put_found(line, find_unmet(who, asker))
 }

@@ -144,7 +144,7 @@ fn judge_under(policy: &Policy, table: &Table, past: &Record) -> Verdict
 }
 
 /// The verdict on the entry of a record if the table lacked the rule of that number.
-pub fn judge_without(
+pub(crate) fn judge_without(
     alloc: Global,
     policy: &Policy,
     table: &Table,

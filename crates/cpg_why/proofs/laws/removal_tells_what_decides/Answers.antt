@@ -1,4 +1,4 @@
-use Rattle.cpg_why.proofs.Deciding.{removal_tells}
+use Rattle.cpg_why.proofs.Removal.{removal_tells}
 use Rattle.cpg_why.proofs.laws.removal_tells_what_decides.Goals as goal
 
 pub returns : goal.returns

@@ -13,4 +13,4 @@ loop-index-preserved c =
     let both =
     seen_one_more c.args.records.now c.args.conn.now index r c.loop-index.seen.0 c.loop-index.seen.1 c.loop-index-test.true more
     c.loop-index.invariant.0 c.loop-index.invariant.1 in
-    (c.follow-seen.ensures.last ∙ both.0, c.follow-seen.ensures.tried ∙ both.1, c.follow-seen.ensures.place)
+    (c.follow-seen.ensures.last ∙ both.0, c.follow-seen.ensures.tried ∙ both.1)

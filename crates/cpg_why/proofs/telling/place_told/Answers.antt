@@ -3,7 +3,7 @@ use Rattle.std.specs.Prelude.{Ok, IfOk, IfErr}
 use Rattle.cpg_entry.specs.declared.entries.Entry.{Entry}
 use Rattle.cpg_record.specs.Judging.{judged}
 use Rattle.cpg_why.specs.declared.asking.Asked.TheVariants.{Told}
-use Rattle.cpg_why.specs.Forms.{event_place}
+use Rattle.cpg_why.specs.Findings.{event_place}
 use Rattle.cpg_why.specs.Scripts.{events_told, Stands, TellsNot}
 use Rattle.cpg_why.proofs.telling.place_told.Goals as goal
 

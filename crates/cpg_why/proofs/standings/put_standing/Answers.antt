@@ -1,9 +1,0 @@
-use Rattle.std.proofs.Common.{◌≡◌, ◌-◌, length, sym, ap, ◌∙◌, arith}
-use Rattle.std.proofs.lemmas.List.{length-take-le}
-use Rattle.cpg_record.proofs.Denials.{each_entry_is_judged}
-use Rattle.cpg_why.proofs.standings.put_standing.Goals as goal
-
-pub slice_bounds-before-length : goal.slice_bounds-before-length
-slice_bounds-before-length c =
-    let many : length c.records.result.now ≡ length c.args.policy.now = ap length c.records.ensures ∙ (each_entry_is_judged c.args.policy.now).0 in
-    sym (length-take-le (c.args.place - 1) c.records.result.now (omega (arith, many, c.requires.1)))
