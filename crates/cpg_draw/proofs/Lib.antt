@@ -1,3 +1,4 @@
+pub mod Cut
 pub mod Drawn
 pub mod Front
 pub mod Overtaken

@@ -42,11 +42,12 @@ fn put_line(text: &mut Vec<u8>, nodes: u8, place: u64) -> Result<(), Refusal>
 }
 
 /// What there is room for of what a row says.
+#[tactic(auto, using(crate::proofs::Cut::front_fits))]
 fn cut(words: &[u8]) -> &[u8] {
-    if words.len() <= LETTERS {
-        words
-    } else {
+    if words.len() > LETTERS {
         &words[..LETTERS - 3]
+    } else {
+        words
     }
 }
 
