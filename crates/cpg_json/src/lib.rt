@@ -1,7 +1,7 @@
 //! What the program prints, as one object of JSON a line: of scripts, conf files, sessions (`sessions`) and reasons (`why`).
 //!
 //! The forms are this project's own; docs/CLI.md has them. Proved: what is written are the definitions in
-//! `specs/`, byte for byte, where the reader and the writer tell their bytes.
+//! `specs/`, byte for byte, where the reader and the writer tell their bytes; but for reasons, which plain code words.
 #![tactic(auto)]
 
 mod accepting;

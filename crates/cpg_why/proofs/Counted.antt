@@ -1,6 +1,6 @@
 -- at which place a connection was told its event of a number
-use Rattle.std.proofs.Common.{◌≡◌, ℕ, zero, suc, ◌+◌, ◌-◌, ◌<◌, ◌≤◌, inl, inr, Bool, true, false, cond, List, [], ◌∷◌, ◌++◌, length, Option, Some, None, option_map, All, refl, sym, ap, ◌∙◌, append_assoc, length-append, arith}
-use Rattle.std.specs.Prelude.{option_to_list}
+use Rattle.std.proofs.Common.{◌≡◌, ℕ, zero, suc, ◌+◌, ◌-◌, ◌<◌, ◌≤◌, inl, inr, Bool, true, false, cond, List, [], ◌∷◌, ◌++◌, length, Option, Some, None, option_map, All, refl, sym, ap, subst, ◌∙◌, append_assoc, length-append, arith}
+use Rattle.std.specs.Prelude.{option_to_list, IfSome}
 use Rattle.std.specs.List.{flat_map, range_with_len, slice_get}
 use Rattle.std.proofs.lemmas.List.Elements.{All-append, All-cons, All-nil}
 use Rattle.std.proofs.lemmas.Bool.{cases_lt}
@@ -23,7 +23,7 @@ use Rattle.cpg_why.specs.Findings.{event_place}
 use Rattle.cpg_why.specs.declared.asking.Asked.{Asked}
 use Rattle.cpg_why.specs.declared.asking.Missing.{Missing}
 use Rattle.cpg_why.specs.declared.asking.Missing.TheVariants as missing
-use Rattle.cpg_why.specs.Scripts.{events_told, IsAskedOf, IsMissing, Stands}
+use Rattle.cpg_why.specs.Scripts.{events_told, place_asked, IsAskedOf, IsMissing, Stands, StandsIfAsked}
 use Rattle.cpg_why.proofs.Pieces.{pieces_more}
 
 -- the place tells of itself alone
@@ -162,3 +162,11 @@ asked_of entries asked (missing.Entry place count) is = is.0
 asked_of entries asked (missing.Event conn event count) is = is.0
 asked_of entries asked (missing.Connection conn count) is = is.0
 asked_of entries asked (missing.Process pid count) is = is.0
+
+-- no place is asked of
+pub nowhere_asked : (asked : Asked) (count : ℕ) → place_asked asked ≡ None → StandsIfAsked asked count
+nowhere_asked asked count is = subst (λ (o : Option ℕ). IfSome o (λ place. Stands place count)) (sym is) tt
+
+-- an entry stands at the place that is asked of
+pub there_asked : (asked : Asked) (place count : ℕ) → place_asked asked ≡ Some place → Stands place count → StandsIfAsked asked count
+there_asked asked place count is stands = subst (λ (o : Option ℕ). IfSome o (λ place. Stands place count)) (sym is) stands

@@ -145,7 +145,7 @@ named_by before entry Gone r g id needs names is = absurd (cc)
 -- ---- what is told
 
 -- it is told by a table
-of_table : Decided → Bool
+abbrev of_table : Decided → Bool
 of_table (decided.Rule told) = true
 of_table (decided.Default told) = true
 of_table _ = false
@@ -170,14 +170,14 @@ by_right before r last (Denied reason.Absent) told of is = absurd (false≢true 
 -- where no rule is found, all are passed
 all_passed : {X : Type 0} (p : X → Bool) (xs : List X) → slice_get xs (position_or_len p xs) ≡ None → position_or_len p xs ≡ length xs
 all_passed p [] is = refl
-all_passed {X} p (x ∷ xs) is = by_case (p x) is
+all_passed {X} p (x ∷ xs) is = by_case (p x) (all_passed p xs) is
   where
-    by_case : (b : Bool) → slice_get (x ∷ xs) (cond (not b) (1 + position_or_len p xs) 0) ≡ None → cond (not b) (1 + position_or_len p xs) 0 ≡ length (x ∷ xs)
-    by_case true h = absurd (cc)
-    by_case false h =
+    by_case : (b : Bool) → (slice_get xs (position_or_len p xs) ≡ None → position_or_len p xs ≡ length xs) → slice_get (x ∷ xs) (cond (not b) (1 + position_or_len p xs) 0) ≡ None → cond (not b) (1 + position_or_len p xs) 0 ≡ length (x ∷ xs)
+    by_case true later h = absurd (cc)
+    by_case false later h =
         let next : 1 + position_or_len p xs ≡ suc (position_or_len p xs) = omega arith in
         let rest : slice_get xs (position_or_len p xs) ≡ None = ap (slice_get (x ∷ xs)) (sym next) ∙ h in
-        omega (arith, all_passed p xs rest)
+        omega (arith, later rest)
 
 module _ (before : List Record) (entry : Entry) (r : Right) (g : List ℕ) (needs : right_needed entry.op ≡ Some r) (names : entry_group before entry entry.op ≡ Some g) where
   -- the table of the group decides of the right

@@ -1,5 +1,5 @@
 -- what is asked of a script, and what is written
-use Rattle.std.specs.Prelude.{ℕ, ◌≡◌, ◌≤◌, ◌-◌, ⊤, Bool, false, IsTrue, List, length, map, slice_get, Option, Some, None, Result, Ok, Err}
+use Rattle.std.specs.Prelude.{ℕ, ◌≡◌, ◌≤◌, ◌-◌, ⊤, Bool, false, IsTrue, List, length, map, slice_get, Option, Some, None, IfSome, Result, Ok, Err}
 use Rattle.std.specs.List.{list_any}
 use Rattle.std.specs.Io.KnownBytes.{Keeps}
 use Rattle.cpg_cred.specs.declared.refusals.Refusal.{Refusal}
@@ -67,6 +67,10 @@ place_asked (Place place) = Some place
 place_asked (To place conn) = Some place
 place_asked (ToProcess place pid) = Some place
 place_asked _ = None
+
+-- an entry stands at the place that is asked of, where one is, of so many entries
+abbrev pub StandsIfAsked : Asked → ℕ → Type 0
+StandsIfAsked asked count = IfSome (place_asked asked) (λ place. Stands place count)
 
 -- the pid of the process that is asked of, if one is
 abbrev pub pid_asked : Asked → Option ℕ

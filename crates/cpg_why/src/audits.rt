@@ -1,6 +1,6 @@
 //! Entries that stand in no script, as those of an audit, are judged again, and what is asked of them is told.
 //!
-//! Proved: the bytes, after success and after each fault.
+//! Proved: that what is found is told, and what each fault leaves.
 
 ghost use Rattle.std.specs.Prelude.{◌≡◌, ◌≤◌, [], Ok, length, OnOk, IfOk, IfErr, IsOkUnless};
 ghost use Rattle.cpg_record.specs.Judging.{entries_of, most_places};

@@ -14,7 +14,7 @@ ghost use Rattle.cpg_record.specs.RuleTables.{rules_of};
 ghost use Rattle.cpg_why.specs.Deciding.{decided_by, decided_by_right, decided_by_table, decided_of, holder, passed_by, passed_one, passed_rules, right_needed, rules_in, subject};
 ghost use Rattle.cpg_why.specs.Moves.{last_move};
 
-use crate::findings::{Decided, Passed, PassedRule, Ruled, Unruled};
+use crate::findings::{Decided, Passed, Ruled, Unruled};
 use crate::unmet::{find_unmet, speaks_of};
 use crate::without::judge_without;
 use cpg_cred::{By, Refusal};
@@ -62,12 +62,7 @@ fn pass_rule(
     if rule.right != right {
         return Ok(());
     }
-    passed.push(PassedRule {
-        index,
-        id,
-        rule,
-        unmet: find_unmet(&rule.who, asker),
-    })
+    passed.push(index, id, rule, find_unmet(&rule.who, asker))
 }
 
 /// The same of the rule at the index of a table, if one stands there.

@@ -48,12 +48,23 @@ impl Passed {
         }
     }
 
-    /// Puts the rule last.
-    pub(crate) fn push(&mut self, rule: PassedRule) -> Result<(), Refusal>
-        ensures ok { OnOk result (self.new ≡ self.old ++ rule ∷ []) }
+    /// Puts the rule of that number, which stands at the index, last.
+    pub(crate) fn push(
+        &mut self,
+        index: usize,
+        id: u32,
+        rule: Rule,
+        unmet: Option<Unmet>,
+    ) -> Result<(), Refusal>
+        ensures ok { OnOk result (self.new ≡ self.old ++ record { index = index; id = id; rule = rule; unmet = unmet } ∷ []) }
         ensures memory { IsOkUnless result Refusal.Memory }
     {
-        self.rules.push(rule)?;
+        self.rules.push(PassedRule {
+            index,
+            id,
+            rule,
+            unmet,
+        })?;
         Ok(())
     }
 

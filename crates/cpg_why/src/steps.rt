@@ -1,7 +1,7 @@
 //! Why a verdict is what it is, in a world that a script of commands made: `cpgring step --why`.
 //!
 //! The forms are `cpg_why`'s, without numbers of lines. Proved: the commands are done as `cpgring step` does them; what is
-//! written is what is told of the entries of the node that delivered most, judged again, byte for byte.
+//! told is what is found of the entries of the node that delivered most, judged again.
 
 mod choosing;
 mod explaining;

@@ -9,7 +9,7 @@ ghost use Rattle.cpg_record.specs.Judging.{judged, most_places};
 ghost use Rattle.cpg_judge.specs.Scripts.{entries_of_script};
 ghost use Rattle.cpg_why.specs.Findings.{event_place};
 ghost use Rattle.cpg_why.specs.Forms.{IsText};
-ghost use Rattle.cpg_why.specs.Scripts.{numbers_of, place_asked, CanTell, EndsWhy, IsFound, IsTold, IsWritten, Leaves, Stands, TellsNot};
+ghost use Rattle.cpg_why.specs.Scripts.{numbers_of, place_asked, CanTell, EndsWhy, IsFound, IsTold, IsWritten, Leaves, Stands, StandsIfAsked, TellsNot};
 
 use crate::asking::{Asked, Missing, WhyFault};
 use crate::findings::Findings;
@@ -89,6 +89,53 @@ pub fn find(alloc: Global, entries: &[Entry], asked: Asked) -> Result<Findings, 
     ensures ok { IfOk result (λ found. IsFound entries.now asked found.records.items found.list.items) }
     ensures err { IfErr result (TellsNot (Ok entries.now) asked) }
 {
+    match check_place(entries, &asked) {
+        Ok(()) => find_there(alloc, entries, asked),
+        Err(fault) => Err(fault),
+    }
+}
+
+/// The place that is asked of, if one is.
+fn place_asked(asked: &Asked) -> Option<u32>
+    ensures { result ≡ place_asked asked.now }
+{
+    match asked {
+        Asked::Place(place) => Some(*place),
+        Asked::To(place, _) => Some(*place),
+        Asked::ToProcess(place, _) => Some(*place),
+        _ => None,
+    }
+}
+
+/// That an entry stands at the place that is asked of, where one is; else how many there are.
+#[tactic(auto, using(crate::proofs::Counted::nowhere_asked, crate::proofs::Counted::there_asked))]
+fn check_place(entries: &[Entry], asked: &Asked) -> Result<(), WhyFault>
+    requires { length entries.now ≤ most_places }
+    ensures ok { OnOk result (StandsIfAsked asked.now (length entries.now)) }
+    ensures err { IfErr result (TellsNot (Ok entries.now) asked.now) }
+{
+    match place_asked(asked) {
+        None => Ok(()),
+        Some(place) => {
+            let count = entries.len() as u32;
+            if stands(place, count) {
+                return Ok(());
+            }
+            Err(WhyFault::Missing(Missing::Entry {
+                place,
+                entries: count,
+            }))
+        }
+    }
+}
+
+/// The same where an entry stands at the place that is asked of, if one is.
+fn find_there(alloc: Global, entries: &[Entry], asked: Asked) -> Result<Findings, WhyFault>
+    requires few { length entries.now ≤ most_places }
+    requires place { StandsIfAsked asked (length entries.now) }
+    ensures ok { IfOk result (λ found. IsFound entries.now asked found.records.items found.list.items) }
+    ensures err { IfErr result (TellsNot (Ok entries.now) asked) }
+{
     match asked {
         Asked::Place(place) => find_place(alloc, entries, place),
         Asked::Denials => find_all(alloc, entries),
@@ -99,29 +146,13 @@ pub fn find(alloc: Global, entries: &[Entry], asked: Asked) -> Result<Findings, 
     }
 }
 
-/// That an entry stands at the place; else how many there are.
-fn check_place(entries: &[Entry], place: u32) -> Result<(), WhyFault>
-    requires { length entries.now ≤ most_places }
-    ensures ok { OnOk result (Stands place (length entries.now)) }
-    ensures err { IfErr result (λ fault. (asked : Asked) → place_asked asked ≡ Some place → TellsNot (Ok entries.now) asked fault) }
-{
-    let count = entries.len() as u32;
-    if stands(place, count) {
-        return Ok(());
-    }
-    Err(WhyFault::Missing(Missing::Entry {
-        place,
-        entries: count,
-    }))
-}
-
 /// Why the entry of a place was answered as it was.
 fn find_place(alloc: Global, entries: &[Entry], place: u32) -> Result<Findings, WhyFault>
-    requires { length entries.now ≤ most_places }
+    requires few { length entries.now ≤ most_places }
+    requires place { Stands place (length entries.now) }
     ensures ok { IfOk result (λ found. IsFound entries.now (Asked.Place place) found.records.items found.list.items) }
     ensures err { IfErr result (TellsNot (Ok entries.now) (Asked.Place place)) }
 {
-    check_place(entries, place)?;
     let found = find_why(alloc, entries, place as usize - 1)?;
     Ok(found)
 }
@@ -148,8 +179,10 @@ fn find_conn(alloc: Global, entries: &[Entry], conn: &ConnId) -> Result<Findings
         Err(fault) => return Err(fault),
     }
     let mut list = Vec::new(alloc);
-    find_way(&mut list, &walk.policy, conn)?;
-    Ok(walk.found(list))
+    match find_way(&mut list, &walk.policy, conn) {
+        Ok(()) => Ok(walk.found(list)),
+        Err(refusal) => Err(WhyFault::from(refusal)),
+    }
 }
 
 /// That the connection made one of the judged entries; else how many connections made one.
@@ -182,15 +215,17 @@ fn find_stand(
     conn: &ConnId,
     place: u32,
 ) -> Result<Findings, WhyFault>
-    requires { length entries.now ≤ most_places }
+    requires few { length entries.now ≤ most_places }
+    requires place { Stands place (length entries.now) }
     ensures ok { IfOk result (λ found. IsFound entries.now (Asked.To place conn.now) found.records.items found.list.items) }
     ensures err { IfErr result (TellsNot (Ok entries.now) (Asked.To place conn.now)) }
 {
-    check_place(entries, place)?;
     let walk = pass_all(alloc, entries)?;
     let mut list = Vec::new(alloc);
-    stand_at(&mut list, &walk.policy, conn, place)?;
-    Ok(walk.found(list))
+    match stand_at(&mut list, &walk.policy, conn, place) {
+        Ok(()) => Ok(walk.found(list)),
+        Err(refusal) => Err(WhyFault::from(refusal)),
+    }
 }
 
 /// The same of each connection of the process.
@@ -200,19 +235,21 @@ fn find_process(
     pid: u32,
     place: u32,
 ) -> Result<Findings, WhyFault>
-    requires { length entries.now ≤ most_places }
+    requires few { length entries.now ≤ most_places }
+    requires place { Stands place (length entries.now) }
     ensures ok { IfOk result (λ found. IsFound entries.now (Asked.ToProcess place pid) found.records.items found.list.items) }
     ensures err { IfErr result (TellsNot (Ok entries.now) (Asked.ToProcess place pid)) }
 {
-    check_place(entries, place)?;
     let walk = pass_all(alloc, entries)?;
     match check_process(&walk.policy, pid, place) {
         Ok(()) => {}
         Err(fault) => return Err(fault),
     }
     let mut list = Vec::new(alloc);
-    stand_process(&mut list, &walk.policy, pid, place)?;
-    Ok(walk.found(list))
+    match stand_process(&mut list, &walk.policy, pid, place) {
+        Ok(()) => Ok(walk.found(list)),
+        Err(refusal) => Err(WhyFault::from(refusal)),
+    }
 }
 
 /// That a connection of the process made one of the judged entries; else how many connections made one.

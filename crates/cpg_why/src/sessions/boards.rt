@@ -1,6 +1,6 @@
 //! What stands on the board of a running cluster, told to a seat that has seen nothing: `cpgring run --why`.
 //!
-//! Proved: the bytes, after success and after each fault, over the entries that the seat knows then.
+//! Proved: that what is found is told, and what each fault leaves, over the entries that the seat knows then.
 
 ghost use Rattle.std.specs.Prelude.{◌≡◌, ◌≤◌, [], Ok, length, OnOk, IfOk, IfErr, IsOkUnless};
 ghost use Rattle.cpg_record.specs.Judging.{entries_of, most_places};

@@ -1,7 +1,7 @@
 //! A script of sessions is run over a running cluster, and what is asked of the entries that stand on its board then is
 //! told: `cpgring run --why`.
 //!
-//! Proved: the commands are done as `cpgring run` does them; the bytes, after success and after each fault.
+//! Proved: the commands are done as `cpgring run` does them; that what is found is told, and what each fault leaves.
 
 ghost use Rattle.std.specs.Prelude.{ℕ, ◌≡◌, ◌≤◌, List, [], Option, None, Ok, length, OnOk, IfErr, IfSome};
 ghost use Rattle.std.specs.Io.KnownBytes.{Keeps};

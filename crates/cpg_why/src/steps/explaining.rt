@@ -1,7 +1,7 @@
 //! A script of commands is read and checked whole, its commands are done, and what is asked of what was delivered is
 //! told.
 //!
-//! Proved: the bytes and the world, after success and after each fault.
+//! Proved: that what is found is told, and what each fault leaves; the world.
 
 ghost use Rattle.std.specs.Prelude.{◌≡◌, ◌≤◌, [], Ok, All, length, OnOk, IfOk, IfErr, IfSome};
 ghost use Rattle.cpg_step.specs.Commands.{IsWithin};
