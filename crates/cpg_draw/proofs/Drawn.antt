@@ -11,11 +11,10 @@ use Rattle.cpg_step.specs.declared.commands.Command.TheVariants.{Act, Look}
 use Rattle.cpg_draw.specs.declared.arrows.Arrow.{Arrow}
 use Rattle.cpg_draw.specs.declared.excerpts.Excerpt.{Excerpt}
 use Rattle.cpg_draw.specs.declared.excerpts.Spot.{Spot}
-use Rattle.cpg_draw.specs.declared.misses.Miss.{Miss}
 use Rattle.cpg_draw.specs.declared.pictures.Picture.{Picture}
 use Rattle.cpg_draw.specs.declared.rows.Row.{Row}
 use Rattle.cpg_draw.specs.Excerpts.{is_shown, first_spot, spot_of, after_row, if_shown, shown_misses}
-use Rattle.cpg_draw.specs.Rows.{moves, first_arrows, look_row, act_row, arrows_after, arrows_past, all_arrows, rows_of, IsPicture}
+use Rattle.cpg_draw.specs.Rows.{moves, first_arrows, look_row, act_row, arrows_after, arrows_past, rows_of, IsPicture}
 use Rattle.cpg_draw.specs.Steps.{IsActed, AreRows, StandsBefore}
 
 regrouped : (old one more : List Row) → (old ++ one) ++ more ≡ old ++ (one ++ more)

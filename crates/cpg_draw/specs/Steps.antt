@@ -1,5 +1,5 @@
 -- steps of the functions that draw, which no contract of a public function cites
-use Rattle.std.specs.Prelude.{ℕ, ◌≡◌, Bool, List, ◌∷◌, ◌++◌}
+use Rattle.std.specs.Prelude.{◌≡◌, Bool, List, ◌∷◌, ◌++◌}
 use Rattle.cpg_world_laws.specs.declared.events.WorldEvent.{WorldEvent}
 use Rattle.cpg_world_laws.specs.Worlds.{WorldValue, happens}
 use Rattle.cpg_world_laws.specs.Replies.{Answer, IsReply, AreReplies}
