@@ -17,3 +17,5 @@ pub mod Evening
 pub mod Matched
 pub mod Lone
 pub mod Turns
+pub mod Settled
+pub mod Gathered

@@ -107,12 +107,13 @@ turn_stays x y h = subst (StaysLone x) (sym h.2) (visit_stays x h.0 h.1)
 -- ---- one delivery more
 
 pub delivered_none : (x : NodeValue) → HasDelivered x x
-delivered_none x = record { moves = node_moves_none x; lone = stays_same x.ring; waiting = refl; last = refl; settings = refl }
+delivered_none x = record { moves = node_moves_none x; lone = stays_same x.ring; clients = refl; waiting = refl; last = refl; settings = refl }
 
 pub delivered_more : (x y : NodeValue) → HasDelivered x y → HasDelivered x (node_after_delivery y)
 delivered_more x y h = record {
   moves = node_moves_then x y (node_after_delivery y) h.moves (delivery_moves y);
   lone = stays_then x.ring y.ring (node_after_delivery y).ring h.lone (delivery_stays y);
+  clients = h.clients;
   waiting = same_waiting (is_some (next_entry y.ring.state)) ∙ h.waiting;
   last = same_last (is_some (next_entry y.ring.state)) ∙ h.last;
   settings = h.settings;
@@ -231,15 +232,15 @@ has_turned x y passed did h kept =
     let is : IsTurnAnswer x x.ring.state.last_token (Ok true) y = subst (λ (b : Bool). IsTurnAnswer x x.ring.state.last_token (Ok b) y) did h in
     let found = turned_by x y x.ring.state.last_token is in
     let turn : IsTurn x.ring y.ring = (found.0, found.1, ap (λ (z : NodeValue). z.ring) found.3 ∙ after_is x found.0 found.2) in
-    (record { moves = turn_moves x y found.0 found.3 kept; lone = turn_stays x.ring y.ring turn }, turn)
+    (record { moves = turn_moves x y found.0 found.3 kept; lone = turn_stays x.ring y.ring turn; clients = ap (λ (z : NodeValue). z.clients) found.3 }, turn)
 
 -- ---- turns and deliveries, one after another
 
 pub turned_then : (x y z : NodeValue) → HasTurned x y → HasTurned y z → HasTurned x z
-turned_then x y z h k = record { moves = node_moves_then x y z h.moves k.moves; lone = stays_then x.ring y.ring z.ring h.lone k.lone }
+turned_then x y z h k = record { moves = node_moves_then x y z h.moves k.moves; lone = stays_then x.ring y.ring z.ring h.lone k.lone; clients = k.clients ∙ h.clients }
 
 pub turned_delivered : (x y z : NodeValue) → HasTurned x y → HasDelivered y z → HasTurned x z
-turned_delivered x y z h k = record { moves = node_moves_then x y z h.moves k.moves; lone = stays_then x.ring y.ring z.ring h.lone k.lone }
+turned_delivered x y z h k = record { moves = node_moves_then x y z h.moves k.moves; lone = stays_then x.ring y.ring z.ring h.lone k.lone; clients = k.clients ∙ h.clients }
 
 none_by : (d : ℕ) (o : Option Entry) → option_map (λ (e : Entry). suc d) o ≡ None → o ≡ None
 none_by d None e = refl

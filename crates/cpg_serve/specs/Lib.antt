@@ -13,3 +13,4 @@ pub mod Verdicts
 pub mod Orders
 pub mod Meeting
 pub mod Settling
+pub mod Carrying

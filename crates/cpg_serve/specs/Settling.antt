@@ -7,9 +7,11 @@ use Rattle.cpg_cred.specs.declared.refusals.Refusal.TheVariants.{Memory, RingEnd
 use Rattle.cpg_entry.specs.declared.entries.Entry.{Entry}
 use Rattle.cpg_entry.specs.declared.frames.Token.{Token}
 use Rattle.cpg_ring.specs.Laws.{AllHeld}
-use Rattle.cpg_ring.specs.Rings.{RingNode, visited}
+use Rattle.cpg_ring.specs.Rings.{RingNode, new_ring_node, visited}
+use Rattle.cpg_ring.specs.Moves.{first_token}
 use Rattle.cpg_ring.specs.Visits.{is_past}
 use Rattle.cpg_ring.specs.Worlds.{item}
+use Rattle.cpg_ring.specs.declared.settings.Settings.{Settings}
 use Rattle.cpg_ring.specs.declared.settings.TheConstants.{BURST}
 use Rattle.cpg_node.specs.Nodes.{NodeValue}
 use Rattle.cpg_node.specs.Calls.{place_to_deliver}
@@ -91,6 +93,7 @@ WhyMoving x why = (why ≡ Memory) ⊎ ((why ≡ RingEnd) × (0 < length x.state
 pub record HasDelivered (x y : NodeValue) : Type 0 where
   pub moves : NodeMovesTo x y
   pub lone : StaysLone x.ring y.ring
+  pub clients : y.clients ≡ x.clients
   pub waiting : y.ring.state.waiting ≡ x.ring.state.waiting
   pub last : y.ring.state.last_token ≡ x.ring.state.last_token
   pub settings : y.ring.settings ≡ x.ring.settings
@@ -103,3 +106,18 @@ IsTurn x y = (t : Token) × (x.state.last_token ≡ Some t) × (y ≡ visited x 
 pub record HasTurned (x y : NodeValue) : Type 0 where
   pub moves : NodeMovesTo x y
   pub lone : StaysLone x.ring y.ring
+  pub clients : y.clients ≡ x.clients
+
+-- no frame is heard
+abbrev pub IsFrameless : Did → Type 0
+IsFrameless Frames = ⊥
+IsFrameless _ = Unit {0}
+
+-- A new ring of one node is such a ring.
+abbrev pub LoneBegins : Type 0
+LoneBegins = (s : Settings) → s.nodes ≡ 1 → IsLone (new_ring_node s 1) (first_token s) []
+
+-- It stays one, with the same entries at its places, over any run in which no frame is heard.
+abbrev pub LoneStays : Type 0
+LoneStays = (x y : ServedValue) (dids : List Did) → Run x dids y → AllByRecursion IsFrameless dids
+    → (t : Token) (placed : List Entry) → IsLone x.node.ring t placed → IsLone y.node.ring t placed

@@ -2,6 +2,7 @@
 //! laws they rest on: their contracts are the laws.
 
 ghost use Rattle.cpg_serve.specs.Laws.{HearsAsItsOwn, DeliveryTells, StoryOfHearing, StoryOfTelling, StoryOfDelivery};
+ghost use Rattle.cpg_serve.specs.Settling.{LoneBegins, LoneStays};
 ghost use Rattle.cpg_serve.specs.Verdicts.{VerdictsAreItsOwn};
 ghost use Rattle.cpg_serve.specs.Renewing.{RenewalKeepsAll, SeatsAreThere};
 ghost use Rattle.cpg_serve.specs.Runs.{AllThatIsTold, StoriesBegin, LostIsGone, NothingAfterTheEnd};
@@ -47,6 +48,12 @@ pub fn nothing_after_the_end()
 pub fn renewal_keeps_all()
     ensures keeps { RenewalKeepsAll }
     ensures seats { SeatsAreThere }
+{}
+
+/// A new ring of one node is one that `settle` brings to rest, and stays so over any run in which no frame is heard.
+pub fn rings_of_one_stay_so()
+    ensures begins { LoneBegins }
+    ensures stays { LoneStays }
 {}
 
 /// The verdicts in a client's inbox are those on its own entries, each once, in the order of their places.

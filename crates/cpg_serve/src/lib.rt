@@ -7,6 +7,7 @@
 
 mod answers;
 mod calls;
+mod carrying;
 mod deeds;
 mod desks;
 mod events;
@@ -21,6 +22,7 @@ pub use desks::{Desk, Owed};
 pub use hearing::{Heard, Stop};
 pub use laws::{
     all_that_is_told, delivery_tells, hears_as_its_own, nothing_after_the_end, renewal_keeps_all,
-    stories_go_on, verdicts_answer_their_calls, verdicts_are_its_own, verdicts_in_order,
+    rings_of_one_stay_so, stories_go_on, verdicts_answer_their_calls, verdicts_are_its_own,
+    verdicts_in_order,
 };
 pub use served::Served;
