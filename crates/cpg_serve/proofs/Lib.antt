@@ -18,4 +18,6 @@ pub mod Matched
 pub mod Lone
 pub mod Turns
 pub mod Settled
-pub mod Gathered
+pub mod Numbered
+pub mod Tabled
+pub mod Carried

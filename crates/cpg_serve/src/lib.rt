@@ -7,7 +7,6 @@
 
 mod answers;
 mod calls;
-mod carrying;
 mod deeds;
 mod desks;
 mod events;
