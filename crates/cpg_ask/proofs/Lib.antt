@@ -5,3 +5,6 @@ pub mod Cutting
 pub mod Named
 pub mod Breaking
 pub mod Mapped
+pub mod Parts
+pub mod Retold
+pub mod TellCutting

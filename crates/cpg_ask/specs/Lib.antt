@@ -9,3 +9,7 @@ pub mod Streams
 pub mod Statuses
 pub mod Tells
 pub mod Naming
+pub mod Kinds
+pub mod Tidings
+pub mod TellReading
+pub mod TellStreams

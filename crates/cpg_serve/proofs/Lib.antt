@@ -11,3 +11,13 @@ pub mod AtOnce
 pub mod Doing
 pub mod JudgedOnce
 pub mod Newcomers
+pub mod Placed
+pub mod Counting
+pub mod Evening
+pub mod Matched
+pub mod Lone
+pub mod Turns
+pub mod Settled
+pub mod Numbered
+pub mod Tabled
+pub mod Carried

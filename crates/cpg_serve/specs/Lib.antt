@@ -10,3 +10,7 @@ pub mod Runs
 pub mod Deeds
 pub mod Renewing
 pub mod Verdicts
+pub mod Orders
+pub mod Meeting
+pub mod Settling
+pub mod Carrying

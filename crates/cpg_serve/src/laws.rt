@@ -1,9 +1,17 @@
-//! What follows from the calls' contracts. The functions have nothing to do: their contracts are the laws.
+//! What follows from the calls' contracts and the ring's laws. The functions have nothing to do, but to call those whose
+//! laws they rest on: their contracts are the laws.
 
 ghost use Rattle.cpg_serve.specs.Laws.{HearsAsItsOwn, DeliveryTells, StoryOfHearing, StoryOfTelling, StoryOfDelivery};
+ghost use Rattle.cpg_serve.specs.Settling.{LoneBegins, LoneStays};
 ghost use Rattle.cpg_serve.specs.Verdicts.{VerdictsAreItsOwn};
+ghost use Rattle.cpg_serve.specs.Carrying.{NextKeepsAll};
 ghost use Rattle.cpg_serve.specs.Renewing.{RenewalKeepsAll, SeatsAreThere};
 ghost use Rattle.cpg_serve.specs.Runs.{AllThatIsTold, StoriesBegin, LostIsGone, NothingAfterTheEnd};
+ghost use Rattle.cpg_serve.specs.Orders.{VerdictsInOrder};
+ghost use Rattle.cpg_serve.specs.Meeting.{EvenBegins, StaysEven, AnswersInOrder, HonestInAWorld};
+
+use cpg_record::laws::each_entry_is_judged;
+use cpg_world_laws::every_run;
 
 /// What a client's bytes do at the node are the calls that they ask for, each by that client's own connection; no
 /// other desk changes.
@@ -41,9 +49,38 @@ pub fn nothing_after_the_end()
 pub fn renewal_keeps_all()
     ensures keeps { RenewalKeepsAll }
     ensures seats { SeatsAreThere }
+    ensures next { NextKeepsAll }
+{}
+
+/// A new ring of one node is one that `settle` brings to rest, and stays so over any run in which no frame is heard.
+pub fn rings_of_one_stay_so()
+    ensures begins { LoneBegins }
+    ensures stays { LoneStays }
 {}
 
 /// The verdicts in a client's inbox are those on its own entries, each once, in the order of their places.
 pub fn verdicts_are_its_own()
     ensures { VerdictsAreItsOwn }
 {}
+
+/// Of every run of every world: the verdicts in a connection's inbox are, in order, those on the first of the calls
+/// that its node admitted of it, each once; its end comes behind its calls. Others wait for their places.
+pub fn verdicts_in_order()
+    ensures { VerdictsInOrder }
+{
+    every_run();
+    each_entry_is_judged();
+    verdicts_are_its_own();
+}
+
+/// Over any run of a node with its clients, where no more of a client's entries are placed than it made calls: the
+/// verdicts that it was told are the answers to its first calls, in order, the k-th to the k-th, and none was told
+/// where no call was owed one. At a node of a world of nodes no more are placed than were admitted.
+pub fn verdicts_answer_their_calls()
+    ensures begins { EvenBegins }
+    ensures stays { StaysEven }
+    ensures answers { AnswersInOrder }
+    ensures honest { HonestInAWorld }
+{
+    verdicts_in_order();
+}

@@ -14,12 +14,14 @@ mod hearing;
 mod laws;
 mod served;
 mod telling;
+mod turning;
 
 pub use deeds::{Deed, Frames, Outcome};
 pub use desks::{Desk, Owed};
 pub use hearing::{Heard, Stop};
 pub use laws::{
     all_that_is_told, delivery_tells, hears_as_its_own, nothing_after_the_end, renewal_keeps_all,
-    stories_go_on, verdicts_are_its_own,
+    rings_of_one_stay_so, stories_go_on, verdicts_answer_their_calls, verdicts_are_its_own,
+    verdicts_in_order,
 };
 pub use served::Served;

@@ -1,11 +1,14 @@
 //! One node with its clients.
 
-ghost use Rattle.std.specs.Prelude.{◌≡◌, ◌⊎◌, ◌≤◌, suc, length, take, [], Some, None, IfOk, IfErr, OnOk, OnErr, IsOkUnless, is_some, true, Ok, option_map};
+ghost use Rattle.std.specs.Prelude.{◌≡◌, ◌⊎◌, ◌≤◌, ◌++◌, ℕ, List, suc, length, take, [], Some, None, IfOk, IfErr, OnOk, OnErr, IsOkUnless, is_some, true, Ok, option_map};
+ghost use Rattle.cpg_entry.specs.declared.entries.Entry.{Entry};
 ghost use Rattle.cpg_entry.specs.declared.frames.Frame.TheVariants as frames;
+ghost use Rattle.cpg_entry.specs.declared.frames.Token.{Token};
+ghost use Rattle.cpg_entry.specs.declared.ranges.TheConstants.{MOST_CONNECTIONS};
 ghost use Rattle.cpg_wire.specs.declared.codes.Version.TheVariants.{Two};
 ghost use Rattle.cpg_wire.specs.Spelling.{spelling};
 ghost use Rattle.cpg_ring.specs.Worlds.{item, with_item};
-ghost use Rattle.cpg_node.specs.Nodes.{open_client};
+ghost use Rattle.cpg_node.specs.Nodes.{delivered_entries, open_client};
 ghost use Rattle.cpg_node.specs.Calls.{connect_refusal, place_to_deliver, node_after_delivery, disconnected, closed_refusal};
 ghost use Rattle.cpg_node.specs.Answers.{IsFrameAnswer};
 ghost use Rattle.cpg_ring.specs.Answers.{IsAnswer};
@@ -14,9 +17,11 @@ ghost use Rattle.cpg_serve.specs.Telling.{new_desk};
 ghost use Rattle.cpg_serve.specs.Stories.{StoryAt};
 ghost use Rattle.cpg_serve.specs.Runs.{IsFramed};
 ghost use Rattle.cpg_serve.specs.Serving.{served_of, AreAsMany, with_node, arrived, parted, out_of, IsServedMade, IsAway, IsHeard, IsCaughtUp, IsWritten, IsUnwritten, AreWritten};
+ghost use Rattle.cpg_serve.specs.Settling.{IsBrisk, IsLone, IsStill, MovesTo, StaysLone, ToldAll, WhyMoving};
 
 use crate::desks::Desk;
 use crate::hearing::Heard;
+use crate::turning::turn_until_still;
 use bytes::Bytes;
 use cpg_ask::Greeting;
 use cpg_cred::{AcceptList, Cred, NodeId, Refusal, Refused};
@@ -193,6 +198,63 @@ impl Served {
         ensures memory { IsOkUnless result Refusal.Memory }
     {
         tell_at(self.greeting, &mut self.node, &mut self.desks, conn)
+    }
+
+    /// A ring of one node turns by itself until nothing moves: nothing waits, nothing is to be delivered, and every
+    /// client was told all. RingEnd where its places or hops are used up; NotMine in a ring of more nodes. On an `Err`
+    /// nothing is lost or told twice.
+    pub fn settle(&mut self) -> Result<(), Refusal>
+        // Whatever came of it: the node turned, delivered, and told clients, so all that `serve` says holds over it.
+        ensures moves { MovesTo self.old self.new }
+        ensures still { OnOk result (IsStill self.new.node) }
+        ensures told { OnOk result ((conn : ℕ) → conn ≤ MOST_CONNECTIONS → ToldAll self.new conn) }
+        // In a ring of one node that heard no other's frame: all that was admitted is delivered, in its order, after one
+        // turn for each eight entries that waited.
+        ensures placed { OnOk result ((t : Token) (placed : List Entry) → IsLone self.old.node.ring t placed → delivered_entries self.new.node.ring.state ≡ placed ++ self.old.node.ring.state.waiting) }
+        ensures turns { OnOk result (IsBrisk self.old.node.ring self.new.node.ring) }
+        ensures lone { StaysLone self.old.node.ring self.new.node.ring }
+        ensures why { (t : Token) (placed : List Entry) → IsLone self.old.node.ring t placed → IfErr result (λ why. WhyMoving self.new.node.ring why) }
+    {
+        self.turn()?;
+        self.tell_all()
+    }
+
+    /// The node turns until nothing waits, and nothing is to be delivered.
+    fn turn(&mut self) -> Result<(), Refusal>
+        ensures moves { MovesTo self.old self.new }
+        ensures still { OnOk result (IsStill self.new.node) }
+        ensures turns { OnOk result (IsBrisk self.old.node.ring self.new.node.ring) }
+        ensures lone { StaysLone self.old.node.ring self.new.node.ring }
+        ensures why { (t : Token) (placed : List Entry) → IsLone self.old.node.ring t placed → IfErr result (λ why. WhyMoving self.new.node.ring why) }
+    {
+        turn_until_still(&mut self.node)
+    }
+
+    /// The number of the last connection, of those that a connection may have.
+    fn last_conn(&self) -> u16
+        ensures { (length self.now.desks ≤ result) ⊎ (MOST_CONNECTIONS ≤ result) }
+    {
+        if self.desks.len() < 65_535 {
+            self.desks.len() as u16
+        } else {
+            65_535
+        }
+    }
+
+    /// Tells every client all that the node has for it.
+    fn tell_all(&mut self) -> Result<(), Refusal>
+        ensures moves { MovesTo self.old self.new }
+        ensures ring { self.new.node.ring ≡ self.old.node.ring }
+        ensures told { OnOk result ((conn : ℕ) → conn ≤ MOST_CONNECTIONS → ToldAll self.new conn) }
+        ensures memory { IsOkUnless result Refusal.Memory }
+    {
+        let last = self.last_conn();
+        let mut conn = 0;
+        while conn < last {
+            conn += 1;
+            self.tell(conn)?;
+        }
+        Ok(())
     }
 }
 

@@ -1,0 +1,195 @@
+//! What is told, from the front of a stream.
+
+ghost use Rattle.std.specs.Prelude.{◌≡◌, option_map};
+ghost use Rattle.cpg_ask.specs.Tidings.{told_seen};
+ghost use Rattle.cpg_ask.specs.TellReading.{reading_seen, answer_in, greeting_of, greeting_in, members_in, groups_in, denied_in, message_of, message_in, change_of, change_in, told_as, tiding_in, read_of};
+
+use crate::codes::AskCode;
+use crate::frames::gap;
+use crate::heads::Head;
+use crate::input::Input;
+use crate::kinds::Kind;
+use crate::statuses::Status;
+use crate::words::{Words, read_status, status_of};
+
+/// How many bytes a tell has at most, behind its head.
+pub const MOST_TELL: u32 = 67_108_864;
+
+/// What a client is told; texts are those of the stream.
+#[derive(Clone, Copy)]
+pub enum Told<'a> {
+    /// The answer to an ask that is a status alone, with the ask's tag.
+    Answer(AskCode, u16, Status),
+    /// The answer to Hello: the tag, the status, the node, how many nodes there are, how many bytes a message has at
+    /// most, and the ring.
+    Greeting(u16, Status, u32, u32, u32, u64),
+    /// The answer to Members: so many processes, each a node and a pid of four bytes.
+    Members(u16, Status, u32, &'a [u8]),
+    /// The answer to Groups: so many groups, each with the counts of its members and of its name's bytes, the name in
+    /// 128 bytes, and its members.
+    Groups(u16, Status, u32, &'a [u8]),
+    /// A message was denied: the status, the verdict and the rule.
+    Denied(Status, u32, u32),
+    /// A message: its sender's node and pid, the group, and the message.
+    Message(u32, u32, &'a [u8], &'a [u8]),
+    /// A change: the group, how many members there are after it, how many left and how many joined, and all these,
+    /// each a node, a pid and a reason of four bytes.
+    Change(&'a [u8], u32, u32, u32, &'a [u8]),
+}
+
+/// What stands at the front of a stream: a whole tell and how many bytes it takes; fewer bytes than a tell has; or
+/// what no daemon tells.
+#[derive(Clone, Copy)]
+pub enum Front<'a> {
+    Whole(Told<'a>, usize),
+    Part,
+    Broken,
+}
+
+/// What stands at the front of the stream. Any bytes are one of the three; no memory is asked for.
+#[tactic(auto, unfolding(crate::specs::TellReading::read_of))]
+pub fn read(bytes: &[u8]) -> Front<'_>
+    ensures { reading_seen result ≡ read_of bytes.now }
+{
+    let mut input = Input::of(bytes);
+    let Some(head) = Head::read(&mut input) else {
+        return Front::Part;
+    };
+    if head.count > MOST_TELL {
+        return Front::Broken;
+    }
+    let Some(text) = input.text(head.count as usize) else {
+        return Front::Part;
+    };
+    match Told::read(head.kind, head.tag, text) {
+        None => Front::Broken,
+        Some(told) => Front::Whole(told, 8 + head.count as usize),
+    }
+}
+
+impl<'a> Told<'a> {
+    #[tactic(auto, unfolding(crate::specs::TellReading::tiding_in))]
+    fn read(number: u16, tag: u16, text: &'a [u8]) -> Option<Told<'a>>
+        ensures { option_map told_seen result ≡ tiding_in number tag text.now }
+    {
+        let kind = Kind::of(number)?;
+        Told::read_as(kind, tag, text)
+    }
+
+    #[tactic(auto, unfolding(crate::specs::TellReading::told_as))]
+    fn read_as(kind: Kind, tag: u16, text: &'a [u8]) -> Option<Told<'a>>
+        ensures { option_map told_seen result ≡ told_as kind tag text.now }
+    {
+        match kind {
+            Kind::Greets => Told::read_greeting(tag, text),
+            Kind::Joined => Told::read_answer(AskCode::Join, tag, text),
+            Kind::Left => Told::read_answer(AskCode::Leave, tag, text),
+            Kind::Listed => Told::read_members(tag, text),
+            Kind::Named => Told::read_groups(tag, text),
+            Kind::Inserted => Told::read_answer(AskCode::Insert, tag, text),
+            Kind::Removed => Told::read_answer(AskCode::Remove, tag, text),
+            Kind::Message => Told::read_message(text),
+            Kind::Change => Told::read_change(text),
+            Kind::Denied => Told::read_denied(text),
+        }
+    }
+
+    #[tactic(auto, unfolding(crate::specs::TellReading::answer_in))]
+    fn read_answer(code: AskCode, tag: u16, text: &'a [u8]) -> Option<Told<'a>>
+        ensures { option_map told_seen result ≡ answer_in code tag text.now }
+    {
+        let mut input = Input::of(text);
+        let status = read_status(&mut input)?;
+        Some(Told::Answer(code, tag, status))
+    }
+
+    #[tactic(auto, unfolding(crate::specs::TellReading::greeting_in))]
+    fn read_greeting(tag: u16, text: &'a [u8]) -> Option<Told<'a>>
+        ensures { option_map told_seen result ≡ greeting_in tag text.now }
+    {
+        let mut input = Input::of(text);
+        let words = Words::read(&mut input)?;
+        Told::read_greeting_behind(tag, words, input.rest())
+    }
+
+    #[tactic(auto, unfolding(crate::specs::TellReading::greeting_of))]
+    fn read_greeting_behind(tag: u16, words: Words, rest: &'a [u8]) -> Option<Told<'a>>
+        ensures { option_map told_seen result ≡ greeting_of tag words rest.now }
+    {
+        let status = status_of(words.first)?;
+        let mut input = Input::of(rest);
+        let ring = input.u64()?;
+        Some(Told::Greeting(tag, status, words.second, words.third, words.fourth, ring))
+    }
+
+    #[tactic(auto, unfolding(crate::specs::TellReading::members_in))]
+    fn read_members(tag: u16, text: &'a [u8]) -> Option<Told<'a>>
+        ensures { option_map told_seen result ≡ members_in tag text.now }
+    {
+        let mut input = Input::of(text);
+        let status = read_status(&mut input)?;
+        let count = input.u32()?;
+        Some(Told::Members(tag, status, count, input.rest()))
+    }
+
+    #[tactic(auto, unfolding(crate::specs::TellReading::groups_in))]
+    fn read_groups(tag: u16, text: &'a [u8]) -> Option<Told<'a>>
+        ensures { option_map told_seen result ≡ groups_in tag text.now }
+    {
+        let mut input = Input::of(text);
+        let status = read_status(&mut input)?;
+        let count = input.u32()?;
+        Some(Told::Groups(tag, status, count, input.rest()))
+    }
+
+    #[tactic(auto, unfolding(crate::specs::TellReading::denied_in))]
+    fn read_denied(text: &'a [u8]) -> Option<Told<'a>>
+        ensures { option_map told_seen result ≡ denied_in text.now }
+    {
+        let mut input = Input::of(text);
+        let status = read_status(&mut input)?;
+        let verdict = input.u32()?;
+        let rule = input.u32()?;
+        Some(Told::Denied(status, verdict, rule))
+    }
+
+    #[tactic(auto, unfolding(crate::specs::TellReading::message_in))]
+    fn read_message(text: &'a [u8]) -> Option<Told<'a>>
+        ensures { option_map told_seen result ≡ message_in text.now }
+    {
+        let mut input = Input::of(text);
+        let words = Words::read(&mut input)?;
+        Told::read_message_behind(words, input.rest())
+    }
+
+    #[tactic(auto, unfolding(crate::specs::TellReading::message_of))]
+    fn read_message_behind(words: Words, rest: &'a [u8]) -> Option<Told<'a>>
+        ensures { option_map told_seen result ≡ message_of words rest.now }
+    {
+        let mut input = Input::of(rest);
+        let message = input.text(words.third as usize)?;
+        input.text(gap(words.third as usize))?;
+        let group = input.text(words.fourth as usize)?;
+        Some(Told::Message(words.first, words.second, group, message))
+    }
+
+    #[tactic(auto, unfolding(crate::specs::TellReading::change_in))]
+    fn read_change(text: &'a [u8]) -> Option<Told<'a>>
+        ensures { option_map told_seen result ≡ change_in text.now }
+    {
+        let mut input = Input::of(text);
+        let words = Words::read(&mut input)?;
+        Told::read_change_behind(words, input.rest())
+    }
+
+    #[tactic(auto, unfolding(crate::specs::TellReading::change_of))]
+    fn read_change_behind(words: Words, rest: &'a [u8]) -> Option<Told<'a>>
+        ensures { option_map told_seen result ≡ change_of words rest.now }
+    {
+        let mut input = Input::of(rest);
+        let count = words.second as usize + words.third as usize + words.fourth as usize;
+        let processes = input.text(12 * count)?;
+        let group = input.text(words.first as usize)?;
+        Some(Told::Change(group, words.second, words.third, words.fourth, processes))
+    }
+}

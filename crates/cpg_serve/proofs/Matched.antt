@@ -1,0 +1,59 @@
+-- Each verdict answers the call that it is on.
+use Rattle.std.proofs.Common.{◌≡◌, ◌+◌, ℕ, suc, false, List, [], ◌∷◌, ◌++◌, map, length, take, Some, sym, ap, subst, ◌∙◌, length-append, arith}
+use Rattle.std.specs.List.{flat_map, slice_get}
+use Rattle.cpg_entry.specs.declared.entries.Entry.{Entry}
+use Rattle.cpg_record.specs.declared.events.Event.{Event}
+use Rattle.cpg_record.specs.declared.records.Record.{Record}
+use Rattle.cpg_record.specs.declared.verdicts.Verdict.{Verdict}
+use Rattle.std.proofs.lemmas.Option.{same_Some}
+use Rattle.cpg_ring.specs.Worlds.{item}
+use Rattle.cpg_node.specs.declared.connections.Client.{Client}
+use Rattle.cpg_node.specs.Nodes.{inbox_of, open_client, if_open, records_of}
+use Rattle.cpg_node.specs.Calls.{connected}
+use Rattle.cpg_ask.specs.Asks.{Ask}
+use Rattle.cpg_ask.proofs.Mapped.{length_mapped}
+use Rattle.cpg_serve.specs.declared.desks.Owed.{Owed}
+use Rattle.cpg_serve.specs.Telling.{DeskValue, new_desk}
+use Rattle.cpg_serve.specs.Answering.{asker_of}
+use Rattle.cpg_serve.specs.Asking.{at_of, owed_to}
+use Rattle.cpg_serve.specs.Coming.{left_of, rest_of}
+use Rattle.cpg_serve.specs.Stories.{Note, event_in, owed_in}
+use Rattle.cpg_serve.specs.Verdicts.{own_records}
+use Rattle.cpg_serve.proofs.Running.{get_last}
+use Rattle.cpg_serve.specs.Orders.{conn_at, admitted_of, AreInOrder, VerdictsInOrder}
+use Rattle.cpg_serve.specs.Meeting.{verdicts, calls_among, AnswersInOrder, EvenBegins, HonestInAWorld}
+use Rattle.cpg_serve.proofs.Counting.{mades, told, verdicts_append, made_asks, answered_first}
+
+pub answers_in_order : AnswersInOrder
+answers_in_order conn asks written x k h =
+    let notes : List Note = k.story.notes in
+    let left : List Event = left_of conn (at_of x.node k.desk) in
+    let same : h.0 ≡ k.desk = same_Some h.0 k.desk (sym h.1 ∙ k.there) in
+    let even : length k.desk.owed + verdicts (inbox_of x.node conn) ≡ length (calls_among asks) + verdicts left =
+    subst (λ (d : DeskValue). length d.owed + verdicts (inbox_of x.node conn) ≡ length (calls_among asks) + verdicts (left_of conn (at_of x.node d))) same h.2 in
+    let owed : length (owed_in [] notes) ≡ length k.desk.owed = ap (λ (l : List Owed). length l) k.story.owed in
+    let events : verdicts (inbox_of x.node conn) ≡ told notes + verdicts left = sym (ap verdicts k.story.events) ∙ verdicts_append (flat_map event_in notes) left in
+    let made : mades notes ≡ map owed_to (calls_among asks) =
+    made_asks k.desk.greeting (asker_of x.node conn) (records_of x.node) notes k.story.each ∙ ap (λ (l : List Ask). map owed_to (calls_among l)) k.story.asked in
+    let count : length (mades notes) ≡ length (calls_among asks) = ap (λ (l : List Owed). length l) made ∙ length_mapped owed_to (calls_among asks) in
+    answered_first [] notes (omega (arith, even, owed, events, count)) ∙ ap (take (told notes)) made
+
+pub even_begins : EvenBegins
+even_begins pid cred x as_many =
+    let conn : ℕ = suc (length x.desks) in
+    let c : Client = record { pid = pid; cred = cred; ended = false; taken = 0 } in
+    let last : item (connected x.node pid cred).clients conn ≡ Some c = ap (slice_get (x.node.clients ++ c ∷ [])) as_many ∙ get_last x.node.clients c in
+    let opened : open_client (connected x.node pid cred) conn ≡ Some c = ap if_open last in
+    let left : left_of conn (at_of (connected x.node pid cred) (new_desk x.greeting)) ≡ inbox_of (connected x.node pid cred) conn = ap (rest_of (connected x.node pid cred) conn) opened in
+    (new_desk x.greeting, get_last x.desks (new_desk x.greeting), omega (arith, ap verdicts left))
+
+module _ (in_order : VerdictsInOrder) where
+  pub honest_in_a_world : HonestInAWorld
+  honest_in_a_world w events answers settings reached replies conn asks x at few =
+      let n : ℕ = x.node.ring.node in
+      let order : AreInOrder (admitted_of w events n conn) (records_of x.node) (conn_at n conn) = in_order w events answers settings reached replies n conn x.node at in
+      let own : List Record = own_records (records_of x.node) (conn_at n conn) in
+      let judged : verdicts (inbox_of x.node conn) ≡ length own = ap (λ (l : List Verdict). length l) order.verdicts ∙ length_mapped (λ (r : Record). r.verdict) own in
+      let placed : length (admitted_of w events n conn) ≡ length own + length order.waiting =
+      ap (λ (l : List Entry). length l) order.entries ∙ length-append (map (λ (r : Record). r.entry) own) order.waiting ∙ ap (λ (k : ℕ). k + length order.waiting) (length_mapped (λ (r : Record). r.entry) own) in
+      omega (arith, judged, placed, few)

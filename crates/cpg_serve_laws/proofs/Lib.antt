@@ -1,4 +1,0 @@
-pub mod Placed
-pub mod Counting
-pub mod Evening
-pub mod Matched

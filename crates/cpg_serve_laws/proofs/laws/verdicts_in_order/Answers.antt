@@ -1,5 +1,0 @@
-use Rattle.cpg_serve_laws.proofs.Placed.{verdicts_in_order}
-use Rattle.cpg_serve_laws.proofs.laws.verdicts_in_order.Goals as goal
-
-pub returns : goal.returns
-returns c = verdicts_in_order c.each_entry_is_judged.ensures c.every_run.ensures.world c.every_run.ensures.run c.verdicts_are_its_own.ensures

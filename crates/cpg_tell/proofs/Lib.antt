@@ -1,3 +1,0 @@
-pub mod Parts
-pub mod Retold
-pub mod Cutting

@@ -1,4 +1,0 @@
-pub mod Kinds
-pub mod Tidings
-pub mod Reading
-pub mod Streams
