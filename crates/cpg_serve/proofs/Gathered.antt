@@ -1,25 +1,44 @@
 -- What records leave, gathered one record after another.
-use Rattle.std.proofs.Common.{◌≡◌, ◌<◌, ◌+◌, ℕ, true, List, [], ◌∷◌, ◌++◌, length, take, get_or, refl, sym, ap, ◌∙◌, append-nil}
-use Rattle.std.specs.List.{filter, fold}
+use Rattle.std.proofs.Common.{◌≡◌, ◌<◌, ◌+◌, ℕ, Bool, true, false, not, ◌&&◌, List, [], ◌∷◌, ◌++◌, length, take, get_or, refl, sym, ap, ◌∙◌, append-nil, if◌then◌else◌}
+use Rattle.std.specs.List.{filter, fold, list_any}
+use Rattle.std.specs.Str.{bytes_eq}
 use Rattle.std.proofs.lemmas.List.{take_more}
 use Rattle.std.proofs.lemmas.List.Sums.{fold-append}
+use Rattle.cpg_entry.specs.declared.calls.Call.TheVariants.{Join}
+use Rattle.cpg_entry.specs.declared.calls.Op.{Op}
+use Rattle.cpg_entry.specs.declared.calls.Op.TheVariants.{Act}
 use Rattle.cpg_record.specs.declared.records.Record.{Record}
-use Rattle.cpg_record.specs.Membership.{Membership, memberships}
+use Rattle.cpg_record.specs.Connections.{conn_in, conn_of, is_conn, member_of}
+use Rattle.cpg_record.specs.Membership.{Membership, is_allowed, is_end, memberships, taken_by_join}
 use Rattle.cpg_record.proofs.Growing.{filter_keeps, memberships_push}
 use Rattle.cpg_serve.specs.Carrying.{with_record, with_names, tabled, tables_in}
 
-pub kept_all : (all : List Membership) → filter (λ (m : Membership). true) all ≡ all
-kept_all all = filter_keeps all
+-- ---- one record
 
-pub none_taken : (all : List Membership) → all ++ [] ≡ all
-none_taken all = append-nil all
+pub denied_record : (all : List Membership) (r : Record) → is_allowed r.verdict ≡ false → with_record all r ≡ all
+denied_record all r e = rw e (append-nil (filter (λ (m : Membership). true) all) ∙ filter_keeps all)
 
-pub gathered_more : (records : List Record) (i : ℕ) (none : Record) (all new : List Membership) → i < length records → all ≡ memberships (take i records) → new ≡ with_record all (get_or records i none) → new ≡ memberships (take (i + 1) records)
-gathered_more records i none all new within h k =
-    k ∙ ap (λ (l : List Membership). with_record l (get_or records i none)) h
-    ∙ sym (ap memberships (take_more records i none within) ∙ memberships_push (take i records) (get_or records i none))
+pub joined_record : (all : List Membership) (r : Record) (g : List ℕ) → is_allowed r.verdict ≡ true → r.entry.op ≡ Act (Join g) → with_record all r ≡ all ++ record { group = g; member = member_of r.entry } ∷ []
+joined_record all r g e is = rw (e, is) (ap (λ (l : List Membership). l ++ record { group = g; member = member_of r.entry } ∷ []) (filter_keeps all))
 
-pub tables_more : (records : List Record) (i : ℕ) (none : Record) (names new : List (List ℕ)) → i < length records → names ≡ tables_in (take i records) → new ≡ with_names names (tabled (get_or records i none)) → new ≡ tables_in (take (i + 1) records)
-tables_more records i none names new within h k =
-    k ∙ ap (λ (l : List (List ℕ)). with_names l (tabled (get_or records i none))) h
-    ∙ sym (ap tables_in (take_more records i none within) ∙ fold-append (λ (l : List (List ℕ)) (r : Record). with_names l (tabled r)) [] (take i records) (get_or records i none ∷ []))
+pub other_record : (all : List Membership) (r : Record) (op : Op) → r.entry.op ≡ op → is_end op ≡ false → taken_by_join r.entry op ≡ [] → with_record all r ≡ all
+other_record all r op is end none = rw is (by_verdict (is_allowed r.verdict))
+  where
+    by_verdict : (b : Bool) → filter (λ (m : Membership). not (b && is_end op && is_conn (conn_in m.member) (conn_of r.entry))) all ++ (if b then taken_by_join r.entry op else []) ≡ all
+    by_verdict true = rw (end, none) (append-nil (filter (λ (m : Membership). true) all) ∙ filter_keeps all)
+    by_verdict false = append-nil (filter (λ (m : Membership). true) all) ∙ filter_keeps all
+
+pub name_put : (names : List (List ℕ)) (g : List ℕ) → list_any (λ name. bytes_eq name g) names ≡ false → with_names names (g ∷ []) ≡ names ++ g ∷ []
+name_put names g e = rw e refl
+
+-- ---- one after another
+
+pub gathered_more : (records : List Record) (i : ℕ) (r : Record) (all new : List Membership) → i < length records → r ≡ get_or records i r → all ≡ memberships (take i records) → new ≡ with_record all r → new ≡ memberships (take (i + 1) records)
+gathered_more records i r all new within is h k =
+    k ∙ ap (λ (l : List Membership). with_record l r) h
+    ∙ sym (ap memberships (take_more records i r within ∙ ap (λ (q : Record). take i records ++ q ∷ []) (sym is)) ∙ memberships_push (take i records) r)
+
+pub tables_more : (records : List Record) (i : ℕ) (r : Record) (names new : List (List ℕ)) → i < length records → r ≡ get_or records i r → names ≡ tables_in (take i records) → new ≡ with_names names (tabled r) → new ≡ tables_in (take (i + 1) records)
+tables_more records i r names new within is h k =
+    k ∙ ap (λ (l : List (List ℕ)). with_names l (tabled r)) h
+    ∙ sym (ap tables_in (take_more records i r within ∙ ap (λ (q : Record). take i records ++ q ∷ []) (sym is)) ∙ fold-append (λ (l : List (List ℕ)) (q : Record). with_names l (tabled q)) [] (take i records) (r ∷ []))

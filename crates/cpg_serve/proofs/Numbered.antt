@@ -3,7 +3,7 @@ use Rattle.std.proofs.Common.{◌≡◌, ◌≤◌, ◌<◌, ◌+◌, ℕ, zero,
 use Rattle.std.specs.Prelude.{count_by}
 use Rattle.std.specs.List.{AllByRecursion, filter, slice_get}
 use Rattle.std.specs.Str.{bytes_eq}
-use Rattle.std.proofs.lemmas.List.{length-map}
+use Rattle.cpg_ask.proofs.Mapped.{length_mapped}
 use Rattle.std.proofs.lemmas.Option.{none-some, same_Some}
 use Rattle.cpg_record.specs.declared.connections.ConnId.{ConnId}
 use Rattle.cpg_record.specs.declared.limits.TheConstants.{MOST_MEMBERS}
@@ -14,47 +14,53 @@ use Rattle.cpg_record.proofs.Growing.{is_conn-true}
 use Rattle.cpg_ring.specs.Worlds.{item}
 use Rattle.cpg_node.specs.declared.connections.Client.{Client}
 use Rattle.cpg_serve.specs.Renewing.{among, AreDistinct}
-use Rattle.cpg_serve.specs.Carrying.{numbered, number_in, number_at, renumbered}
+use Rattle.cpg_serve.specs.Carrying.{HasNumber, numbered, number_in, number_at, renumbered}
 use Rattle.cpg_serve.proofs.Seated.{tally, tally_is, same_conn}
 
 -- ---- no two connections have one number
 
-above : (n : ℕ) (cs : List Client) (i k : ℕ) → slice_get (numbered n cs) i ≡ Some k → 1 ≤ k → n < k
-above n [] i k e low = absurd (none-some k e)
-above n (c ∷ cs) i k e low = by_end c.ended i e
-  where
-    by_end : (b : Bool) (i : ℕ) → slice_get (if b then 0 ∷ numbered n cs else suc n ∷ numbered (suc n) cs) i ≡ Some k → n < k
-    by_end true zero e = let z : 0 ≡ k = same_Some 0 k e in absurd (omega (arith, z, low))
-    by_end true (suc i) e = above n cs i k e low
-    by_end false zero e = let z : suc n ≡ k = same_Some (suc n) k e in omega (arith, z)
-    by_end false (suc i) e = let l = above (suc n) cs i k e low in omega (arith, l)
+abbrev Above : ℕ → List ℕ → Type 0
+Above n numbers = (i k : ℕ) → slice_get numbers i ≡ Some k → 1 ≤ k → n < k
 
-once : (n : ℕ) (cs : List Client) (i j k : ℕ) → slice_get (numbered n cs) i ≡ Some k → slice_get (numbered n cs) j ≡ Some k → 1 ≤ k → i ≡ j
-once n [] i j k e f low = absurd (none-some k e)
-once n (c ∷ cs) i j k e f low = by_end c.ended i j e f
+above : (n : ℕ) (cs : List Client) → Above n (numbered n cs)
+above n [] i k e low = absurd (none-some k e)
+above n (c ∷ cs) i k e low = by_end c.ended i (above n cs) (above (suc n) cs) e
   where
-    by_end : (b : Bool) (i j : ℕ) → slice_get (if b then 0 ∷ numbered n cs else suc n ∷ numbered (suc n) cs) i ≡ Some k → slice_get (if b then 0 ∷ numbered n cs else suc n ∷ numbered (suc n) cs) j ≡ Some k → i ≡ j
-    by_end b zero zero e f = refl
-    by_end true zero (suc j) e f = let z : 0 ≡ k = same_Some 0 k e in absurd (omega (arith, z, low))
-    by_end true (suc i) zero e f = let z : 0 ≡ k = same_Some 0 k f in absurd (omega (arith, z, low))
-    by_end true (suc i) (suc j) e f = ap suc (once n cs i j k e f low)
-    by_end false zero (suc j) e f = let z : suc n ≡ k = same_Some (suc n) k e in let l = above (suc n) cs j k f low in absurd (omega (arith, z, l))
-    by_end false (suc i) zero e f = let z : suc n ≡ k = same_Some (suc n) k f in let l = above (suc n) cs i k e low in absurd (omega (arith, z, l))
-    by_end false (suc i) (suc j) e f = ap suc (once (suc n) cs i j k e f low)
+    by_end : (b : Bool) (i : ℕ) → Above n (numbered n cs) → Above (suc n) (numbered (suc n) cs) → slice_get (if b then 0 ∷ numbered n cs else suc n ∷ numbered (suc n) cs) i ≡ Some k → n < k
+    by_end true zero f g e = let z : 0 ≡ k = same_Some 0 k e in absurd (omega (arith, z, low))
+    by_end true (suc i) f g e = f i k e low
+    by_end false zero f g e = let z : suc n ≡ k = same_Some (suc n) k e in omega (arith, z)
+    by_end false (suc i) f g e = let l = g i k e low in omega (arith, l)
+
+abbrev Once : List ℕ → Type 0
+Once numbers = (i j k : ℕ) → slice_get numbers i ≡ Some k → slice_get numbers j ≡ Some k → 1 ≤ k → i ≡ j
+
+once : (n : ℕ) (cs : List Client) → Once (numbered n cs)
+once n [] i j k e f low = absurd (none-some k e)
+once n (c ∷ cs) i j k e f low = by_end c.ended i j (once n cs) (once (suc n) cs) e f
+  where
+    by_end : (b : Bool) (i j : ℕ) → Once (numbered n cs) → Once (numbered (suc n) cs) → slice_get (if b then 0 ∷ numbered n cs else suc n ∷ numbered (suc n) cs) i ≡ Some k → slice_get (if b then 0 ∷ numbered n cs else suc n ∷ numbered (suc n) cs) j ≡ Some k → i ≡ j
+    by_end b zero zero g h e f = refl
+    by_end true zero (suc j) g h e f = let z : 0 ≡ k = same_Some 0 k e in absurd (omega (arith, z, low))
+    by_end true (suc i) zero g h e f = let z : 0 ≡ k = same_Some 0 k f in absurd (omega (arith, z, low))
+    by_end true (suc i) (suc j) g h e f = ap suc (g i j k e f low)
+    by_end false zero (suc j) g h e f = let z : suc n ≡ k = same_Some (suc n) k e in let l = above (suc n) cs j k f low in absurd (omega (arith, z, l))
+    by_end false (suc i) zero g h e f = let z : suc n ≡ k = same_Some (suc n) k f in let l = above (suc n) cs i k e low in absurd (omega (arith, z, l))
+    by_end false (suc i) (suc j) g h e f = ap suc (h i j k e f low)
 
 there : (o : Option ℕ) (k : ℕ) → number_in o ≡ k → 1 ≤ k → o ≡ Some k
 there None k e low = absurd (omega (arith, e, low))
 there (Some n) k e low = ap Some e
-
--- what has a number
-abbrev pub HasNumber : List ℕ → Membership → Type 0
-HasNumber numbers m = 1 ≤ number_at numbers m.member.conn
 
 same_number : (n : ℕ) (cs : List Client) (a b k : ℕ) → number_at (numbered n cs) a ≡ k → number_at (numbered n cs) b ≡ k → 1 ≤ k → a ≡ b
 same_number n cs zero b k e f low = absurd (omega (arith, e, low))
 same_number n cs (suc a) zero k e f low = absurd (omega (arith, f, low))
 same_number n cs (suc a) (suc b) k e f low =
     ap suc (once n cs a b k (there (item (numbered n cs) (suc a)) k e low) (there (item (numbered n cs) (suc b)) k f low) low)
+
+pub above_all : (n : ℕ) (cs : List Client) (conn : ℕ) → 1 ≤ number_at (numbered n cs) conn → n < number_at (numbered n cs) conn
+above_all n cs zero low = absurd (omega (arith, low))
+above_all n cs (suc conn) low = above n cs conn (number_at (numbered n cs) (suc conn)) (there (item (numbered n cs) (suc conn)) (number_at (numbered n cs) (suc conn)) refl low) low
 
 -- ---- so members are as distinct as before
 
@@ -82,14 +88,15 @@ no_more n cs m conn (x ∷ all) is low = by_case (is_conn conn (conn_in (renumbe
 few_conns : (n : ℕ) (cs : List Client) (all : List Membership) → AllByRecursion (HasNumber (numbered n cs)) all → ((conn : ConnId) → tally (λ (x : Membership). is_conn conn (conn_in x.member)) all ≤ 1)
     → (conn : ConnId) → tally (λ (x : Membership). is_conn conn (conn_in x.member)) (map (renumbered (numbered n cs)) all) ≤ 1
 few_conns n cs [] has few conn = omega arith
-few_conns n cs (m ∷ all) has few conn = by_case (is_conn conn (conn_in (renumbered (numbered n cs) m).member)) refl
+few_conns n cs (m ∷ all) has few conn = by_case (is_conn conn (conn_in (renumbered (numbered n cs) m).member)) refl (few_conns n cs all has.1 (λ c. behind c (few c)) conn)
   where
-    behind : (c : ConnId) → tally (λ (x : Membership). is_conn c (conn_in x.member)) all ≤ 1
-    behind c = let l = few c in omega (arith, l)
+    behind : (c : ConnId) → cond (is_conn c (conn_in m.member)) 1 0 + tally (λ (x : Membership). is_conn c (conn_in x.member)) all ≤ 1 → tally (λ (x : Membership). is_conn c (conn_in x.member)) all ≤ 1
+    behind c l = omega (arith, l)
 
-    by_case : (b : Bool) → is_conn conn (conn_in (renumbered (numbered n cs) m).member) ≡ b → cond b 1 0 + tally (λ (x : Membership). is_conn conn (conn_in x.member)) (map (renumbered (numbered n cs)) all) ≤ 1
-    by_case false e = few_conns n cs all has.1 behind conn
-    by_case true e =
+    by_case : (b : Bool) → is_conn conn (conn_in (renumbered (numbered n cs) m).member) ≡ b → tally (λ (x : Membership). is_conn conn (conn_in x.member)) (map (renumbered (numbered n cs)) all) ≤ 1
+        → cond b 1 0 + tally (λ (x : Membership). is_conn conn (conn_in x.member)) (map (renumbered (numbered n cs)) all) ≤ 1
+    by_case false e rest = rest
+    by_case true e rest =
         let is : conn ≡ conn_in (renumbered (numbered n cs) m).member = is_conn-true conn (conn_in (renumbered (numbered n cs) m).member) e in
         let l = no_more n cs m conn all is has.0 in
         let own : is_conn (conn_in m.member) (conn_in m.member) ≡ true = same_conn (conn_in m.member) in
@@ -102,12 +109,12 @@ moved numbers m = record { node = m.node; conn = number_at numbers m.conn; pid =
 
 among_moved : (numbers : List ℕ) (all : List Membership) (g : List ℕ) → among (map (renumbered numbers) all) g ≡ map (moved numbers) (among all g)
 among_moved numbers [] g = refl
-among_moved numbers (m ∷ all) g = by_case (bytes_eq m.group g)
+among_moved numbers (m ∷ all) g = by_case (bytes_eq m.group g) (among_moved numbers all g)
   where
-    by_case : (b : Bool) → map (λ (x : Membership). x.member) (cond b (renumbered numbers m ∷ filter (λ (x : Membership). bytes_eq x.group g) (map (renumbered numbers) all)) (filter (λ (x : Membership). bytes_eq x.group g) (map (renumbered numbers) all)))
+    by_case : (b : Bool) → among (map (renumbered numbers) all) g ≡ map (moved numbers) (among all g) → map (λ (x : Membership). x.member) (cond b (renumbered numbers m ∷ filter (λ (x : Membership). bytes_eq x.group g) (map (renumbered numbers) all)) (filter (λ (x : Membership). bytes_eq x.group g) (map (renumbered numbers) all)))
         ≡ map (moved numbers) (map (λ (x : Membership). x.member) (cond b (m ∷ filter (λ (x : Membership). bytes_eq x.group g) all) (filter (λ (x : Membership). bytes_eq x.group g) all)))
-    by_case true = ap (λ (l : List Member). moved numbers m.member ∷ l) (among_moved numbers all g)
-    by_case false = among_moved numbers all g
+    by_case true e = ap (λ (l : List Member). moved numbers m.member ∷ l) e
+    by_case false e = e
 
 tally_moved : (numbers : List ℕ) (node pid : ℕ) (ms : List Member) → tally (λ (m : Member). eqb m.node node && eqb m.pid pid) (map (moved numbers) ms) ≡ tally (λ (m : Member). eqb m.node node && eqb m.pid pid) ms
 tally_moved numbers node pid [] = refl
@@ -120,5 +127,5 @@ distinct_still n cs all has h = record {
   processes = λ g node pid.
       let p : Member → Bool = λ m. eqb m.node node && eqb m.pid pid in
       subst (λ (k : ℕ). k ≤ 1) (sym (ap (count_by p) (among_moved (numbered n cs) all g) ∙ sym (tally_is p (map (moved (numbered n cs)) (among all g))) ∙ tally_moved (numbered n cs) node pid (among all g) ∙ tally_is p (among all g))) (h.processes g node pid);
-  few = λ g. subst (λ (k : ℕ). k ≤ MOST_MEMBERS) (sym (ap (λ (l : List Member). length l) (among_moved (numbered n cs) all g) ∙ length-map (moved (numbered n cs)) (among all g))) (h.few g);
+  few = λ g. subst (λ (k : ℕ). k ≤ MOST_MEMBERS) (sym (ap (λ (l : List Member). length l) (among_moved (numbered n cs) all g) ∙ length_mapped (moved (numbered n cs)) (among all g))) (h.few g);
 }

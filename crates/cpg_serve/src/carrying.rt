@@ -42,7 +42,6 @@ fn take_out(all: &mut Vec<Membership>, conn: &ConnId)
 }
 
 /// Notes what a record does to the memberships.
-#[tactic(auto, using(crate::proofs::Gathered::kept_all, crate::proofs::Gathered::none_taken))]
 fn note(alloc: Global, all: &mut Vec<Membership>, past: &Record) -> Result<(), Refusal>
     ensures ok { OnOk result (all.new.items ≡ with_record all.old.items past.now) }
     ensures memory { IsOkUnless result Refusal.Memory }

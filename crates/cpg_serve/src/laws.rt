@@ -4,6 +4,7 @@
 ghost use Rattle.cpg_serve.specs.Laws.{HearsAsItsOwn, DeliveryTells, StoryOfHearing, StoryOfTelling, StoryOfDelivery};
 ghost use Rattle.cpg_serve.specs.Settling.{LoneBegins, LoneStays};
 ghost use Rattle.cpg_serve.specs.Verdicts.{VerdictsAreItsOwn};
+ghost use Rattle.cpg_serve.specs.Carrying.{NextKeepsAll};
 ghost use Rattle.cpg_serve.specs.Renewing.{RenewalKeepsAll, SeatsAreThere};
 ghost use Rattle.cpg_serve.specs.Runs.{AllThatIsTold, StoriesBegin, LostIsGone, NothingAfterTheEnd};
 ghost use Rattle.cpg_serve.specs.Orders.{VerdictsInOrder};
@@ -48,6 +49,7 @@ pub fn nothing_after_the_end()
 pub fn renewal_keeps_all()
     ensures keeps { RenewalKeepsAll }
     ensures seats { SeatsAreThere }
+    ensures next { NextKeepsAll }
 {}
 
 /// A new ring of one node is one that `settle` brings to rest, and stays so over any run in which no frame is heard.
