@@ -95,7 +95,7 @@ few_conns n cs (m ∷ all) has few conn = by_case (is_conn conn (conn_in (renumb
 
     by_case : (b : Bool) → is_conn conn (conn_in (renumbered (numbered n cs) m).member) ≡ b → tally (λ (x : Membership). is_conn conn (conn_in x.member)) (map (renumbered (numbered n cs)) all) ≤ 1
         → cond b 1 0 + tally (λ (x : Membership). is_conn conn (conn_in x.member)) (map (renumbered (numbered n cs)) all) ≤ 1
-    by_case false e rest = rest
+    by_case false e rest = omega (arith, rest)
     by_case true e rest =
         let is : conn ≡ conn_in (renumbered (numbered n cs) m).member = is_conn-true conn (conn_in (renumbered (numbered n cs) m).member) e in
         let l = no_more n cs m conn all is has.0 in

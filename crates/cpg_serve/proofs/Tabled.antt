@@ -97,7 +97,7 @@ not_edited n names g r e = by_verdict (is_allowed r.verdict) r.entry.op e
 none_from : (rs : List Record) (n : ℕ) (names : List (List ℕ)) (g : List ℕ) → any_of (fold step names rs) g ≡ false → fold (edited g) [] (enumerate_from n rs) ≡ []
 none_from [] n names g e = refl
 none_from (r ∷ rs) n names g e =
-    ap (λ (rules : Rules). fold (edited g) rules (enumerate_from (suc n) rs)) (not_edited n names g r (before_all rs (step names r) g e)) ∙ none_from rs (suc n) (step names r) g e
+    ap (λ (rules : Rules). fold (edited g) rules (enumerate_from (n + 1) rs)) (not_edited n names g r (before_all rs (step names r) g e)) ∙ none_from rs (n + 1) (step names r) g e
 
 pub no_table : (rs : List Record) (g : List ℕ) → any_of (tables_in rs) g ≡ false → rules_of rs g ≡ []
 no_table rs g e = none_from rs 1 [] g e
