@@ -1,7 +1,7 @@
 //! What ledgers of delivered entries have in common, and that nobody who reads them sees it.
 
 use cpg_entry::{Call, Cred, Entry, Message, NodeId, Op, Refusal};
-use cpg_ledger::{BLOCK, Ledger, NoKeeper, Shelf};
+use cpg_ledger::{BLOCK, Ledger, Shelf};
 use std::alloc::Global;
 
 /// A leave by connection 1 of node 1, of that process.
@@ -20,7 +20,7 @@ fn put(ledger: &mut Ledger, shelf: &Shelf, entry: Entry) -> Result<(), Refusal> 
     ledger.reserve(1)?;
     if ledger.len() < 1000 {
         ledger.push_reserved(entry);
-        ledger.share(shelf, &NoKeeper);
+        ledger.share(shelf);
     }
     Ok(())
 }
