@@ -114,6 +114,6 @@ pub(crate) fn put_cited_at(
 {
     match find_record(records, place) {
         None => put(line, "\n"),
-        Some(past) => put_cited(line, numbers, place, past.entry()),
+        Some(past) => put_cited(line, numbers, place, &past.entry),
     }
 }

@@ -66,7 +66,7 @@ fn put_rights(
     ensures ok { OnOk result (line.new.items ≡ line.old.items ++ right_lines numbers.now (judged policy.now) past.now.entry (right_needed past.now.entry.op) past.now.group) }
     ensures memory { IsOkUnless result Refusal.Memory }
 {
-    match (find_right(&past.entry().op), &past.group) {
+    match (find_right(&past.entry.op), &past.group) {
         (Some(right), Some(group)) => {
             put_rights_in(line, numbers, policy, past, group.as_slice(), right)
         }
@@ -125,7 +125,7 @@ fn put_closed(
     ensures ok { OnOk result (line.new.items ≡ line.old.items ++ closed_text numbers.now records.now past.now last) }
     ensures memory { IsOkUnless result Refusal.Memory }
 {
-    let conn = ConnId::of(past.entry());
+    let conn = ConnId::of(&past.entry);
     let state = " is in no group";
     put_since_line(
         line,
@@ -149,7 +149,7 @@ fn put_joined(
     ensures ok { OnOk result (line.new.items ≡ line.old.items ++ joined_text numbers.now records.now past.now last) }
     ensures memory { IsOkUnless result Refusal.Memory }
 {
-    let conn = ConnId::of(past.entry());
+    let conn = ConnId::of(&past.entry);
     let state = " is in a group";
     put_since_line(
         line,
@@ -174,7 +174,7 @@ fn find_member(past: &Record) -> Option<Member>
     ensures { result ≡ find (λ member. (member.node == past.now.entry.node) && (member.pid == past.now.entry.pid)) past.now.members }
 {
     for member in past.members.as_slice() {
-        if is_process_of(member, past.entry()) {
+        if is_process_of(member, &past.entry) {
             return Some(*member);
         }
     }
@@ -186,7 +186,7 @@ pub fn find_holder(past: &Record) -> ConnId
     ensures { result ≡ holder past.now }
 {
     match find_member(past) {
-        None => ConnId::of(past.entry()),
+        None => ConnId::of(&past.entry),
         Some(member) => member.conn_id(),
     }
 }
@@ -197,7 +197,7 @@ pub(crate) fn find_subject(past: &Record) -> ConnId
 {
     match past.verdict {
         Verdict::Denied(Reason::Twice) => find_holder(past),
-        _ => ConnId::of(past.entry()),
+        _ => ConnId::of(&past.entry),
     }
 }
 
@@ -225,7 +225,7 @@ fn put_twice(
     ensures memory { IsOkUnless result Refusal.Memory }
 {
     let conn = find_holder(past);
-    put_process_line(line, "decided: twice: ", past.entry())?;
+    put_process_line(line, "decided: twice: ", &past.entry)?;
     put_since_line(line, " is a member by ", &conn, "", numbers, records, last)
 }
 
@@ -254,7 +254,7 @@ fn put_full(line: &mut Vec<u8>, past: &Record) -> Result<(), Refusal>
     ensures ok { OnOk result (line.new.items ≡ line.old.items ++ full_text past.now past.now.entry.op) }
     ensures memory { IsOkUnless result Refusal.Memory }
 {
-    match &past.entry().op {
+    match &past.entry.op {
         Op::Act(Call::Join(group)) => {
             let group = group.as_slice();
             let count = past.members.len() as u64;
@@ -392,7 +392,7 @@ fn put_allowed(
 {
     match by {
         By::Root => put(line, "decided: root: user 0 edits every table\n"),
-        By::Free => put_free(line, &past.entry().op),
+        By::Free => put_free(line, &past.entry.op),
         By::Rule(_) | By::Default => put_rights(line, numbers, policy, past),
     }
 }
@@ -416,9 +416,9 @@ fn put_denied(
         Reason::Joined => put_joined(line, numbers, policy.records(), past, last),
         Reason::Twice => put_twice(line, numbers, policy.records(), past, last),
         Reason::Full => put_full(line, past),
-        Reason::Position => put_position(line, policy, &past.entry().op),
-        Reason::TableFull => put_table_full(line, policy, &past.entry().op),
-        Reason::Absent => put_absent(line, &past.entry().op),
+        Reason::Position => put_position(line, policy, &past.entry.op),
+        Reason::TableFull => put_table_full(line, policy, &past.entry.op),
+        Reason::Absent => put_absent(line, &past.entry.op),
     }
 }
 
@@ -465,7 +465,7 @@ pub(crate) fn put_block(
     ensures ok { OnOk result (line.new.items ≡ line.old.items ++ block_text numbers.now (judged policy.now) place past.now) }
     ensures memory { IsOkUnless result Refusal.Memory }
 {
-    put_cited(line, numbers, place, past.entry())?;
+    put_cited(line, numbers, place, &past.entry)?;
     put_verdict_line(line, past.verdict)?;
     put_reason(line, numbers, policy, past, last)
 }

@@ -237,7 +237,7 @@ fn put_ruled(
     ensures ok { OnOk result (line.new.items ≡ line.old.items ++ ruled_text numbers.now (judged policy.now) past.now.entry group.now right table.now index (Some entry)) }
     ensures memory { IsOkUnless result Refusal.Memory }
 {
-    let asker = past.entry().asker();
+    let asker = past.entry.asker();
     let id = entry.0;
     put_decided(line, group, table, index, entry)?;
     put_put_in(line, numbers, policy.records(), id)?;
@@ -258,7 +258,7 @@ fn put_unruled(
     ensures ok { OnOk result (line.new.items ≡ line.old.items ++ (default_line group.now right ++ passed_text right (asker_of past.now.entry) table.now index)) }
     ensures memory { IsOkUnless result Refusal.Memory }
 {
-    let asker = past.entry().asker();
+    let asker = past.entry.asker();
     put_default(line, group, right)?;
     put_passed(line, table, right, &asker, index)
 }
@@ -277,7 +277,7 @@ pub(crate) fn put_table(
     ensures ok { OnOk result (line.new.items ≡ line.old.items ++ table_text numbers.now (judged policy.now) past.now.entry group.now right table.now) }
     ensures memory { IsOkUnless result Refusal.Memory }
 {
-    let asker = past.entry().asker();
+    let asker = past.entry.asker();
     let index = find_first(table, right, &asker);
     match table.get(index) {
         None => put_unruled(line, past, group, right, table, index),

@@ -30,10 +30,10 @@ fn put_own(
     ensures ok { OnOk result (line.new.items ≡ line.old.items ++ own_line numbers.now conn.now place past.now) }
     ensures memory { IsOkUnless result Refusal.Memory }
 {
-    if !ConnId::of(past.entry()).is(conn) {
+    if !ConnId::of(&past.entry).is(conn) {
         return Ok(());
     }
-    put_entry_cited(line, numbers, place, past.entry())?;
+    put_entry_cited(line, numbers, place, &past.entry)?;
     put(line, " -> ")?;
     put_verdict(line, past.verdict)?;
     put_byte(line, b'\n')

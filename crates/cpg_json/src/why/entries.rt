@@ -48,7 +48,7 @@ fn put_judged_after_place(
     ensures ok { OnOk result (line.new.items ≡ line.old.items ++ more (after_place numbers.now place past.now.entry ++ verdict_fields past.now.verdict)) }
     ensures memory { IsOkUnless result Refusal.Memory }
 {
-    put_after_place(line, numbers, place, past.entry())?;
+    put_after_place(line, numbers, place, &past.entry)?;
     put_verdict(line, past.verdict)
 }
 
@@ -128,7 +128,7 @@ fn put_entry_at(
 {
     match find_record(records, place) {
         None => put(line, "null"),
-        Some(past) => put_object(line, numbers, place, past.entry()),
+        Some(past) => put_object(line, numbers, place, &past.entry),
     }
 }
 

@@ -55,7 +55,7 @@ fn put_rights(
     ensures ok { OnOk result (line.new.items ≡ line.old.items ++ more (right_fields numbers.now (judged policy.now) past.now.entry (right_needed past.now.entry.op) past.now.group)) }
     ensures memory { IsOkUnless result Refusal.Memory }
 {
-    match (find_right(&past.entry().op), &past.group) {
+    match (find_right(&past.entry.op), &past.group) {
         (Some(right), Some(group)) => {
             put_rights_in(line, numbers, policy, past, group.as_slice(), right)
         }
@@ -139,7 +139,7 @@ fn put_full(line: &mut Vec<u8>, past: &Record) -> Result<(), Refusal>
     ensures ok { OnOk result (line.new.items ≡ line.old.items ++ more (full_fields past.now past.now.entry.op)) }
     ensures memory { IsOkUnless result Refusal.Memory }
 {
-    match &past.entry().op {
+    match &past.entry.op {
         Op::Act(Call::Join(group)) => {
             let group = group.as_slice();
             let count = past.members.len() as u64;
@@ -248,16 +248,16 @@ fn put_denied(
     ensures ok { OnOk result (line.new.items ≡ line.old.items ++ more (reason_fields numbers.now (judged policy.now) past.now last (Denied reason))) }
     ensures memory { IsOkUnless result Refusal.Memory }
 {
-    let own = ConnId::of(past.entry());
+    let own = ConnId::of(&past.entry);
     match reason {
         Reason::Rule(_) | Reason::Default => put_rights(line, numbers, policy, past),
         Reason::Closed => put_state(line, "closed", &own, numbers, policy.records(), last),
         Reason::Joined => put_state(line, "joined", &own, numbers, policy.records(), last),
         Reason::Twice => put_twice(line, numbers, policy.records(), past, last),
         Reason::Full => put_full(line, past),
-        Reason::Position => put_position(line, policy, &past.entry().op),
-        Reason::TableFull => put_table_full(line, policy, &past.entry().op),
-        Reason::Absent => put_absent(line, &past.entry().op),
+        Reason::Position => put_position(line, policy, &past.entry.op),
+        Reason::TableFull => put_table_full(line, policy, &past.entry.op),
+        Reason::Absent => put_absent(line, &past.entry.op),
     }
 }
 

@@ -306,7 +306,7 @@ fn put_ruled(
     ensures ok { OnOk result (line.new.items ≡ line.old.items ++ more (ruled_fields numbers.now (judged policy.now) past.now.entry group.now right table.now index (Some entry))) }
     ensures memory { IsOkUnless result Refusal.Memory }
 {
-    let asker = past.entry().asker();
+    let asker = past.entry.asker();
     let id = entry.0;
     put_rule_decided(line, group, table, index, entry)?;
     put_put_in(line, numbers, policy.records(), id)?;
@@ -327,7 +327,7 @@ fn put_unruled(
     ensures ok { OnOk result (line.new.items ≡ line.old.items ++ more (default_decided group.now right ∷ passed_field right (asker_of past.now.entry) table.now index ∷ [])) }
     ensures memory { IsOkUnless result Refusal.Memory }
 {
-    let asker = past.entry().asker();
+    let asker = past.entry.asker();
     put_default_decided(line, group, right)?;
     put_passed(line, table, right, &asker, index)
 }
@@ -346,7 +346,7 @@ pub(crate) fn put_table(
     ensures ok { OnOk result (line.new.items ≡ line.old.items ++ more (table_fields numbers.now (judged policy.now) past.now.entry group.now right table.now)) }
     ensures memory { IsOkUnless result Refusal.Memory }
 {
-    let asker = past.entry().asker();
+    let asker = past.entry.asker();
     let index = find_first(table, right, &asker);
     match table.get(index) {
         None => put_unruled(line, past, group, right, table, index),

@@ -28,7 +28,7 @@ fn put_own(
     ensures ok { OnOk result (line.new.items ≡ line.old.items ++ own_json numbers.now conn.now place past.now) }
     ensures memory { IsOkUnless result Refusal.Memory }
 {
-    if !ConnId::of(past.entry()).is(conn) {
+    if !ConnId::of(&past.entry).is(conn) {
         return Ok(());
     }
     put_kind(line, "entry")?;
