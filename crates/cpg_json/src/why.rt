@@ -17,8 +17,7 @@ use cpg_record::{ConnId, Event, Record};
 use cpg_script::put;
 use cpg_text::push_number;
 use cpg_why::{
-    Decided, Finding, Findings, PassedRule, Ruled, Stand, Standing, Tells, Unmet, Unruled,
-    find_record, is_told, line_of,
+    Decided, Finding, PassedRule, Ruled, Stand, Standing, Tells, Told, Unmet, Unruled, is_told,
 };
 use std::alloc::Global;
 
@@ -31,24 +30,13 @@ impl Tells for AsJson {
 
     ghost form = { plain };
 
-    fn text_of(alloc: Global, numbers: &[u32], found: &Findings) -> Result<Vec<u8>, Refusal> {
-        let told = Told {
-            numbers,
-            records: found.records.as_slice(),
-        };
+    fn text_of(alloc: Global, told: &Told, list: &[Finding]) -> Result<Vec<u8>, Refusal> {
         let mut text = Vec::new(alloc);
-        for finding in &found.list {
-            put_finding(&mut text, &told, finding)?;
+        for finding in list {
+            put_finding(&mut text, told, finding)?;
         }
         Ok(text)
     }
-}
-
-/// The records that are spoken of, and the numbers of their entries' lines.
-#[derive(Clone, Copy)]
-struct Told<'a> {
-    numbers: &'a [u32],
-    records: &'a [Record],
 }
 
 fn put_finding(line: &mut Vec<u8>, told: &Told, finding: &Finding) -> Result<(), Refusal>
@@ -66,7 +54,7 @@ fn put_finding(line: &mut Vec<u8>, told: &Told, finding: &Finding) -> Result<(),
 fn put_why(line: &mut Vec<u8>, told: &Told, place: u32, decided: &Decided) -> Result<(), Refusal>
     ensures { IsOkUnless result Refusal.Memory }
 {
-    let Some(past) = find_record(told.records, place) else {
+    let Some(past) = told.record(place) else {
         return Ok(());
     };
     put_kind(line, "why")?;
@@ -80,7 +68,7 @@ fn put_why(line: &mut Vec<u8>, told: &Told, place: u32, decided: &Decided) -> Re
 fn put_made(line: &mut Vec<u8>, told: &Told, place: u32) -> Result<(), Refusal>
     ensures { IsOkUnless result Refusal.Memory }
 {
-    let Some(past) = find_record(told.records, place) else {
+    let Some(past) = told.record(place) else {
         return Ok(());
     };
     put_kind(line, "entry")?;
@@ -102,9 +90,7 @@ fn put_heard(line: &mut Vec<u8>, conn: &ConnId, event: &Event) -> Result<(), Ref
 fn put_made_by(line: &mut Vec<u8>, told: &Told, place: u32, entry: &Entry) -> Result<(), Refusal>
     ensures { IsOkUnless result Refusal.Memory }
 {
-    if place > 0 {
-        put_line_number(line, line_of(told.numbers, place))?;
-    }
+    put_line_number(line, told.line(place))?;
     put_caller(line, entry)?;
     put_whole_call(line, &entry.op)
 }
@@ -126,7 +112,7 @@ fn put_entry_at(
 ) -> Result<(), Refusal>
     ensures { IsOkUnless result Refusal.Memory }
 {
-    let Some(past) = find_record(told.records, place) else {
+    let Some(past) = told.record(place) else {
         return put(line, "null");
     };
     put(line, "{\"place\":")?;
@@ -336,7 +322,7 @@ fn put_unmet(line: &mut Vec<u8>, unmet: Unmet) -> Result<(), Refusal>
 fn put_stand(line: &mut Vec<u8>, told: &Told, stand: &Stand) -> Result<(), Refusal>
     ensures { IsOkUnless result Refusal.Memory }
 {
-    let Some(past) = find_record(told.records, stand.place) else {
+    let Some(past) = told.record(stand.place) else {
         return Ok(());
     };
     put_kind(line, "to")?;

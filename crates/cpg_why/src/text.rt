@@ -4,9 +4,8 @@
 
 ghost use Rattle.std.specs.Prelude.{IsOkUnless};
 
-use crate::findings::{Decided, Finding, Findings, PassedRule, Ruled, Stand, Unruled};
-use crate::forms::Tells;
-use crate::numbers::{find_record, line_of};
+use crate::findings::{Decided, Finding, PassedRule, Ruled, Stand, Unruled};
+use crate::forms::{Tells, Told};
 use crate::standings::{Standing, is_told};
 use crate::unmet::Unmet;
 use cpg_cred::Refusal;
@@ -27,24 +26,13 @@ impl Tells for AsText {
 
     ghost form = { plain };
 
-    fn text_of(alloc: Global, numbers: &[u32], found: &Findings) -> Result<Vec<u8>, Refusal> {
-        let told = Told {
-            numbers,
-            records: found.records.as_slice(),
-        };
+    fn text_of(alloc: Global, told: &Told, list: &[Finding]) -> Result<Vec<u8>, Refusal> {
         let mut text = Vec::new(alloc);
-        for finding in &found.list {
-            put_finding(&mut text, &told, finding)?;
+        for finding in list {
+            put_finding(&mut text, told, finding)?;
         }
         Ok(text)
     }
-}
-
-/// The records that are spoken of, and the numbers of their entries' lines.
-#[derive(Clone, Copy)]
-struct Told<'a> {
-    numbers: &'a [u32],
-    records: &'a [Record],
 }
 
 fn put_finding(text: &mut Vec<u8>, told: &Told, finding: &Finding) -> Result<(), Refusal>
@@ -67,7 +55,7 @@ fn put_finding(text: &mut Vec<u8>, told: &Told, finding: &Finding) -> Result<(),
 fn put_why(text: &mut Vec<u8>, told: &Told, place: u32, decided: &Decided) -> Result<(), Refusal>
     ensures { IsOkUnless result Refusal.Memory }
 {
-    let Some(past) = find_record(told.records, place) else {
+    let Some(past) = told.record(place) else {
         return Ok(());
     };
     put_judged(text, told, place, past)?;
@@ -90,9 +78,7 @@ fn put_cited(text: &mut Vec<u8>, told: &Told, place: u32, entry: &Entry) -> Resu
 {
     put(text, "entry ")?;
     push_number(text, u64::from(place))?;
-    if place > 0
-        && let Some(number) = line_of(told.numbers, place)
-    {
+    if let Some(number) = told.line(place) {
         put(text, " line ")?;
         push_number(text, u64::from(number))?;
     }
@@ -104,7 +90,7 @@ fn put_cited(text: &mut Vec<u8>, told: &Told, place: u32, entry: &Entry) -> Resu
 fn put_cited_at(text: &mut Vec<u8>, told: &Told, place: u32) -> Result<(), Refusal>
     ensures { IsOkUnless result Refusal.Memory }
 {
-    if let Some(past) = find_record(told.records, place) {
+    if let Some(past) = told.record(place) {
         put_cited(text, told, place, past.entry())?;
     }
     put_byte(text, b'\n')
@@ -114,7 +100,7 @@ fn put_cited_at(text: &mut Vec<u8>, told: &Told, place: u32) -> Result<(), Refus
 fn put_made(text: &mut Vec<u8>, told: &Told, place: u32) -> Result<(), Refusal>
     ensures { IsOkUnless result Refusal.Memory }
 {
-    let Some(past) = find_record(told.records, place) else {
+    let Some(past) = told.record(place) else {
         return Ok(());
     };
     put_cited(text, told, place, past.entry())?;
@@ -354,7 +340,7 @@ fn put_absent(text: &mut Vec<u8>, past: &Record) -> Result<(), Refusal>
 fn put_stand(text: &mut Vec<u8>, told: &Told, stand: &Stand) -> Result<(), Refusal>
     ensures { IsOkUnless result Refusal.Memory }
 {
-    let Some(past) = find_record(told.records, stand.place) else {
+    let Some(past) = told.record(stand.place) else {
         return Ok(());
     };
     put_judged(text, told, stand.place, past)?;
