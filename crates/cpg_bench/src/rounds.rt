@@ -7,6 +7,7 @@ ghost use Rattle.cpg_cluster.specs.Steps.{AreWithin};
 
 use crate::gates::{Chance, Fates, Notes, gate_of};
 use cpg_board::Board;
+use cpg_cluster::trace::{recorded_by, write_trace};
 use cpg_cluster::{
     Manner, Numbered, Patience, Sessions, Shown, command_in_line, do_command, hand_on,
 };
@@ -17,7 +18,6 @@ use cpg_print::{put_audit, put_count};
 use cpg_record::Record;
 use cpg_script::put;
 use cpg_text::{push_number, write_whole};
-use cpg_cluster::trace::{recorded_by, write_trace};
 use std::alloc::Global;
 use std::io::{Lines, StdinLock, Write};
 use std::sync::Wait;
