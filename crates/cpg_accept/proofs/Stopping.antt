@@ -4,7 +4,7 @@ use Rattle.std.specs.Prelude.{◌⊎◌}
 use Rattle.cpg_cred.specs.declared.refusals.Refusal.{Refusal}
 use Rattle.cpg_conf.specs.Listed.{FailsBy}
 use Rattle.cpg_conf.specs.Names.{next_number}
-use Rattle.cpg_script.specs.declared.faults.Fault.{Fault}
+use Rattle.cpg_text.specs.declared.faults.Fault.{Fault}
 use Rattle.cpg_accept.specs.declared.parts.Kind.{Kind}
 use Rattle.cpg_accept.specs.declared.parts.Kind.TheVariants.{Names, Conf, Ask}
 use Rattle.cpg_accept.specs.Accepting.{Admitted, Ends, MemoryAt, MemoryIn, all_taken, and_then, read_in, taken}

@@ -10,7 +10,7 @@ use Rattle.cpg_text.specs.Lines.{lines_of, trimmed, is_ignored}
 use Rattle.cpg_text.specs.Streams.{AppendsFront}
 use Rattle.cpg_conf.specs.Listed.{listed}
 use Rattle.cpg_conf.specs.Names.{Known, no_names, known_of, next_number}
-use Rattle.cpg_script.specs.declared.faults.Fault.{Fault}
+use Rattle.cpg_text.specs.declared.faults.Fault.{Fault}
 use Rattle.cpg_accept.specs.Asks.{HasAsk, answers_from, answer_line}
 use Rattle.cpg_accept.specs.Parts.{Piece, parts_from, text_before}
 use Rattle.cpg_accept.specs.declared.parts.Kind.{Kind}

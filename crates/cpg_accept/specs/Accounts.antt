@@ -3,7 +3,7 @@ use Rattle.std.specs.Prelude.{ℕ, ◌==◌, ◌&&◌, nat_lt, List, [], ◌∷�
 use Rattle.cpg_cred.specs.declared.refusals.Refusal.{Refusal}
 use Rattle.cpg_cred.specs.declared.refusals.Refusal.TheVariants.{BadLine}
 use Rattle.cpg_text.specs.Lines.{lines_of, trimmed, is_ignored}
-use Rattle.cpg_script.specs.Words.{◌>>=◌, cut_at}
+use Rattle.cpg_text.specs.Words.{◌>>=◌, cut_at}
 use Rattle.cpg_conf.specs.Names.{Known, Naming, Nothing, User, Group, made, value_on, next_number, naming_then, with_namings}
 use Rattle.cpg_accept.specs.declared.admit.accounts.Book.{Book}
 use Rattle.cpg_accept.specs.declared.admit.accounts.Book.TheVariants.{Users, Groups}

@@ -7,7 +7,7 @@ use Rattle.cpg_cred.specs.declared.credentials.Cred.{Cred}
 use Rattle.cpg_cred.specs.declared.refusals.Refusal.{Refusal}
 use Rattle.cpg_cred.specs.declared.refusals.Refusal.TheVariants.{Memory}
 use Rattle.cpg_text.specs.Numbers.{is_number}
-use Rattle.cpg_script.specs.Words.{◌>>=◌, cut_at, u32_of}
+use Rattle.cpg_text.specs.Words.{◌>>=◌, cut_at, u32_of}
 use Rattle.cpg_conf.specs.Listed.{joined, listed}
 use Rattle.cpg_conf.specs.Names.{Known, no_names, known_of, number_of}
 use Rattle.cpg_accept.specs.Accounts.{known_with}

@@ -10,7 +10,7 @@ use Rattle.cpg_cred.specs.declared.refusals.Refusal.{Refusal}
 use Rattle.cpg_cred.specs.declared.refusals.Refusal.TheVariants.{Access, BadCommand}
 use Rattle.cpg_text.specs.Lines.{trimmed, words_of, is_ignored}
 use Rattle.cpg_conf.specs.Names.{next_number}
-use Rattle.cpg_script.specs.Words.{◌>>=◌, u32_of}
+use Rattle.cpg_text.specs.Words.{◌>>=◌, u32_of}
 
 -- the credentials of a line's words
 abbrev pub cred_of : List (List ℕ) → Option Cred

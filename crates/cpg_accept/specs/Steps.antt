@@ -5,7 +5,7 @@ use Rattle.std.specs.Io.KnownBytes.{Keeps}
 use Rattle.cpg_cred.specs.declared.admission.Via.{Via}
 use Rattle.cpg_cred.specs.declared.refusals.Refusal.{Refusal}
 use Rattle.cpg_cred.specs.declared.refusals.Refusal.TheVariants.{BadCommand, Memory, Write}
-use Rattle.cpg_script.specs.declared.faults.Fault.{Fault}
+use Rattle.cpg_text.specs.declared.faults.Fault.{Fault}
 use Rattle.cpg_accept.specs.Accepting.{Admitted, LacksMemory, LeavesFront, MemoryIn, admitted_by, all_taken, whole_fault}
 use Rattle.cpg_text.specs.Lines.{lines_left, lines_of}
 use Rattle.cpg_conf.specs.Names.{next_number}

@@ -11,14 +11,13 @@ ghost use Rattle.cpg_accept.specs.Accepting.{admitted_by, all_taken, first_comma
 ghost use Rattle.cpg_accept.specs.Asks.{answer_line};
 ghost use Rattle.cpg_accept.specs.Steps.{AnswersAre, EndsRead, no_command, parts_of_head, StopsIn};
 ghost use Rattle.cpg_text.specs.Streams.{AppendsFront};
-ghost use Rattle.cpg_script.specs.Written.{WritesLate};
+ghost use Rattle.cpg_text.specs.Written.{WritesLate};
 
 use crate::admitting::Admitting;
 use crate::asks::answer_text;
 use crate::parts::{Cut, Parts};
 use cpg_cred::{Refusal, Via};
-use cpg_script::{Fault, write_line};
-use cpg_text::{Lines, MOST_BYTES, is_ignored, read_whole, trim};
+use cpg_text::{Fault, Lines, MOST_BYTES, is_ignored, read_whole, trim, write_line};
 use std::alloc::Global;
 use std::io::{Read, Write};
 

@@ -10,7 +10,7 @@ use crate::asks::answer_all;
 use crate::parts::{Kind, Part};
 use cpg_conf::{Names, read_conf};
 use cpg_cred::{AcceptList, Refusal, Refused, Via};
-use cpg_script::Fault;
+use cpg_text::Fault;
 use std::alloc::Global;
 use std::marker::Model;
 use std::mem;

@@ -9,8 +9,7 @@ ghost use Rattle.cpg_accept.specs.Steps.{answers_with};
 ghost use Rattle.cpg_conf.specs.Names.{next_number};
 
 use cpg_cred::{AcceptList, Cred, Refusal, Via};
-use cpg_script::read_u32;
-use cpg_text::{Lines, Words, is_ignored, trim};
+use cpg_text::{Lines, Words, is_ignored, read_u32, trim};
 
 /// Puts the answers of a text last, which stands after so many lines of a script.
 pub fn answer_all(

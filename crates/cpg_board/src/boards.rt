@@ -2,7 +2,7 @@
 
 ghost use Rattle.std.specs.Prelude.{◌≡◌, ◌≢◌, ◌/◌, ◌++◌, ◌∷◌, ◌<◌, ◌≤◌, [], length, take, Some, None, Ok, true, false, IsOk, slice_get, IfOk, IfErr, IfSome, OnOk, OnErr, IsOkUnless, MatchOption, MatchResult, vec_len, vec_capacity};
 ghost use Rattle.cpg_record.specs.Places.{record_at, Begins};
-ghost use Rattle.cpg_ledger.specs.declared.limits.TheConstants.{BLOCK};
+ghost use Rattle.cpg_entry.specs.declared.blocks.TheConstants.{BLOCK};
 ghost use Rattle.cpg_board.specs.Making.{HasBoard, IsUnmade};
 ghost use Rattle.cpg_board.specs.Noted.{known_of, AllKnow};
 ghost use Rattle.cpg_board.specs.Seats.{IsSeatOf, records_of, Meets, IsLonger};
@@ -15,7 +15,7 @@ use crate::seats::Seat;
 use crate::settling::Settled;
 use crate::words::{Line, Pens, Words};
 use cpg_cred::Refusal;
-use cpg_ledger::Shelf;
+use cpg_entry::Shelf;
 use cpg_record::{MOST_PLACES, Record};
 use once_cell::race::{Note, OnceBox};
 use std::alloc::Global;
@@ -35,7 +35,7 @@ pub struct Board {
 impl Model for Board {
     ghost use Rattle.std.specs.Prelude.{◌≡◌, ◌/◌, map, length};
     ghost use Rattle.once_cell.specs.Once.{cell_name};
-    ghost use Rattle.cpg_ledger.specs.declared.limits.TheConstants.{BLOCK};
+    ghost use Rattle.cpg_entry.specs.declared.blocks.TheConstants.{BLOCK};
     ghost use Rattle.cpg_board.specs.Words.{BoardValue};
 
     ghost Value = { BoardValue };

@@ -7,7 +7,7 @@ use Rattle.cpg_world_laws.specs.Worlds.{WorldValue}
 use Rattle.cpg_cred.specs.declared.refusals.Refusal.{Refusal}
 use Rattle.cpg_cred.specs.declared.refusals.Refusal.TheVariants.{Memory, Write}
 use Rattle.cpg_text.specs.Streams.{AppendsFront}
-use Rattle.cpg_script.proofs.Lined.{split_around}
+use Rattle.cpg_text.proofs.Lined.{split_around}
 use Rattle.cpg_cluster.specs.declared.commands.Command.{Command}
 use Rattle.cpg_cluster.specs.declared.commands.Numbered.{Numbered}
 use Rattle.cpg_cluster.specs.Answers.{Answer, SessionsValue, no_sessions, MayAnswer, AreAnswered}

@@ -8,7 +8,7 @@ use Rattle.cpg_entry.specs.Widths.{IsU32}
 use Rattle.cpg_world_laws.specs.declared.events.WorldEvent.{WorldEvent}
 use Rattle.cpg_world_laws.specs.declared.events.WorldEvent.TheVariants.{Connect, Submit, Disconnect, Frame, Timer, Deliver, Take, List as Listing, Groups}
 use Rattle.cpg_text.specs.Lines.{words_of}
-use Rattle.cpg_script.specs.Words.{◌>>=◌, u32_of}
+use Rattle.cpg_text.specs.Words.{◌>>=◌, u32_of}
 use Rattle.cpg_print.specs.Calls.{call_text}
 use Rattle.cpg_print.proofs.CallWords.{call_again, name_word}
 use Rattle.cpg_print.proofs.Numerals.{decimal_word, number_back}

@@ -2,10 +2,10 @@
 use Rattle.std.proofs.Common.{◌≡◌, ℕ, ◌+◌, Bool, false, true, cond, List, [], ◌∷◌, ◌++◌, length, map, slice_index, Option, None, Some, Result, Ok, Err, IfErr, option_map, refl, sym, ap, ◌∙◌, append_assoc, arith}
 use Rattle.std.specs.Prelude.{not}
 use Rattle.cpg_text.specs.Lines.{is_ignored, trimmed, words_of}
-use Rattle.cpg_script.specs.Commands.{commands_from, commands_of}
+use Rattle.cpg_text.specs.Commands.{commands_from, commands_of}
 use Rattle.cpg_cred.specs.declared.refusals.Refusal.{Refusal}
 use Rattle.cpg_cred.specs.declared.refusals.Refusal.TheVariants as refusal
-use Rattle.cpg_script.specs.Reading.{item_then, items_after, read_all, FailsAs}
+use Rattle.cpg_text.specs.Reading.{item_then, items_after, read_all, FailsAs}
 use Rattle.cpg_cluster.specs.declared.commands.Command.{Command}
 use Rattle.cpg_cluster.specs.declared.commands.Numbered.{Numbered}
 use Rattle.cpg_cluster.specs.Commands.{command_of}

@@ -1,7 +1,7 @@
 -- commands as words
 use Rattle.std.specs.Prelude.{ℕ, ◌≤◌, Bool, true, false, List, [], ◌∷◌, codes, Option, Some, None, option_map, if◌then◌else◌}
 use Rattle.std.specs.Str.{bytes_eq}
-use Rattle.cpg_script.specs.Words.{◌>>=◌, u32_of}
+use Rattle.cpg_text.specs.Words.{◌>>=◌, u32_of}
 use Rattle.cpg_print.specs.Calls.{call_of}
 use Rattle.cpg_step.specs.Commands.{node_of, node_alone}
 use Rattle.cpg_cluster.specs.declared.commands.Ask.{Ask}

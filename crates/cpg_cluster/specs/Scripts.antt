@@ -1,8 +1,8 @@
 -- a script of commands
 use Rattle.std.specs.Prelude.{ℕ, List, [], ◌∷◌, map, option_map, Result, Ok}
 use Rattle.cpg_text.specs.Lines.{words_of}
-use Rattle.cpg_script.specs.Commands.{commands_of}
-use Rattle.cpg_script.specs.Reading.{item_then}
+use Rattle.cpg_text.specs.Commands.{commands_of}
+use Rattle.cpg_text.specs.Reading.{item_then}
 use Rattle.cpg_cluster.specs.declared.commands.Command.{Command}
 use Rattle.cpg_cluster.specs.declared.commands.Numbered.{Numbered}
 use Rattle.cpg_cluster.specs.Commands.{command_of}

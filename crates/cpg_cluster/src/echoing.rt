@@ -6,8 +6,7 @@ ghost use Rattle.cpg_cluster.specs.Lines.{opened_word, session_word, echo_of, ec
 use crate::commands::{Command, Numbered};
 use crate::replies::Reply;
 use cpg_cred::Refusal;
-use cpg_script::{put, put_byte, put_bytes};
-use cpg_text::{Lines, push_number};
+use cpg_text::{Lines, push_number, put, put_byte, put_bytes};
 use std::alloc::Global;
 
 /// Puts the number of a session at the text's end.

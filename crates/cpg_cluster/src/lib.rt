@@ -25,7 +25,7 @@ pub mod trace;
 pub use acting::{answer_with_memory, do_command};
 pub use asking::{MOST_POLLS, limits};
 pub use commands::{Ask, Command, Numbered};
-pub use cpg_script::Fault;
+pub use cpg_text::Fault;
 pub use echoing::put_echoed;
 pub use forms::{Manner, Noted, PLAIN, Patience, PutsAnswer, Shown};
 pub use noting::Known;

@@ -10,8 +10,7 @@ use crate::forms::Patience;
 use crate::replies::Reply;
 use cpg_cred::Refusal;
 use cpg_ring::Settings;
-use cpg_script::put;
-use cpg_text::push_number;
+use cpg_text::{push_number, put};
 
 /// What is known of a wait from the start.
 #[derive(Debug, Clone, Copy)]

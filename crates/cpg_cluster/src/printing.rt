@@ -14,8 +14,7 @@ use cpg_print::{
     put_audit, put_count, put_groups_line, put_members_line, put_refused_line, put_safe_line,
     put_took_line,
 };
-use cpg_script::put;
-use cpg_text::push_number;
+use cpg_text::{push_number, put};
 use std::alloc::Global;
 
 /// Puts the line of a new session at the text's end.

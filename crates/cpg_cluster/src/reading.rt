@@ -16,9 +16,8 @@ use crate::commands::{Ask, Command};
 use cpg_cred::{Cred, Refusal};
 use cpg_entry::Name;
 use cpg_print::read_call;
-use cpg_script::{is, read_u32};
 use cpg_step::{read_node, read_node_alone};
-use cpg_text::take_words;
+use cpg_text::{is, read_u32, take_words};
 use std::alloc::Global;
 
 /// The words of the longest line, and one more.

@@ -1,19 +1,18 @@
 //! Scripts of commands, read and checked whole, each command with the number of its line.
 
 ghost use Rattle.std.specs.Prelude.{◌≡◌, ◌≤◌, Ok, All, length, slice_index, IfOk, IfErr, IsOkUnless};
-ghost use Rattle.cpg_script.specs.Reading.{FailsAs};
+ghost use Rattle.cpg_text.specs.Reading.{FailsAs};
 ghost use Rattle.cpg_cluster.specs.Commands.{IsWithin};
 ghost use Rattle.cpg_cluster.specs.Scripts.{commands_of_script, numbers_of};
 
 use crate::commands::Numbered;
 use crate::reading::command_in_line;
 use cpg_cred::Refusal;
-use cpg_script::{ReadsLine, read_script};
-use cpg_text::{Lines, MOST_BYTES, is_ignored, trim};
+use cpg_text::{Lines, MOST_BYTES, ReadsLine, is_ignored, read_script, trim};
 use std::alloc::Global;
 
 /// The numbers of the script's lines that are not ignored; lines are counted from 1.
-#[tactic(auto, using(cpg_script::proofs::Lengths::lines_few, crate::proofs::Scripted::number_ignored, crate::proofs::Scripted::number_held))]
+#[tactic(auto, using(cpg_text::proofs::Lengths::lines_few, crate::proofs::Scripted::number_ignored, crate::proofs::Scripted::number_held))]
 fn read_numbers(alloc: Global, script: &[u8]) -> Result<Vec<u32>, Refusal>
     requires { length script.now ≤ MOST_BYTES }
     ensures ok { IfOk result (λ numbers. numbers.items ≡ numbers_of script.now) }

@@ -8,7 +8,7 @@ use Rattle.cpg_cred.specs.declared.refusals.Refusal.{Refusal}
 use Rattle.cpg_cred.specs.declared.refusals.Refusal.TheVariants as refusal
 use Rattle.cpg_text.specs.declared.streams.TheConstants.{MOST_BYTES}
 use Rattle.cpg_accept.specs.Accepting.{whole_fault}
-use Rattle.cpg_script.specs.declared.faults.Fault as script
+use Rattle.cpg_text.specs.declared.faults.Fault as script
 use Rattle.cpg_ring.specs.States.{IsSettings}
 use Rattle.cpg_ring.specs.declared.settings.Settings.{Settings}
 use Rattle.cpg_why.specs.declared.asking.Asked.{Asked}

@@ -7,8 +7,8 @@ use Rattle.cpg_cred.specs.Listed.{Listed}
 use Rattle.cpg_cred.specs.declared.refusals.Refusal.{Refusal}
 use Rattle.cpg_cred.specs.declared.refusals.Refusal.TheVariants as refusal
 use Rattle.cpg_accept.specs.Accepting.{whole_fault}
-use Rattle.cpg_script.specs.declared.faults.Fault as script
-use Rattle.cpg_script.specs.Written.{WritesLate}
+use Rattle.cpg_text.specs.declared.faults.Fault as script
+use Rattle.cpg_text.specs.Written.{WritesLate}
 use Rattle.cpg_ring.specs.States.{IsSettings}
 use Rattle.cpg_ring.specs.declared.settings.Settings.{Settings}
 use Rattle.cpg_cluster.specs.declared.commands.Numbered.{Numbered}

@@ -6,8 +6,8 @@ use Rattle.cpg_cred.specs.Listed.{Listed}
 use Rattle.cpg_cred.specs.declared.refusals.Refusal.{Refusal}
 use Rattle.cpg_cred.specs.declared.refusals.Refusal.TheVariants as refusal
 use Rattle.cpg_text.specs.declared.streams.TheConstants.{MOST_BYTES}
-use Rattle.cpg_script.specs.declared.faults.Fault as script
-use Rattle.cpg_script.specs.Written.{WritesLate}
+use Rattle.cpg_text.specs.declared.faults.Fault as script
+use Rattle.cpg_text.specs.Written.{WritesLate}
 use Rattle.cpg_ring.specs.declared.settings.Settings.{Settings}
 use Rattle.cpg_world_laws.specs.Worlds.{WorldValue, new_world}
 use Rattle.cpg_step.specs.declared.commands.Command.{Command}

@@ -5,8 +5,8 @@ use Rattle.cpg_cred.specs.Listed.{Listed}
 use Rattle.cpg_cred.specs.declared.refusals.Refusal.{Refusal}
 use Rattle.cpg_cred.specs.declared.refusals.Refusal.TheVariants.{Range, Write}
 use Rattle.cpg_text.specs.declared.streams.TheConstants.{MOST_BYTES}
-use Rattle.cpg_script.specs.declared.faults.Fault as script_faults
-use Rattle.cpg_script.specs.Written.{WritesLate}
+use Rattle.cpg_text.specs.declared.faults.Fault as script_faults
+use Rattle.cpg_text.specs.Written.{WritesLate}
 use Rattle.cpg_ring.specs.States.{IsSettings}
 use Rattle.cpg_ring.specs.declared.settings.Settings.{Settings}
 use Rattle.cpg_world_laws.specs.Worlds.{WorldValue, new_world}

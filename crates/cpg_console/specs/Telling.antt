@@ -2,8 +2,8 @@
 use Rattle.std.specs.Prelude.{ℕ, Bool, true, false, ◌==◌, ◌&&◌, List, [], ◌++◌, codes, decimal, Option, Some, None, if◌then◌else◌}
 use Rattle.cpg_cred.specs.declared.refusals.Refusal.{Refusal}
 use Rattle.cpg_cred.specs.declared.refusals.Refusal.TheVariants.{Write}
-use Rattle.cpg_script.specs.declared.faults.Fault as script
-use Rattle.cpg_script.specs.Faults.{fault_text}
+use Rattle.cpg_text.specs.declared.faults.Fault as script
+use Rattle.cpg_text.specs.Faults.{fault_text}
 use Rattle.cpg_console.specs.declared.failures.Failure.{Failure}
 use Rattle.cpg_why.specs.declared.asking.Missing as absent
 use Rattle.cpg_record.specs.declared.connections.ConnId.{ConnId}

@@ -3,7 +3,7 @@ use Rattle.std.specs.Borrow.{Bor}
 use Rattle.std.specs.Prelude.{ℕ, ◌+◌, Bool, not, is_some, List, [], codes, position, slice_get, Option, Some, None, option_map}
 use Rattle.std.specs.List.{fold}
 use Rattle.cpg_cred.specs.Listed.{Listed, with_user, with_group}
-use Rattle.cpg_script.specs.Words.{◌>>=◌, after_name, u32_of}
+use Rattle.cpg_text.specs.Words.{◌>>=◌, after_name, u32_of}
 use Rattle.cpg_hint.specs.Accepts.{accept_hint}
 
 -- the number that a word names so

@@ -20,8 +20,7 @@ use cpg_conf::{Names, Numbers};
 use cpg_cred::{Cred, Refusal};
 use cpg_hint::file_hint;
 use cpg_json::{print_json, print_json_echo};
-use cpg_script::put_bytes;
-use cpg_text::write_whole;
+use cpg_text::{put_bytes, write_whole};
 use std::alloc::Global;
 use std::io::Write;
 

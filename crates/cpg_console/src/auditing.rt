@@ -1,7 +1,8 @@
 //! `cpgring run --why`: a new cluster, the script that is run over it, and what is asked of the entries that stand on its
 //! board then.
 //!
-//! Proved: the words of the command line come first, then the settings, then the script; and what is written.
+//! Proved: the words of the command line come first, then the settings, then the script; and what is found for each entry.
+//! How that is written is plain code.
 
 ghost use Rattle.std.specs.Prelude.{◌≡◌, ◌≢◌, ◌≤◌, ◌↔◌, Err, Some, None, length, map, OnOk, IfErr, IfSome};
 ghost use Rattle.cpg_why.specs.Forms.{plain};

@@ -1,7 +1,8 @@
 //! `cpgring draw` and `cpgring step --numbers`: a new world, and what is written of the script that is run over it, once
 //! that is whole.
 //!
-//! Proved: the words of the command line come first, then the settings, then the script; and what is written.
+//! Proved: the words of the command line come first, then the settings, then the script. The picture is proved as a value;
+//! how it is written is plain code.
 
 ghost use Rattle.std.specs.Prelude.{◌≡◌, ◌≤◌, ◌↔◌, Err, Some, None, length, map, OnOk, IfErr, IfSome};
 ghost use Rattle.cpg_step.specs.Scripts.{commands_of_script};
@@ -14,9 +15,8 @@ use crate::runs::Picture;
 use crate::stepping::world_by;
 use cpg_draw::{Shape, draw_script};
 use cpg_ring::Settings;
-use cpg_script::Fault;
 use cpg_step::numbers::step_numbered;
-use cpg_text::MOST_BYTES;
+use cpg_text::{Fault, MOST_BYTES};
 use cpg_world::World;
 use std::alloc::Global;
 use std::io::{Read, Write};

@@ -6,7 +6,7 @@ ghost use Rattle.cpg_console.specs.Runs.{failure_of_delivered, failure_of_why};
 ghost use Rattle.cpg_console.specs.declared.failures.Failure.TheVariants as failure;
 
 use cpg_cred::Refusal;
-use cpg_script::Fault;
+use cpg_text::Fault;
 use cpg_why::{Missing, WhyFault};
 
 /// Among which entries something is asked of.

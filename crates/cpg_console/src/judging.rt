@@ -1,7 +1,7 @@
 //! `cpgring judge`, `why` and `accept`: what they print of a script, in the form that is asked for.
 
 ghost use Rattle.std.specs.Prelude.{◌≡◌, ◌≤◌, None, length, OnOk, IfErr, IfSome};
-ghost use Rattle.cpg_script.specs.Written.{WritesLate};
+ghost use Rattle.cpg_text.specs.Written.{WritesLate};
 ghost use Rattle.cpg_judge.specs.Scripts.{entries_of_script};
 ghost use Rattle.cpg_why.specs.Forms.{plain};
 ghost use Rattle.cpg_why.specs.Scripts.{numbers_of, EndsWhy, IsWritten, Leaves};
@@ -12,8 +12,7 @@ use cpg_accept::accept_script;
 use cpg_json::why::AsJson;
 use cpg_json::{accept_json, judge_json};
 use cpg_judge::judge_script;
-use cpg_script::Fault;
-use cpg_text::MOST_BYTES;
+use cpg_text::{Fault, MOST_BYTES};
 use cpg_why::{AsText, Asked, WhyFault, why_script};
 use std::alloc::Global;
 use std::io::{Read, Write};

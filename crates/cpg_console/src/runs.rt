@@ -31,7 +31,7 @@ use cpg_draw::Excerpt;
 use cpg_json::Marks;
 use cpg_judge::filter::{Filter, judge_filtered};
 use cpg_ring::Settings;
-use cpg_script::Fault;
+use cpg_text::Fault;
 use cpg_why::Asked;
 use std::alloc::Global;
 use std::io::{BufWriter, Read, Write};

@@ -1,6 +1,7 @@
 //! `cpgring step`: a new world, and the script that is run over it.
 //!
-//! Proved: the words of the command line come first, then the settings, then the script; and what is written.
+//! Proved: the words of the command line come first, then the settings, then the script; what is written of the steps; and
+//! what is found for each entry of `--why`, whose text is plain code.
 
 ghost use Rattle.std.specs.Prelude.{◌≡◌, ◌≤◌, ◌↔◌, Err, Some, None, length, map, OnOk, IfOk, IfErr, IfSome};
 ghost use Rattle.cpg_world_laws.specs.Worlds.{new_world};
@@ -20,9 +21,8 @@ use cpg_cred::AcceptList;
 use cpg_json::step_json;
 use cpg_json::why::AsJson;
 use cpg_ring::Settings;
-use cpg_script::Fault;
 use cpg_step::run_script;
-use cpg_text::MOST_BYTES;
+use cpg_text::{Fault, MOST_BYTES};
 use cpg_why::steps::why_of_steps;
 use cpg_why::{AsText, Asked, WhyFault};
 use cpg_world::World;

@@ -6,7 +6,7 @@ ghost use Rattle.std.specs.Prelude.{◌≡◌, ◌⊎◌, ◌++◌, decimal, OnO
 ghost use Rattle.cpg_cred.specs.Shown.{refusal_text};
 ghost use Rattle.std.specs.Io.KnownBytes.{Appends};
 ghost use Rattle.cpg_text.specs.Streams.{AppendsFront};
-ghost use Rattle.cpg_script.specs.Faults.{part_text};
+ghost use Rattle.cpg_text.specs.Faults.{part_text};
 ghost use Rattle.cpg_accept.specs.Accepting.{whole_fault};
 ghost use Rattle.cpg_console.specs.Telling.{conn_line, conn_text, entry_line, error_line, event_line, failure_line, missing_line, process_line};
 
@@ -14,8 +14,7 @@ use crate::failures::{Among, Failure};
 use arrayvec::ArrayString;
 use cpg_cred::Refusal;
 use cpg_record::ConnId;
-use cpg_script::Fault;
-use cpg_text::write_whole;
+use cpg_text::{Fault, write_whole};
 use cpg_why::Missing;
 use std::fmt::{self, Write as _};
 use std::io::Write;

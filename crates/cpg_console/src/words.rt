@@ -8,7 +8,7 @@ ghost use Rattle.cpg_console.specs.Words.{is_accept_word, number_named, and_word
 
 use cpg_cred::{AcceptList, Refusal};
 use cpg_hint::accept_hint;
-use cpg_script::{read_u32, strip_name};
+use cpg_text::{read_u32, strip_name};
 use std::alloc::Global;
 
 /// The list of the words of a command line, in their order; none where one of them is neither `uid:N` nor

@@ -4,8 +4,7 @@ ghost use Rattle.std.specs.Prelude.{IsOkUnless};
 
 use crate::arrows::{Arrow, Kind};
 use cpg_cred::Refusal;
-use cpg_script::put;
-use cpg_text::push_number;
+use cpg_text::{push_number, put};
 
 /// What stands between a column and the next one, in the row of a node that the arrow ends at.
 fn gap(at: u8, arrow: Option<Arrow>, column: u8) -> &'static str {

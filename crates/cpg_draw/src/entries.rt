@@ -7,9 +7,8 @@ use cpg_cred::Refusal;
 use cpg_entry::{Entry, Frame, Op};
 use cpg_print::{put_call, put_verdict};
 use cpg_record::Record;
-use cpg_script::put;
 use cpg_step::put_answer;
-use cpg_text::push_number;
+use cpg_text::{push_number, put};
 use cpg_world::{Reply, World};
 use std::alloc::Global;
 

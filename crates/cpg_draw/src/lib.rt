@@ -20,7 +20,7 @@ mod sets;
 mod svg;
 mod words;
 
-pub use cpg_script::Fault;
+pub use cpg_text::Fault;
 pub use drawing::{Shape, draw_script};
 pub use excerpts::{Excerpt, Spot};
 pub use pictures::{Picture, picture_of};

@@ -8,8 +8,8 @@ use crate::pictures::Picture;
 use crate::rows::Row;
 use crate::words::{put_miss, put_row_words, put_start};
 use cpg_cred::Refusal;
-use cpg_script::put;
 use cpg_step::Command;
+use cpg_text::put;
 use cpg_world::World;
 use std::alloc::Global;
 

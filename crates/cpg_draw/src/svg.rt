@@ -20,8 +20,8 @@ use crate::svg::rows::{put_columns, put_over, put_start_over, put_start_under, p
 use crate::svg::shapes::put_opening;
 use crate::svg::style::STYLE;
 use cpg_cred::Refusal;
-use cpg_script::put;
 use cpg_step::Command;
+use cpg_text::put;
 use cpg_world::World;
 use std::alloc::Global;
 

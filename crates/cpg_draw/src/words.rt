@@ -10,9 +10,8 @@ use crate::pictures::Picture;
 use crate::rows::Row;
 use cpg_cred::{NodeId, Refusal};
 use cpg_print::put_call;
-use cpg_script::put;
 use cpg_step::{Command, Look};
-use cpg_text::push_number;
+use cpg_text::{push_number, put};
 use cpg_world::{World, WorldEvent};
 use std::alloc::Global;
 

@@ -2,6 +2,7 @@
 
 ghost use Rattle.std.specs.Prelude.{◌≡◌, ◌^◌};
 
+use crate::blocks::{BLOCK, LIGHT_BYTES};
 use crate::messages::MOST_MESSAGE_BYTES;
 use crate::names::MOST_NAME_BYTES;
 
@@ -25,4 +26,6 @@ pub fn limits()
     ensures hops { MOST_HOPS ≡ 2 ^ 62 }
     ensures requests { MOST_REQUESTS ≡ 32 }
     ensures connections { MOST_CONNECTIONS ≡ 65535 }
+    ensures block { BLOCK ≡ 256 }
+    ensures light { LIGHT_BYTES ≡ 16384 }
 {}

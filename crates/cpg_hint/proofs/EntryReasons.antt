@@ -12,7 +12,7 @@ use Rattle.cpg_entry.specs.declared.calls.Op.TheVariants.{Act, Gone}
 use Rattle.cpg_rules.specs.declared.rules.Rule.{Rule}
 use Rattle.cpg_text.specs.Percent.{message_of}
 use Rattle.cpg_text.specs.Numbers.{number_in}
-use Rattle.cpg_script.specs.Words.{◌>>=◌, u32_of}
+use Rattle.cpg_text.specs.Words.{◌>>=◌, u32_of}
 use Rattle.cpg_print.specs.Calls.{insert_at, insert_of, remove_of, is_enterable, is_gone, is_within_limits}
 use Rattle.cpg_print.specs.Entries.{entry_of, enterable_op}
 use Rattle.cpg_print.specs.Rules.{rule_of}

@@ -4,7 +4,7 @@ use Rattle.std.specs.Prelude.{if◌then◌else◌}
 use Rattle.std.specs.Option.{ok_or}
 use Rattle.std.specs.Str.{bytes_eq}
 use Rattle.std.proofs.lemmas.Slice.Eq.{bytes_eq-Decides}
-use Rattle.cpg_script.specs.Words.{◌>>=◌}
+use Rattle.cpg_text.specs.Words.{◌>>=◌}
 use Rattle.cpg_hint.specs.declared.wants.Want.{Want}
 use Rattle.cpg_hint.specs.declared.words.Unfit.{Unfit}
 use Rattle.cpg_hint.specs.Wants.{or_unfit}

@@ -5,7 +5,7 @@ use Rattle.std.specs.Option.{ok_or}
 use Rattle.std.specs.Str.{bytes_eq}
 use Rattle.cpg_cred.specs.declared.refusals.Refusal.{Refusal}
 use Rattle.cpg_cred.specs.declared.refusals.Refusal.TheVariants.{BadLine, BadValue}
-use Rattle.cpg_script.specs.Words.{u32_of}
+use Rattle.cpg_text.specs.Words.{u32_of}
 use Rattle.cpg_conf.specs.Names.{Naming, User, Group, made, naming_in, three}
 use Rattle.cpg_accept.specs.Asks.{cred_of}
 use Rattle.cpg_hint.specs.declared.wants.Want.{Want}

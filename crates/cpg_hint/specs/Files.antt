@@ -3,7 +3,7 @@ use Rattle.std.specs.Prelude.{ℕ, List, [], codes, Bool, true, false, unwrap_or
 use Rattle.cpg_cred.specs.declared.refusals.Refusal.{Refusal}
 use Rattle.cpg_cred.specs.declared.refusals.Refusal.TheVariants as refusal
 use Rattle.cpg_text.specs.Lines.{lines_of, trimmed}
-use Rattle.cpg_script.specs.Words.{◌>>=◌, cut_at}
+use Rattle.cpg_text.specs.Words.{◌>>=◌, cut_at}
 use Rattle.cpg_accept.specs.declared.admit.texts.File.{File}
 use Rattle.cpg_accept.specs.declared.admit.texts.File.TheVariants as file
 use Rattle.cpg_hint.specs.Marks.{marked}

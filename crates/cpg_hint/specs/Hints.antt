@@ -3,7 +3,7 @@ use Rattle.std.specs.Prelude.{ℕ, ◌-◌, ◌==◌, List, [], ◌∷◌, Bool,
 use Rattle.cpg_cred.specs.declared.refusals.Refusal.{Refusal}
 use Rattle.cpg_cred.specs.declared.refusals.Refusal.TheVariants as refusal
 use Rattle.cpg_text.specs.Lines.{lines_of, trimmed, words_of}
-use Rattle.cpg_script.specs.declared.faults.Fault.{Fault}
+use Rattle.cpg_text.specs.declared.faults.Fault.{Fault}
 use Rattle.cpg_accept.specs.Parts.{is_head}
 use Rattle.cpg_hint.specs.declared.kinds.Kind.{Kind}
 use Rattle.cpg_hint.specs.declared.kinds.Kind.TheVariants as kind

@@ -8,7 +8,7 @@ use Rattle.cpg_entry.specs.Names.{is_name}
 use Rattle.cpg_entry.specs.declared.ranges.TheConstants.{MOST_CONNECTIONS}
 use Rattle.cpg_text.specs.Numbers.{number_in}
 use Rattle.cpg_text.specs.Percent.{message_of}
-use Rattle.cpg_script.specs.Words.{◌>>=◌, u32_of}
+use Rattle.cpg_text.specs.Words.{◌>>=◌, u32_of}
 use Rattle.cpg_print.specs.Entries.{conn_of_word}
 use Rattle.cpg_print.specs.Rules.{effect_of, right_of, who_of}
 use Rattle.cpg_print.specs.Steps.{sends_few}

@@ -7,8 +7,7 @@ ghost use Rattle.cpg_hint.specs.Accepts.{accept_forms, accept_hint, word_front};
 
 use crate::marks::{put_blanks, put_shown};
 use cpg_cred::Refusal;
-use cpg_script::put;
-use cpg_text::push_number;
+use cpg_text::{push_number, put};
 use std::alloc::Global;
 
 /// What a person needs to mend a word of a command line that is neither `uid:N` nor `gid:N`: the word, which is of that

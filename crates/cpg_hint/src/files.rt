@@ -12,8 +12,7 @@ use crate::places::place_in;
 use crate::told::line_at;
 use cpg_accept::admit::File;
 use cpg_cred::Refusal;
-use cpg_script::cut;
-use cpg_text::{Lines, trim};
+use cpg_text::{Lines, cut, trim};
 use std::alloc::Global;
 
 /// What a person needs to mend a file of that text, beside the line of its fault: the file's line, a mark under what does

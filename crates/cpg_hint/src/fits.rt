@@ -6,15 +6,14 @@ ghost use Rattle.std.specs.Prelude.{◌≡◌, is_some, option_map};
 ghost use Rattle.cpg_print.specs.Entries.{conn_of_word};
 ghost use Rattle.cpg_print.specs.Rules.{effect_of, right_of, who_of, conditions_of, take_condition, first_condition, named_number};
 ghost use Rattle.cpg_print.specs.Steps.{sends_few};
-ghost use Rattle.cpg_script.specs.Words.{cut_at};
+ghost use Rattle.cpg_text.specs.Words.{cut_at};
 ghost use Rattle.cpg_text.specs.Numbers.{number_in};
 ghost use Rattle.cpg_hint.specs.Wants.{fits, is_table, node_in};
 
 use crate::wants::{Want, call_wants, op_wants, run_wants, step_wants};
 use cpg_cred::MOST_NODES;
 use cpg_entry::{MOST_CONNECTIONS, MOST_MESSAGE_BYTES, accepts_name};
-use cpg_script::{cut, is, read_u32, strip_name};
-use cpg_text::{message_length, read_number};
+use cpg_text::{cut, is, message_length, read_number, read_u32, strip_name};
 
 /// Whether the word is of that kind, where there are so many nodes.
 pub fn fits(nodes: u8, want: Want, word: &[u8]) -> bool

@@ -13,8 +13,7 @@ use crate::told::{line_at, put_unfit};
 use crate::wants::Want;
 use crate::words::{Unfit, first_unfit};
 use cpg_cred::Refusal;
-use cpg_script::Fault;
-use cpg_text::{Lines, trim};
+use cpg_text::{Fault, Lines, trim};
 use std::alloc::Global;
 
 /// What a person needs to mend a script of that kind, beside the line of its fault: the line of the script, a mark

@@ -7,8 +7,7 @@ ghost use Rattle.std.specs.Fmt.{digit_glyph};
 ghost use Rattle.cpg_hint.specs.Marks.{blanks, cut_short, escaped, escaped_byte, marked, number_text, shown};
 
 use cpg_cred::Refusal;
-use cpg_script::{put, put_byte, put_bytes};
-use cpg_text::push_number;
+use cpg_text::{push_number, put, put_byte, put_bytes};
 use std::alloc::Global;
 
 /// How many characters of a line are shown.

@@ -17,8 +17,7 @@ use crate::told::{line_at, put_unfit};
 use crate::wants::Want;
 use crate::words::{Unfit, first_unfit};
 use cpg_cred::Refusal;
-use cpg_script::is;
-use cpg_text::{Lines, is_ignored, trim};
+use cpg_text::{Lines, is, is_ignored, trim};
 use std::alloc::Global;
 
 /// A part of a script.

@@ -7,8 +7,7 @@ ghost use Rattle.cpg_hint.specs.Phrases.{want_text};
 
 use crate::wants::Want;
 use cpg_cred::Refusal;
-use cpg_script::put;
-use cpg_text::push_number;
+use cpg_text::{push_number, put};
 
 /// Puts the phrase of a want at the text's end, where there are so many nodes.
 pub fn put_want(text: &mut Vec<u8>, nodes: u8, want: Want) -> Result<(), Refusal>

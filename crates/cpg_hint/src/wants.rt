@@ -5,7 +5,7 @@
 ghost use Rattle.std.specs.Prelude.{◌≡◌, option_map};
 ghost use Rattle.cpg_hint.specs.Wants.{op_wants, call_wants, step_wants, run_wants};
 
-use cpg_script::is;
+use cpg_text::is;
 
 /// A kind of word.
 #[derive(Debug, Clone, Copy, PartialEq, Eq)]

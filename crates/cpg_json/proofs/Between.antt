@@ -6,7 +6,7 @@ use Rattle.cpg_record.specs.declared.connections.ConnId.{ConnId}
 use Rattle.cpg_record.specs.declared.events.Event.{Event}
 use Rattle.cpg_record.specs.declared.records.Record.{Record}
 use Rattle.cpg_record.specs.Events.{events, inbox}
-use Rattle.cpg_script.proofs.Lined.{map-flat_map}
+use Rattle.cpg_text.proofs.Lined.{map-flat_map}
 use Rattle.cpg_json.specs.Events.{event_json}
 use Rattle.cpg_json.specs.Steps.{lines_at, lines_between}
 

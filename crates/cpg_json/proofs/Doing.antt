@@ -8,7 +8,7 @@ use Rattle.std.proofs.lemmas.List.Folds.{concat-append}
 use Rattle.cpg_cred.specs.declared.refusals.Refusal.{Refusal}
 use Rattle.cpg_cred.specs.declared.refusals.Refusal.TheVariants as refusal
 use Rattle.cpg_text.specs.Streams.{AppendsFront}
-use Rattle.cpg_script.proofs.Lined.{split_around}
+use Rattle.cpg_text.proofs.Lined.{split_around}
 use Rattle.cpg_world_laws.specs.declared.events.WorldEvent.{WorldEvent}
 use Rattle.cpg_world_laws.specs.Worlds.{WorldValue, happens, runs}
 use Rattle.cpg_world_laws.specs.Replies.{Answer, IsReply, AreReplies}

@@ -6,7 +6,7 @@ use Rattle.std.proofs.lemmas.List.{length-take-le, map-append, take-append-drop,
 use Rattle.cpg_record.specs.declared.records.Record.{Record}
 use Rattle.cpg_record.specs.Places.{record_at}
 use Rattle.cpg_record.proofs.Placing.{record_at-index}
-use Rattle.cpg_script.proofs.Lined.{enumerate_from-append}
+use Rattle.cpg_text.proofs.Lined.{enumerate_from-append}
 use Rattle.cpg_json.specs.Records.{records_json}
 use Rattle.cpg_json.specs.Records.{record_json}
 use Rattle.cpg_judge.proofs.Telling.{record_there}

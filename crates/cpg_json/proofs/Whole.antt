@@ -6,7 +6,7 @@ use Rattle.std.specs.Io.KnownBytes.{Appends}
 use Rattle.cpg_cred.specs.declared.refusals.Refusal.{Refusal}
 use Rattle.cpg_cred.specs.declared.refusals.Refusal.TheVariants as refusal
 use Rattle.cpg_entry.specs.declared.entries.Entry.{Entry}
-use Rattle.cpg_script.specs.Written.{LeavesLines}
+use Rattle.cpg_text.specs.Written.{LeavesLines}
 use Rattle.cpg_judge.specs.Scripts.{entries_of_script}
 use Rattle.cpg_world_laws.specs.Worlds.{WorldValue}
 use Rattle.cpg_step.specs.declared.commands.Command.{Command}

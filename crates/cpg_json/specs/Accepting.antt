@@ -4,7 +4,7 @@ use Rattle.std.specs.List.{concat}
 use Rattle.std.specs.Io.KnownBytes.{Appends, Keeps}
 use Rattle.cpg_cred.specs.declared.refusals.Refusal.TheVariants as refusal
 use Rattle.cpg_text.specs.Streams.{AppendsFront}
-use Rattle.cpg_script.specs.declared.faults.Fault.{Fault}
+use Rattle.cpg_text.specs.declared.faults.Fault.{Fault}
 use Rattle.cpg_accept.specs.Accepting.{admitted_by, whole_fault, Admitted, LacksMemory}
 use Rattle.cpg_json.specs.Answers.{accept_json}
 

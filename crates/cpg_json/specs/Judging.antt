@@ -10,7 +10,7 @@ use Rattle.cpg_record.specs.declared.records.Record.{Record}
 use Rattle.cpg_record.specs.Connections.{conns_of}
 use Rattle.cpg_record.specs.Events.{inbox}
 use Rattle.cpg_record.specs.Judging.{judged}
-use Rattle.cpg_script.specs.Written.{LeavesLines}
+use Rattle.cpg_text.specs.Written.{LeavesLines}
 use Rattle.cpg_why.specs.Scripts.{line_at}
 use Rattle.cpg_json.specs.Events.{event_json, inbox_json}
 use Rattle.cpg_json.specs.Marks.{line_fields}

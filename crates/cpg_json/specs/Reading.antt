@@ -1,7 +1,7 @@
 -- strings of JSON, read again
 use Rattle.std.specs.Prelude.{zero, suc, ℕ, ◌+◌, ◌*◌, List, [], ◌∷◌, length, Bool, ◌&&◌, ◌==◌, nat_le, if◌then◌else◌, Option, Some, None, option_map}
 use Rattle.std.specs.Char.{is_digit, digit_value}
-use Rattle.cpg_script.specs.Words.{◌>>=◌}
+use Rattle.cpg_text.specs.Words.{◌>>=◌}
 
 -- the byte that `u00` and two hexadecimal digits write, and what follows them
 abbrev pub unescaped : List ℕ → Option (ℕ × List ℕ)

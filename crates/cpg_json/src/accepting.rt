@@ -6,7 +6,7 @@
 ghost use Rattle.std.specs.Prelude.{◌≡◌, ◌≤◌, length, map, OnOk, IfOk, IfErr, IfSome, IsOkUnless};
 ghost use Rattle.std.specs.List.{concat};
 ghost use Rattle.std.specs.Io.KnownBytes.{Appends, Keeps};
-ghost use Rattle.cpg_script.specs.Written.{WritesLate};
+ghost use Rattle.cpg_text.specs.Written.{WritesLate};
 ghost use Rattle.cpg_accept.specs.Accepting.{admitted_by, whole_fault};
 ghost use Rattle.cpg_json.specs.Accepting.{AreWritten, Ends, EndsRead};
 ghost use Rattle.cpg_json.specs.Answers.{accept_json as answer_text};
@@ -15,8 +15,7 @@ ghost use Rattle.cpg_json.specs.Steps.{LeavesText};
 use crate::answers::put_accept;
 use cpg_accept::answer_script;
 use cpg_cred::{Refusal, Via};
-use cpg_script::Fault;
-use cpg_text::{MOST_BYTES, read_whole, write_whole};
+use cpg_text::{Fault, MOST_BYTES, read_whole, write_whole};
 use std::alloc::Global;
 use std::io::{Read, Write};
 

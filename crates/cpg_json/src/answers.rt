@@ -17,7 +17,7 @@ use cpg_cred::{By, NodeId, Refusal, Via};
 use cpg_entry::Name;
 use cpg_record::Event;
 use cpg_rules::Rule;
-use cpg_script::put;
+use cpg_text::put;
 use cpg_world::Reply;
 
 fn put_numbered(line: &mut Vec<u8>, value: u64, name: &str) -> Result<(), Refusal>

@@ -14,7 +14,7 @@ use cpg_entry::{Call, Op};
 use cpg_print::node_number;
 use cpg_record::{Reason, Verdict};
 use cpg_rules::{Effect, Right, Rule, Who};
-use cpg_script::put;
+use cpg_text::put;
 
 /// Puts the name of a group at the line's end.
 pub fn put_group(line: &mut Vec<u8>, group: &[u8]) -> Result<(), Refusal>

@@ -13,8 +13,7 @@ use crate::objects::{put_end, put_kind, put_name, put_number, put_word};
 use crate::records::{put_conn, put_members, put_process};
 use cpg_cred::{NodeId, Refusal};
 use cpg_record::{Cause, ConnId, Event, Member, Move, Verdict};
-use cpg_script::put;
-use cpg_text::push_number;
+use cpg_text::{push_number, put};
 
 /// Puts the line that names a connection at the lines' end.
 pub(crate) fn put_inbox(line: &mut Vec<u8>, conn: &ConnId) -> Result<(), Refusal>

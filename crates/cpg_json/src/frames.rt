@@ -11,8 +11,7 @@ use crate::records::put_caller;
 use cpg_cred::Refusal;
 use cpg_entry::{Call, Frame, Op, Packet, Token};
 use cpg_print::node_number;
-use cpg_script::put;
-use cpg_text::push_number;
+use cpg_text::{push_number, put};
 
 /// Puts the group that an op names at the line's end.
 fn put_named_group(line: &mut Vec<u8>, op: &Op) -> Result<(), Refusal>

@@ -25,7 +25,7 @@ use cpg_entry::Name;
 use cpg_group::Policy;
 use cpg_judge::write_much;
 use cpg_record::{ConnId, Event, Verdict};
-use cpg_script::put_bytes;
+use cpg_text::put_bytes;
 use std::io::Write;
 
 /// Puts the line of a connection's own verdict at the lines' end, where the entry is its own.

@@ -9,7 +9,7 @@ ghost use Rattle.std.specs.Io.KnownBytes.{Appends};
 ghost use Rattle.cpg_record.specs.declared.records.Record.{Record};
 ghost use Rattle.cpg_record.specs.Judging.{judged};
 ghost use Rattle.cpg_record.specs.Places.{record_at};
-ghost use Rattle.cpg_script.specs.Written.{LeavesLines, WritesLate};
+ghost use Rattle.cpg_text.specs.Written.{LeavesLines, WritesLate};
 ghost use Rattle.cpg_judge.specs.Gathering.{Gathers};
 ghost use Rattle.cpg_judge.specs.Judging.{EndsJudging};
 ghost use Rattle.cpg_judge.specs.Scripts.{entries_of_script};
@@ -25,8 +25,7 @@ use crate::tails::Tails;
 use cpg_cred::Refusal;
 use cpg_group::Policy;
 use cpg_judge::{judge_lines, write_all, write_much};
-use cpg_script::Fault;
-use cpg_text::{MOST_BYTES, read_whole};
+use cpg_text::{Fault, MOST_BYTES, read_whole};
 use cpg_why::{line_of, read_numbers};
 use std::alloc::Global;
 use std::io::{Read, Write};
@@ -76,7 +75,7 @@ fn judge_whole<R: Read, W: Write>(
 }
 
 /// Writes the lines of the judged entries of that script.
-#[tactic(auto, using(cpg_script::proofs::Lined::none_written))]
+#[tactic(auto, using(cpg_text::proofs::Lined::none_written))]
 fn write_judgement<W: Write>(
     alloc: Global,
     writer: &mut W,
@@ -93,7 +92,7 @@ fn write_judgement<W: Write>(
 }
 
 /// The same, where the lines of the entries have those numbers.
-#[tactic(auto, using(cpg_script::proofs::Lined::none_written))]
+#[tactic(auto, using(cpg_text::proofs::Lined::none_written))]
 fn write_numbered<W: Write>(
     alloc: Global,
     writer: &mut W,

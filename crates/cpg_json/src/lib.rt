@@ -27,7 +27,7 @@ pub mod why;
 
 pub use accepting::accept_json;
 pub use admitting::{print_json, print_json_echo};
-pub use cpg_script::Fault;
+pub use cpg_text::Fault;
 pub use judging::judge_json;
 pub use laws::{strings_are_printable, strings_read_back, texts_are_printable};
 pub use marks::{Marks, number_at, put_event_word, put_look_word};

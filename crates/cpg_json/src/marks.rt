@@ -8,9 +8,8 @@ ghost use Rattle.cpg_json.specs.Objects.{after_comma, field, joined, more, word}
 
 use crate::objects::{put_name, put_number};
 use cpg_cred::{NodeId, Refusal};
-use cpg_script::put;
 use cpg_step::{Command, Look};
-use cpg_text::push_number;
+use cpg_text::{push_number, put};
 use cpg_world::WorldEvent;
 
 /// What stands in the objects of `step` behind their kind.

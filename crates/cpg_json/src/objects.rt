@@ -6,8 +6,7 @@ ghost use Rattle.cpg_json.specs.Strings.{json_string};
 
 use crate::strings::put_string;
 use cpg_cred::Refusal;
-use cpg_script::{put, put_bytes};
-use cpg_text::push_number;
+use cpg_text::{push_number, put, put_bytes};
 
 /// Puts a comma and the name of a field at the line's end.
 #[inline(always)]

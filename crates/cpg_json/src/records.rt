@@ -14,8 +14,7 @@ use crate::objects::{put_end, put_head, put_kind, put_name, put_number};
 use cpg_cred::{NodeId, Refusal};
 use cpg_entry::{Entry, Name};
 use cpg_record::{ConnId, Member, Members, Record};
-use cpg_script::{put, put_bytes};
-use cpg_text::push_number;
+use cpg_text::{push_number, put, put_bytes};
 use std::alloc::Global;
 
 /// Puts a connection at the line's end.

@@ -14,9 +14,8 @@ ghost use Rattle.cpg_json.specs.Stepping.{AreDone, IsStopped, LeavesOf, IsRun, L
 use crate::acting::do_command;
 use crate::marks::{Heading, Marks};
 use cpg_cred::Refusal;
-use cpg_script::Fault;
 use cpg_step::{Command, read_commands};
-use cpg_text::{MOST_BYTES, read_whole, write_whole};
+use cpg_text::{Fault, MOST_BYTES, read_whole, write_whole};
 use cpg_why::read_numbers;
 use cpg_world::World;
 use std::alloc::Global;

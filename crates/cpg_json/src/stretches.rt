@@ -20,7 +20,7 @@ use cpg_entry::Name;
 use cpg_group::{Policy, count_upto};
 use cpg_judge::write_much;
 use cpg_record::ConnId;
-use cpg_script::put_bytes;
+use cpg_text::put_bytes;
 use std::io::Write;
 
 /// The inbox of a connection, with what its lines are made of: their front, and the tails of all places.

@@ -8,7 +8,7 @@ ghost use Rattle.std.specs.Str.{chars};
 ghost use Rattle.cpg_json.specs.Strings.{hex_byte, hex_string, is_plain, json_string, string_byte, string_char, text_string, unit_escape};
 
 use cpg_cred::Refusal;
-use cpg_script::{put, put_byte, put_bytes};
+use cpg_text::{put, put_byte, put_bytes};
 
 /// Puts the bytes as a string at the line's end.
 pub(crate) fn put_string(line: &mut Vec<u8>, bytes: &[u8]) -> Result<(), Refusal>

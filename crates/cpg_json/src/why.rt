@@ -14,8 +14,7 @@ use crate::records::{put_caller, put_conn};
 use cpg_cred::Refusal;
 use cpg_entry::{Call, Entry, Name, Op};
 use cpg_record::{ConnId, Event, Record};
-use cpg_script::put;
-use cpg_text::push_number;
+use cpg_text::{push_number, put};
 use cpg_why::{
     Decided, Finding, Findings, PassedRule, Ruled, Stand, Standing, Tells, Unmet, Unruled,
     find_record, is_told, line_of,

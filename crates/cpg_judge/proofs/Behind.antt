@@ -8,8 +8,8 @@ use Rattle.std.proofs.lemmas.List.Folds.{concat-append}
 use Rattle.cpg_cred.specs.declared.refusals.Refusal.{Refusal}
 use Rattle.cpg_cred.specs.declared.refusals.Refusal.TheVariants as refusal
 use Rattle.cpg_text.specs.Streams.{AppendsFront}
-use Rattle.cpg_script.specs.Written.{LeavesLines}
-use Rattle.cpg_script.proofs.Lined.{leaves_first}
+use Rattle.cpg_text.specs.Written.{LeavesLines}
+use Rattle.cpg_text.proofs.Lined.{leaves_first}
 use Rattle.cpg_judge.specs.Gathering.{AreGathered, Gathers}
 
 -- nothing more

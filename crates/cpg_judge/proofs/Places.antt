@@ -9,7 +9,7 @@ use Rattle.cpg_record.specs.declared.records.Record.{Record}
 use Rattle.cpg_record.specs.Events.{events, inbox}
 use Rattle.cpg_record.specs.Nexts.{is_made_by}
 use Rattle.cpg_record.specs.Places.{places_from, places_of, record_at, IsNextOf}
-use Rattle.cpg_script.proofs.Lined.{map-flat_map}
+use Rattle.cpg_text.proofs.Lined.{map-flat_map}
 use Rattle.cpg_print.specs.Events.{event_line}
 use Rattle.cpg_judge.specs.Texts.{lines_at, lines_between, MakesNone}
 

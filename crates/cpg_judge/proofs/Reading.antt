@@ -5,9 +5,9 @@ use Rattle.cpg_cred.specs.declared.refusals.Refusal.{Refusal}
 use Rattle.cpg_cred.specs.declared.refusals.Refusal.TheVariants.{Memory}
 use Rattle.std.proofs.lemmas.List.{length-append}
 use Rattle.cpg_text.specs.Lines.{is_ignored, trimmed}
-use Rattle.cpg_script.specs.Commands.{commands_from}
-use Rattle.cpg_script.specs.Reading.{item_then, items_after}
-use Rattle.cpg_script.specs.Steps.{items_before, items_with}
+use Rattle.cpg_text.specs.Commands.{commands_from}
+use Rattle.cpg_text.specs.Reading.{item_then, items_after}
+use Rattle.cpg_text.specs.Items.{items_before, items_with}
 
 one_before : {T : Type 0} (items : List T) (number : ℕ) (item : T) (later : Result (List T) ℕ) → items_before items (item_then number (Some item) later) ≡ items_before (items ++ item ∷ []) later
 one_before items number item (Ok later) = ap Ok (sym (append_assoc items (item ∷ []) later))

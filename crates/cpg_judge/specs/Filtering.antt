@@ -12,7 +12,7 @@ use Rattle.cpg_record.specs.Connections.{conns_of}
 use Rattle.cpg_record.specs.Events.{events}
 use Rattle.cpg_record.specs.Judging.{judged}
 use Rattle.cpg_record.specs.Places.{record_at}
-use Rattle.cpg_script.specs.Written.{LeavesLines}
+use Rattle.cpg_text.specs.Written.{LeavesLines}
 use Rattle.cpg_print.specs.Events.{event_line, inbox_line}
 use Rattle.cpg_print.specs.Records.{audit_line, count_line}
 use Rattle.cpg_judge.specs.Filters.{keeps_conn, keeps_event, keeps_place, keeps_record}

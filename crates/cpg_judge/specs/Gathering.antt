@@ -3,7 +3,7 @@ use Rattle.std.specs.Prelude.{ℕ, ◌≡◌, List, ◌++◌, Option, Result, On
 use Rattle.std.specs.List.{concat}
 use Rattle.std.specs.Io.KnownBytes.{Appends}
 use Rattle.cpg_cred.specs.declared.refusals.Refusal.{Refusal}
-use Rattle.cpg_script.specs.Written.{LeavesLines}
+use Rattle.cpg_text.specs.Written.{LeavesLines}
 
 -- of the lines the first were written, and the others stand gathered
 pub record AreGathered (old new : Option (List ℕ)) (gathered : List ℕ) (lines : List (List ℕ)) : Type 0 where

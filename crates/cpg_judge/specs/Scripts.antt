@@ -3,7 +3,7 @@ use Rattle.std.specs.Prelude.{ℕ, List, Option, None, Result, nat_le, if◌then
 use Rattle.cpg_entry.specs.declared.entries.Entry.{Entry}
 use Rattle.cpg_record.specs.Judging.{most_places}
 use Rattle.cpg_text.specs.Lines.{words_of}
-use Rattle.cpg_script.specs.Reading.{read_all}
+use Rattle.cpg_text.specs.Reading.{read_all}
 use Rattle.cpg_print.specs.Entries.{entry_of}
 
 -- the entry of a line that follows so many entries, if there is room for one

@@ -9,7 +9,7 @@ ghost use Rattle.std.specs.Io.KnownBytes.{Appends};
 ghost use Rattle.cpg_record.specs.declared.records.Record.{Record};
 ghost use Rattle.cpg_record.specs.Judging.{judged};
 ghost use Rattle.cpg_record.specs.Places.{record_at};
-ghost use Rattle.cpg_script.specs.Written.{LeavesLines, WritesLate};
+ghost use Rattle.cpg_text.specs.Written.{LeavesLines, WritesLate};
 ghost use Rattle.cpg_print.specs.Records.{audit_line, audit_lines};
 ghost use Rattle.cpg_judge.specs.Gathering.{Gathers};
 ghost use Rattle.cpg_judge.specs.Judging.{judge_lines, EndsJudging, IsWritten, Leaves};
@@ -24,8 +24,7 @@ use cpg_cred::Refusal;
 use cpg_group::Policy;
 use cpg_print::put_count;
 use cpg_record::Record;
-use cpg_script::Fault;
-use cpg_text::{MOST_BYTES, read_whole};
+use cpg_text::{Fault, MOST_BYTES, read_whole};
 use std::alloc::Global;
 use std::io::{Read, Write};
 

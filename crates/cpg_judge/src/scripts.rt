@@ -4,8 +4,8 @@ ghost use Rattle.std.specs.Prelude.{◌≡◌, ◌≤◌, ◌<◌, ◌+◌, ◌+
 ghost use Rattle.cpg_record.specs.Judging.{most_places};
 ghost use Rattle.cpg_text.specs.Lines.{is_ignored, trimmed};
 ghost use Rattle.cpg_text.specs.Memory.{IsOkUnlessMemoryFor};
-ghost use Rattle.cpg_script.specs.Reading.{FailsAs};
-ghost use Rattle.cpg_script.specs.Steps.{items_with};
+ghost use Rattle.cpg_text.specs.Reading.{FailsAs};
+ghost use Rattle.cpg_text.specs.Items.{items_with};
 ghost use Rattle.cpg_judge.specs.Scripts.{entry_in, entries_of_script};
 
 use cpg_cred::Refusal;
@@ -78,7 +78,7 @@ fn enter_found(
 }
 
 /// The entries of a script, each judged as it is read, or `BadCommand` with its first bad line.
-#[tactic(auto, using(cpg_script::proofs::Lengths::lines_few, cpg_script::proofs::Reading::items_with_none))]
+#[tactic(auto, using(cpg_text::proofs::Lengths::lines_few, cpg_text::proofs::Reading::items_with_none))]
 pub fn judge_lines(alloc: Global, script: &[u8]) -> Result<Policy, Refusal>
     requires { length script.now ≤ MOST_BYTES }
     ensures ok { IfOk result (λ policy. entries_of_script script.now ≡ Ok policy) }

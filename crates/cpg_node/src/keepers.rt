@@ -1,8 +1,7 @@
 //! What a node's records and its ring have in common.
 
-use cpg_entry::SharedEntry;
+use cpg_entry::{Keeper, SharedEntry};
 use cpg_group::Record;
-use cpg_ledger::Keeper;
 
 /// Records, as the keeper of their entries.
 #[derive(Drop)]

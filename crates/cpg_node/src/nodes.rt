@@ -26,9 +26,10 @@ use crate::remains::Remains;
 use crate::ringing::{hear_packet, hear_token, pass_token};
 use bytes::Bytes;
 use cpg_cred::{AcceptList, Cred, NodeId, Refusal, Refused};
-use cpg_entry::{Call, Entry, Frame, MOST_CONNECTIONS, Op, SharedEntry, Token, token_fits};
+use cpg_entry::{
+    Call, Entry, Frame, Keeper, MOST_CONNECTIONS, Op, SharedEntry, Shelf, Token, token_fits,
+};
 use cpg_group::{ConnId, Event, Names, Processes, Record};
-use cpg_ledger::{Keeper, Shelf};
 use cpg_ring::{Ring, Settings};
 use cpg_rules::{Asker, Table};
 use cpg_wire::{FrameView, encode_token};

@@ -2,7 +2,7 @@
 
 ghost use Rattle.std.specs.Prelude.{◌≡◌, ◌≤◌, ◌-◌, length};
 
-use cpg_ledger::Ledger;
+use cpg_entry::Ledger;
 use cpg_record::Record;
 use std::marker::Model;
 

@@ -2,7 +2,7 @@
 use Rattle.std.specs.Prelude.{ℕ, ◌+◌, Bool, true, false, List, [], ◌∷◌, length, drop, codes, Option, Some, None, if◌then◌else◌}
 use Rattle.std.specs.Str.{bytes_eq}
 use Rattle.cpg_text.specs.Lines.{lines_of, is_blank, trimmed}
-use Rattle.cpg_script.specs.Words.{◌>>=◌, after_name}
+use Rattle.cpg_text.specs.Words.{◌>>=◌, after_name}
 use Rattle.cpg_play.specs.declared.walks.Went.{Went}
 use Rattle.cpg_play.specs.declared.walks.Went.TheVariants.{Well, Otherwise, Bad}
 

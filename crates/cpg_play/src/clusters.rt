@@ -20,7 +20,7 @@ use cpg_cluster::{
 };
 use cpg_cred::Refusal;
 use cpg_daemon::{HistoryName, Running};
-use cpg_script::{is, put};
+use cpg_text::{is, put};
 use std::alloc::Global;
 use std::marker::Model;
 use std::sync::Wait;

@@ -9,9 +9,8 @@ use crate::names::{Names, is_name};
 use crate::switches::Switch;
 use cpg_cluster::{Command, command_in_line};
 use cpg_cred::Refusal;
-use cpg_script::{is, put_byte, put_bytes, read_u32};
 use cpg_step::read_node;
-use cpg_text::{Words, push_number, take_words};
+use cpg_text::{Words, is, push_number, put_byte, put_bytes, read_u32, take_words};
 use std::alloc::Global;
 
 /// The words of the longest line that is not one of `run`, and one more.

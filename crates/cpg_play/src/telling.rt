@@ -3,8 +3,7 @@
 ghost use Rattle.std.specs.Prelude.{IsOkUnless};
 
 use cpg_cred::Refusal;
-use cpg_script::{put, put_bytes};
-use cpg_text::{push_number, write_whole};
+use cpg_text::{push_number, put, put_bytes, write_whole};
 use std::alloc::Global;
 use std::io::Write;
 

@@ -15,8 +15,7 @@ use crate::telling::tell_difference;
 use cpg_cluster::hand_on;
 use cpg_cluster::shell::{MOST_LINE, put_bad, read_line};
 use cpg_cred::Refusal;
-use cpg_script::{is, strip_name};
-use cpg_text::{Lines, is_ignored, read_whole, trim, write_whole};
+use cpg_text::{Lines, is, is_ignored, read_whole, strip_name, trim, write_whole};
 use std::alloc::Global;
 use std::io::{Read, Write};
 

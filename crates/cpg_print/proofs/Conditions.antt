@@ -6,7 +6,7 @@ use Rattle.cpg_cred.specs.declared.nodes.TheConstants.{MOST_NODES}
 use Rattle.cpg_rules.specs.declared.rules.Who.{Who}
 use Rattle.cpg_entry.specs.Ranges.{Within}
 use Rattle.cpg_entry.specs.Widths.{WhoFits}
-use Rattle.cpg_script.specs.Words.{after_name, cut_at}
+use Rattle.cpg_text.specs.Words.{after_name, cut_at}
 use Rattle.cpg_print.specs.Rules.{conditions_text, who_text, first_condition, named_number, read_or_left, take_condition, complete, conditions_of, who_of}
 use Rattle.cpg_print.proofs.Spacing.{lacks, cut_first, cut_none}
 use Rattle.cpg_print.proofs.Numerals.{decimal_lacks, number_back}

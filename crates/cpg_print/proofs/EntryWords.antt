@@ -8,7 +8,7 @@ use Rattle.cpg_entry.specs.Ranges.{IsEntry}
 use Rattle.cpg_entry.specs.Widths.{EntryFits, IsU32}
 use Rattle.cpg_record.specs.Connections.{conn_of}
 use Rattle.cpg_text.specs.Lines.{words_of}
-use Rattle.cpg_script.specs.Words.{◌>>=◌, u32_of, cut_at}
+use Rattle.cpg_text.specs.Words.{◌>>=◌, u32_of, cut_at}
 use Rattle.cpg_print.specs.Calls.{SendsBytes, op_text}
 use Rattle.cpg_print.specs.Entries.{conn_text, entry_text, conn_in_parts, conn_of_word, caller_of, entry_by, enterable_op, entry_of}
 use Rattle.cpg_print.proofs.CallWords.{op_back}

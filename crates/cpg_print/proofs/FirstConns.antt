@@ -13,7 +13,7 @@ use Rattle.cpg_entry.specs.declared.ranges.TheConstants.{MOST_CONNECTIONS}
 use Rattle.cpg_record.specs.declared.connections.ConnId.{ConnId}
 use Rattle.cpg_text.specs.Lines.{is_blank, words_of}
 use Rattle.cpg_text.specs.Numbers.{is_number, value_of, number_in, first_number}
-use Rattle.cpg_script.specs.Words.{◌>>=◌}
+use Rattle.cpg_text.specs.Words.{◌>>=◌}
 use Rattle.cpg_print.specs.Entries.{conn_in_limits, conn_in_parts, conn_of_word, first_conn}
 use Rattle.cpg_print.proofs.Spacing.{both, passes_also, cut_first}
 

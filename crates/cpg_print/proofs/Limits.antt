@@ -12,7 +12,7 @@ use Rattle.cpg_entry.specs.declared.calls.Op.TheVariants.{Act, Gone}
 use Rattle.cpg_entry.specs.Names.{is_name}
 use Rattle.cpg_text.specs.Numbers.{number_in}
 use Rattle.cpg_text.specs.Percent.{message_of}
-use Rattle.cpg_script.specs.Words.{◌>>=◌, u32_of}
+use Rattle.cpg_text.specs.Words.{◌>>=◌, u32_of}
 use Rattle.cpg_print.specs.Calls.{insert_at, insert_of, is_enterable, join_of, leave_of, op_of, remove_of, send_of}
 use Rattle.cpg_print.specs.Entries.{enterable_op}
 use Rattle.cpg_print.specs.Rules.{rule_of}

@@ -1,6 +1,6 @@
 -- whether there is a value
 use Rattle.std.proofs.Common.{◌≡◌, false, Option, Some, None, option_map, is_some, refl}
-use Rattle.cpg_script.specs.Words.{◌>>=◌}
+use Rattle.cpg_text.specs.Words.{◌>>=◌}
 
 -- what is made of a value is one
 pub mapped : {A B : Type 0} (f : A → B) (o : Option A) → is_some (option_map f o) ≡ is_some o

@@ -9,7 +9,7 @@ use Rattle.std.specs.Prelude.{◌==◌, codes}
 use Rattle.std.specs.List.{AllByRecursion, filter, list_all, prefix_len, slice_split}
 use Rattle.cpg_entry.specs.Names.{is_name_byte}
 use Rattle.cpg_text.specs.Lines.{is_blank, words_of}
-use Rattle.cpg_script.specs.Words.{cut_at}
+use Rattle.cpg_text.specs.Words.{cut_at}
 
 -- one byte at least, each a printing ASCII character
 abbrev pub is_word : List ℕ → Bool

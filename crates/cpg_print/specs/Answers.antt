@@ -4,7 +4,7 @@ use Rattle.std.specs.List.{flat_map}
 use Rattle.cpg_cred.specs.declared.refusals.Refusal.{Refusal}
 use Rattle.cpg_cred.specs.Shown.{refusal_text}
 use Rattle.cpg_record.specs.declared.events.Event.{Event}
-use Rattle.cpg_script.specs.Words.{listed}
+use Rattle.cpg_text.specs.Words.{listed}
 use Rattle.cpg_print.specs.Events.{event_line}
 use Rattle.cpg_print.specs.Records.{process_text}
 

@@ -11,7 +11,7 @@ use Rattle.cpg_entry.specs.Names.{is_name}
 use Rattle.cpg_entry.specs.declared.messages.TheConstants.{MOST_MESSAGE_BYTES}
 use Rattle.cpg_text.specs.Numbers.{number_in}
 use Rattle.cpg_text.specs.Percent.{message_of, text_of}
-use Rattle.cpg_script.specs.Words.{◌>>=◌, u32_of}
+use Rattle.cpg_text.specs.Words.{◌>>=◌, u32_of}
 use Rattle.cpg_print.specs.Rules.{rule_of, rule_text}
 
 -- CALL, as it is printed

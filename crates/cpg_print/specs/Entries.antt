@@ -7,7 +7,7 @@ use Rattle.cpg_entry.specs.declared.entries.Entry.{Entry}
 use Rattle.cpg_record.specs.declared.connections.ConnId.{ConnId}
 use Rattle.cpg_record.specs.Connections.{conn_of}
 use Rattle.cpg_text.specs.Numbers.{number_in}
-use Rattle.cpg_script.specs.Words.{◌>>=◌, u32_of, cut_at}
+use Rattle.cpg_text.specs.Words.{◌>>=◌, u32_of, cut_at}
 use Rattle.cpg_print.specs.declared.entries.Caller.{Caller}
 use Rattle.cpg_print.specs.Calls.{op_of, op_text, is_enterable}
 

@@ -8,7 +8,7 @@ use Rattle.cpg_record.specs.declared.moves.Cause.TheVariants as cause
 use Rattle.cpg_record.specs.declared.moves.Move.{Move}
 use Rattle.cpg_record.specs.Receiving.{place_of}
 use Rattle.cpg_text.specs.Percent.{text_of}
-use Rattle.cpg_script.specs.Words.{listed}
+use Rattle.cpg_text.specs.Words.{listed}
 use Rattle.cpg_print.specs.Entries.{conn_text}
 use Rattle.cpg_print.specs.Records.{member_text, members_text}
 use Rattle.cpg_print.specs.Verdicts.{verdict_text}

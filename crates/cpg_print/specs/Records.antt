@@ -3,7 +3,7 @@ use Rattle.std.specs.Prelude.{ℕ, List, [], ◌++◌, map, codes, decimal, Opti
 use Rattle.std.specs.List.{enumerate_from}
 use Rattle.cpg_record.specs.declared.memberships.Member.{Member}
 use Rattle.cpg_record.specs.declared.records.Record.{Record}
-use Rattle.cpg_script.specs.Words.{listed}
+use Rattle.cpg_text.specs.Words.{listed}
 use Rattle.cpg_print.specs.Entries.{entry_text}
 use Rattle.cpg_print.specs.Verdicts.{verdict_text}
 

@@ -9,7 +9,7 @@ use Rattle.cpg_rules.specs.declared.rules.Right.TheVariants as right
 use Rattle.cpg_rules.specs.declared.rules.Who.{Who}
 use Rattle.cpg_rules.specs.declared.rules.Rule.{Rule}
 use Rattle.cpg_text.specs.Numbers.{number_in}
-use Rattle.cpg_script.specs.Words.{◌>>=◌, after_name, cut_at}
+use Rattle.cpg_text.specs.Words.{◌>>=◌, after_name, cut_at}
 
 -- EFFECT
 abbrev pub effect_text : Effect → List ℕ

@@ -3,7 +3,7 @@
 ghost use Rattle.std.specs.Prelude.{◌≡◌, ◌++◌, codes, OnOk, IsOkUnless};
 ghost use Rattle.std.specs.List.{flat_map};
 ghost use Rattle.std.specs.Option.{option_copied};
-ghost use Rattle.cpg_script.specs.Words.{listed};
+ghost use Rattle.cpg_text.specs.Words.{listed};
 ghost use Rattle.cpg_print.specs.Records.{process_text};
 ghost use Rattle.cpg_print.specs.Answers.{members_line, groups_line, took_line, safe_line, refused_line};
 
@@ -12,8 +12,7 @@ use crate::records::put_process;
 use cpg_cred::{NodeId, Refusal};
 use cpg_entry::Name;
 use cpg_record::Event;
-use cpg_script::{Fault, put, put_bytes, put_fault};
-use cpg_text::push_number;
+use cpg_text::{Fault, push_number, put, put_bytes, put_fault};
 use std::alloc::Global;
 
 /// Puts the line of a listing, the node and pid of each member, at the line's end.

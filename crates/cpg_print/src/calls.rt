@@ -14,9 +14,9 @@ use crate::rules::{put_rule, read_rule};
 use cpg_cred::Refusal;
 use cpg_entry::{Call, MOST_MESSAGE_BYTES, Message, Name, Op, accepts_name};
 use cpg_rules::Rule;
-use cpg_script::{is, put, put_bytes, read_u32};
 use cpg_text::{
-    message_length, plain_message, push_message, push_number, read_message, take_words,
+    is, message_length, plain_message, push_message, push_number, put, put_bytes, read_message,
+    read_u32, take_words,
 };
 use std::alloc::Global;
 

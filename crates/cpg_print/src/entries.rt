@@ -14,8 +14,9 @@ use crate::plain_calls::{Verb, is_call_within, make_call, plain_call};
 use cpg_cred::{Cred, MOST_NODES, NodeId, Refusal};
 use cpg_entry::{Entry, MOST_CONNECTIONS, Op};
 use cpg_record::ConnId;
-use cpg_script::{cut, put_byte, read_u32};
-use cpg_text::{Words, first_digits, push_number, take_number, take_words};
+use cpg_text::{
+    Words, cut, first_digits, push_number, put_byte, read_u32, take_number, take_words,
+};
 use std::alloc::Global;
 
 /// Puts NODE.CONN at the line's end.

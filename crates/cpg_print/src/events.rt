@@ -12,8 +12,7 @@ use crate::records::{put_member, put_members};
 use crate::verdicts::put_verdict;
 use cpg_cred::{NodeId, Refusal};
 use cpg_record::{Cause, ConnId, Event, Member, Move, Verdict};
-use cpg_script::{put, put_byte, put_bytes};
-use cpg_text::{push_message, push_number};
+use cpg_text::{push_message, push_number, put, put_byte, put_bytes};
 
 /// Puts the head of a connection's events at the line's end.
 pub fn put_inbox(line: &mut Vec<u8>, conn: &ConnId) -> Result<(), Refusal>

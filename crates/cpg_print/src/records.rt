@@ -11,8 +11,7 @@ use crate::verdicts::put_verdict;
 use cpg_cred::{NodeId, Refusal};
 use cpg_entry::{Entry, Name};
 use cpg_record::{Member, Record};
-use cpg_script::{put, put_byte, put_bytes};
-use cpg_text::push_number;
+use cpg_text::{push_number, put, put_byte, put_bytes};
 
 /// Puts the audit line of a record, which stands at that place, at the line's end.
 #[tactic(auto, unfolding(crate::specs::Records::audit_line))]

@@ -1,14 +1,13 @@
 //! Access rules as words, both ways.
 
 ghost use Rattle.std.specs.Prelude.{◌≡◌, ◌++◌, ◌≤◌, OnOk, IsOkUnless, codes, option_map};
-ghost use Rattle.cpg_script.specs.Words.{cut_at};
+ghost use Rattle.cpg_text.specs.Words.{cut_at};
 ghost use Rattle.cpg_print.specs.Rules.{effect_text, right_text, condition_text, conditions_text, who_text, rule_text, effect_of, right_of, first_condition, named_number, take_condition, conditions_of, who_of, who_in, rule_of};
 ghost use Rattle.cpg_print.specs.Words.{texts};
 
 use cpg_cred::{MOST_NODES, NodeId, Refusal};
 use cpg_rules::{Effect, Right, Rule, Who};
-use cpg_script::{cut, is, put, read_u32, strip_name};
-use cpg_text::push_number;
+use cpg_text::{cut, is, push_number, put, read_u32, strip_name};
 
 /// Puts EFFECT RIGHT WHO at the line's end.
 pub fn put_rule(line: &mut Vec<u8>, rule: Rule) -> Result<(), Refusal>

@@ -6,8 +6,7 @@ ghost use Rattle.cpg_print.specs.Verdicts.{reason_text, verdict_text};
 
 use cpg_cred::{By, Refusal};
 use cpg_record::{Reason, Verdict};
-use cpg_script::put;
-use cpg_text::push_number;
+use cpg_text::{push_number, put};
 
 /// Puts the verdict at the line's end.
 #[inline(always)]

@@ -14,8 +14,7 @@ ghost use Rattle.cpg_ring.specs.Laws.{AllHeld, NoneAbove};
 ghost use Rattle.cpg_ring.specs.Kept.{in_slot, kept_at};
 
 use crate::settings::{Settings, WINDOW};
-use cpg_entry::{Entry, MOST_PLACES, Packet, Refusal};
-use cpg_ledger::{Keeper, Ledger, Shelf};
+use cpg_entry::{Entry, Keeper, Ledger, MOST_PLACES, Packet, Refusal, Shelf};
 use std::alloc::Global;
 use std::marker::Model;
 

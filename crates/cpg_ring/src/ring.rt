@@ -21,8 +21,9 @@ use crate::held::Held;
 use crate::settings::{MOST_WAITING, Settings, WINDOW};
 use crate::waiting::Waiting;
 use cpg_cred::{MOST_NODES, Refused};
-use cpg_entry::{Entry, MOST_HOPS, MOST_PLACES, NodeId, Packet, Places, Refusal, Token};
-use cpg_ledger::{Keeper, Ledger, Shelf};
+use cpg_entry::{
+    Entry, Keeper, Ledger, MOST_HOPS, MOST_PLACES, NodeId, Packet, Places, Refusal, Shelf, Token,
+};
 use std::alloc::Global;
 use std::marker::Model;
 

@@ -7,8 +7,7 @@ use crate::words::{NO_COMMAND, put_hex, put_number_line};
 use bytes::Bytes;
 use cpg_cred::Refusal;
 use cpg_entry::Frame;
-use cpg_script::put;
-use cpg_text::push_number;
+use cpg_text::{push_number, put};
 use cpg_wire::{decode, encode_data, encode_token};
 use std::alloc::Global;
 

@@ -18,8 +18,8 @@ use bytes::Bytes;
 use cpg_cred::{NodeId, Refusal, Refused, is_memory};
 use cpg_entry::Call;
 use cpg_node::Settings;
-use cpg_script::put;
 use cpg_station::BoardName;
+use cpg_text::put;
 use cpg_world::{Reply, WorldEvent};
 use std::alloc::Global;
 

@@ -5,7 +5,7 @@ use crate::words::{NO_COMMAND, accept_list, add_to, cred, first, index, one, two
 use cpg_conf::{Names, read_conf};
 use cpg_cred::{AcceptList, Refusal, Via};
 use cpg_print::put_refused_line;
-use cpg_script::{put, put_bytes};
+use cpg_text::{put, put_bytes};
 use std::alloc::Global;
 
 /// The names that are known, and the list that lets users and groups in.

@@ -6,8 +6,7 @@ use crate::player::{Plays, Row};
 use crate::words::{NO_COMMAND, index, one};
 use cpg_cred::Refusal;
 use cpg_link::{LinkRx, LinkTx, close, link};
-use cpg_script::put;
-use cpg_text::{push_message, read_message};
+use cpg_text::{push_message, put, read_message};
 use std::alloc::Global;
 use std::sync::Wait;
 

@@ -7,9 +7,8 @@ use crate::words::put_number_line;
 use cpg_cred::Refusal;
 use cpg_node::{Connection, Node};
 use cpg_record::Record;
-use cpg_script::{put, put_bytes};
 use cpg_station::{BoardName, Station};
-use cpg_text::push_number;
+use cpg_text::{push_number, put, put_bytes};
 use std::alloc::Global;
 
 /// Up to which number the connections of a node are shown.

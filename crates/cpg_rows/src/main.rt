@@ -25,8 +25,7 @@ mod words;
 mod worlds;
 
 use cpg_cred::Refusal;
-use cpg_script::put;
-use cpg_text::{push_number, read_whole, write_whole};
+use cpg_text::{push_number, put, read_whole, write_whole};
 use parts::play_file;
 use player::{Player, TRIES};
 use std::alloc::Global;

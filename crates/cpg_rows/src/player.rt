@@ -7,8 +7,7 @@ pub use crate::texts::TRIES;
 use crate::texts::{parts_of, put_line_surely, put_plain_surely, reserve_surely};
 use cpg_cred::Refusal;
 use cpg_print::put_refused_line;
-use cpg_script::{is, put, put_bytes};
-use cpg_text::{Lines, is_ignored, push_number, read_number, take_word, trim};
+use cpg_text::{Lines, is, is_ignored, push_number, put, put_bytes, read_number, take_word, trim};
 use std::alloc::Global;
 
 /// How many bytes an answer may have before memory is asked for behind a call.

@@ -13,7 +13,7 @@ use cpg_entry::{Entry, Name, Packet, SharedEntry};
 use cpg_group::{MOST_PLACES, Policy, verify};
 use cpg_print::{put_event, put_groups_line, put_members, put_members_line};
 use cpg_record::{ConnId, Events, Members, Reason, Record, Records, Verdict};
-use cpg_script::{put, put_byte};
+use cpg_text::{put, put_byte};
 use std::alloc::Global;
 
 #[derive(Drop)]

@@ -4,8 +4,7 @@ use crate::words::put_number_line;
 use cpg_cred::Refusal;
 use cpg_entry::{Frame, Packet, Token};
 use cpg_print::{node_number, put_entry, put_groups_line, put_members_line, put_took_line};
-use cpg_script::put;
-use cpg_text::push_number;
+use cpg_text::{push_number, put};
 use cpg_world::Reply;
 
 pub fn put_packet(line: &mut Vec<u8>, packet: &Packet) -> Result<(), Refusal> {

@@ -11,7 +11,7 @@ use cpg_cred::{Refusal, Refused};
 use cpg_entry::{Entry, Frame, Packet};
 use cpg_print::put_entry;
 use cpg_ring::{Ring, Visit};
-use cpg_script::{put, put_bytes};
+use cpg_text::{put, put_bytes};
 use cpg_wire::decode;
 use std::alloc::Global;
 

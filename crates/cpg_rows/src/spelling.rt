@@ -8,8 +8,7 @@ use cpg_cred::Refusal;
 use cpg_entry::{Call, Entry, Name, Op};
 use cpg_print::node_number;
 use cpg_rules::Rule;
-use cpg_script::{cut, put_byte, put_bytes};
-use cpg_text::read_number;
+use cpg_text::{cut, put_byte, put_bytes, read_number};
 use std::alloc::Global;
 
 /// How many places a row may ask for on a token.

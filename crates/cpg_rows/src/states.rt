@@ -7,8 +7,7 @@ use cpg_entry::{Call, Entry, Name, Op};
 use cpg_group::{MOST_PLACES, Policy, Trail};
 use cpg_print::{put_audit, put_conn, put_members, put_verdict};
 use cpg_record::{ConnId, Member, Record};
-use cpg_script::{put, put_bytes};
-use cpg_text::{push_number, take_word};
+use cpg_text::{push_number, put, put_bytes, take_word};
 use std::alloc::Global;
 
 /// Puts the audit lines of the records, and their count.

@@ -8,8 +8,7 @@ use cpg_cred::Refusal;
 use cpg_print::{put_rule, put_verdict};
 use cpg_record::{Reason, Verdict};
 use cpg_rules::{Decision, MOST_RULES, Rule, Table};
-use cpg_script::put;
-use cpg_text::push_number;
+use cpg_text::{push_number, put};
 use std::alloc::Global;
 
 #[derive(Drop)]

@@ -1,8 +1,7 @@
 //! Lines of files of rows.
 
 use cpg_cred::Refusal;
-use cpg_script::{cut, put_byte, put_bytes, strip_name};
-use cpg_text::{read_number, take_word, trim};
+use cpg_text::{cut, put_byte, put_bytes, read_number, strip_name, take_word, trim};
 
 /// How often memory is asked for before it is taken that there is none.
 pub const TRIES: u32 = 4;

@@ -8,8 +8,9 @@ use cpg_print::{entry_in_line, read_call};
 use cpg_record::ConnId;
 use cpg_ring::Settings;
 use cpg_rules::{Asker, Right, Rule};
-use cpg_script::{cut, is, put, read_u32, strip_name};
-use cpg_text::{only_word, push_number, read_number, take_word};
+use cpg_text::{
+    cut, is, only_word, push_number, put, read_number, read_u32, strip_name, take_word,
+};
 use std::alloc::Global;
 
 /// Why a row is no command.

@@ -11,8 +11,7 @@ use crate::words::{
 use cpg_cred::Refusal;
 use cpg_node::Node;
 use cpg_print::put_refused_line;
-use cpg_script::put_bytes;
-use cpg_text::{Lines, is_ignored};
+use cpg_text::{Lines, is_ignored, put_bytes};
 use cpg_wire::decode;
 use cpg_world::{Reply, World, WorldEvent};
 use std::alloc::Global;

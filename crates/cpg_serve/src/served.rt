@@ -25,6 +25,7 @@ use crate::turning::turn_until_still;
 use bytes::Bytes;
 use cpg_ask::Greeting;
 use cpg_cred::{AcceptList, Cred, NodeId, Refusal, Refused};
+use cpg_entry::MOST_CONNECTIONS;
 use cpg_node::{Node, Settings};
 use std::alloc::Global;
 use std::marker::Model;
@@ -234,10 +235,10 @@ impl Served {
     fn last_conn(&self) -> u16
         ensures { (length self.now.desks ≤ result) ⊎ (MOST_CONNECTIONS ≤ result) }
     {
-        if self.desks.len() < 65_535 {
+        if self.desks.len() < usize::from(MOST_CONNECTIONS) {
             self.desks.len() as u16
         } else {
-            65_535
+            MOST_CONNECTIONS
         }
     }
 

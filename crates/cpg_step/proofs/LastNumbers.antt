@@ -8,7 +8,7 @@ use Rattle.std.specs.Prelude.{codes, nat_le, if◌then◌else◌, option_map}
 use Rattle.std.specs.Option.{unwrap_or}
 use Rattle.cpg_cred.specs.declared.nodes.TheConstants.{MOST_NODES}
 use Rattle.cpg_entry.specs.declared.ranges.TheConstants.{MOST_CONNECTIONS}
-use Rattle.cpg_script.specs.Words.{◌>>=◌}
+use Rattle.cpg_text.specs.Words.{◌>>=◌}
 use Rattle.cpg_text.specs.Lines.{is_blank, words_of}
 use Rattle.cpg_text.specs.Numbers.{first_number, is_number, number_in, value_of}
 use Rattle.cpg_text.proofs.FirstNumbers.{number_at_end, number_before_blank}

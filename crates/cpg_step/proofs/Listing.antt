@@ -6,7 +6,7 @@ use Rattle.std.proofs.lemmas.List.Folds.{concat-append}
 use Rattle.std.proofs.lemmas.Option.{none-some, get_or_from_slice_get, slice_get-get_or}
 use Rattle.cpg_rules.specs.declared.rules.Rule.{Rule}
 use Rattle.cpg_record.specs.declared.records.Record.{Record}
-use Rattle.cpg_script.proofs.Lined.{enumerate_from-append}
+use Rattle.cpg_text.proofs.Lined.{enumerate_from-append}
 use Rattle.cpg_print.specs.Records.{audit_line, audit_lines}
 use Rattle.cpg_step.specs.Lines.{rule_line}
 use Rattle.cpg_step.specs.Steps.{rule_line_of}

@@ -14,7 +14,7 @@ use Rattle.cpg_world_laws.specs.declared.replies.Reply.{Reply}
 use Rattle.cpg_world_laws.specs.declared.replies.Reply.TheVariants.{Connected, Admitted, Closed, Sent, Delivered, Took, Members, Groups}
 use Rattle.cpg_world_laws.specs.Replies.{Answer}
 use Rattle.cpg_world_laws.specs.Worlds.{WorldValue}
-use Rattle.cpg_script.specs.Words.{listed}
+use Rattle.cpg_text.specs.Words.{listed}
 use Rattle.cpg_print.specs.Answers.{members_line, groups_line, took_line, safe_line, refused_line}
 use Rattle.cpg_print.specs.Entries.{entry_text}
 use Rattle.cpg_print.specs.Records.{audit_lines, count_line}

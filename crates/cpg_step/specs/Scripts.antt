@@ -1,7 +1,7 @@
 -- a script of commands
 use Rattle.std.specs.Prelude.{ℕ, List, Result}
 use Rattle.cpg_text.specs.Lines.{words_of}
-use Rattle.cpg_script.specs.Reading.{read_all}
+use Rattle.cpg_text.specs.Reading.{read_all}
 use Rattle.cpg_step.specs.declared.commands.Command.{Command}
 use Rattle.cpg_step.specs.Commands.{command_of}
 

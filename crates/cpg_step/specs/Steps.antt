@@ -4,7 +4,7 @@ use Rattle.std.specs.List.{concat}
 use Rattle.cpg_cred.specs.declared.nodes.TheConstants.{MOST_NODES}
 use Rattle.cpg_entry.specs.declared.ranges.TheConstants.{MOST_CONNECTIONS}
 use Rattle.cpg_rules.specs.declared.rules.Rule.{Rule}
-use Rattle.cpg_script.specs.Words.{◌>>=◌}
+use Rattle.cpg_text.specs.Words.{◌>>=◌}
 use Rattle.cpg_text.specs.Numbers.{number_in}
 use Rattle.cpg_world_laws.specs.Worlds.{WorldValue}
 use Rattle.cpg_world_laws.specs.Replies.{Answer, AreReplies}

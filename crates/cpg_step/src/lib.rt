@@ -19,7 +19,7 @@ mod scripts;
 
 pub use acting::{answer_to, do_command};
 pub use commands::{Command, Look};
-pub use cpg_script::Fault;
+pub use cpg_text::Fault;
 pub use looking::put_look;
 pub use printing::{put_answer, put_frame};
 pub use reading::{command_in_line, read_node, read_node_alone};

@@ -2,7 +2,7 @@
 
 ghost use Rattle.std.specs.Prelude.{◌≡◌, ◌++◌, ◌∷◌, [], codes, decimal, Ok, OnOk, IsOkUnless};
 ghost use Rattle.std.specs.List.{concat, flat_map};
-ghost use Rattle.cpg_script.specs.Words.{listed};
+ghost use Rattle.cpg_text.specs.Words.{listed};
 ghost use Rattle.cpg_step.specs.Lines.{number_or_none, delivered_line, reply_line, answer_line, packet_line, token_line, frame_line, rule_line, table_lines};
 
 use cpg_cred::Refusal;
@@ -12,8 +12,7 @@ use cpg_print::{
     put_took_line,
 };
 use cpg_rules::Rule;
-use cpg_script::put;
-use cpg_text::push_number;
+use cpg_text::{push_number, put};
 use cpg_world::Reply;
 use std::alloc::Global;
 

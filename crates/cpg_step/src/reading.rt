@@ -20,8 +20,7 @@ use crate::plain::read_plain;
 use cpg_cred::{Cred, MOST_NODES, NodeId, Refusal};
 use cpg_entry::{MOST_CONNECTIONS, Name};
 use cpg_print::read_call_in;
-use cpg_script::{is, read_u32};
-use cpg_text::{Words, only_word, read_number, take_word, take_words};
+use cpg_text::{Words, is, only_word, read_number, read_u32, take_word, take_words};
 use cpg_world::WorldEvent;
 use std::alloc::Global;
 

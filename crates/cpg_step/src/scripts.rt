@@ -1,15 +1,14 @@
 //! Scripts of commands, read and checked whole.
 
 ghost use Rattle.std.specs.Prelude.{◌≡◌, ◌≤◌, Ok, All, length, IfOk, IfErr};
-ghost use Rattle.cpg_script.specs.Reading.{FailsAs};
+ghost use Rattle.cpg_text.specs.Reading.{FailsAs};
 ghost use Rattle.cpg_step.specs.Commands.{IsWithin};
 ghost use Rattle.cpg_step.specs.Scripts.{commands_of_script};
 
 use crate::commands::Command;
 use crate::reading::command_in_line;
 use cpg_cred::Refusal;
-use cpg_script::{ReadsLine, read_script};
-use cpg_text::MOST_BYTES;
+use cpg_text::{MOST_BYTES, ReadsLine, read_script};
 use std::alloc::Global;
 
 /// Reads commands in a ring of so many nodes.

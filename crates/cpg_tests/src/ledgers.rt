@@ -1,7 +1,6 @@
 //! What ledgers of delivered entries have in common, and that nobody who reads them sees it.
 
-use cpg_entry::{Call, Cred, Entry, Message, NodeId, Op, Refusal};
-use cpg_ledger::{BLOCK, Ledger, NoKeeper, Shelf};
+use cpg_entry::{BLOCK, Call, Cred, Entry, Ledger, Message, NoKeeper, NodeId, Op, Refusal, Shelf};
 use std::alloc::Global;
 
 /// A leave by connection 1 of node 1, of that process.

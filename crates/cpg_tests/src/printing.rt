@@ -1,7 +1,7 @@
 //! The printed forms of refusals and faults, which no clause says.
 
 use cpg_cred::{By, Refusal};
-use cpg_script::Fault;
+use cpg_text::Fault;
 use std::alloc::Global;
 use std::test::Fail;
 

@@ -5,3 +5,9 @@ pub mod Percent
 pub mod Reads
 pub mod Steps
 pub mod Streams
+pub mod Commands
+pub mod Faults
+pub mod Items
+pub mod Reading
+pub mod Words
+pub mod Written

@@ -7,7 +7,7 @@ use Rattle.cpg_entry.specs.declared.entries.Entry.{Entry}
 use Rattle.cpg_record.specs.Judging.{entries_of}
 use Rattle.cpg_board.specs.Seats.{SeatValue, records_of}
 use Rattle.cpg_world_laws.specs.Worlds.{WorldValue}
-use Rattle.cpg_script.specs.declared.faults.Fault.{Fault}
+use Rattle.cpg_text.specs.declared.faults.Fault.{Fault}
 use Rattle.cpg_why.specs.declared.asking.Asked.{Asked}
 use Rattle.cpg_why.specs.declared.asking.WhyFault.{WhyFault}
 use Rattle.cpg_why.specs.declared.asking.WhyFault.TheVariants.{Script, Missing}

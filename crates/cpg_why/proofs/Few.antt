@@ -4,8 +4,8 @@ use Rattle.std.proofs.lemmas.Bool.Decides.{nat_tests}
 use Rattle.cpg_entry.specs.declared.entries.Entry.{Entry}
 use Rattle.cpg_record.specs.Judging.{most_places}
 use Rattle.cpg_text.specs.Lines.{words_of}
-use Rattle.cpg_script.specs.Commands.{commands_of}
-use Rattle.cpg_script.specs.Reading.{item_then, items_after}
+use Rattle.cpg_text.specs.Commands.{commands_of}
+use Rattle.cpg_text.specs.Reading.{item_then, items_after}
 use Rattle.cpg_print.specs.Entries.{entry_of}
 use Rattle.cpg_judge.specs.Scripts.{entry_in, entries_of_script}
 

@@ -4,7 +4,7 @@ use Rattle.std.specs.Io.KnownBytes.{Keeps}
 use Rattle.cpg_cred.specs.declared.refusals.Refusal.{Refusal}
 use Rattle.cpg_cred.specs.declared.refusals.Refusal.TheVariants.{Memory, Write, Read, BadCommand}
 use Rattle.cpg_entry.specs.declared.entries.Entry.{Entry}
-use Rattle.cpg_script.specs.Reading.{FailsAs}
+use Rattle.cpg_text.specs.Reading.{FailsAs}
 use Rattle.cpg_world_laws.specs.Worlds.{WorldValue}
 use Rattle.cpg_step.specs.declared.commands.Command.{Command}
 use Rattle.cpg_step.specs.Running.{after, IsUntouched}

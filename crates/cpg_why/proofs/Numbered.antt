@@ -2,7 +2,7 @@
 use Rattle.std.proofs.Common.{◌≡◌, ℕ, ◌+◌, Bool, true, false, cond, List, [], ◌∷◌, ◌++◌, map, sym, ap, ◌∙◌, append_assoc}
 use Rattle.std.specs.Prelude.{not}
 use Rattle.cpg_text.specs.Lines.{is_ignored, trimmed}
-use Rattle.cpg_script.specs.Commands.{commands_from}
+use Rattle.cpg_text.specs.Commands.{commands_from}
 
 -- the numbers that the lines have, from that number on
 abbrev pub numbers_from : ℕ → List (List ℕ) → List ℕ

@@ -10,8 +10,8 @@ use Rattle.cpg_record.specs.declared.records.Record.{Record}
 use Rattle.cpg_record.specs.Connections.{conns_of, is_conn}
 use Rattle.cpg_record.specs.Events.{inbox}
 use Rattle.cpg_record.specs.Judging.{judged}
-use Rattle.cpg_script.specs.Commands.{commands_of}
-use Rattle.cpg_script.specs.Reading.{FailsAs}
+use Rattle.cpg_text.specs.Commands.{commands_of}
+use Rattle.cpg_text.specs.Reading.{FailsAs}
 use Rattle.cpg_why.specs.declared.asking.Asked.{Asked}
 use Rattle.cpg_why.specs.declared.asking.Asked.TheVariants.{Place, Denials, Connection, Told, To, ToProcess}
 use Rattle.cpg_why.specs.declared.asking.Missing as absent

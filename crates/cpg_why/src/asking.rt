@@ -5,7 +5,7 @@ ghost use Rattle.cpg_why.specs.declared.asking.WhyFault.TheVariants.{Script};
 
 use cpg_cred::Refusal;
 use cpg_record::ConnId;
-use cpg_script::Fault;
+use cpg_text::Fault;
 use thiserror::Error;
 
 /// What is asked of the entries of a script.

@@ -29,7 +29,7 @@ mod without;
 
 pub use asking::{Asked, Missing, WhyFault};
 pub use audits::{why_of_entries, why_of_records};
-pub use cpg_script::Fault;
+pub use cpg_text::Fault;
 pub use deciding::explain;
 pub use findings::{Decided, Finding, Findings, Passed, PassedRule, Ruled, Stand, Unruled};
 pub use forms::Tells;

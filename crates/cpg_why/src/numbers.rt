@@ -12,7 +12,7 @@ use std::alloc::Global;
 
 /// The numbers of the script's lines that hold an entry, where each line that is not ignored does; lines are
 /// counted from 1.
-#[tactic(auto, using(cpg_script::proofs::Lengths::lines_few))]
+#[tactic(auto, using(cpg_text::proofs::Lengths::lines_few))]
 pub fn read_numbers(alloc: Global, script: &[u8]) -> Result<Vec<u32>, Refusal>
     requires { length script.now ≤ MOST_BYTES }
     ensures ok { IfOk result (λ numbers. numbers.items ≡ numbers_of script.now) }

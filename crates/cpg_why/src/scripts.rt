@@ -2,14 +2,13 @@
 
 ghost use Rattle.std.specs.Prelude.{◌≡◌, ◌≤◌, Ok, length, IfOk, IfErr};
 ghost use Rattle.cpg_record.specs.Judging.{most_places};
-ghost use Rattle.cpg_script.specs.Reading.{FailsAs};
+ghost use Rattle.cpg_text.specs.Reading.{FailsAs};
 ghost use Rattle.cpg_judge.specs.Scripts.{entries_of_script};
 
 use cpg_cred::Refusal;
 use cpg_entry::{Entry, MOST_PLACES};
 use cpg_print::entry_in_line;
-use cpg_script::{ReadsLine, read_script};
-use cpg_text::MOST_BYTES;
+use cpg_text::{MOST_BYTES, ReadsLine, read_script};
 use std::alloc::Global;
 
 /// Reads entries, at most 1,048,576.

@@ -14,8 +14,7 @@ use cpg_entry::{Call, Entry, Name, Op};
 use cpg_print::{put_conn, put_entry, put_event, put_rule, put_verdict};
 use cpg_record::{ConnId, Record};
 use cpg_rules::Right;
-use cpg_script::{put, put_byte, put_bytes};
-use cpg_text::push_number;
+use cpg_text::{push_number, put, put_byte, put_bytes};
 use std::alloc::Global;
 
 /// Lines of text, with a blank one between two explained entries.

@@ -4,7 +4,7 @@ use Rattle.std.specs.Prelude.{IfSome}
 use Rattle.std.proofs.lemmas.Option.{none-some, same_Some}
 use Rattle.cpg_record.specs.declared.connections.ConnId.{ConnId}
 use Rattle.cpg_text.specs.Numbers.{number_in}
-use Rattle.cpg_script.specs.Words.{cut_at}
+use Rattle.cpg_text.specs.Words.{cut_at}
 use Rattle.cpg_print.specs.Entries.{conn_of_word}
 use Rattle.cpg_why.specs.declared.asking.Asked.{Asked as Question}
 use Rattle.cpg_why.specs.declared.asking.Asked.TheVariants.{Place, To, ToProcess, Told}

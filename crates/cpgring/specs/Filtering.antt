@@ -4,7 +4,7 @@ use Rattle.std.specs.Str.{bytes_eq}
 use Rattle.clap.specs.declared.parser.matches.Found.{Found}
 use Rattle.clap.specs.Words.{first_value}
 use Rattle.cpg_text.specs.Numbers.{number_in}
-use Rattle.cpg_script.specs.Words.{◌>>=◌, after_name, cut_at}
+use Rattle.cpg_text.specs.Words.{◌>>=◌, after_name, cut_at}
 use Rattle.cpg_entry.specs.Names.{is_name}
 use Rattle.cpg_print.specs.Entries.{conn_of_word}
 use Rattle.cpg_judge.specs.declared.filter.filters.Filter.{Filter}

@@ -3,7 +3,7 @@ use Rattle.std.specs.Prelude.{ℕ, List, codes, if◌then◌else◌, Option, Som
 use Rattle.std.specs.Str.{bytes_eq}
 use Rattle.cpg_record.specs.declared.connections.ConnId.{ConnId}
 use Rattle.cpg_text.specs.Numbers.{number_in}
-use Rattle.cpg_script.specs.Words.{cut_at}
+use Rattle.cpg_text.specs.Words.{cut_at}
 use Rattle.cpg_print.specs.Entries.{conn_of_word}
 use Rattle.cpg_why.specs.declared.asking.Asked.{Asked as Question}
 use Rattle.cpg_why.specs.declared.asking.Asked.TheVariants.{Place, Denials, Connection, To, ToProcess, Told}

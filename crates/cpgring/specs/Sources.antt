@@ -2,7 +2,7 @@
 use Rattle.std.specs.Prelude.{ℕ, ◌-◌, Bool, true, false, ◌&&◌, is_none, List, ◌++◌, length, take, drop, slice_get, codes, Option, Some, None, if◌then◌else◌}
 use Rattle.std.specs.Str.{bytes_eq}
 use Rattle.std.specs.Io.KnownBytes.{Keeps}
-use Rattle.cpg_script.specs.Words.{after_name}
+use Rattle.cpg_text.specs.Words.{after_name}
 use Rattle.cpg_text.specs.Streams.{AppendsFront}
 use Rattle.cpgring.specs.declared.sources.Source.{Source}
 use Rattle.cpgring.specs.declared.sources.Source.TheVariants.{Input, File}

@@ -31,8 +31,7 @@ use cpg_console::{
 };
 use cpg_cred::Refusal;
 use cpg_ring::Settings;
-use cpg_script::{Fault, read_u32};
-use cpg_text::write_whole;
+use cpg_text::{Fault, read_u32, write_whole};
 use std::alloc::{AllocError, Global};
 use std::convert::AsStr;
 use std::env::{self, Env};

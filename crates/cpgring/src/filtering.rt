@@ -13,7 +13,7 @@ use clap::ArgMatches;
 use cpg_console::{Filter, Only};
 use cpg_entry::accepts_name;
 use cpg_record::ConnId;
-use cpg_script::{cut, is, read_u32, strip_name};
+use cpg_text::{cut, is, read_u32, strip_name};
 
 /// Whether the options ask for a filter.
 pub fn is_filtered(given: &ArgMatches<'_>) -> bool

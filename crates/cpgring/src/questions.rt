@@ -11,7 +11,7 @@ use cpg_console::Asked;
 use cpg_cred::{MOST_NODES, NodeId};
 use cpg_entry::MOST_CONNECTIONS;
 use cpg_record::ConnId;
-use cpg_script::{cut, is, read_u32};
+use cpg_text::{cut, is, read_u32};
 
 /// The connection of NODE.CONN.
 pub(crate) fn read_conn(word: &[u8]) -> Option<ConnId>

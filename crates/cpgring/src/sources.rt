@@ -8,8 +8,7 @@ ghost use Rattle.cpgring.specs.Sources.{GreetsAt, accept_words, but_input, cause
 
 use cpg_console::{Failure, hint_wrong, tell_failure, tell_fault};
 use cpg_cred::Refusal;
-use cpg_script::{Fault, put, strip_name};
-use cpg_text::write_whole;
+use cpg_text::{Fault, put, strip_name, write_whole};
 use std::alloc::Global;
 use std::fs::{File, Files, OpenFile};
 use std::io::{self, ErrorKind, Write};

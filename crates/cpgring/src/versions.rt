@@ -10,8 +10,7 @@ ghost use Rattle.cpg_text.specs.Streams.{AppendsFront};
 ghost use Rattle.cpgring.specs.Versions.{commit_text, is_commit, is_hex, is_of_length};
 
 use cpg_cred::Refusal;
-use cpg_script::put;
-use cpg_text::write_whole;
+use cpg_text::{put, write_whole};
 use std::alloc::Global;
 use std::env::{self, Env};
 use std::io::Write;

@@ -11,8 +11,7 @@ ghost use Rattle.cpg_accept.specs.AdmitSteps.{account_seen};
 
 use cpg_conf::Names;
 use cpg_cred::Refusal;
-use cpg_script::{cut, read_u32};
-use cpg_text::{Lines, is_ignored, trim};
+use cpg_text::{Lines, cut, is_ignored, read_u32, trim};
 
 /// What accounts a text has.
 #[derive(Debug, Clone, Copy)]

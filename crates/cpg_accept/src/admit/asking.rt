@@ -10,8 +10,7 @@ ghost use Rattle.cpg_accept.specs.Admitting.{asks_in, cred_named, first_wrong_as
 
 use cpg_conf::Names;
 use cpg_cred::{Cred, Refusal};
-use cpg_script::{cut, read_u32};
-use cpg_text::is_number;
+use cpg_text::{cut, is_number, read_u32};
 use std::alloc::Global;
 
 /// Where the first word stands that asks of nobody, from 0.

@@ -5,7 +5,7 @@
 use crate::admit::printing::{put_cred, put_group_word, put_user_word};
 use crate::asks::answer_text;
 use cpg_cred::{Cred, Refusal, Via};
-use cpg_script::{put, put_bytes};
+use cpg_text::{put, put_bytes};
 
 /// What tells whom the files let in.
 pub trait TellsAdmitted {

@@ -9,8 +9,7 @@ use crate::admit::admitting::list_of;
 use crate::admit::forms::{AsEcho, AsText, TellsAdmitted};
 use cpg_conf::Numbers;
 use cpg_cred::{AcceptList, Cred, Refusal};
-use cpg_script::put;
-use cpg_text::push_number;
+use cpg_text::{push_number, put};
 use std::alloc::Global;
 
 /// The lines that are printed as text: for each of the credentials what `cpgring accept` prints of them; where none

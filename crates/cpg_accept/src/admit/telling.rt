@@ -8,8 +8,7 @@ ghost use Rattle.cpg_text.specs.Lines.{lines_of, trimmed};
 ghost use Rattle.cpg_accept.specs.Telling.{cause_text, fault_text, line_in, place_text, printable, shown, shown_at, shown_text};
 
 use cpg_cred::Refusal;
-use cpg_script::{put, put_byte, put_bytes};
-use cpg_text::{Lines, push_number, trim};
+use cpg_text::{Lines, push_number, put, put_byte, put_bytes, trim};
 use std::alloc::Global;
 
 /// What is told of a refusal that a file at that path meets, which has that text: `cpgring: PATH:LINE: 36 UnknownName,

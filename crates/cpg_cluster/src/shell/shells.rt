@@ -11,7 +11,7 @@ use crate::shell::answering::{answer_line, write_answered};
 use crate::shell::lines::read_line;
 use cpg_cred::Refusal;
 use cpg_daemon::{HistoryName, Running};
-use cpg_script::Fault;
+use cpg_text::Fault;
 use std::alloc::Global;
 use std::io::{Read, Write};
 use std::sync::Wait;

@@ -11,8 +11,7 @@ use crate::commands::Command;
 use crate::reading::command_in_line;
 use crate::shell::lines::MOST_LINE;
 use cpg_cred::Refusal;
-use cpg_script::is;
-use cpg_text::{is_ignored, trim};
+use cpg_text::{is, is_ignored, trim};
 use std::alloc::Global;
 
 /// What a typed line says.

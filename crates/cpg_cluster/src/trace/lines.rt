@@ -5,8 +5,7 @@ ghost use Rattle.cpg_cluster.specs.TraceLines.{event_text, pair_text};
 
 use cpg_cred::{NodeId, Refusal};
 use cpg_print::put_call;
-use cpg_script::{put, put_bytes};
-use cpg_text::push_number;
+use cpg_text::{push_number, put, put_bytes};
 use cpg_world_laws::WorldEvent;
 
 /// Puts the word and the node at the text's end.

@@ -7,7 +7,7 @@ ghost use Rattle.cpg_cluster.specs.TraceScripts.{AreFirstNumbers, first_number, 
 use crate::trace::lines::put_event;
 use cpg_cred::Refusal;
 use cpg_history::Recorded;
-use cpg_script::put_byte;
+use cpg_text::put_byte;
 use cpg_world_laws::WorldEvent;
 use std::alloc::Global;
 

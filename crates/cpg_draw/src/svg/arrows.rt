@@ -7,7 +7,7 @@ use crate::svg::layout::{bend_between, column_at, label_across, label_down, row_
 use crate::svg::shapes::{put_frame_title, put_place, put_point};
 use crate::words::{put_arrow, put_kind};
 use cpg_cred::Refusal;
-use cpg_script::put;
+use cpg_text::put;
 use cpg_world::World;
 use std::alloc::Global;
 

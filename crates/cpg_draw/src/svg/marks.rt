@@ -11,8 +11,7 @@ use crate::svg::layout::{
 use crate::svg::shapes::{put_frame_title, put_place, put_point, put_words};
 use crate::words::{put_arrow, put_kind, put_miss};
 use cpg_cred::Refusal;
-use cpg_script::put;
-use cpg_text::push_number;
+use cpg_text::{push_number, put};
 use cpg_world::World;
 use std::alloc::Global;
 

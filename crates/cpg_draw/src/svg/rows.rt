@@ -10,9 +10,8 @@ use crate::svg::layout::{HEADS, LETTERS, column_at, end_of, number_down, row_at,
 use crate::svg::shapes::{put_escaped, put_place, put_point, put_title, put_words};
 use crate::words::{put_row_words, put_start};
 use cpg_cred::Refusal;
-use cpg_script::put;
 use cpg_step::Command;
-use cpg_text::push_number;
+use cpg_text::{push_number, put};
 use cpg_world::World;
 use std::alloc::Global;
 

@@ -5,9 +5,8 @@ ghost use Rattle.std.specs.Prelude.{◌<◌, ◌^◌, IsOkUnless};
 use crate::frames::frame_at;
 use crate::svg::layout::{line_at, width};
 use cpg_cred::Refusal;
-use cpg_script::{put, put_byte};
 use cpg_step::put_frame;
-use cpg_text::push_number;
+use cpg_text::{push_number, put, put_byte};
 use cpg_world::World;
 use std::alloc::Global;
 

@@ -6,7 +6,7 @@
 ghost use Rattle.std.specs.Prelude.{◌≡◌, ◌≤◌, [], None, length, OnOk, IfErr, IfSome};
 ghost use Rattle.std.specs.List.{concat};
 ghost use Rattle.std.specs.Io.KnownBytes.{Appends};
-ghost use Rattle.cpg_script.specs.Written.{LeavesLines, WritesLate};
+ghost use Rattle.cpg_text.specs.Written.{LeavesLines, WritesLate};
 ghost use Rattle.cpg_judge.specs.Judging.{EndsJudging};
 ghost use Rattle.cpg_judge.specs.Scripts.{entries_of_script};
 ghost use Rattle.cpg_judge.specs.Filtering.{filtered_lines, IsWritten, Leaves};
@@ -19,8 +19,7 @@ use crate::scripts::judge_lines;
 use cpg_cred::Refusal;
 use cpg_group::Policy;
 use cpg_print::put_count;
-use cpg_script::Fault;
-use cpg_text::{MOST_BYTES, read_whole};
+use cpg_text::{Fault, MOST_BYTES, read_whole};
 use std::alloc::Global;
 use std::io::{Read, Write};
 

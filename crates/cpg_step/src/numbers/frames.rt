@@ -6,8 +6,7 @@ ghost use Rattle.std.specs.Prelude.{◌≡◌, ◌≤◌, ◌-◌, ◌++◌, OnO
 ghost use Rattle.cpg_step.specs.Numbers.{numbers_after, frames_text};
 
 use cpg_cred::Refusal;
-use cpg_script::put;
-use cpg_text::push_number;
+use cpg_text::{push_number, put};
 
 /// Puts the numbers of the frames that were sent after so many, up to so many.
 fn put_numbers(text: &mut Vec<u8>, before: usize, after: usize) -> Result<(), Refusal>

@@ -1,6 +1,6 @@
 use Rattle.std.proofs.Common.{◌≡◌}
 use Rattle.cpg_conf.specs.Names.{next_number}
-use Rattle.cpg_script.specs.declared.faults.Fault.{Fault}
+use Rattle.cpg_text.specs.declared.faults.Fault.{Fault}
 use Rattle.cpg_accept.specs.Accepting.{all_taken, MemoryIn}
 use Rattle.cpg_accept.specs.Steps.{parts_of_head}
 use Rattle.cpg_accept.proofs.accepting.take_all.Given as goal

@@ -2,8 +2,8 @@ use Rattle.std.proofs.Common.{◌<◌, length, map, take, drop, get_or, ◌+◌,
 use Rattle.std.specs.Io.KnownBytes.{Appends}
 use Rattle.cpg_cred.specs.declared.refusals.Refusal.TheVariants as refusal
 use Rattle.cpg_accept.specs.Asks.{answer_line}
-use Rattle.cpg_script.specs.Written.{LeavesLines}
-use Rattle.cpg_script.proofs.Lined.{leaves_amid, lines_after, map_around, map_one_more, text_of_line}
+use Rattle.cpg_text.specs.Written.{LeavesLines}
+use Rattle.cpg_text.proofs.Lined.{leaves_amid, lines_after, map_around, map_one_more, text_of_line}
 use Rattle.cpg_accept.proofs.Answering.{item_there}
 use Rattle.cpg_accept.proofs.accepting.write_answers.Goals as goal
 

@@ -1,5 +1,5 @@
 use Rattle.std.proofs.Common.{◌≡◌, ℕ, List, Result, Ok, IfOk, IfErr, subst}
-use Rattle.cpg_script.specs.Reading.{FailsAs}
+use Rattle.cpg_text.specs.Reading.{FailsAs}
 use Rattle.cpg_cluster.specs.declared.commands.Numbered.{Numbered}
 use Rattle.cpg_cluster.proofs.Scripted as scripted
 use Rattle.cpg_cluster.proofs.scripts.read_numbered.Goals as goal

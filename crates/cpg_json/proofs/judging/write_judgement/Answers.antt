@@ -1,6 +1,6 @@
 use Rattle.std.proofs.Common.{◌≡◌, ℕ, List, ap, subst, ◌∙◌}
 use Rattle.std.specs.Prelude.{IfErr}
-use Rattle.cpg_script.specs.Written.{LeavesLines}
+use Rattle.cpg_text.specs.Written.{LeavesLines}
 use Rattle.cpg_why.specs.Scripts.{numbers_of}
 use Rattle.cpg_json.specs.Judging.{judge_json_lines}
 use Rattle.cpg_json.proofs.judging.write_judgement.Goals as goal

@@ -1,8 +1,8 @@
 use Rattle.std.proofs.Common.{◌+◌, ◌∷◌, ap, ◌∙◌, option_map}
 use Rattle.std.proofs.lemmas.Result.{err_from_is_err_and}
 use Rattle.cpg_text.specs.Lines.{lines_left}
-use Rattle.cpg_script.specs.Steps.{items_with}
-use Rattle.cpg_script.proofs.Reading.{fails_along}
+use Rattle.cpg_text.specs.Items.{items_with}
+use Rattle.cpg_text.proofs.Reading.{fails_along}
 use Rattle.cpg_judge.specs.Scripts.{entry_in, entries_of_script}
 use Rattle.cpg_judge.proofs.scripts.judge_lines.Goals as goal
 

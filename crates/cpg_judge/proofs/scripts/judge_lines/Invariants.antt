@@ -1,6 +1,6 @@
 use Rattle.std.proofs.Common.{◌≡◌, ◌+◌, ◌≤◌, length, option_map}
 use Rattle.cpg_text.specs.Lines.{lines_left}
-use Rattle.cpg_script.specs.Steps.{items_with}
+use Rattle.cpg_text.specs.Items.{items_with}
 use Rattle.cpg_judge.specs.Scripts.{entry_in, entries_of_script}
 use Rattle.cpg_judge.proofs.scripts.judge_lines.Given as goal
 

@@ -1,6 +1,6 @@
 use Rattle.std.proofs.Common.{◌≡◌, ◌+◌, ◌≤◌, ◌++◌, length, map, option_map}
 use Rattle.cpg_text.specs.Lines.{lines_left}
-use Rattle.cpg_script.specs.Commands.{commands_from}
+use Rattle.cpg_text.specs.Commands.{commands_from}
 use Rattle.cpg_why.specs.Scripts.{numbers_of}
 use Rattle.cpg_why.proofs.numbers.read_numbers.Given as goal
 

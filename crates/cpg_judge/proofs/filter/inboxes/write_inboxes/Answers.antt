@@ -1,7 +1,7 @@
 use Rattle.std.proofs.Common.{◌<◌, ◌++◌, ◌+◌, length, take, drop, sym, ◌∙◌, append_assoc, arith}
 use Rattle.std.specs.List.{flat_map}
 use Rattle.cpg_record.specs.Judging.{judged}
-use Rattle.cpg_script.proofs.Lined.{flat_around, flat_one_more}
+use Rattle.cpg_text.proofs.Lined.{flat_around, flat_one_more}
 use Rattle.cpg_judge.specs.Filtering.{inbox_lines}
 use Rattle.cpg_judge.proofs.Behind.{gathers_none, gathers_stop, gathers_then}
 use Rattle.cpg_judge.proofs.filter.inboxes.write_inboxes.Goals as goal
