@@ -16,8 +16,7 @@ use cpg_entry::{Call, Entry, Name, Op};
 use cpg_record::{ConnId, Event, Record};
 use cpg_text::{push_number, put};
 use cpg_why::{
-    Decided, Finding, Findings, PassedRule, Ruled, Stand, Standing, Tells, Unmet, Unruled,
-    find_record, is_told, line_of,
+    Cited, Decided, Finding, PassedRule, Ruled, Stand, Standing, Tells, Unmet, Unruled, is_told,
 };
 use std::alloc::Global;
 
@@ -30,61 +29,50 @@ impl Tells for AsJson {
 
     ghost form = { plain };
 
-    fn text_of(alloc: Global, numbers: &[u32], found: &Findings) -> Result<Vec<u8>, Refusal> {
-        let told = Told {
-            numbers,
-            records: found.records.as_slice(),
-        };
+    fn text_of(alloc: Global, cited: &Cited, list: &[Finding]) -> Result<Vec<u8>, Refusal> {
         let mut text = Vec::new(alloc);
-        for finding in &found.list {
-            put_finding(&mut text, &told, finding)?;
+        for finding in list {
+            put_finding(&mut text, cited, finding)?;
         }
         Ok(text)
     }
 }
 
-/// The records that are spoken of, and the numbers of their entries' lines.
-#[derive(Clone, Copy)]
-struct Told<'a> {
-    numbers: &'a [u32],
-    records: &'a [Record],
-}
-
-fn put_finding(line: &mut Vec<u8>, told: &Told, finding: &Finding) -> Result<(), Refusal>
+fn put_finding(line: &mut Vec<u8>, cited: &Cited, finding: &Finding) -> Result<(), Refusal>
     ensures { IsOkUnless result Refusal.Memory }
 {
     match finding {
-        Finding::Why { place, decided } => put_why(line, told, *place, decided),
-        Finding::Made { place } => put_made(line, told, *place),
-        Finding::Stands(stand) => put_stand(line, told, stand),
+        Finding::Why { place, decided } => put_why(line, cited, *place, decided),
+        Finding::Made { place } => put_made(line, cited, *place),
+        Finding::Stands(stand) => put_stand(line, cited, stand),
         Finding::Heard { conn, event } => put_heard(line, conn, event),
     }
 }
 
 /// Puts the object of an entry, its verdict, and what decided that, on its line.
-fn put_why(line: &mut Vec<u8>, told: &Told, place: u32, decided: &Decided) -> Result<(), Refusal>
+fn put_why(line: &mut Vec<u8>, cited: &Cited, place: u32, decided: &Decided) -> Result<(), Refusal>
     ensures { IsOkUnless result Refusal.Memory }
 {
-    let Some(past) = find_record(told.records, place) else {
+    let Some(past) = cited.record(place) else {
         return Ok(());
     };
     put_kind(line, "why")?;
     put_number(line, "place", u64::from(place))?;
-    put_judged(line, told, place, past)?;
-    put_decided(line, told, past, decided)?;
+    put_judged(line, cited, place, past)?;
+    put_decided(line, cited, past, decided)?;
     put_end(line)
 }
 
 /// Puts the object of an entry that a connection made, with its verdict, on its line.
-fn put_made(line: &mut Vec<u8>, told: &Told, place: u32) -> Result<(), Refusal>
+fn put_made(line: &mut Vec<u8>, cited: &Cited, place: u32) -> Result<(), Refusal>
     ensures { IsOkUnless result Refusal.Memory }
 {
-    let Some(past) = find_record(told.records, place) else {
+    let Some(past) = cited.record(place) else {
         return Ok(());
     };
     put_kind(line, "entry")?;
     put_number(line, "place", u64::from(place))?;
-    put_judged(line, told, place, past)?;
+    put_judged(line, cited, place, past)?;
     put_end(line)
 }
 
@@ -98,39 +86,37 @@ fn put_heard(line: &mut Vec<u8>, conn: &ConnId, event: &Event) -> Result<(), Ref
 }
 
 /// Puts what follows the place of an entry.
-fn put_made_by(line: &mut Vec<u8>, told: &Told, place: u32, entry: &Entry) -> Result<(), Refusal>
+fn put_made_by(line: &mut Vec<u8>, cited: &Cited, place: u32, entry: &Entry) -> Result<(), Refusal>
     ensures { IsOkUnless result Refusal.Memory }
 {
-    if place > 0 {
-        put_line_number(line, line_of(told.numbers, place))?;
-    }
+    put_line_number(line, cited.line(place))?;
     put_caller(line, entry)?;
     put_whole_call(line, &entry.op)
 }
 
 /// Puts what follows the place of an entry, and its verdict.
-fn put_judged(line: &mut Vec<u8>, told: &Told, place: u32, past: &Record) -> Result<(), Refusal>
+fn put_judged(line: &mut Vec<u8>, cited: &Cited, place: u32, past: &Record) -> Result<(), Refusal>
     ensures { IsOkUnless result Refusal.Memory }
 {
-    put_made_by(line, told, place, past.entry())?;
+    put_made_by(line, cited, place, past.entry())?;
     put_verdict(line, past.verdict)
 }
 
 /// Puts the entry of the record at a place, in braces, or `null`; with its verdict where that is wanted.
 fn put_entry_at(
     line: &mut Vec<u8>,
-    told: &Told,
+    cited: &Cited,
     place: u32,
     with_verdict: bool,
 ) -> Result<(), Refusal>
     ensures { IsOkUnless result Refusal.Memory }
 {
-    let Some(past) = find_record(told.records, place) else {
+    let Some(past) = cited.record(place) else {
         return put(line, "null");
     };
     put(line, "{\"place\":")?;
     push_number(line, u64::from(place))?;
-    put_made_by(line, told, place, past.entry())?;
+    put_made_by(line, cited, place, past.entry())?;
     if with_verdict {
         put_verdict(line, past.verdict)?;
     }
@@ -138,13 +124,13 @@ fn put_entry_at(
 }
 
 /// Puts the field of the entry since which a state is so.
-fn put_since(line: &mut Vec<u8>, told: &Told, since: Option<u32>) -> Result<(), Refusal>
+fn put_since(line: &mut Vec<u8>, cited: &Cited, since: Option<u32>) -> Result<(), Refusal>
     ensures { IsOkUnless result Refusal.Memory }
 {
     put_name(line, "since")?;
     match since {
         None => put(line, "null"),
-        Some(place) => put_entry_at(line, told, place, false),
+        Some(place) => put_entry_at(line, cited, place, false),
     }
 }
 
@@ -170,17 +156,17 @@ fn put_by(line: &mut Vec<u8>, name: &str) -> Result<(), Refusal>
 /// Puts what decided the answer of a record.
 fn put_decided(
     line: &mut Vec<u8>,
-    told: &Told,
+    cited: &Cited,
     past: &Record,
     decided: &Decided,
 ) -> Result<(), Refusal>
     ensures { IsOkUnless result Refusal.Memory }
 {
     put_by(line, decided.name())?;
-    put_facts(line, told, past, decided)?;
+    put_facts(line, cited, past, decided)?;
     put(line, "}")?;
     match decided {
-        Decided::Rule(ruled) => put_around(line, told, ruled),
+        Decided::Rule(ruled) => put_around(line, cited, ruled),
         Decided::Default(unruled) => put_passed(line, unruled.passed.as_slice()),
         _ => Ok(()),
     }
@@ -189,7 +175,7 @@ fn put_decided(
 /// Puts what is told of what decided, behind its name.
 fn put_facts(
     line: &mut Vec<u8>,
-    told: &Told,
+    cited: &Cited,
     past: &Record,
     decided: &Decided,
 ) -> Result<(), Refusal>
@@ -200,9 +186,9 @@ fn put_facts(
         Decided::Root | Decided::Free => Ok(()),
         Decided::Rule(ruled) => put_ruled(line, past, ruled),
         Decided::Default(unruled) => put_unruled(line, past, unruled),
-        Decided::Closed { since } => put_state(line, told, &own, *since),
-        Decided::Joined { since } => put_state(line, told, &own, *since),
-        Decided::Twice { by, since } => put_state(line, told, by, *since),
+        Decided::Closed { since } => put_state(line, cited, &own, *since),
+        Decided::Joined { since } => put_state(line, cited, &own, *since),
+        Decided::Twice { by, since } => put_state(line, cited, by, *since),
         Decided::Full { members } => put_counted(line, past, "members", *members),
         Decided::Position { rules } => put_past_end(line, past, *rules),
         Decided::TableFull { rules } => put_counted(line, past, "rules", *rules),
@@ -222,11 +208,11 @@ fn put_ruled(line: &mut Vec<u8>, past: &Record, ruled: &Ruled) -> Result<(), Ref
 }
 
 /// Puts how the rule came into the table, the rules that it passed, and what would hold without it.
-fn put_around(line: &mut Vec<u8>, told: &Told, ruled: &Ruled) -> Result<(), Refusal>
+fn put_around(line: &mut Vec<u8>, cited: &Cited, ruled: &Ruled) -> Result<(), Refusal>
     ensures { IsOkUnless result Refusal.Memory }
 {
     put_name(line, "put_in")?;
-    put_entry_at(line, told, ruled.id, false)?;
+    put_entry_at(line, cited, ruled.id, false)?;
     put_passed(line, ruled.passed.as_slice())?;
     put(line, ",\"without\":{\"id\":")?;
     push_number(line, u64::from(ruled.id))?;
@@ -244,14 +230,14 @@ fn put_unruled(line: &mut Vec<u8>, past: &Record, unruled: &Unruled) -> Result<(
 /// Puts a connection, and since which entry it is so.
 fn put_state(
     line: &mut Vec<u8>,
-    told: &Told,
+    cited: &Cited,
     conn: &ConnId,
     since: Option<u32>,
 ) -> Result<(), Refusal>
     ensures { IsOkUnless result Refusal.Memory }
 {
     put_conn(line, conn)?;
-    put_since(line, told, since)
+    put_since(line, cited, since)
 }
 
 /// Puts how many the group of the record has.
@@ -332,15 +318,15 @@ fn put_unmet(line: &mut Vec<u8>, unmet: Unmet) -> Result<(), Refusal>
 }
 
 /// Puts the object of an entry, its verdict, whether the connection is told of it, and what decided that, on its line.
-fn put_stand(line: &mut Vec<u8>, told: &Told, stand: &Stand) -> Result<(), Refusal>
+fn put_stand(line: &mut Vec<u8>, cited: &Cited, stand: &Stand) -> Result<(), Refusal>
     ensures { IsOkUnless result Refusal.Memory }
 {
-    let Some(past) = find_record(told.records, stand.place) else {
+    let Some(past) = cited.record(stand.place) else {
         return Ok(());
     };
     put_kind(line, "to")?;
     put_number(line, "place", u64::from(stand.place))?;
-    put_judged(line, told, stand.place, past)?;
+    put_judged(line, cited, stand.place, past)?;
     put_name(line, "told")?;
     put(
         line,
@@ -350,44 +336,44 @@ fn put_stand(line: &mut Vec<u8>, told: &Told, stand: &Stand) -> Result<(), Refus
             "false"
         },
     )?;
-    put_standing(line, told, stand)?;
+    put_standing(line, cited, stand)?;
     put(line, "}")?;
     put_end(line)
 }
 
 /// Puts what decided that the connection is told, or is not, but for its last brace.
-fn put_standing(line: &mut Vec<u8>, told: &Told, stand: &Stand) -> Result<(), Refusal>
+fn put_standing(line: &mut Vec<u8>, cited: &Cited, stand: &Stand) -> Result<(), Refusal>
     ensures { IsOkUnless result Refusal.Memory }
 {
     put_by(line, stand.standing.name())?;
     put_conn(line, &stand.conn)?;
     match stand.standing {
         Standing::Maker | Standing::Denied | Standing::Groupless => Ok(()),
-        Standing::Member | Standing::Elsewhere => put_whereabouts(line, told, stand),
+        Standing::Member | Standing::Elsewhere => put_whereabouts(line, cited, stand),
         Standing::Outside => {
-            put_whereabouts(line, told, stand)?;
-            put_tried(line, told, stand.tried)
+            put_whereabouts(line, cited, stand)?;
+            put_tried(line, cited, stand.tried)
         }
     }
 }
 
 /// Puts the group that the connection is in, if it is in one, since its last move.
-fn put_whereabouts(line: &mut Vec<u8>, told: &Told, stand: &Stand) -> Result<(), Refusal>
+fn put_whereabouts(line: &mut Vec<u8>, cited: &Cited, stand: &Stand) -> Result<(), Refusal>
     ensures { IsOkUnless result Refusal.Memory }
 {
     put_group_in(line, stand.group.as_ref())?;
-    put_since(line, told, stand.since)
+    put_since(line, cited, stand.since)
 }
 
 /// Puts the denied join of that place, if there is one.
-fn put_tried(line: &mut Vec<u8>, told: &Told, tried: Option<u32>) -> Result<(), Refusal>
+fn put_tried(line: &mut Vec<u8>, cited: &Cited, tried: Option<u32>) -> Result<(), Refusal>
     ensures { IsOkUnless result Refusal.Memory }
 {
     match tried {
         None => Ok(()),
         Some(place) => {
             put_name(line, "tried")?;
-            put_entry_at(line, told, place, true)
+            put_entry_at(line, cited, place, true)
         }
     }
 }

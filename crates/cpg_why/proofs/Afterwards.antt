@@ -3,17 +3,15 @@ use Rattle.std.proofs.Common.{◌≡◌, ℕ, List, [], Option, Some, None, Resu
 use Rattle.std.specs.Io.KnownBytes.{Keeps}
 use Rattle.cpg_cred.specs.declared.refusals.Refusal.{Refusal}
 use Rattle.cpg_cred.specs.declared.refusals.Refusal.TheVariants.{Memory, Write, Read, BadCommand}
-use Rattle.cpg_entry.specs.declared.entries.Entry.{Entry}
 use Rattle.cpg_record.specs.Judging.{entries_of}
 use Rattle.cpg_board.specs.Seats.{SeatValue, records_of}
 use Rattle.cpg_world_laws.specs.Worlds.{WorldValue}
 use Rattle.cpg_text.specs.declared.faults.Fault.{Fault}
 use Rattle.cpg_why.specs.declared.asking.Asked.{Asked}
 use Rattle.cpg_why.specs.declared.asking.WhyFault.{WhyFault}
-use Rattle.cpg_why.specs.declared.asking.WhyFault.TheVariants.{Script, Missing}
+use Rattle.cpg_why.specs.declared.asking.WhyFault.TheVariants.{Script}
 use Rattle.cpg_why.specs.Forms.{Form}
-use Rattle.cpg_why.specs.Scripts.{LeavesTold, LeavesEntries, EndsBy, EndsWhy}
-use Rattle.cpg_why.proofs.Counted.{asked_of}
+use Rattle.cpg_why.specs.Scripts.{LeavesEntries, EndsBy}
 use Rattle.cpg_cluster.specs.declared.commands.Numbered.{Numbered}
 use Rattle.cpg_cluster.specs.Answers.{SessionsValue}
 use Rattle.cpg_cluster.specs.Running as running
@@ -34,17 +32,6 @@ ends_by (BadCommand line) a b old new ends kept = kept
 ends_by Memory a b old new ends kept = kept
 ends_by Write a b old new ends kept = tt
 ends_by _ a b old new ends kept = absurd ends
-
--- the same, as a refusal
-told_ends_by : (form : Form) (entries : List Entry) (asked : Asked) (refused : Refusal) (old new : Option (List ℕ)) → LeavesTold form [] entries asked refused old new → EndsBy refused old new
-told_ends_by form entries asked Memory old new left = left
-told_ends_by form entries asked Write old new left = tt
-told_ends_by form entries asked _ old new left = absurd left
-
--- and as a fault
-pub told_ends : (form : Form) (entries : List Entry) (asked : Asked) (fault : WhyFault) (old new : Option (List ℕ)) → LeavesEntries form [] entries asked fault old new → EndsWhy asked fault old new
-told_ends form entries asked (Script fault) old new left = (left.0, told_ends_by form entries asked fault.refusal old new left.1)
-told_ends form entries asked (Missing what) old new left = (asked_of entries asked what left.0, left.1)
 
 -- a fault of the script
 pub stopped : (form : Form) (start : WorldValue) (script : Result (List Numbered) ℕ) (asked : Asked) (fault : Fault) (sessions left : SessionsValue) (seat : SeatValue) (old new : Option (List ℕ)) → fault.part ≡ None

@@ -32,12 +32,12 @@ pub use audits::{why_of_entries, why_of_records};
 pub use cpg_text::Fault;
 pub use deciding::explain;
 pub use findings::{Decided, Finding, Findings, Passed, PassedRule, Ruled, Stand, Unruled};
-pub use forms::Tells;
+pub use forms::{Cited, Tells};
 pub use laws::{
     named_decides, passed_do_not_match, removal_tells_what_decides, tells_verdicts_without,
     told_by_standing,
 };
-pub use numbers::{find_record, line_of, read_numbers};
+pub use numbers::{line_of, read_numbers};
 pub use standings::{Standing, is_told};
 pub use telling::{find, why_script};
 pub use text::AsText;

@@ -71,24 +71,6 @@ fn stand_if(
     }
 }
 
-/// Puts how each of the connections that is of the process stands to the entry of that place last.
-fn stand_each(
-    list: &mut Vec<Finding>,
-    policy: &Policy,
-    pid: u32,
-    place: u32,
-    conns: &[ConnId],
-) -> Result<(), Refusal>
-    requires { (1 ≤ place) × (place ≤ length policy.now) }
-    ensures ok { OnOk result (list.new.items ≡ list.old.items ++ process_stands (judged policy.now) conns.now pid place) }
-    ensures memory { IsOkUnless result Refusal.Memory }
-{
-    for conn in conns {
-        stand_if(list, policy, pid, place, conn)?;
-    }
-    Ok(())
-}
-
 /// Puts how each connection of the process stands to the entry of that place last.
 pub(crate) fn stand_process(
     list: &mut Vec<Finding>,
@@ -100,5 +82,9 @@ pub(crate) fn stand_process(
     ensures ok { OnOk result (list.new.items ≡ list.old.items ++ process_stands (judged policy.now) (conns_of policy.now) pid place) }
     ensures memory { IsOkUnless result Refusal.Memory }
 {
-    stand_each(list, policy, pid, place, policy.connections())
+    let conns = policy.connections();
+    for conn in conns {
+        stand_if(list, policy, pid, place, conn)?;
+    }
+    Ok(())
 }

@@ -13,7 +13,7 @@ ghost use Rattle.cpg_why.specs.Scripts.{numbers_of, place_asked, CanTell, EndsWh
 
 use crate::asking::{Asked, Missing, WhyFault};
 use crate::findings::Findings;
-use crate::forms::Tells;
+use crate::forms::{Cited, Tells};
 use crate::inboxes::{find_told, stands};
 use crate::numbers::read_numbers;
 use crate::processes::{has_process, stand_process};
@@ -76,7 +76,11 @@ pub(crate) fn tell_entries<F: Tells>(
     ensures err { IfErr result (TellsNot (Ok entries.now) asked) }
 {
     let found = find(alloc, entries, asked)?;
-    match F::text_of(alloc, numbers, &found) {
+    let cited = Cited {
+        numbers,
+        records: found.records.as_slice(),
+    };
+    match F::text_of(alloc, &cited, found.list.as_slice()) {
         Ok(text) => Ok(text),
         Err(refusal) => Err(WhyFault::from(refusal)),
     }

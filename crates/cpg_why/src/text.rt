@@ -4,9 +4,8 @@
 
 ghost use Rattle.std.specs.Prelude.{IsOkUnless};
 
-use crate::findings::{Decided, Finding, Findings, PassedRule, Ruled, Stand, Unruled};
-use crate::forms::Tells;
-use crate::numbers::{find_record, line_of};
+use crate::findings::{Decided, Finding, PassedRule, Ruled, Stand, Unruled};
+use crate::forms::{Cited, Tells};
 use crate::standings::{Standing, is_told};
 use crate::unmet::Unmet;
 use cpg_cred::Refusal;
@@ -26,27 +25,16 @@ impl Tells for AsText {
 
     ghost form = { plain };
 
-    fn text_of(alloc: Global, numbers: &[u32], found: &Findings) -> Result<Vec<u8>, Refusal> {
-        let told = Told {
-            numbers,
-            records: found.records.as_slice(),
-        };
+    fn text_of(alloc: Global, cited: &Cited, list: &[Finding]) -> Result<Vec<u8>, Refusal> {
         let mut text = Vec::new(alloc);
-        for finding in &found.list {
-            put_finding(&mut text, &told, finding)?;
+        for finding in list {
+            put_finding(&mut text, cited, finding)?;
         }
         Ok(text)
     }
 }
 
-/// The records that are spoken of, and the numbers of their entries' lines.
-#[derive(Clone, Copy)]
-struct Told<'a> {
-    numbers: &'a [u32],
-    records: &'a [Record],
-}
-
-fn put_finding(text: &mut Vec<u8>, told: &Told, finding: &Finding) -> Result<(), Refusal>
+fn put_finding(text: &mut Vec<u8>, cited: &Cited, finding: &Finding) -> Result<(), Refusal>
     ensures { IsOkUnless result Refusal.Memory }
 {
     match finding {
@@ -54,44 +42,42 @@ fn put_finding(text: &mut Vec<u8>, told: &Told, finding: &Finding) -> Result<(),
             if !text.is_empty() {
                 put_byte(text, b'\n')?;
             }
-            put_why(text, told, *place, decided)
+            put_why(text, cited, *place, decided)
         }
-        Finding::Made { place } => put_made(text, told, *place),
-        Finding::Stands(stand) => put_stand(text, told, stand),
+        Finding::Made { place } => put_made(text, cited, *place),
+        Finding::Stands(stand) => put_stand(text, cited, stand),
         Finding::Heard { event, .. } => put_event(text, event),
     }
 }
 
 /// Puts the entry of a place, with its verdict, and what decided that.
-fn put_why(text: &mut Vec<u8>, told: &Told, place: u32, decided: &Decided) -> Result<(), Refusal>
+fn put_why(text: &mut Vec<u8>, cited: &Cited, place: u32, decided: &Decided) -> Result<(), Refusal>
     ensures { IsOkUnless result Refusal.Memory }
 {
-    let Some(past) = find_record(told.records, place) else {
+    let Some(past) = cited.record(place) else {
         return Ok(());
     };
-    put_judged(text, told, place, past)?;
-    put_decided(text, told, past, decided)
+    put_judged(text, cited, place, past)?;
+    put_decided(text, cited, past, decided)
 }
 
 /// Puts the entry of a place, and its verdict, each on its line.
-fn put_judged(text: &mut Vec<u8>, told: &Told, place: u32, past: &Record) -> Result<(), Refusal>
+fn put_judged(text: &mut Vec<u8>, cited: &Cited, place: u32, past: &Record) -> Result<(), Refusal>
     ensures { IsOkUnless result Refusal.Memory }
 {
-    put_cited(text, told, place, past.entry())?;
+    put_cited(text, cited, place, past.entry())?;
     put(text, "\nverdict: ")?;
     put_verdict(text, past.verdict)?;
     put_byte(text, b'\n')
 }
 
 /// Puts the entry of a place, with the number of its line where it has one.
-fn put_cited(text: &mut Vec<u8>, told: &Told, place: u32, entry: &Entry) -> Result<(), Refusal>
+fn put_cited(text: &mut Vec<u8>, cited: &Cited, place: u32, entry: &Entry) -> Result<(), Refusal>
     ensures { IsOkUnless result Refusal.Memory }
 {
     put(text, "entry ")?;
     push_number(text, u64::from(place))?;
-    if place > 0
-        && let Some(number) = line_of(told.numbers, place)
-    {
+    if let Some(number) = cited.line(place) {
         put(text, " line ")?;
         push_number(text, u64::from(number))?;
     }
@@ -100,23 +86,23 @@ fn put_cited(text: &mut Vec<u8>, told: &Told, place: u32, entry: &Entry) -> Resu
 }
 
 /// Puts the entry of the record at a place as a line.
-fn put_cited_at(text: &mut Vec<u8>, told: &Told, place: u32) -> Result<(), Refusal>
+fn put_cited_at(text: &mut Vec<u8>, cited: &Cited, place: u32) -> Result<(), Refusal>
     ensures { IsOkUnless result Refusal.Memory }
 {
-    if let Some(past) = find_record(told.records, place) {
-        put_cited(text, told, place, past.entry())?;
+    if let Some(past) = cited.record(place) {
+        put_cited(text, cited, place, past.entry())?;
     }
     put_byte(text, b'\n')
 }
 
 /// Puts an entry that a connection made, with its verdict.
-fn put_made(text: &mut Vec<u8>, told: &Told, place: u32) -> Result<(), Refusal>
+fn put_made(text: &mut Vec<u8>, cited: &Cited, place: u32) -> Result<(), Refusal>
     ensures { IsOkUnless result Refusal.Memory }
 {
-    let Some(past) = find_record(told.records, place) else {
+    let Some(past) = cited.record(place) else {
         return Ok(());
     };
-    put_cited(text, told, place, past.entry())?;
+    put_cited(text, cited, place, past.entry())?;
     put(text, " -> ")?;
     put_verdict(text, past.verdict)?;
     put_byte(text, b'\n')
@@ -125,7 +111,7 @@ fn put_made(text: &mut Vec<u8>, told: &Told, place: u32) -> Result<(), Refusal>
 /// Puts what decided the answer of a record.
 fn put_decided(
     text: &mut Vec<u8>,
-    told: &Told,
+    cited: &Cited,
     past: &Record,
     decided: &Decided,
 ) -> Result<(), Refusal>
@@ -136,11 +122,11 @@ fn put_decided(
     match decided {
         Decided::Root => put(text, ": user 0 edits every table\n"),
         Decided::Free => put_free(text, &past.entry().op),
-        Decided::Rule(ruled) => put_ruled(text, told, past, ruled),
+        Decided::Rule(ruled) => put_ruled(text, cited, past, ruled),
         Decided::Default(unruled) => put_unruled(text, past, unruled),
-        Decided::Closed { since } => put_state(text, told, past, " is in no group", *since),
-        Decided::Joined { since } => put_state(text, told, past, " is in a group", *since),
-        Decided::Twice { by, since } => put_twice(text, told, past, by, *since),
+        Decided::Closed { since } => put_state(text, cited, past, " is in no group", *since),
+        Decided::Joined { since } => put_state(text, cited, past, " is in a group", *since),
+        Decided::Twice { by, since } => put_twice(text, cited, past, by, *since),
         Decided::Full { members } => put_counted(
             text,
             past,
@@ -168,7 +154,7 @@ fn put_free(text: &mut Vec<u8>, op: &Op) -> Result<(), Refusal>
 }
 
 /// Puts the rule that decided, how it came there, what it passed, and what would hold without it.
-fn put_ruled(text: &mut Vec<u8>, told: &Told, past: &Record, ruled: &Ruled) -> Result<(), Refusal>
+fn put_ruled(text: &mut Vec<u8>, cited: &Cited, past: &Record, ruled: &Ruled) -> Result<(), Refusal>
     ensures { IsOkUnless result Refusal.Memory }
 {
     put_placed(text, ruled.id, ruled.index)?;
@@ -179,7 +165,7 @@ fn put_ruled(text: &mut Vec<u8>, told: &Told, past: &Record, ruled: &Ruled) -> R
     put(text, ": ")?;
     put_rule(text, ruled.rule)?;
     put(text, "\nput in: ")?;
-    put_cited_at(text, told, ruled.id)?;
+    put_cited_at(text, cited, ruled.id)?;
     put_passed(text, ruled.passed.as_slice())?;
     put(text, "without it: ")?;
     put_verdict(text, ruled.without)?;
@@ -259,7 +245,7 @@ fn put_unmet(text: &mut Vec<u8>, unmet: Option<Unmet>) -> Result<(), Refusal>
 /// Puts the state of the connection of the record since its last move.
 fn put_state(
     text: &mut Vec<u8>,
-    told: &Told,
+    cited: &Cited,
     past: &Record,
     state: &str,
     since: Option<u32>,
@@ -269,18 +255,18 @@ fn put_state(
     put(text, ": ")?;
     put_conn(text, &ConnId::of(past.entry()))?;
     put(text, state)?;
-    put_since(text, told, since)
+    put_since(text, cited, since)
 }
 
 /// Puts since which entry, or that there is none.
-fn put_since(text: &mut Vec<u8>, told: &Told, since: Option<u32>) -> Result<(), Refusal>
+fn put_since(text: &mut Vec<u8>, cited: &Cited, since: Option<u32>) -> Result<(), Refusal>
     ensures { IsOkUnless result Refusal.Memory }
 {
     match since {
         None => put(text, ": it never joined\n"),
         Some(place) => {
             put(text, " since ")?;
-            put_cited_at(text, told, place)
+            put_cited_at(text, cited, place)
         }
     }
 }
@@ -288,7 +274,7 @@ fn put_since(text: &mut Vec<u8>, told: &Told, since: Option<u32>) -> Result<(), 
 /// Puts that the process of the record is a member by another connection.
 fn put_twice(
     text: &mut Vec<u8>,
-    told: &Told,
+    cited: &Cited,
     past: &Record,
     by: &ConnId,
     since: Option<u32>,
@@ -301,7 +287,7 @@ fn put_twice(
     push_number(text, u64::from(past.entry().pid))?;
     put(text, " is a member by ")?;
     put_conn(text, by)?;
-    put_since(text, told, since)
+    put_since(text, cited, since)
 }
 
 /// Puts how many the group of the record has, between texts.
@@ -350,13 +336,13 @@ fn put_absent(text: &mut Vec<u8>, past: &Record) -> Result<(), Refusal>
 }
 
 /// Puts the entry of a place with its verdict, whether the connection is told of it, and what decided that.
-fn put_stand(text: &mut Vec<u8>, told: &Told, stand: &Stand) -> Result<(), Refusal>
+fn put_stand(text: &mut Vec<u8>, cited: &Cited, stand: &Stand) -> Result<(), Refusal>
     ensures { IsOkUnless result Refusal.Memory }
 {
-    let Some(past) = find_record(told.records, stand.place) else {
+    let Some(past) = cited.record(stand.place) else {
         return Ok(());
     };
-    put_judged(text, told, stand.place, past)?;
+    put_judged(text, cited, stand.place, past)?;
     put(text, "to ")?;
     put_conn(text, &stand.conn)?;
     put(
@@ -373,13 +359,13 @@ fn put_stand(text: &mut Vec<u8>, told: &Told, stand: &Stand) -> Result<(), Refus
         Standing::Maker => put(text, ": who makes an entry is told its verdict\n"),
         Standing::Denied => put(text, ": of a denied entry its maker alone is told\n"),
         Standing::Groupless => put(text, ": its maker was in no group\n"),
-        Standing::Member | Standing::Elsewhere => put_whereabouts(text, told, stand),
-        Standing::Outside => put_outside(text, told, stand),
+        Standing::Member | Standing::Elsewhere => put_whereabouts(text, cited, stand),
+        Standing::Outside => put_outside(text, cited, stand),
     }
 }
 
 /// Puts in which group the connection is, or that it is in none, since its last move.
-fn put_whereabouts(text: &mut Vec<u8>, told: &Told, stand: &Stand) -> Result<(), Refusal>
+fn put_whereabouts(text: &mut Vec<u8>, cited: &Cited, stand: &Stand) -> Result<(), Refusal>
     ensures { IsOkUnless result Refusal.Memory }
 {
     put(text, ": ")?;
@@ -393,19 +379,19 @@ fn put_whereabouts(text: &mut Vec<u8>, told: &Told, stand: &Stand) -> Result<(),
         },
     )?;
     put_group(text, stand.group.as_ref())?;
-    put_since(text, told, stand.since)
+    put_since(text, cited, stand.since)
 }
 
 /// Puts that the connection is in no group, and its last denied join.
-fn put_outside(text: &mut Vec<u8>, told: &Told, stand: &Stand) -> Result<(), Refusal>
+fn put_outside(text: &mut Vec<u8>, cited: &Cited, stand: &Stand) -> Result<(), Refusal>
     ensures { IsOkUnless result Refusal.Memory }
 {
-    put_whereabouts(text, told, stand)?;
+    put_whereabouts(text, cited, stand)?;
     match stand.tried {
         None => Ok(()),
         Some(place) => {
             put(text, "tried: ")?;
-            put_made(text, told, place)
+            put_made(text, cited, place)
         }
     }
 }

@@ -3,7 +3,7 @@
 //! Proved: each test is the definition of its name in `specs/Filters.antt`.
 
 ghost use Rattle.std.specs.Prelude.{◌≡◌, option_map};
-ghost use Rattle.cpg_judge.specs.Filters.{group_asked, is_of_kind, keeps_conn, keeps_event, keeps_group, keeps_place, keeps_record, keeps_verdict};
+ghost use Rattle.cpg_judge.specs.Filters.{is_of_kind, keeps_conn, keeps_event, keeps_group, keeps_place, keeps_record, keeps_verdict};
 
 use cpg_entry::{Call, Name, Op};
 use cpg_record::{ConnId, Event, Record};

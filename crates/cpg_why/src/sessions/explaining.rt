@@ -66,7 +66,7 @@ fn run_unprinted<B: HistoryName, G, H: Wait + Clock, R: Read>(
 /// The faults come in this order: `Read`, then `BadCommand` with the first bad line, both with nothing done; then, after
 /// all commands, that what is asked of is not there, with how many there are; `Memory` may come at any
 /// time; all with nothing written. Last is `Write`, which leaves a front of what is told.
-#[tactic(auto, using(crate::proofs::Afterwards::stopped, crate::proofs::Afterwards::left_after, crate::proofs::Afterwards::told_ends))]
+#[tactic(auto, using(crate::proofs::Afterwards::stopped, crate::proofs::Afterwards::left_after, crate::proofs::Left::told_ends))]
 pub fn why_of_sessions<F, B, G, H, R, W>(
     rt: &H,
     alloc: Global,
