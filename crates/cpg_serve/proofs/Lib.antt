@@ -18,6 +18,12 @@ pub mod Matched
 pub mod Lone
 pub mod Turns
 pub mod Settled
+pub mod Gathered
 pub mod Numbered
 pub mod Tabled
 pub mod Carried
+pub mod Begun
+pub mod Drained
+pub mod Whole
+pub mod Moved
+pub mod Over

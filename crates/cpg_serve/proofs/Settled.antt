@@ -102,7 +102,7 @@ all_placed x y stays still t placed h =
 
 -- ---- over a run in which no frame is heard
 
-lone_entry : (x : NodeValue) (by : ℕ) (op : Op) (o : Option Client) (t : Token) (placed : List Entry) → IsLone x.ring t placed → IsLone (with_entry x by op o).ring t placed
+pub lone_entry : (x : NodeValue) (by : ℕ) (op : Op) (o : Option Client) (t : Token) (placed : List Entry) → IsLone x.ring t placed → IsLone (with_entry x by op o).ring t placed
 lone_entry x by op None t placed h = h
 lone_entry x by op (Some c) t placed h = record {
   one = h.one;

@@ -19,7 +19,7 @@ use Rattle.cpg_ask.specs.declared.greetings.Greeting.{Greeting}
 use Rattle.cpg_serve.specs.Telling.{DeskValue}
 use Rattle.cpg_serve.specs.Serving.{ServedValue, served_of}
 use Rattle.cpg_serve.specs.Runs.{Did, Frames, Delivers, Tells, Run, Goes, IsFramed}
-use Rattle.cpg_serve.specs.Settling.{IsLone, TurnedTo, StaysLone, InTurns, IsBrisk, IsOwnMove, MovesTo, NodeMovesTo, WhyMoving, IsUsedUp, HasDelivered, IsTurn, HasTurned}
+use Rattle.cpg_serve.specs.Settling.{IsLone, TurnedTo, StaysLone, InTurns, IsBrisk, IsOwnMove, MovesTo, NodeMovesTo, WhyMoving, IsUsedUp, HasDelivered, IsAlike, IsTurn, HasTurned}
 use Rattle.cpg_serve.proofs.Lone.{delivered_by, burst_of, burst_most, burst_full, short_take, split_at, left_at, lone_visit, lone_refused, lone_delivered, all_delivered}
 
 -- ---- runs of own moves, one after another
@@ -104,10 +104,18 @@ visit_stays x v last t placed h =
 pub turn_stays : (x y : RingNode) → IsTurn x y → StaysLone x y
 turn_stays x y h = subst (StaysLone x) (sym h.2) (visit_stays x h.0 h.1)
 
+-- ---- the same node
+
+pub alike_same : (x : NodeValue) → IsAlike x x
+alike_same x = record { settings = refl; number = refl; list = refl }
+
+pub alike_then : (x y z : NodeValue) → IsAlike x y → IsAlike y z → IsAlike x z
+alike_then x y z h k = record { settings = k.settings ∙ h.settings; number = k.number ∙ h.number; list = k.list ∙ h.list }
+
 -- ---- one delivery more
 
 pub delivered_none : (x : NodeValue) → HasDelivered x x
-delivered_none x = record { moves = node_moves_none x; lone = stays_same x.ring; clients = refl; waiting = refl; last = refl; settings = refl }
+delivered_none x = record { moves = node_moves_none x; lone = stays_same x.ring; clients = refl; waiting = refl; last = refl; alike = alike_same x }
 
 pub delivered_more : (x y : NodeValue) → HasDelivered x y → HasDelivered x (node_after_delivery y)
 delivered_more x y h = record {
@@ -116,7 +124,7 @@ delivered_more x y h = record {
   clients = h.clients;
   waiting = same_waiting (is_some (next_entry y.ring.state)) ∙ h.waiting;
   last = same_last (is_some (next_entry y.ring.state)) ∙ h.last;
-  settings = h.settings;
+  alike = record { settings = h.alike.settings; number = h.alike.number; list = h.alike.list };
 }
   where
     same_waiting : (b : Bool) → (delivered_by b y.ring.state).0.waiting ≡ y.ring.state.waiting
@@ -232,15 +240,18 @@ has_turned x y passed did h kept =
     let is : IsTurnAnswer x x.ring.state.last_token (Ok true) y = subst (λ (b : Bool). IsTurnAnswer x x.ring.state.last_token (Ok b) y) did h in
     let found = turned_by x y x.ring.state.last_token is in
     let turn : IsTurn x.ring y.ring = (found.0, found.1, ap (λ (z : NodeValue). z.ring) found.3 ∙ after_is x found.0 found.2) in
-    (record { moves = turn_moves x y found.0 found.3 kept; lone = turn_stays x.ring y.ring turn; clients = ap (λ (z : NodeValue). z.clients) found.3 }, turn)
+    (record { moves = turn_moves x y found.0 found.3 kept; lone = turn_stays x.ring y.ring turn; alike = alike_turned found.0 found.3; clients = ap (λ (z : NodeValue). z.clients) found.3 }, turn)
+  where
+    alike_turned : (t : Token) → y ≡ after_frame x (frames.Token t) → IsAlike x y
+    alike_turned t is = record { settings = ap (λ (z : NodeValue). z.ring.settings) is; number = ap (λ (z : NodeValue). z.ring.node) is; list = ap (λ (z : NodeValue). z.list) is }
 
 -- ---- turns and deliveries, one after another
 
 pub turned_then : (x y z : NodeValue) → HasTurned x y → HasTurned y z → HasTurned x z
-turned_then x y z h k = record { moves = node_moves_then x y z h.moves k.moves; lone = stays_then x.ring y.ring z.ring h.lone k.lone; clients = k.clients ∙ h.clients }
+turned_then x y z h k = record { moves = node_moves_then x y z h.moves k.moves; lone = stays_then x.ring y.ring z.ring h.lone k.lone; alike = alike_then x y z h.alike k.alike; clients = k.clients ∙ h.clients }
 
 pub turned_delivered : (x y z : NodeValue) → HasTurned x y → HasDelivered y z → HasTurned x z
-turned_delivered x y z h k = record { moves = node_moves_then x y z h.moves k.moves; lone = stays_then x.ring y.ring z.ring h.lone k.lone; clients = k.clients ∙ h.clients }
+turned_delivered x y z h k = record { moves = node_moves_then x y z h.moves k.moves; lone = stays_then x.ring y.ring z.ring h.lone k.lone; alike = alike_then x y z h.alike k.alike; clients = k.clients ∙ h.clients }
 
 none_by : (d : ℕ) (o : Option Entry) → option_map (λ (e : Entry). suc d) o ≡ None → o ≡ None
 none_by d None e = refl

@@ -89,14 +89,20 @@ IsUsedUp x t = (x.settings.places ≤ t.seq) ⊎ (x.settings.hops ≤ t.hop)
 abbrev pub WhyMoving : RingNode → Refusal → Type 0
 WhyMoving x why = (why ≡ Memory) ⊎ ((why ≡ RingEnd) × (0 < length x.state.waiting) × ((t : Token) × (x.state.last_token ≡ Some t) × IsUsedUp x t))
 
+-- the same node of a ring of the same settings, with the same list
+pub record IsAlike (x y : NodeValue) : Type 0 where
+  pub settings : y.ring.settings ≡ x.ring.settings
+  pub number : y.ring.node ≡ x.ring.node
+  pub list : y.list ≡ x.list
+
 -- Places were delivered, and nothing else was done.
 pub record HasDelivered (x y : NodeValue) : Type 0 where
   pub moves : NodeMovesTo x y
   pub lone : StaysLone x.ring y.ring
+  pub alike : IsAlike x y
   pub clients : y.clients ≡ x.clients
   pub waiting : y.ring.state.waiting ≡ x.ring.state.waiting
   pub last : y.ring.state.last_token ≡ x.ring.state.last_token
-  pub settings : y.ring.settings ≡ x.ring.settings
 
 -- the token was accepted once
 abbrev pub IsTurn : RingNode → RingNode → Type 0
@@ -106,6 +112,7 @@ IsTurn x y = (t : Token) × (x.state.last_token ≡ Some t) × (y ≡ visited x 
 pub record HasTurned (x y : NodeValue) : Type 0 where
   pub moves : NodeMovesTo x y
   pub lone : StaysLone x.ring y.ring
+  pub alike : IsAlike x y
   pub clients : y.clients ≡ x.clients
 
 -- no frame is heard

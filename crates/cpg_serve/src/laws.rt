@@ -4,7 +4,7 @@
 ghost use Rattle.cpg_serve.specs.Laws.{HearsAsItsOwn, DeliveryTells, StoryOfHearing, StoryOfTelling, StoryOfDelivery};
 ghost use Rattle.cpg_serve.specs.Settling.{LoneBegins, LoneStays};
 ghost use Rattle.cpg_serve.specs.Verdicts.{VerdictsAreItsOwn};
-ghost use Rattle.cpg_serve.specs.Carrying.{NextKeepsAll};
+ghost use Rattle.cpg_serve.specs.Carrying.{EachGoesOver, NextKeepsAll};
 ghost use Rattle.cpg_serve.specs.Renewing.{RenewalKeepsAll, SeatsAreThere};
 ghost use Rattle.cpg_serve.specs.Runs.{AllThatIsTold, StoriesBegin, LostIsGone, NothingAfterTheEnd};
 ghost use Rattle.cpg_serve.specs.Orders.{VerdictsInOrder};
@@ -50,6 +50,11 @@ pub fn renewal_keeps_all()
     ensures keeps { RenewalKeepsAll }
     ensures seats { SeatsAreThere }
     ensures next { NextKeepsAll }
+{}
+
+/// Each client that is there goes over to the next ring: by its new number it has its desk, and nothing is left to tell it.
+pub fn clients_go_over()
+    ensures { EachGoesOver }
 {}
 
 /// A new ring of one node is one that `settle` brings to rest, and stays so over any run in which no frame is heard.

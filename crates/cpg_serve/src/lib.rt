@@ -7,11 +7,15 @@
 
 mod answers;
 mod calls;
+mod carrying;
 mod deeds;
 mod desks;
 mod events;
 mod hearing;
 mod laws;
+mod moving;
+mod nexts;
+mod renewing;
 mod served;
 mod telling;
 mod turning;

@@ -16,11 +16,13 @@ ghost use Rattle.cpg_wire.specs.Reading.{frame_of};
 ghost use Rattle.cpg_serve.specs.Telling.{new_desk};
 ghost use Rattle.cpg_serve.specs.Stories.{StoryAt};
 ghost use Rattle.cpg_serve.specs.Runs.{IsFramed};
-ghost use Rattle.cpg_serve.specs.Serving.{served_of, AreAsMany, with_node, arrived, parted, out_of, IsServedMade, IsAway, IsHeard, IsCaughtUp, IsWritten, IsUnwritten, AreWritten};
+ghost use Rattle.cpg_serve.specs.Serving.{greeting_of, served_of, AreAsMany, with_node, arrived, parted, out_of, IsServedMade, IsAway, IsHeard, IsCaughtUp, IsWritten, IsUnwritten, AreWritten};
+ghost use Rattle.cpg_serve.specs.Carrying.{ComesToNext, HaveMoved, IsNext, IsRenewed};
 ghost use Rattle.cpg_serve.specs.Settling.{IsBrisk, IsLone, IsStill, MovesTo, StaysLone, ToldAll, WhyMoving};
 
 use crate::desks::Desk;
 use crate::hearing::Heard;
+use crate::nexts::{first_node, swap_in};
 use crate::turning::turn_until_still;
 use bytes::Bytes;
 use cpg_ask::Greeting;
@@ -220,6 +222,29 @@ impl Served {
         self.tell_all()
     }
 
+    /// The next ring of a ring of one node, by these settings and that list: first this one comes to rest, as by
+    /// `settle`. Gives the new number of each connection, 0 where it ended; number 1 is the daemon's own connection,
+    /// which put the rules in and ended. Range where the settings are of no ring of one node; Access where the list does
+    /// not let a client in; RingEnd where the next ring has too few places or hops. On an `Err` the next ring did not
+    /// begin, and nothing is lost or told twice.
+    pub fn renew(&mut self, settings: Settings, list: &AcceptList) -> Result<Vec<u16>, Refusal>
+        ensures ok { IfOk result (λ numbers. ComesToNext settings list.now numbers.items self.old self.new) }
+        ensures err { OnErr result (MovesTo self.old self.new) }
+    {
+        self.settle()?;
+        self.begin_next(settings, list)
+    }
+
+    /// The next ring, where this one is at rest.
+    fn begin_next(&mut self, settings: Settings, list: &AcceptList) -> Result<Vec<u16>, Refusal>
+        ensures ok { IfOk result (λ numbers. IsRenewed settings list.now numbers.items self.old self.new) }
+        ensures err { OnErr result (self.new ≡ self.old) }
+    {
+        let numbers = renew_at(self.alloc, &mut self.node, &mut self.desks, settings, list)?;
+        self.greeting = greeting_in(settings);
+        Ok(numbers)
+    }
+
     /// The node turns until nothing waits, and nothing is to be delivered.
     fn turn(&mut self) -> Result<(), Refusal>
         ensures moves { MovesTo self.old self.new }
@@ -350,4 +375,34 @@ fn tell_at(
         None => Ok(()),
         Some(desk) => desk.catch_up(node, conn),
     }
+}
+
+/// How clients of a ring of one node are greeted.
+fn greeting_in(settings: Settings) -> Greeting
+    ensures { result ≡ record { node = 1; nodes = 1; ring = settings.ring } }
+{
+    Greeting {
+        node: NodeId::default(),
+        nodes: 1,
+        ring: settings.ring,
+    }
+}
+
+/// Puts the next ring's node in place of this one, and moves the desks of open connections.
+fn renew_at(
+    alloc: Global,
+    node: &mut Node,
+    desks: &mut Vec<Desk>,
+    settings: Settings,
+    list: &AcceptList,
+) -> Result<Vec<u16>, Refusal>
+    requires { length desks.old.items ≡ length node.old.clients }
+    ensures ok { IfOk result (λ numbers. IsNext settings list.now numbers.items node.old node.new × HaveMoved (greeting_of node.new) numbers.items desks.old.items desks.new.items) }
+    ensures err { OnErr result ((node.new ≡ node.old) × (desks.new.items ≡ desks.old.items)) }
+    ensures count { length desks.new.items ≡ length node.new.clients }
+{
+    let mut next = first_node(alloc, settings, list)?;
+    let numbers = swap_in(alloc, &greeting_in(settings), node, &mut next, desks);
+    drop(next);
+    numbers
 }

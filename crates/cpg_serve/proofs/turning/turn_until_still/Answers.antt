@@ -20,7 +20,7 @@ loop-node-preserved c =
     record {
       did = turned_delivered c.args.node.now c.place_some.new.node c.deliver_all-in-loop-node.new.node turned c.deliver_all-in-loop-node.ensures.did;
       brisk = brisk_same c.args.node.now.ring c.place_some.new.node.ring c.deliver_all-in-loop-node.new.node.ring turned.lone brisk c.deliver_all-in-loop-node.ensures.did.waiting
-          c.deliver_all-in-loop-node.ensures.did.last c.deliver_all-in-loop-node.ensures.did.settings;
+          c.deliver_all-in-loop-node.ensures.did.last c.deliver_all-in-loop-node.ensures.did.alike.settings;
       still = c.in_ok-deliver_all-2.ensures.ok;
     }
 

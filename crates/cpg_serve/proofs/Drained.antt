@@ -1,0 +1,105 @@
+-- Connections take all that the ring tells them so far.
+use Rattle.std.proofs.Common.{◌≡◌, ◌≢◌, ◌⊎◌, ◌≤◌, ◌<◌, ℕ, zero, suc, Bool, true, false, is_some, List, [], ◌∷◌, ◌++◌, map, length, set, Option, Some, None, Ok, Err, Result, refl, sym, ap, subst, ◌∙◌, arith, ⊎_elim}
+use Rattle.std.specs.Prelude.{option_to_list}
+use Rattle.std.specs.List.{slice_get}
+use Rattle.std.proofs.lemmas.Bool.{cases_eq}
+use Rattle.std.proofs.lemmas.Option.{none-some, same_Some}
+use Rattle.cpg_record.specs.declared.events.Event.{Event}
+use Rattle.cpg_cred.specs.declared.refusals.Refusal.{Refusal}
+use Rattle.cpg_ring.specs.Worlds.{item, with_item}
+use Rattle.cpg_ring.proofs.Lists.{item_with_other}
+use Rattle.cpg_node.specs.declared.connections.Client.{Client}
+use Rattle.cpg_node.specs.Nodes.{NodeValue, if_open, open_client}
+use Rattle.cpg_node.specs.Calls.{counted, next_event, node_after_take, took}
+use Rattle.cpg_node.specs.Answers.{IsTakeAnswer}
+use Rattle.cpg_ask.specs.declared.greetings.Greeting.{Greeting}
+use Rattle.cpg_serve.specs.Telling.{new_desk}
+use Rattle.cpg_serve.specs.Asking.{at_of}
+use Rattle.cpg_serve.specs.Coming.{IsTold, next_by, next_of, rest_of}
+use Rattle.cpg_serve.specs.Carrying.{HasGiven, HasTaken, HaveGiven, anew, rest_for}
+use Rattle.cpg_serve.specs.Stories.{IsQuiet}
+use Rattle.cpg_serve.proofs.Coming.{fetched_left, none_left, open_is}
+use Rattle.cpg_serve.proofs.Noted.{inbox_quiet, rest_quiet}
+
+pub taken_none : (conn : ℕ) (x : NodeValue) → HasTaken conn x x
+taken_none conn x = record { ring = refl; list = refl; clients = refl; others = λ other apart. refl }
+
+pub taken_then : (conn : ℕ) (x y z : NodeValue) → HasTaken conn x y → HasTaken conn y z → HasTaken conn x z
+taken_then conn x y z h k = record {
+  ring = k.ring ∙ h.ring;
+  list = k.list ∙ h.list;
+  clients = k.clients ∙ h.clients;
+  others = λ other apart. k.others other apart ∙ h.others other apart;
+}
+
+set_anew : (cs : List Client) (i : ℕ) (c k : Client) → slice_get cs i ≡ Some c → anew k ≡ anew c → map anew (set cs i k) ≡ map anew cs
+set_anew [] i c k at same = absurd (none-some c at)
+set_anew (d ∷ cs) zero c k at same = ap (λ (a : Client). a ∷ map anew cs) (same ∙ ap anew (sym (same_Some d c at)))
+set_anew (d ∷ cs) (suc i) c k at same = ap (λ (l : List Client). anew d ∷ l) (set_anew cs i c k at same)
+
+with_anew : (cs : List Client) (conn : ℕ) (c k : Client) → item cs conn ≡ Some c → anew k ≡ anew c → map anew (with_item cs conn k) ≡ map anew cs
+with_anew cs zero c k at same = refl
+with_anew cs (suc i) c k at same = set_anew cs i c k at same
+
+took_by : (conn : ℕ) (x : NodeValue) (c : Client) (next : Option Event) → open_client x conn ≡ Some c → HasTaken conn x (counted x conn c next)
+took_by conn x c None e = taken_none conn x
+took_by conn x c (Some event) e = record {
+  ring = refl;
+  list = refl;
+  clients = with_anew x.clients conn c (record c { taken = suc c.taken }) (open_is (item x.clients conn) c e).0 refl;
+  others = λ other apart. item_with_other x.clients conn other (record c { taken = suc c.taken }) apart;
+}
+
+took_one : (conn : ℕ) (x : NodeValue) (o : Option Client) → open_client x conn ≡ o → HasTaken conn x (node_after_take x conn o)
+took_one conn x None e = taken_none conn x
+took_one conn x (Some c) e = took_by conn x c (next_event x conn c) e
+
+pub took_is : (conn : ℕ) (x y : NodeValue) → y ≡ took x conn → HasTaken conn x y
+took_is conn x y is = subst (HasTaken conn x) (sym is) (took_one conn x (open_client x conn) refl)
+
+take_is : (conn : ℕ) (x : NodeValue) (o : Option Client) (event : Option Event) → IsTakeAnswer x conn o (Ok event) → event ≡ next_by x conn o
+take_is conn x None event h = let e = h in absurd cc
+take_is conn x (Some c) event h = h
+
+told_by : (o : Option Event) (old new : List Event) → option_to_list o ++ new ≡ old → (o ≡ None → old ≡ []) → IsTold (is_some o) old new
+told_by None old new e none = e ∙ none refl
+told_by (Some event) old new e none = ap (λ (l : List Event). length l) (sym e)
+
+-- one event fewer is left, or none is
+pub told_one : (conn : ℕ) (x y : NodeValue) (event : Option Event) → IsTakeAnswer x conn (open_client x conn) (Ok event) → y ≡ took x conn → IsTold (is_some event) (rest_for x conn) (rest_for y conn)
+told_one conn x y event h is =
+    let greeting : Greeting = record { node = 1; nodes = 1; ring = 0 } in
+    let e : event ≡ next_of x conn = take_is conn x (open_client x conn) event h in
+    let left = fetched_left conn (at_of x (new_desk greeting)) refl in
+    subst (λ (z : NodeValue). IsTold (is_some event) (rest_for x conn) (rest_for z conn)) (sym is)
+    (subst (λ (o : Option Event). IsTold (is_some o) (rest_for x conn) (rest_for (took x conn) conn)) (sym e)
+    (told_by (next_of x conn) (rest_for x conn) (rest_for (took x conn) conn) left (λ none. none_left conn (at_of x (new_desk greeting)) refl none)))
+
+-- a connection that is not open takes nothing
+pub closed_rest : (conn : ℕ) (x : NodeValue) → open_client x conn ≡ None → rest_for x conn ≡ []
+closed_rest conn x e = ap (rest_of x conn) e
+
+-- ---- one connection after another
+
+pub given_none : (x : NodeValue) → HaveGiven 0 x x
+given_none x = record { ring = refl; list = refl; clients = refl; given = λ conn low. first conn low }
+  where
+    first : (conn : ℕ) → conn ≤ 0 → rest_for x conn ≡ []
+    first zero low = refl
+    first (suc conn) low = absurd (omega arith)
+
+pub given_more : (last next : ℕ) (x y z : NodeValue) → next ≡ suc last → HaveGiven last x y → HasGiven next y z → HaveGiven next x z
+given_more last next x y z is h k = record {
+  ring = k.0.ring ∙ h.ring;
+  list = k.0.list ∙ h.list;
+  clients = k.0.clients ∙ h.clients;
+  given = λ conn low. ⊎_elim
+      (λ (own : conn ≡ next). subst (λ (n : ℕ). rest_for z n ≡ []) (sym own) k.1)
+      (λ (other : conn ≢ next). still conn other ∙ h.given conn (omega arith))
+      (cases_eq conn next);
+}
+  where
+    still : (conn : ℕ) → conn ≢ next → rest_for z conn ≡ rest_for y conn
+    still conn other =
+        let quiet : IsQuiet conn y z = record { records = rw k.0.ring refl; node = ap (λ r. r.node) k.0.ring; client = k.0.others conn other } in
+        ap (rest_of z conn) (ap if_open (k.0.others conn other)) ∙ rest_quiet conn y z (open_client y conn) (inbox_quiet conn y z quiet)

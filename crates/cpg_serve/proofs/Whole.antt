@@ -1,0 +1,225 @@
+-- The node of the next ring, once all is done.
+use Rattle.std.proofs.Common.{◌≡◌, ◌≤◌, ◌<◌, ◌+◌, ◌-◌, ◌^◌, ◌⊎◌, inl, inr, min, ℕ, zero, suc, Bool, true, false, List, [], ◌∷◌, ◌++◌, map, length, take, drop, Option, Some, None, refl, sym, ap, subst, ◌∙◌, arith, ⊎_elim, not, if◌then◌else◌}
+use Rattle.std.specs.List.{AllByRecursion, slice_get}
+use Rattle.std.specs.FinMap.{get-empty}
+use Rattle.std.specs.Ordering.{nat_cmp}
+use Rattle.std.specs.Prelude.{option_map}
+use Rattle.std.proofs.lemmas.Bool.{cases_lt}
+use Rattle.std.proofs.Math.Seq.{take-length}
+use Rattle.std.proofs.lemmas.Option.{same_Some}
+use Rattle.cpg_cred.specs.declared.credentials.Cred.{Cred}
+use Rattle.cpg_cred.specs.Listed.{Listed}
+use Rattle.cpg_entry.specs.declared.calls.Op.TheVariants.{Gone}
+use Rattle.cpg_entry.specs.declared.entries.Entry.{Entry}
+use Rattle.cpg_entry.specs.declared.ranges.TheConstants.{MOST_CONNECTIONS}
+use Rattle.cpg_record.specs.declared.records.Record.{Record}
+use Rattle.cpg_record.specs.Judging.{judged}
+use Rattle.cpg_record.specs.Membership.{Membership, memberships}
+use Rattle.cpg_ring.specs.declared.settings.Settings.{Settings}
+use Rattle.cpg_ring.specs.Moves.{first_token, next_entry}
+use Rattle.cpg_ring.specs.Rings.{RingNode}
+use Rattle.cpg_ring.specs.Worlds.{item, with_item}
+use Rattle.cpg_node.specs.declared.connections.Client.{Client}
+use Rattle.cpg_node.specs.Nodes.{NodeValue, delivered_entries, entry_by, if_open, new_value, open_client, records_of}
+use Rattle.cpg_node.specs.Calls.{connected}
+use Rattle.cpg_ask.proofs.Mapped.{length_mapped}
+use Rattle.cpg_serve.specs.Coming.{rest_of}
+use Rattle.cpg_serve.specs.Renewing.{Root, Seat, all_inserts, held_by, renewal, seat_entry}
+use Rattle.cpg_serve.specs.Settling.{IsAlike, IsLone, IsStill}
+use Rattle.cpg_serve.specs.Carrying.{HasNumber, HasParted, HasPut, HasPutAll, HaveConnected, HaveGiven, HaveJoined, IsBegun, IsFirst, IsNext, IsRoot, KeepsAll, anew, living, next_entries, numbered, own_client, renumbered, rest_for, root_end, table_of, tables_in}
+use Rattle.cpg_serve.proofs.Begun.{root_still}
+use Rattle.cpg_serve.proofs.Carried.{next_keeps_all}
+use Rattle.cpg_serve.proofs.Lone.{delivered_is, lone_new}
+use Rattle.cpg_serve.proofs.Running.{within}
+use Rattle.cpg_serve.proofs.Turns.{none_next}
+
+-- the daemon's own connection, open
+abbrev own_open : Client
+own_open = record { pid = 0; cred = record { uid = 0; gid = 0 }; ended = false; taken = 0 }
+
+abbrev root : Root
+root = record { node = 1; conn = 1; pid = 0 }
+
+first_begun : (s : Settings) (list : Listed) (x : NodeValue) → IsFirst s list x → IsBegun x []
+first_begun s list x h = subst (λ (z : NodeValue). IsBegun z []) (sym h.1) (record {
+  still = (refl, ap (option_map (λ (e : Entry). 1)) (get-empty nat_cmp 1));
+  token = first_token s;
+  lone = lone_new s h.0;
+})
+
+begun_ring : (x y : NodeValue) (es : List Entry) → y.ring ≡ x.ring → IsBegun x es → IsBegun y es
+begun_ring x y es is b = record {
+  still = (ap (λ (r : RingNode). r.state.waiting) is ∙ b.still.0, ap (λ (r : RingNode). option_map (λ (e : Entry). suc r.state.delivered) (next_entry r.state)) is ∙ b.still.1);
+  token = b.token;
+  lone = subst (λ (r : RingNode). IsLone r b.token es) (sym is) b.lone;
+}
+
+-- a client that is the daemon's own, but for what it took
+own_by : (c : Client) → anew c ≡ own_open → if_open (Some c) ≡ Some (record { pid = 0; cred = record { uid = 0; gid = 0 }; ended = false; taken = c.taken })
+own_by c e =
+    let pid : c.pid ≡ 0 = ap (λ (k : Client). k.pid) e in
+    let cred : c.cred ≡ record { uid = 0; gid = 0 } = ap (λ (k : Client). k.cred) e in
+    let end : c.ended ≡ false = ap (λ (k : Client). k.ended) e in
+    ap (λ (b : Bool). if b then None else Some c) end ∙ ap Some (whole pid cred end)
+  where
+    whole : c.pid ≡ 0 → c.cred ≡ record { uid = 0; gid = 0 } → c.ended ≡ false → c ≡ record { pid = 0; cred = record { uid = 0; gid = 0 }; ended = false; taken = c.taken }
+    whole p r e = ap (λ (n : ℕ). record { pid = n; cred = c.cred; ended = c.ended; taken = c.taken }) p
+        ∙ ap (λ (k : Cred). record { pid = 0; cred = k; ended = c.ended; taken = c.taken }) r
+        ∙ ap (λ (b : Bool). record { pid = 0; cred = record { uid = 0; gid = 0 }; ended = b; taken = c.taken }) e
+
+head_is : (a b : Client) (xs ys : List Client) → a ∷ xs ≡ b ∷ ys → a ≡ b
+head_is a b xs ys e = same_Some a b (ap (λ (l : List Client). slice_get l 0) e)
+
+tail_is : (a b : Client) (xs ys : List Client) → a ∷ xs ≡ b ∷ ys → xs ≡ ys
+tail_is a b xs ys e = ap (λ (l : List Client). drop 1 l) e
+
+root_open : (cs rest : List Client) → map anew cs ≡ own_open ∷ rest → (taken : ℕ) × (if_open (item cs 1) ≡ Some (record { pid = 0; cred = record { uid = 0; gid = 0 }; ended = false; taken = taken }))
+root_open [] rest e = absurd cc
+root_open (c ∷ cs) rest e = (c.taken, own_by c (head_is (anew c) own_open (map anew cs) rest e))
+
+root_ended : (cs rest : List Client) (taken : ℕ) → map anew cs ≡ own_open ∷ rest → map anew (with_item cs 1 (record { pid = 0; cred = record { uid = 0; gid = 0 }; ended = true; taken = taken })) ≡ own_client ∷ rest
+root_ended [] rest taken e = absurd cc
+root_ended (c ∷ cs) rest taken e = ap (λ (l : List Client). own_client ∷ l) (tail_is (anew c) own_open (map anew cs) rest e)
+
+few_living : (cs : List Client) → length (living cs) ≤ length cs
+few_living [] = omega arith
+few_living (c ∷ cs) = by_end c.ended (few_living cs)
+  where
+    by_end : (b : Bool) → length (living cs) ≤ length cs → length (if not b then c ∷ living cs else living cs) ≤ suc (length cs)
+    by_end true h = omega (arith, h)
+    by_end false h = omega (arith, h)
+
+-- whoever has no number there was given all
+none_more : (x y : NodeValue) (most : ℕ) → map anew y.clients ≡ own_client ∷ map anew (living x.clients) → (suc (length x.clients) ≤ most) ⊎ (MOST_CONNECTIONS ≤ most) → ((conn : ℕ) → conn ≤ most → rest_for y conn ≡ []) → (conn : ℕ) → conn ≤ MOST_CONNECTIONS → rest_for y conn ≡ []
+none_more x y most clients ends given conn few = ⊎_elim
+    (λ (past : most < conn). ap (λ (o : Option Client). rest_of y conn (if_open o)) (absent (item y.clients conn) refl past))
+    (λ (low : conn ≤ most). given conn low)
+    (cases_lt most conn)
+  where
+    count : length y.clients ≤ suc (length x.clients)
+    count = let l = few_living x.clients in omega (arith, l, sym (length_mapped anew y.clients) ∙ ap (λ (l : List Client). length l) clients ∙ ap suc (length_mapped anew (living x.clients)))
+
+    absent : (o : Option Client) → item y.clients conn ≡ o → most < conn → o ≡ None
+    absent None e past = refl
+    absent (Some c) e past =
+        let l = within y.clients conn c e in
+        absurd (⊎_elim (λ (a : suc (length x.clients) ≤ most). omega (arith, a, l, past, count)) (λ (a : MOST_CONNECTIONS ≤ most). omega (arith, a, few, past)) ends)
+
+ends_at : (count last most : ℕ) → last ≡ count → most ≡ min (last + 1) (2 ^ 16 - 1) → (suc count ≤ most) ⊎ (MOST_CONNECTIONS ≤ most)
+ends_at count last most is e = ⊎_elim
+    (λ (few : last < MOST_CONNECTIONS). inl (omega (arith, few, is, e)))
+    (λ (full : MOST_CONNECTIONS ≤ last). inr (omega (arith, full, e)))
+    (cases_lt last MOST_CONNECTIONS)
+
+-- a ring in which the daemon's own connection is open, and those beside it
+record IsOpen (s : Settings) (list : Listed) (cs : List Client) (x : NodeValue) : Type 0 where
+  pub settings : x.ring.settings ≡ s
+  pub number : x.ring.node ≡ 1
+  pub lets_in : x.list ≡ list
+  pub clients : map anew x.clients ≡ own_open ∷ map anew (living cs)
+
+-- the same once the daemon's own connection ended
+record IsClosed (s : Settings) (list : Listed) (cs : List Client) (x : NodeValue) : Type 0 where
+  pub settings : x.ring.settings ≡ s
+  pub lets_in : x.list ≡ list
+  pub clients : map anew x.clients ≡ own_client ∷ map anew (living cs)
+
+first_open : (s : Settings) (list : Listed) (x : NodeValue) → IsFirst s list x → IsOpen s list [] x
+first_open s list x h = subst (IsOpen s list []) (sym h.1) (record { settings = refl; number = refl; lets_in = refl; clients = refl })
+
+all_open : (s : Settings) (list : Listed) (cs : List Client) (numbers : List ℕ) (x y : NodeValue) → IsOpen s list [] x → HaveConnected cs numbers x y → IsOpen s list cs y
+all_open s list cs numbers x y h k = record {
+  settings = ap (λ (r : RingNode). r.settings) k.ring ∙ h.settings;
+  number = ap (λ (r : RingNode). r.node) k.ring ∙ h.number;
+  lets_in = k.list ∙ h.lets_in;
+  clients = k.alive ∙ ap (λ (l : List Client). l ++ map anew (living cs)) h.clients;
+}
+
+all_numbered : (s : Settings) (list : Listed) (cs : List Client) (numbers : List ℕ) (x y : NodeValue) → IsOpen s list [] x → HaveConnected cs numbers x y → numbers ≡ numbered 1 cs
+all_numbered s list cs numbers x y h k = k.given ∙ ap (λ n. numbered n cs) (sym (length_mapped anew x.clients) ∙ ap (λ (l : List Client). length l) h.clients)
+
+open_still : (s : Settings) (list : Listed) (cs : List Client) (x y : NodeValue) → IsAlike x y → y.clients ≡ x.clients → IsOpen s list cs x → IsOpen s list cs y
+open_still s list cs x y alike same h = record {
+  settings = alike.settings ∙ h.settings;
+  number = alike.number ∙ h.number;
+  lets_in = alike.list ∙ h.lets_in;
+  clients = ap (λ (l : List Client). map anew l) same ∙ h.clients;
+}
+
+is_root : (s : Settings) (list : Listed) (cs : List Client) (x : NodeValue) → IsOpen s list cs x → IsRoot root x
+is_root s list cs x h = (sym h.number, root_open x.clients (map anew (living cs)) h.clients)
+
+ended_entry : (taken : ℕ) (es : List Entry) (x : NodeValue) → x.ring.node ≡ 1 → es ++ entry_by x 1 (record { pid = 0; cred = record { uid = 0; gid = 0 }; ended = false; taken = taken }) Gone ∷ [] ≡ es ++ root_end root ∷ []
+ended_entry taken es x is = ap (λ (n : ℕ). es ++ record { node = n; conn = 1; pid = 0; cred = record { uid = 0; gid = 0 }; op = Gone } ∷ []) is
+
+root_gone : (s : Settings) (list : Listed) (cs : List Client) (es : List Entry) (x y : NodeValue) → IsOpen s list cs x → HasParted 1 x y → IsBegun x es → IsClosed s list cs y × IsBegun y (es ++ root_end root ∷ [])
+root_gone s list cs es x y h k b = by_root (is_root s list cs x h).1
+  where
+    by_root : ((taken : ℕ) × (open_client x 1 ≡ Some (record { pid = 0; cred = record { uid = 0; gid = 0 }; ended = false; taken = taken }))) → IsClosed s list cs y × IsBegun y (es ++ root_end root ∷ [])
+    by_root r = (
+      record {
+        settings = k.alike.settings ∙ h.settings;
+        lets_in = k.alike.list ∙ h.lets_in;
+        clients = ap (λ (l : List Client). map anew l) (k.clients (record { pid = 0; cred = record { uid = 0; gid = 0 }; ended = false; taken = r.0 }) r.1) ∙ root_ended x.clients (map anew (living cs)) r.0 h.clients;
+      },
+      subst (IsBegun y) (ended_entry r.0 es x h.number) (k.begun es (record { pid = 0; cred = record { uid = 0; gid = 0 }; ended = false; taken = r.0 }) r.1 b),
+    )
+
+tables_put : (s : Settings) (list : Listed) (cs : List Client) (rs : List Record) (seats : List Seat) (x y : NodeValue) → IsOpen s list cs x → HasPutAll rs x y → IsBegun x (map seat_entry seats) → IsClosed s list cs y × IsBegun y (next_entries seats root rs)
+tables_put s list cs rs seats x y h k b = by_put k.0 (k.1 root refl) k.2
+  where
+    by_put : (z : NodeValue) → HasPut root (all_inserts root (map (table_of rs) (tables_in rs))) x z → HasParted 1 z y → IsClosed s list cs y × IsBegun y (next_entries seats root rs)
+    by_put z put parted = root_gone s list cs (map seat_entry seats ++ all_inserts root (map (table_of rs) (tables_in rs))) z y
+        (open_still s list cs x z put.alike put.clients h) parted (put.begun (map seat_entry seats) (is_root s list cs x h) b)
+
+keeps_of : (es : List Entry) (cs : List Client) (seats : List Seat) (y : NodeValue) → AllByRecursion (HasNumber (numbered 1 cs)) (memberships (judged es)) → map held_by seats ≡ map (renumbered (numbered 1 cs)) (memberships (judged es))
+    → IsBegun y (next_entries seats root (judged es)) → KeepsAll cs (judged es) (records_of y)
+keeps_of es cs seats y has held b =
+    subst (KeepsAll cs (judged es)) (sym (ap judged (delivered_is y.ring b.token (next_entries seats root (judged es)) b.lone (none_next y b.still.1)))) (next_keeps_all es cs root seats refl has held)
+
+next_of_parts : (s : Settings) (list : Listed) (x y : NodeValue) (numbers : List ℕ) (seats : List Seat) → numbers ≡ numbered 1 x.clients → AllByRecursion (HasNumber (numbered 1 x.clients)) (memberships (records_of x))
+    → map held_by seats ≡ map (renumbered (numbered 1 x.clients)) (memberships (records_of x)) → IsClosed s list x.clients y → IsBegun y (next_entries seats root (records_of x))
+    → ((conn : ℕ) → conn ≤ MOST_CONNECTIONS → rest_for y conn ≡ []) → IsNext s list numbers x y
+next_of_parts s list x y numbers seats nums has held closed begun given = record {
+  settings = closed.settings;
+  lets_in = closed.lets_in;
+  entries = next_entries seats root (records_of x);
+  begun = begun;
+  keeps = keeps_of (delivered_entries x.ring.state) x.clients seats y has held begun;
+  renumbers = nums;
+  clients = closed.clients;
+  given = given;
+}
+
+closed_still : (s : Settings) (list : Listed) (cs : List Client) (most : ℕ) (x y : NodeValue) → HaveGiven most x y → IsClosed s list cs x → IsClosed s list cs y
+closed_still s list cs most x y h k = record {
+  settings = ap (λ (r : RingNode). r.settings) h.ring ∙ k.settings;
+  lets_in = h.list ∙ k.lets_in;
+  clients = h.clients ∙ k.clients;
+}
+
+pub seated_by : (numbers : List ℕ) (now all : List Membership) (rs seen : List Record) (x y : NodeValue) → now ≡ all → all ≡ memberships seen → seen ≡ rs → HaveJoined numbers now x y → HaveJoined numbers (memberships rs) x y
+seated_by numbers now all rs seen x y h k l joined = subst (λ (m : List Membership). HaveJoined numbers m x y) (h ∙ k ∙ ap memberships l) joined
+
+pub tables_by : (now groups : List (List ℕ)) (rs seen : List Record) (x z y : NodeValue) → now ≡ groups → groups ≡ tables_in seen → seen ≡ rs → ((r : Root) → r.conn ≡ 1 → HasPut r (all_inserts r (map (table_of rs) now)) x z) → HasParted 1 z y → HasPutAll rs x y
+tables_by now groups rs seen x z y h k l puts parted =
+    (z, (λ r own. subst (λ (gs : List (List ℕ)). HasPut r (all_inserts r (map (table_of rs) gs)) x z) (h ∙ k ∙ ap tables_in l) (puts r own)), parted)
+
+pub next_is : (s : Settings) (list : Listed) (x y0 y1 y2 y4 y5 : NodeValue) (last most : ℕ) (numbers seen : List ℕ) → IsFirst s list y0 → last ≡ length x.clients → HaveConnected (take last x.clients) numbers y0 y1
+    → seen ≡ numbers → HaveJoined seen (memberships (records_of x)) y1 y2 → HasPutAll (records_of x) y2 y4 → HaveGiven most y4 y5 → most ≡ min (last + 1) (2 ^ 16 - 1) → IsNext s list numbers x y5
+next_is s list x y0 y1 y2 y4 y5 last most numbers seen first is conn same joins tables given ends =
+    by_connected (subst (λ (cs : List Client). HaveConnected cs numbers y0 y1) (ap (λ n. take n x.clients) is ∙ take-length x.clients) conn)
+  where
+    joined : HaveJoined numbers (memberships (records_of x)) y1 y2
+    joined = subst (λ (l : List ℕ). HaveJoined l (memberships (records_of x)) y1 y2) same joins
+
+    by_numbers : numbers ≡ numbered 1 x.clients → IsClosed s list x.clients y4 × IsBegun y4 (next_entries joined.seats root (records_of x)) → IsNext s list numbers x y5
+    by_numbers nums closed = next_of_parts s list x y5 numbers joined.seats nums (subst (λ (l : List ℕ). AllByRecursion (HasNumber l) (memberships (records_of x))) nums joined.numbered)
+        (joined.held ∙ ap (λ (l : List ℕ). map (renumbered l) (memberships (records_of x))) nums) (closed_still s list x.clients most y4 y5 given closed.0)
+        (begun_ring y4 y5 (next_entries joined.seats root (records_of x)) given.ring closed.1)
+        (none_more x y5 most (given.clients ∙ closed.0.clients) (ends_at (length x.clients) last most is ends) given.given)
+
+    by_connected : HaveConnected x.clients numbers y0 y1 → IsNext s list numbers x y5
+    by_connected h = by_numbers (all_numbered s list x.clients numbers y0 y1 (first_open s list y0 first) h)
+        (tables_put s list x.clients (records_of x) joined.seats y2 y4 (open_still s list x.clients y1 y2 joined.alike joined.clients (all_open s list x.clients numbers y0 y1 (first_open s list y0 first) h)) tables
+        (joined.begun [] (begun_ring y0 y1 [] h.ring (first_begun s list y0 first))))

@@ -1,0 +1,13 @@
+use Rattle.std.proofs.Common.{◌≡◌, ◌∙◌, length, ap, sym, subst, List, ℕ}
+use Rattle.cpg_node.specs.Nodes.{NodeValue}
+use Rattle.cpg_serve.specs.Carrying.{HaveMoved, IsFilled}
+use Rattle.cpg_serve.proofs.nexts.swap_in.Goals as goal
+
+pub take_over-requires-clause-numbers : goal.take_over-requires-clause-numbers
+take_over-requires-clause-numbers c = ap (λ (l : List ℕ). length l) c.as_slice.ensures.value ∙ c.in_ok-numbers.ensures.count ∙ sym c.requires
+
+pub returns-clause-ok : goal.returns-clause-ok
+returns-clause-ok c = (
+  subst (λ (y : NodeValue). IsFilled c.in_ok-numbers.numbers.items c.args.node.now c.args.next.now y) (sym c.swap.ensures.x_after) c.in_ok-numbers.ensures.ok,
+  subst (λ (l : List ℕ). HaveMoved c.args.greeting.now l c.args.desks.now.items c.take_over.new.desks.items) c.as_slice.ensures.value c.in_ok-take_over.ensures.ok,
+)

@@ -1,0 +1,14 @@
+use Rattle.std.proofs.Common.{Bool, subst, sym}
+use Rattle.cpg_serve.specs.Carrying.{rest_for}
+use Rattle.cpg_serve.specs.Coming.{IsTold}
+use Rattle.cpg_serve.proofs.Drained.{told_one, took_is}
+use Rattle.cpg_serve.proofs.renewing.take_one.Goals as goal
+
+pub returns : goal.returns
+returns c = record {
+  ok = (
+    took_is c.args.conn c.args.node.now c.take.new.self c.in_ok-event.ensures.ok,
+    subst (λ (b : Bool). IsTold b (rest_for c.args.node.now c.args.conn) (rest_for c.take.new.self c.args.conn)) (sym c.was_one.ensures)
+        (told_one c.args.conn c.args.node.now c.take.new.self _ c.in_ok-event.ensures.answer c.in_ok-event.ensures.ok),
+  );
+}
