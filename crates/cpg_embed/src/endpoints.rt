@@ -1,6 +1,6 @@
 //! A node with what it still has to hand over, and the calls of its connections.
 
-ghost use Rattle.std.specs.Prelude.{◌≡◌};
+ghost use Rattle.std.specs.Prelude.{◌≡◌, IfOk, IsOkUnless};
 ghost use Rattle.cpg_entry.specs.declared.calls.Call.TheVariants as calls;
 ghost use Rattle.cpg_embed.specs.Calls.{IsConnected, IsSubmitted, IsCopied, IsInserted, IsDisconnected};
 ghost use Rattle.cpg_embed.specs.Endpoints.{new_endpoint};
@@ -11,7 +11,7 @@ use crate::seats::Seats;
 use crate::statuses::{OK, number_of};
 use bytes::Bytes;
 use cpg_cred::{Cred, Refusal};
-use cpg_entry::{Call, Message, Name};
+use cpg_entry::{Call, Message, Name, Rule, SharedRule};
 use cpg_node::{Event, Names, Node, Processes, Remains};
 use std::alloc::Global;
 use std::marker::Model;
@@ -41,6 +41,15 @@ impl Model for Endpoint {
     ghost coded = { Prim.hlevel (codes, held_code) };
 
     ghost view = { λ e. record { node = e.node; made = e.made.items; given = e.given; event = e.event; processes = e.processes; names = e.names; seats = e.seats; remains = e.remains } };
+}
+
+/// The call to put the rule into the group's table, at that index.
+fn insert_of(alloc: Global, group: &[u8], index: u8, rule: Rule) -> Result<Call, Refusal>
+    ensures ok { IfOk result (λ call. call ≡ calls.Insert group.now index rule) }
+    ensures memory { IsOkUnless result Refusal.Memory }
+{
+    let group = Name::from_slice(alloc, group)?;
+    Ok(Call::Insert(group, index, SharedRule::new(alloc, rule)?))
 }
 
 impl Endpoint {
@@ -118,8 +127,8 @@ impl Endpoint {
         let Some(rule) = line.rule() else {
             return number_of(Refusal::Range);
         };
-        match Name::from_slice(self.alloc, group) {
-            Ok(name) => self.submit(conn, Call::Insert(name, index, rule)),
+        match insert_of(self.alloc, group, index, rule) {
+            Ok(call) => self.submit(conn, call),
             Err(refusal) => number_of(refusal),
         }
     }

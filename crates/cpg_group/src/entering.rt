@@ -19,7 +19,7 @@ use crate::places::find_record;
 use crate::standing::{Group, Groups};
 use crate::trails::{Stop, Stops, Trails, group_now, make_room, stop_of};
 use cpg_cred::Refusal;
-use cpg_entry::{Call, Entry, Name, Op, SharedEntry};
+use cpg_entry::{Call, Entry, Name, Op};
 use cpg_record::{ConnId, Record};
 use std::alloc::Global;
 
@@ -29,48 +29,29 @@ fn latest_name<'a>(records: &'a [Record], places: &[u32]) -> Option<&'a Name> {
     past.group.as_ref()
 }
 
-/// The entry, a join to that name.
-fn join_of(alloc: Global, entry: &Entry, name: &Name) -> Result<SharedEntry, Refusal>
-    requires { (entry.now).op ≡ Act (Join name.now) }
-    ensures ok { IfOk result (λ joining. joining ≡ entry.now) }
-{
-    let op = Op::Act(Call::Join(name.copy(alloc)?));
-    match SharedEntry::new(alloc, Entry { op, ..*entry }) {
-        Ok(joining) => Ok(joining),
-        Err(refused) => Err(refused.refusal),
-    }
-}
-
-/// The join again, with the bytes of its name in common with the latest record of the group, where that has the same
-/// name: so the name of a group with many joins is kept once.
+/// The name as the latest record of the group has it, so that the name of a group with many joins is kept once.
 #[inline(never)]
-fn with_kept_name(
-    alloc: Global,
-    records: &[Record],
-    places: &[u32],
-    entry: &Entry,
-    name: &Name,
-) -> Option<SharedEntry>
-    requires { (entry.now).op ≡ Act (Join name.now) }
-    ensures { IfSome result (λ joining. joining ≡ entry.now) }
+fn kept_name(alloc: Global, records: &[Record], places: &[u32], name: &Name) -> Option<Name>
+    ensures { IfSome result (λ kept. kept ≡ name.now) }
 {
     let kept = latest_name(records, places)?;
-    if !kept.equals(name) {
-        return None;
+    if kept.equals(name) {
+        kept.copy(alloc).ok()
+    } else {
+        None
     }
-    join_of(alloc, entry, kept).ok()
 }
 
-/// The same for an entry, if it is a join.
+/// A join has its name in common with the latest record of the group from then on, where that has one.
 #[inline(always)]
-fn share_joined(alloc: Global, records: &[Record], places: &[u32], entry: &mut SharedEntry)
+fn share_joined(alloc: Global, records: &[Record], places: &[u32], entry: &mut Entry)
     ensures { entry.new ≡ entry.old }
 {
-    let Op::Act(Call::Join(name)) = &entry.get().op else {
+    let Op::Act(Call::Join(name)) = &entry.op else {
         return;
     };
-    if let Some(joining) = with_kept_name(alloc, records, places, entry.get(), name) {
-        *entry = joining;
+    if let Some(kept) = kept_name(alloc, records, places, name) {
+        entry.op = Op::Act(Call::Join(kept));
     }
 }
 

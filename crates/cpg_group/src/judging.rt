@@ -11,8 +11,8 @@ ghost use Rattle.cpg_group.specs.Trails.{IsTrail};
 
 use crate::standing::{Group, Groups};
 use crate::trails::{Stop, group_now};
-use cpg_cred::{By, Refusal, Refused};
-use cpg_entry::{Call, Entry, Name, Op, SharedEntry};
+use cpg_cred::{By, Refusal};
+use cpg_entry::{Call, Entry, Name, Op};
 use cpg_record::{MOST_MEMBERS, Members, Reason, Record, Verdict};
 use cpg_rules::{Decision, MOST_RULES, Right, Table};
 use std::alloc::Global;
@@ -185,7 +185,7 @@ fn copy_name(alloc: Global, group: Option<&Name>) -> Result<Option<Name>, Refusa
 }
 
 /// A record of the entry that is not judged yet.
-pub(crate) fn draft_of(alloc: Global, entry: SharedEntry) -> Record
+pub(crate) fn draft_of(alloc: Global, entry: Entry) -> Record
     ensures entry { result.entry ≡ entry }
     ensures members { result.members ≡ [] }
 {
@@ -243,27 +243,20 @@ pub(crate) fn judge_draft(
     judge_draft_in(alloc, records, standing, joined, next)
 }
 
-/// The record of an entry over the records before it, with the entry moved into it. A refusal gives the
-/// entry back.
+/// The record of a copy of the entry over the records before it.
 pub(crate) fn judge(
     alloc: Global,
     records: &[Record],
     groups: &Groups,
     trail: &[Stop],
-    entry: SharedEntry,
-) -> Result<Record, Refused<SharedEntry>>
+    entry: &Entry,
+) -> Result<Record, Refusal>
     requires groups { AreStanding groups.now records.now }
-    requires trail { IsTrail records.now (conn_of entry) trail.now }
-    ensures ok { IfOk result (λ next. next ≡ record_of records.now entry) }
-    ensures err { IfErr result (λ refused. refused ≡ record { refusal = Refusal.Memory; back = entry }) }
-    ensures some { OnErr result (entry_group records.now entry entry.op ≢ None) }
+    requires trail { IsTrail records.now (conn_of entry.now) trail.now }
+    ensures ok { IfOk result (λ next. next ≡ record_of records.now entry.now) }
+    ensures memory { IsOkUnless result Refusal.Memory }
 {
-    let mut next = draft_of(alloc, entry);
-    match judge_draft(alloc, records, groups, trail, &mut next) {
-        Ok(()) => Ok(next),
-        Err(refusal) => Err(Refused {
-            refusal,
-            back: next.entry,
-        }),
-    }
+    let mut next = draft_of(alloc, entry.copy(alloc)?);
+    judge_draft(alloc, records, groups, trail, &mut next)?;
+    Ok(next)
 }

@@ -18,7 +18,6 @@ mod told;
 mod trails;
 mod verifying;
 
-pub use cpg_entry::SharedEntry;
 pub use cpg_record::{
     Cause, ConnId, Event, Events, MOST_MEMBERS, MOST_PLACES, Member, Members, Move, Moves, Reason,
     Record, Records, Verdict,

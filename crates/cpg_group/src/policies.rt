@@ -17,7 +17,7 @@ use crate::standing::Groups;
 use crate::trails::{Trail, Trails};
 use crate::{entering, judging, nexts, telling, told};
 use cpg_cred::{Refusal, Refused};
-use cpg_entry::{Entry, Name, SharedEntry, reserve_ahead};
+use cpg_entry::{Entry, Name, reserve_ahead};
 use cpg_record::{ConnId, Event, Events, Record};
 use cpg_rules::{Asker, Table};
 use std::alloc::Global;
@@ -70,29 +70,11 @@ impl Policy {
         ensures ok { IfOk result (λ next. next ≡ record_of (judged self.now) entry.now) }
         ensures memory { IsOkUnless result Refusal.Memory }
     {
-        let entry = SharedEntry::copy_of(*self.records.allocator(), entry)?;
-        match self.judge_owned(entry) {
-            Ok(next) => Ok(next),
-            Err(refused) => Err(refused.refusal),
-        }
-    }
-
-    /// The record that the entry would have as the next one, with the entry moved into it. A refusal gives
-    /// the entry back.
-    #[inline(always)]
-    pub fn judge_owned(&self, entry: SharedEntry) -> Result<Record, Refused<SharedEntry>>
-        requires { length self.now < most_places }
-        ensures ok { IfOk result (λ next. next ≡ record_of (judged self.now) entry) }
-        ensures err { IfErr result (λ refused. refused ≡ record { refusal = Refusal.Memory; back = entry }) }
-
-        // An entry without a group takes no memory.
-        ensures grouped { OnErr result (entry_group (judged self.now) entry entry.op ≢ None) }
-    {
         judging::judge(
             *self.records.allocator(),
             self.records.as_slice(),
             &self.groups,
-            self.trails.of(&ConnId::of(entry.get())),
+            self.trails.of(&ConnId::of(entry)),
             entry,
         )
     }
@@ -128,7 +110,7 @@ impl Policy {
 
     /// Judges the entry and puts it last, with its record. A refusal changes nothing and gives the entry back.
     #[inline(always)]
-    pub fn enter(&mut self, entry: SharedEntry) -> Result<(), Refused<SharedEntry>>
+    pub fn enter(&mut self, entry: Entry) -> Result<(), Refused<Entry>>
         requires { length self.old < most_places }
         ensures ok { OnOk result (self.new ≡ self.old ++ entry ∷ []) }
         ensures unchanged { OnErr result (self.new ≡ self.old) }

@@ -34,7 +34,9 @@ fn edit(table: &mut Table, place: u32, op: &Op) -> Result<(), Refusal>
     ensures memory { IsOkUnless result Refusal.Memory }
 {
     match op {
-        Op::Act(Call::Insert(_, index, rule)) => table.insert(usize::from(*index), place, *rule),
+        Op::Act(Call::Insert(_, index, rule)) => {
+            table.insert(usize::from(*index), place, *rule.get())
+        }
         Op::Act(Call::Remove(_, id)) => {
             let _ = table.remove(*id);
             Ok(())

@@ -9,7 +9,7 @@ ghost use Rattle.cpg_text.specs.Items.{items_with};
 ghost use Rattle.cpg_judge.specs.Scripts.{entry_in, entries_of_script};
 
 use cpg_cred::Refusal;
-use cpg_entry::{Entry, MOST_PLACES, SharedEntry};
+use cpg_entry::{Entry, MOST_PLACES};
 use cpg_group::Policy;
 use cpg_print::entry_in_line;
 use cpg_text::{Lines, MOST_BYTES, is_ignored, trim};
@@ -29,15 +29,11 @@ fn read_entry(alloc: Global, before: usize, line: &[u8]) -> Result<Option<Entry>
 }
 
 /// Judges the entry, and puts it last.
-fn enter(alloc: Global, policy: &mut Policy, entry: Entry) -> Result<(), Refusal>
+fn enter(policy: &mut Policy, entry: Entry) -> Result<(), Refusal>
     requires { length policy.old < most_places }
     ensures ok { OnOk result (policy.new ≡ policy.old ++ entry ∷ []) }
     ensures memory { IsOkUnless result Refusal.Memory }
 {
-    let entry = match SharedEntry::new(alloc, entry) {
-        Ok(entry) => entry,
-        Err(refused) => return Err(refused.refusal),
-    };
     match policy.enter(entry) {
         Ok(()) => Ok(()),
         Err(refused) => Err(refused.refusal),
@@ -56,24 +52,19 @@ fn judge_line(alloc: Global, policy: &mut Policy, number: u32, line: &[u8]) -> R
         return Ok(());
     }
     let found = read_entry(alloc, policy.len(), line)?;
-    enter_found(alloc, policy, number, found)
+    enter_found(policy, number, found)
 }
 
 /// Judges what a line of that number says, and puts it last. A line that says nothing is `BadCommand`, whatever
 /// memory there is.
-fn enter_found(
-    alloc: Global,
-    policy: &mut Policy,
-    number: u32,
-    found: Option<Entry>,
-) -> Result<(), Refusal>
+fn enter_found(policy: &mut Policy, number: u32, found: Option<Entry>) -> Result<(), Refusal>
     requires { IfSome found (λ entry. length policy.old < most_places) }
     ensures ok { OnOk result (IfSome found (λ entry. policy.new ≡ policy.old ++ entry ∷ [])) }
     ensures err { MatchOption found (result ≡ Err (Refusal.BadCommand number)) (λ entry. IsOkUnless result Refusal.Memory) }
 {
     match found {
         None => Err(Refusal::BadCommand(number)),
-        Some(entry) => enter(alloc, policy, entry),
+        Some(entry) => enter(policy, entry),
     }
 }
 

@@ -102,7 +102,7 @@ pub fn rule(alloc: Global, text: &[u8]) -> Result<Rule, Refusal> {
     let words = [b"insert".as_slice(), b"g", b"0", effect, right, who];
     let call = read_call(alloc, words.as_slice())?;
     match &call {
-        Some(Call::Insert(_, _, rule)) => Ok(*rule),
+        Some(Call::Insert(_, _, rule)) => Ok(*rule.get()),
         _ => Err(NO_COMMAND),
     }
 }

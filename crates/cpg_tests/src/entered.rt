@@ -3,7 +3,7 @@
 
 use crate::drawing::{conn_by, drawn};
 use crate::entering::{are_equal, enter};
-use cpg_entry::{MOST_PLACES, Name, SharedEntry};
+use cpg_entry::{Entry, MOST_PLACES, Name};
 use cpg_group::{ConnId, Policy};
 use std::alloc::Global;
 
@@ -17,22 +17,19 @@ const ENTRIES: u32 = 90;
 const CONNS: u32 = 10;
 
 /// Judges the entry and puts it last by one call, and says whether that was done.
-fn enters(policy: &mut Policy, entry: SharedEntry) -> bool {
+fn enters(policy: &mut Policy, entry: Entry) -> bool {
     policy.len() < MOST_PLACES as usize && policy.enter(entry).is_ok()
 }
 
 /// Puts the entry last in both, in the one by two calls and in the other by one.
-fn both_enter(one: &mut Policy, other: &mut Policy, entry: SharedEntry) -> bool {
-    enter(one, entry.get()).is_ok() && enters(other, entry)
+fn both_enter(one: &mut Policy, other: &mut Policy, entry: Entry) -> bool {
+    enter(one, &entry).is_ok() && enters(other, entry)
 }
 
 /// Does so with the entry of the turn.
 fn turn_enters(alloc: Global, one: &mut Policy, other: &mut Policy, seed: u32, turn: u32) -> bool {
     match drawn(alloc, seed, turn) {
-        Ok(entry) => match SharedEntry::new(alloc, entry) {
-            Ok(entry) => both_enter(one, other, entry),
-            Err(_) => false,
-        },
+        Ok(entry) => both_enter(one, other, entry),
         Err(_) => false,
     }
 }

@@ -96,7 +96,7 @@ fn take_in(
     match &past.entry().op {
         Op::Act(Call::Insert(name, index, rule)) if name.is(group) => {
             let index = usize::from(*index).min(rules.len());
-            rules.insert(index, (place, *rule))?;
+            rules.insert(index, (place, *rule.get()))?;
         }
         Op::Act(Call::Remove(name, id)) if name.is(group) => {
             rules.retain(|kept| kept.0 != *id);

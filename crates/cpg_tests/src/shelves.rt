@@ -6,7 +6,7 @@ ghost use Rattle.cpg_entry.specs.Ranges.{IsEntry};
 use bytes::Bytes;
 use cpg_board::Board;
 use cpg_cred::{AcceptList, Cred, NodeId, Refusal};
-use cpg_entry::{Call, Entry, Ledger, NoKeeper, Op, Packet, Shelf};
+use cpg_entry::{Call, Entry, Ledger, Op, Packet, Shelf};
 use cpg_node::{Node, Settings};
 use cpg_station::{BoardName, Station};
 use cpg_wire::encode_data;
@@ -104,7 +104,7 @@ fn holds_others(alloc: Global, shelf: &Shelf) -> Result<bool, Refusal> {
         let entry = leave(41)?;
         if ledger.len() < COUNT as usize {
             ledger.push_reserved(entry);
-            ledger.share(shelf, &NoKeeper);
+            ledger.share(shelf);
         }
     }
     Ok(ledger.in_blocks() == 0)

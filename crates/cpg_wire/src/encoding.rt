@@ -150,7 +150,7 @@ fn put_call(out: &mut Vec<u8>, call: &Call) -> Result<(), AllocError>
             out.put_u8(OpCode::Insert.byte())?;
             put_name(out, name.as_slice())?;
             out.put_u8(*position)?;
-            put_rule(out, rule)
+            put_rule(out, rule.get())
         }
         Call::Remove(name, id) => {
             out.put_u8(OpCode::Remove.byte())?;
