@@ -201,5 +201,5 @@ pub fn run_accept() -> Result<(), Fault> {
         }
     }
     accepting.end_part()?;
-    Output { text: accepting.answers }.flush()
+    Output::of(accepting.answers).flush()
 }

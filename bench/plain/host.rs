@@ -6,7 +6,6 @@ use crate::limits::{MOST_CONNECTIONS, MOST_WAITING};
 use crate::node::{Node, Settings};
 use crate::policy::Group;
 use crate::print::{put, put_entry, put_members, put_outcome, put_rule_words, put_u32, put_with};
-use crate::reading::read_frame;
 use crate::values::{call_refusal, Cred, Effect, Entry, Event, Members, Op, Refusal, Right};
 use std::collections::VecDeque;
 
@@ -78,12 +77,11 @@ impl Host {
         Ok(())
     }
 
-    /// Hears a frame, and puts those that it sends.
-    pub fn hear(&mut self, frame: &Frame, sent: &mut Vec<Frame>) -> Result<(), Refusal> {
-        let token = match read_frame(frame) {
-            None => return Err(Refusal::Malformed),
-            Some(Heard::Packet(packet)) => return self.node.hear_packet(packet),
-            Some(Heard::Token(token)) => token,
+    /// Hears what a frame says, and puts the frames that it sends.
+    pub fn hear(&mut self, heard: Heard, sent: &mut Vec<Frame>) -> Result<(), Refusal> {
+        let token = match heard {
+            Heard::Packet(packet) => return self.node.hear_packet(packet),
+            Heard::Token(token) => token,
         };
         if let Some(refusal) = self.node.token_refusal(&token) {
             return Err(refusal);

@@ -1,6 +1,6 @@
 //! The load of a running cluster: a client at each node that sends as fast as it may.
 
-use crate::bytes::Bytes;
+use crate::bytes::{Bytes, Name};
 use crate::cluster::Cluster;
 use crate::door::Shared;
 use crate::limits::{MOST_HOPS, MOST_MESSAGE, MOST_NODES, MOST_PLACES};
@@ -175,7 +175,7 @@ impl Client {
     /// Joins, and waits until it was told of the join of all, and all others were.
     fn enter(&mut self, signals: &Signals) -> bool {
         let mut seen = 0;
-        if self.session.submit(Op::Join(Box::new(Bytes::copy_of(b"load")))).is_err() {
+        if self.session.submit(Op::Join(Name::copy_of(b"load"))).is_err() {
             return false;
         }
         loop {

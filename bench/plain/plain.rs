@@ -5,7 +5,8 @@
 //!
 //! Where it goes its own way for speed: a session's calls wait, and its events are put when they are delivered, behind
 //! locks of their own and not the node's; short frames and messages are copied, long ones shared; the members of a
-//! group are one list that its records share until they change. It leaves out frames of version 1, gates, and in the
+//! group are one list that its records share until they change; names and messages of few bytes stand in their entries;
+//! a script is gone through twice in place of keeping what it says. It leaves out frames of version 1, gates, and in the
 //! running cluster listings, ends of sessions and all but root in its accept list. Want of memory ends it.
 //!
 //! With `locked` a running cluster goes by the proved one's steps: each call, each lot of events that is taken, the

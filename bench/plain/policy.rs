@@ -1,6 +1,6 @@
 //! The groups and their rules: the judgement of entries, one after the other, and what each tells.
 
-use crate::bytes::Bytes;
+use crate::bytes::Name;
 use crate::limits::{MOST_MEMBERS, MOST_NODES, MOST_RULES};
 use crate::values::{
     Cause, Change, Cred, Effect, Entry, Event, Member, Members, Message, Op, Right, Rule, Told, Verdict, NO_GROUP,
@@ -9,7 +9,7 @@ use std::collections::HashMap;
 use std::sync::Arc;
 
 pub struct Group {
-    pub name: Bytes,
+    pub name: Name,
     pub table: Vec<(u32, Rule)>,
     pub members: Members,
     /// The members' connections at the node that this policy is of.
@@ -110,7 +110,7 @@ impl Group {
 pub struct Policy {
     /// The node whose connections are told; 0 for none.
     home: u8,
-    names: HashMap<Vec<u8>, u32>,
+    names: HashMap<Name, u32>,
     pub groups: Vec<Group>,
     /// The group that each connection of each node is in, or `NO_GROUP`.
     standing: Vec<Vec<u32>>,
@@ -148,12 +148,12 @@ impl Policy {
     }
 
     /// The number of the group of that name, which is made where there is none.
-    fn number_of(&mut self, name: &Bytes) -> u32 {
+    fn number_of(&mut self, name: &Name) -> u32 {
         if let Some(number) = self.names.get(name.as_slice()) {
             return *number;
         }
         let number = self.groups.len() as u32;
-        self.names.insert(name.as_slice().to_vec(), number);
+        self.names.insert(name.clone(), number);
         self.groups.push(Group {
             name: name.clone(),
             table: Vec::new(),

@@ -1,6 +1,6 @@
 //! What a frame says, as it is read.
 
-use crate::bytes::{Bytes, INSIDE};
+use crate::bytes::{Bytes, Name, INSIDE};
 use crate::frames::{Frame, Heard, Packet, Token, DATA, MARK, TOKEN, VERSION};
 use crate::limits::{MOST_HOPS, MOST_MESSAGE, MOST_NODES, MOST_PLACES, MOST_REQUESTS};
 use crate::values::{accepts_name, Cred, Effect, Entry, Insertion, Op, Removal, Right, Rule, Who};
@@ -41,11 +41,11 @@ impl<'a> Reading<'a> {
         Some(u64::from(high) << 32 | u64::from(low))
     }
 
-    fn name(&mut self) -> Option<Bytes> {
+    fn name(&mut self) -> Option<Name> {
         let length = usize::from(self.one()?);
         let name = self.bytes(length)?;
         if accepts_name(name) {
-            Some(Bytes::copy_of(name))
+            Some(Name::copy_of(name))
         } else {
             None
         }
@@ -104,7 +104,7 @@ impl<'a> Reading<'a> {
 
     fn op(&mut self) -> Option<Op> {
         match self.one()? {
-            1 => Some(Op::Join(Box::new(self.name()?))),
+            1 => Some(Op::Join(self.name()?)),
             2 => Some(Op::Leave),
             3 => Some(Op::Send(self.message()?)),
             4 => {

@@ -56,11 +56,18 @@ pub fn trim(mut line: &[u8]) -> &[u8] {
     line
 }
 
-/// How many bytes stand before the first that the test finds; many are tested at once.
+/// How many bytes are tested one by one at first.
+const FEW: usize = 16;
+
+/// How many bytes stand before the first that the test finds; behind the first few, many are tested at once.
 #[inline]
 pub fn run_before<F: Fn(u8) -> bool>(text: &[u8], test: F) -> usize {
-    let mut passed = 0;
-    for piece in text.chunks(32) {
+    let few = &text[..text.len().min(FEW)];
+    if let Some(found) = few.iter().position(|byte| test(*byte)) {
+        return found;
+    }
+    let mut passed = few.len();
+    for piece in text[passed..].chunks(32) {
         if piece.iter().fold(false, |found, byte| found | test(*byte)) {
             return passed + piece.iter().position(|byte| test(*byte)).unwrap_or(0);
         }
@@ -98,10 +105,14 @@ impl<'a> Words<'a> {
     }
 }
 
-/// The items that the lines of a script say, of which none may say nothing.
+/// Hands on the items that the lines of a script say, one after the other. The first line that says nothing ends it.
 #[inline]
-pub fn read_items<T, F: Fn(usize, &[&[u8]]) -> Option<T>>(script: &[u8], read: F) -> Result<Vec<T>, Fault> {
-    let mut items = Vec::new();
+fn walk<T, F, G>(script: &[u8], read: &F, mut each: G) -> Result<(), Fault>
+where
+    F: Fn(usize, &[&[u8]]) -> Option<T>,
+    G: FnMut(T) -> Result<(), Fault>,
+{
+    let mut count = 0;
     let mut rest = script;
     let mut number = 0;
     while !rest.is_empty() {
@@ -112,10 +123,22 @@ pub fn read_items<T, F: Fn(usize, &[&[u8]]) -> Option<T>>(script: &[u8], read: F
         if line.is_empty() || line[0] == b'#' {
             continue;
         }
-        match read(items.len(), Words::of(line).as_slice()) {
+        match read(count, Words::of(line).as_slice()) {
             None => return Err(Fault::BadCommand(number)),
-            Some(item) => items.push(item),
+            Some(item) => each(item)?,
         }
+        count += 1;
     }
-    Ok(items)
+    Ok(())
+}
+
+/// Hands on the items that the lines of a script say, of which none may say nothing: the script is gone through before,
+/// by a reader that is told to keep no long text, so that no list of them is kept.
+pub fn for_each_item<T, F, G>(script: &[u8], read: F, each: G) -> Result<(), Fault>
+where
+    F: Fn(usize, &[&[u8]], bool) -> Option<T>,
+    G: FnMut(T) -> Result<(), Fault>,
+{
+    walk(script, &|before, words: &[&[u8]]| read(before, words, false), |_| Ok(()))?;
+    walk(script, &|before, words: &[&[u8]]| read(before, words, true), each)
 }

@@ -7,8 +7,9 @@ use crate::host::Host;
 use crate::limits::{MOST_HOPS, MOST_NODES, MOST_PLACES};
 use crate::node::Settings;
 use crate::output::Output;
+use crate::reading::read_frame;
 use crate::print::{put, put_event, put_frame, put_line, put_members, put_refusal};
-use crate::script::{read_all, read_items, Fault};
+use crate::script::{for_each_item, read_all, Fault};
 use crate::values::{Cred, Event, Op, Refusal};
 use crate::words::{read_call, read_conn, read_node, read_number, read_u32};
 
@@ -29,14 +30,14 @@ enum Command {
 }
 
 #[inline]
-fn read_command(nodes: u8, words: &[&[u8]]) -> Option<Command> {
+fn read_command(nodes: u8, words: &[&[u8]], keeps: bool) -> Option<Command> {
     let node = |word: &[u8]| read_node(nodes, word);
     match words {
         [b"connect", at, pid, uid, gid] => {
             let (at, pid) = (node(at)?, read_u32(pid)?);
             Some(Command::Connect(at, pid, Cred { uid: read_u32(uid)?, gid: read_u32(gid)? }))
         }
-        [b"call", at, conn, call @ ..] => Some(Command::Call(node(at)?, read_conn(conn)?, read_call(call)?)),
+        [b"call", at, conn, call @ ..] => Some(Command::Call(node(at)?, read_conn(conn)?, read_call(call, keeps)?)),
         [b"disconnect", at, conn] => Some(Command::Disconnect(node(at)?, read_conn(conn)?)),
         [b"frame", at, number] => Some(Command::Frame(node(at)?, read_number(0, u64::MAX, number)?)),
         [b"timer", at] => Some(Command::Timer(node(at)?)),
@@ -77,9 +78,10 @@ impl World {
 
     /// A frame comes to a node; gives how many it sends.
     fn bring(&mut self, node: u8, number: u64) -> Result<usize, Refusal> {
-        let frame = self.frame(number).cloned().ok_or(Refusal::NoFrame)?;
+        let frame = self.frame(number).ok_or(Refusal::NoFrame)?;
+        let heard = read_frame(frame).ok_or(Refusal::Malformed)?;
         let before = self.sent.len();
-        self.hosts[usize::from(node) - 1].hear(&frame, &mut self.sent)?;
+        self.hosts[usize::from(node) - 1].hear(heard, &mut self.sent)?;
         Ok(self.sent.len() - before)
     }
 
@@ -165,15 +167,15 @@ impl World {
 
 pub fn run_step(settings: Settings, list: AcceptList) -> Result<(), Fault> {
     let script = read_all()?;
-    let commands = read_items(&script, |_, words| read_command(settings.nodes, words))?;
     let mut world = World::new(settings, list);
     let mut out = Output::new();
-    for command in commands {
+    let read = |_, words: &[&[u8]], keeps| read_command(settings.nodes, words, keeps);
+    for_each_item(&script, read, |command| {
         if let Err(refusal) = world.answer(&mut out.text, command) {
             put_refusal(&mut out.text, refusal);
         }
-        out.flush_much()?;
-    }
+        out.flush_much()
+    })?;
     out.flush()
 }
 

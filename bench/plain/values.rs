@@ -1,6 +1,6 @@
 //! What is agreed on and told: calls and their entries, rules and verdicts, members, messages, events and refusals.
 
-use crate::bytes::Bytes;
+use crate::bytes::{Bytes, Name};
 use crate::limits::{MOST_MESSAGE, MOST_NAME};
 use std::sync::Arc;
 
@@ -41,21 +41,21 @@ pub struct Rule {
 
 #[derive(Clone, PartialEq)]
 pub struct Insertion {
-    pub group: Bytes,
+    pub group: Name,
     pub position: u8,
     pub rule: Rule,
 }
 
 #[derive(Clone, PartialEq)]
 pub struct Removal {
-    pub group: Bytes,
+    pub group: Name,
     pub id: u32,
 }
 
-/// What an entry does. All but a message stands apart, so that an entry is small.
+/// What an entry does. An edit of rules stands apart, so that an entry is small.
 #[derive(Clone, PartialEq)]
 pub enum Op {
-    Join(Box<Bytes>),
+    Join(Name),
     Leave,
     Send(Bytes),
     Insert(Box<Insertion>),
@@ -128,14 +128,14 @@ pub enum Cause {
 
 /// A change of a group's members: who came or went, and who is there after it.
 pub struct Change {
-    pub group: Bytes,
+    pub group: Name,
     pub members: Members,
     pub member: Member,
     pub cause: Cause,
 }
 
 pub struct Message {
-    pub group: Bytes,
+    pub group: Name,
     pub node: u8,
     pub pid: u32,
     pub text: Bytes,
@@ -146,7 +146,7 @@ pub enum Told {
     Verdict(Verdict),
     Message(Message),
     Change(Box<Change>),
-    RulesChanged(Bytes),
+    RulesChanged(Name),
 }
 
 pub struct Event {

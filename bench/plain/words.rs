@@ -1,6 +1,6 @@
 //! What the words of a script say: numbers, messages, rules and calls.
 
-use crate::bytes::Bytes;
+use crate::bytes::{Bytes, Name, INSIDE};
 use crate::limits::{MOST_CONNECTIONS, MOST_NODES};
 use crate::script::run_before;
 use crate::values::{Effect, Insertion, Op, Removal, Right, Rule, Who};
@@ -38,13 +38,13 @@ fn digit_of(byte: u8) -> Option<u8> {
     char::from(byte).to_digit(16).map(|digit| digit as u8)
 }
 
-/// The message that a word spells.
-fn read_text(word: &[u8]) -> Option<Bytes> {
+/// The message that a word spells; nothing in place of a long one that is not kept.
+fn read_text(word: &[u8], keeps: bool) -> Option<Bytes> {
     if word == b"-" {
         return Some(Bytes::copy_of(&[]));
     }
     if !word.contains(&b'%') {
-        return Some(Bytes::copy_of(word));
+        return Some(Bytes::copy_of(if keeps || word.len() <= INSIDE { word } else { &[] }));
     }
     let mut message = Vec::with_capacity(word.len());
     let mut rest = word;
@@ -105,19 +105,20 @@ fn read_rule(effect: &[u8], right: &[u8], who: &[u8]) -> Option<Rule> {
     Some(Rule { effect, right, who: read_who(who)? })
 }
 
-pub fn read_call(words: &[&[u8]]) -> Option<Op> {
+/// The call that words say. A long message is left out where it is not kept.
+pub fn read_call(words: &[&[u8]], keeps: bool) -> Option<Op> {
     match words {
-        [b"join", group] => Some(Op::Join(Box::new(Bytes::copy_of(group)))),
+        [b"join", group] => Some(Op::Join(Name::copy_of(group))),
         [b"leave"] => Some(Op::Leave),
-        [b"send", text] => Some(Op::Send(read_text(text)?)),
+        [b"send", text] => Some(Op::Send(read_text(text, keeps)?)),
         [b"insert", group, position, effect, right, who] => {
-            let group = Bytes::copy_of(group);
+            let group = Name::copy_of(group);
             let position = read_number(0, 255, position)? as u8;
             let rule = read_rule(effect, right, who)?;
             Some(Op::Insert(Box::new(Insertion { group, position, rule })))
         }
         [b"remove", group, id] => {
-            let group = Bytes::copy_of(group);
+            let group = Name::copy_of(group);
             Some(Op::Remove(Box::new(Removal { group, id: read_u32(id)? })))
         }
         _ => None,
