@@ -34,7 +34,7 @@ fn seats_one(past: &Record) -> bool
     ensures { result ≡ seats_one past.now }
 {
     past.verdict.is_allowed()
-        && match &past.entry().op {
+        && match &past.entry.op {
             Op::Act(Call::Join(_)) => true,
             _ => false,
         }
@@ -45,7 +45,7 @@ fn ends_one(past: &Record) -> bool
     ensures { result ≡ (is_allowed past.now.verdict && is_end past.now.entry.op) }
 {
     past.verdict.is_allowed()
-        && match &past.entry().op {
+        && match &past.entry.op {
             Op::Act(Call::Leave) | Op::Gone => true,
             _ => false,
         }
@@ -61,7 +61,7 @@ fn put_seat(
     ensures ok { OnOk result ((later : List RecordValue) → AreEnded ended.now.keys later → places.new.items ≡ places.old.items ++ seat_at place past.now later) }
     ensures memory { IsOkUnless result Refusal.Memory }
 {
-    if seats_one(past) && !ended.contains(&ConnId::of(past.entry())) {
+    if seats_one(past) && !ended.contains(&ConnId::of(&past.entry)) {
         places.push(place)?;
     }
     Ok(())
@@ -73,7 +73,7 @@ fn put_ended(ended: &mut IndexSet<ConnId>, past: &Record) -> Result<(), Refusal>
     ensures memory { IsOkUnless result Refusal.Memory }
 {
     if ends_one(past) {
-        ended.insert(ConnId::of(past.entry()))?;
+        ended.insert(ConnId::of(&past.entry))?;
     }
     Ok(())
 }

@@ -1,11 +1,9 @@
 //! An entry judged and put among the records in one go: the trail of its connection and its group are each
 //! looked up once, where they are kept, and first where those of the entry before are.
 
-ghost use Rattle.std.specs.Prelude.{◌≡◌, ◌+◌, ◌++◌, ◌∷◌, [], ℕ, List, length, true, None, if◌then◌else◌, IfOk, IfSome, OnOk, OnErr, IsOkUnless};
+ghost use Rattle.std.specs.Prelude.{◌≡◌, ◌+◌, ◌++◌, ◌∷◌, [], ℕ, List, length, true, None, if◌then◌else◌, IfSome, OnOk, OnErr, IsOkUnless};
 ghost use Rattle.std.specs.Map.{lookup};
 ghost use Rattle.std.specs.Option.{option_copied};
-ghost use Rattle.cpg_entry.specs.declared.calls.Call.TheVariants.{Join};
-ghost use Rattle.cpg_entry.specs.declared.calls.Op.TheVariants.{Act};
 ghost use Rattle.cpg_record.specs.Connections.{conn_of, is_conn};
 ghost use Rattle.cpg_record.specs.Judging.{entry_group, record_of};
 ghost use Rattle.cpg_record.specs.Membership.{group_of, is_allowed};
@@ -126,7 +124,7 @@ fn enter_groups(
     ensures memory { IsOkUnless result Refusal.Memory }
 {
     let joined = group_now(records, trail);
-    match judging::find_entry_group(records, joined, next.entry()) {
+    match judging::find_entry_group(records, joined, &next.entry) {
         None => judging::judge_draft_in(alloc, records, &groups.none, joined, next),
         Some(name) => match groups.index_of(name.as_slice()) {
             Some(index) => {
@@ -196,7 +194,7 @@ fn enter_first(
     let mut trail = Stops::new(*trails.kept.allocator());
     enter_trail(&mut trail, groups, records, place, next)?;
     trails.last = trails.kept.len();
-    trails.kept.insert(ConnId::of(next.entry()), trail)?;
+    trails.kept.insert(ConnId::of(&next.entry), trail)?;
     Ok(())
 }
 
@@ -221,7 +219,7 @@ pub(crate) fn enter(
     ensures err { OnErr result (next.new.entry ≡ next.old.entry) }
     ensures memory { IsOkUnless result Refusal.Memory }
 {
-    match trails.index_of(&ConnId::of(next.entry())) {
+    match trails.index_of(&ConnId::of(&next.entry)) {
         Some(index) => {
             trails.last = index;
             let (_, trail) = trails.kept.pair_mut(index);

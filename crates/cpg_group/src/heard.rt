@@ -68,7 +68,7 @@ impl<'a> Heard<'a> {
             records,
             groups,
             past,
-            own: conn.is(&ConnId::of(past.entry())),
+            own: conn.is(&ConnId::of(&past.entry)),
             told: telling::has_news(records, next.place, past, &conn, earlier),
             conn,
             place: next.place,

@@ -1,7 +1,8 @@
 //! The judgement of one entry over the records before it, by the groups and the trail that they come to.
 
-ghost use Rattle.std.specs.Prelude.{◌≡◌, ◌≢◌, ◌++◌, ◌∷◌, [], None, OnOk, OnErr, IfOk, IfErr, IsOkUnless};
+ghost use Rattle.std.specs.Prelude.{◌≡◌, ◌≢◌, ◌++◌, ◌∷◌, [], None, OnOk, OnErr, IfOk, IsOkUnless};
 ghost use Rattle.std.specs.Option.{option_copied};
+ghost use Rattle.cpg_entry.specs.declared.calls.Op.TheVariants.{Gone};
 ghost use Rattle.cpg_record.specs.Connections.{conn_of};
 ghost use Rattle.cpg_record.specs.Judging.{entry_group, record_of};
 ghost use Rattle.cpg_record.specs.Membership.{group_of, members_in};
@@ -214,8 +215,8 @@ pub(crate) fn judge_draft_in(
     ensures memory { IsOkUnless result Refusal.Memory }
     ensures some { OnErr result (entry_group records.now next.old.entry next.old.entry.op ≢ None) }
 {
-    next.verdict = judge_entry(records, standing, joined, next.entry());
-    let group = copy_name(alloc, find_entry_group(records, joined, next.entry()))?;
+    next.verdict = judge_entry(records, standing, joined, &next.entry);
+    let group = copy_name(alloc, find_entry_group(records, joined, &next.entry))?;
     next.group = group;
     let members = collect_members_with(alloc, records, standing, next)?;
     next.members = members;
@@ -239,7 +240,7 @@ pub(crate) fn judge_draft(
     ensures some { OnErr result (entry_group records.now next.old.entry next.old.entry.op ≢ None) }
 {
     let joined = group_now(records, trail);
-    let standing = groups.of_name(find_entry_group(records, joined, next.entry()));
+    let standing = groups.of_name(find_entry_group(records, joined, &next.entry));
     judge_draft_in(alloc, records, standing, joined, next)
 }
 
@@ -255,6 +256,7 @@ pub(crate) fn judge(
     requires trail { IsTrail records.now (conn_of entry.now) trail.now }
     ensures ok { IfOk result (λ next. next ≡ record_of records.now entry.now) }
     ensures memory { IsOkUnless result Refusal.Memory }
+    ensures gone { OnErr result (entry.now.op ≡ Gone → group_of records.now (conn_of entry.now) ≢ None) }
 {
     let mut next = draft_of(alloc, entry.copy(alloc)?);
     judge_draft(alloc, records, groups, trail, &mut next)?;

@@ -1,10 +1,12 @@
 //! The judged entries, and what they come to.
 
 ghost use Rattle.std.specs.Prelude.{◌≡◌, ◌≢◌, ◌<◌, ◌≤◌, ◌++◌, ◌∷◌, [], None, length, OnOk, OnErr, IfOk, IfErr, IfSome, MatchOption, IsOkUnless};
-ghost use Rattle.cpg_record.specs.Connections.{conns_of};
+ghost use Rattle.cpg_entry.specs.declared.calls.Op.TheVariants.{Gone};
+ghost use Rattle.cpg_record.specs.Connections.{conn_of, conns_of};
 ghost use Rattle.cpg_record.specs.Events.{events};
-ghost use Rattle.cpg_record.specs.Judging.{entry_group, judged, most_places, record_of, IsNext};
+ghost use Rattle.cpg_record.specs.Judging.{judged, most_places, record_of, IsNext};
 ghost use Rattle.cpg_record.specs.Listings.{AnswersListing, AreGroups, listing};
+ghost use Rattle.cpg_record.specs.Membership.{group_of};
 ghost use Rattle.cpg_record.specs.Nexts.{acts_in, IsNextTold, TellsNoMore};
 ghost use Rattle.cpg_record.specs.Places.{places_of};
 ghost use Rattle.cpg_record.specs.RuleTables.{rules_of};
@@ -69,6 +71,9 @@ impl Policy {
         requires { length self.now < most_places }
         ensures ok { IfOk result (λ next. next ≡ record_of (judged self.now) entry.now) }
         ensures memory { IsOkUnless result Refusal.Memory }
+
+        // The end of a connection that is in no group takes no memory.
+        ensures gone { OnErr result (entry.now.op ≡ Gone → group_of (judged self.now) (conn_of entry.now) ≢ None) }
     {
         judging::judge(
             *self.records.allocator(),

@@ -123,9 +123,9 @@ impl Group {
         ensures memory { IsOkUnless result Refusal.Memory }
     {
         self.places.reserve(1)?;
-        match &past.entry().op {
+        match &past.entry.op {
             Op::Act(Call::Insert(_, _, _)) | Op::Act(Call::Remove(_, _)) => {
-                edit(&mut self.table, place, &past.entry().op)?
+                edit(&mut self.table, place, &past.entry.op)?
             }
             _ => self.roster.take_in(*self.places.allocator(), past)?,
         }

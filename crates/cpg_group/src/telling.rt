@@ -35,10 +35,10 @@ fn has_name(group: Option<&Name>, name: &[u8]) -> bool
 fn pass_group<'a>(past: &'a Record, conn: &ConnId, before: Option<&'a Name>) -> Option<&'a Name>
     ensures { option_copied result ≡ group_after past.now conn.now (option_copied before.entry) }
 {
-    if !past.verdict.is_allowed() || !conn.is(&ConnId::of(past.entry())) {
+    if !past.verdict.is_allowed() || !conn.is(&ConnId::of(&past.entry)) {
         return before;
     }
-    match &past.entry().op {
+    match &past.entry.op {
         Op::Act(Call::Join(name)) => match before {
             Some(group) => Some(group),
             None => Some(name),
@@ -76,7 +76,7 @@ fn is_told(
     requires { option_copied earlier ≡ group_of (records_before records.now place) conn.now }
     ensures { result ≡ hears (records_before records.now place) past.now conn.now group.now past.now.entry.op }
 {
-    match &past.entry().op {
+    match &past.entry.op {
         Op::Act(Call::Join(_)) | Op::Act(Call::Leave) | Op::Gone => {
             is_told_changes(records, place, past, conn, earlier, group)
         }
@@ -105,7 +105,7 @@ pub(crate) fn collect_left(
     let places = groups.of(name).places();
     match find_members(records, places, name, place as usize - 1) {
         None => Ok(Moves::new(alloc)),
-        Some(members) => Moves::of_conn(alloc, &ConnId::of(past.entry()), cause, members),
+        Some(members) => Moves::of_conn(alloc, &ConnId::of(&past.entry), cause, members),
     }
 }
 
@@ -169,7 +169,7 @@ pub(crate) fn count_events(records: &[Record], trail: &[Stop], place: u32, conn:
     let index = place as usize - 1;
     let past = &records[index];
     let earlier = find_group(records, trail, index);
-    let own = conn.is(&ConnId::of(past.entry()));
+    let own = conn.is(&ConnId::of(&past.entry));
     let told = has_news(records, place, past, conn, earlier);
     usize::from(own) + usize::from(told)
 }
@@ -195,7 +195,7 @@ pub(crate) fn collect_events(
     let index = place as usize - 1;
     let past = &records[index];
     let mut list = Events::new(alloc);
-    if conn.is(&ConnId::of(past.entry())) {
+    if conn.is(&ConnId::of(&past.entry)) {
         list.push(Event::Verdict {
             place,
             verdict: past.verdict,

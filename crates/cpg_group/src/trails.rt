@@ -106,7 +106,7 @@ fn join_last(trail: &[Stop]) -> u32
 fn group_joined(past: &Record) -> Option<&Name>
     ensures { option_copied result ≡ joined_by past.now.entry.op }
 {
-    match &past.entry().op {
+    match &past.entry.op {
         Op::Act(Call::Join(group)) => Some(group),
         _ => None,
     }
@@ -144,7 +144,7 @@ fn next_join(records: &[Record], past: &Record, place: u32, standing: u32) -> u3
     if !past.verdict.is_allowed() {
         return standing;
     }
-    match &past.entry().op {
+    match &past.entry.op {
         Op::Act(Call::Join(_)) => match find_joined(records, standing) {
             None => place,
             Some(_) => standing,
@@ -353,7 +353,7 @@ impl Trails {
         let mut trail = Stops::new(*self.kept.allocator());
         lengthen(&mut trail, groups, records, place, next)?;
         self.last = self.kept.len();
-        self.kept.insert(ConnId::of(next.entry()), trail)?;
+        self.kept.insert(ConnId::of(&next.entry), trail)?;
         Ok(())
     }
 
@@ -375,7 +375,7 @@ impl Trails {
         ensures same { OnErr result (AreTrails self.new.kept.entries records.now) }
         ensures memory { IsOkUnless result Refusal.Memory }
     {
-        match self.index_of(&ConnId::of(next.entry())) {
+        match self.index_of(&ConnId::of(&next.entry)) {
             Some(index) => {
                 self.last = index;
                 let (_, trail) = self.kept.pair_mut(index);

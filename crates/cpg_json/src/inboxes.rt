@@ -74,7 +74,7 @@ fn put_place(
     ensures memory { IsOkUnless result Refusal.Memory }
 {
     let past = &policy.records()[place as usize - 1];
-    let own = conn.is(&ConnId::of(past.entry()));
+    let own = conn.is(&ConnId::of(&past.entry));
     let heard = policy.count_at(place, *conn) > usize::from(own);
     put_own(lines, own, front, place, past.verdict)?;
     put_heard(lines, heard, front, tails.at(place))

@@ -272,7 +272,7 @@ impl<'a> Inbox<'a> {
         requires { 1 ≤ place }
         ensures { result ≡ (is_allowed past.now.verdict && hears_own (group_of (records_before (judged self.now.entries) place) self.now.conn) group.now past.now.entry.op) }
     {
-        past.verdict.is_allowed() && self.hears(place, group, &past.entry().op)
+        past.verdict.is_allowed() && self.hears(place, group, &past.entry.op)
     }
 
     /// What a place of the group of that name tells it, from what is looked up after the place where it is of

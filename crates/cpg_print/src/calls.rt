@@ -180,10 +180,12 @@ fn read_text(alloc: Global, text: &[u8]) -> Result<Option<Message>, Refusal>
 {
     match plain_message(text) {
         Some(bytes) => Ok(Some(Message::from_slice(alloc, bytes)?)),
-        None => match read_message(alloc, text)? {
-            None => Ok(None),
-            Some(bytes) => Ok(Some(Message::from_vec(bytes)?)),
-        },
+        None => {
+            let Some(bytes) = read_message(alloc, text)? else {
+                return Ok(None);
+            };
+            Ok(Some(Message::from_vec(bytes)?))
+        }
     }
 }
 

@@ -153,16 +153,16 @@ impl Members {
         if !past.verdict.is_allowed() {
             return Ok(());
         }
-        match &past.entry().op {
+        match &past.entry.op {
             Op::Act(Call::Join(name)) => {
                 if name.is(group) {
-                    let list = with_member(self.alloc, self.as_slice(), Member::of(past.entry()))?;
+                    let list = with_member(self.alloc, self.as_slice(), Member::of(&past.entry))?;
                     self.list = Some(list);
                 }
                 Ok(())
             }
             Op::Act(Call::Leave) | Op::Gone => {
-                let list = without_conn(self.alloc, self.as_slice(), &ConnId::of(past.entry()))?;
+                let list = without_conn(self.alloc, self.as_slice(), &ConnId::of(&past.entry))?;
                 self.list = Some(list);
                 Ok(())
             }

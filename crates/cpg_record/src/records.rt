@@ -32,13 +32,6 @@ fn equal_groups(a: &Option<Name>, b: &Option<Name>) -> bool
 }
 
 impl Record {
-    /// The entry.
-    pub fn entry(&self) -> &Entry
-        ensures { result.now ≡ self.now.entry }
-    {
-        &self.entry
-    }
-
     /// The same record.
     pub fn copy(&self, alloc: Global) -> Result<Record, Refusal>
         ensures ok { IfOk result (λ copy. copy ≡ self.now) }

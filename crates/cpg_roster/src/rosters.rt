@@ -99,7 +99,7 @@ fn keep_rest(processes: &mut Option<Box<IndexSet<Process>>>, before: &Members, p
     if past.members.len() <= FEW {
         *processes = None;
     } else if let Some(kept) = processes {
-        let conn = ConnId::of(past.entry());
+        let conn = ConnId::of(&past.entry);
         take_out(kept, before.as_slice(), &conn);
     }
 }
@@ -162,7 +162,7 @@ impl Roster {
         let members = past.members.copy(alloc)?;
         match &mut self.processes {
             Some(processes) => {
-                processes.insert(Process::of(past.entry()))?;
+                processes.insert(Process::of(&past.entry))?;
             }
             None => self.processes = kept_beside(alloc, &members)?,
         }
@@ -190,7 +190,7 @@ impl Roster {
         ensures err { OnErr result (self.new ≡ self.old) }
         ensures memory { IsOkUnless result Refusal.Memory }
     {
-        match &past.entry().op {
+        match &past.entry.op {
             Op::Act(Call::Join(_)) => self.join(alloc, past),
             Op::Act(Call::Leave) => self.leave(alloc, past),
             Op::Gone => self.leave(alloc, past),

@@ -294,7 +294,7 @@ fn put_packets(alloc: Global, line: &mut Vec<u8>, records: &[Record]) -> Result<
         let packet = Packet {
             ring: 1,
             place,
-            entry: record.entry().copy(alloc)?,
+            entry: record.entry.copy(alloc)?,
         };
         put_packet(alloc, line, packet)?;
     }

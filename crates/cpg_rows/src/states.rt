@@ -150,7 +150,7 @@ pub fn put_policy(line: &mut Vec<u8>, policy: &Policy) -> Result<(), Refusal> {
 
 /// A join of the group by the member's process, with a connection of its own.
 fn join_by(alloc: Global, record: &Record, name: &Name) -> Result<Entry, Refusal> {
-    let entry = record.entry();
+    let entry = &record.entry;
     Ok(Entry {
         node: entry.node,
         conn: u16::MAX,
@@ -180,7 +180,7 @@ fn put_process(
     name: &Name,
 ) -> Result<(), Refusal> {
     put(line, "process ")?;
-    put_members(line, &[Member::of(record.entry())])?;
+    put_members(line, &[Member::of(&record.entry)])?;
     put(line, " ")?;
     let entry = join_by(alloc, record, name)?;
     let put_it = put_judged(line, policy, &entry);

@@ -62,7 +62,7 @@ fn lends_connections(policy: &Policy) -> bool {
     let conns = policy.connections();
     let mut seen = 0usize;
     for past in policy.records() {
-        let conn = ConnId::of(past.entry());
+        let conn = ConnId::of(&past.entry);
         if !is_among(conns, seen, &conn) {
             if !is_at(conns, seen, &conn) {
                 return false;
@@ -89,7 +89,7 @@ fn trail_agrees(policy: &Policy, conn: &ConnId) -> bool {
     let mut count = 0usize;
     for past in policy.records() {
         place = place.wrapping_add(1);
-        if ConnId::of(past.entry()) == *conn {
+        if ConnId::of(&past.entry) == *conn {
             if trail.own(count) != Some(place) {
                 return false;
             }

@@ -20,7 +20,7 @@ fn pid_at(records: &[Record], place: Option<u32>) -> Option<u32>
 {
     match find_record(records, place?) {
         None => None,
-        Some(past) => Some(past.entry().pid),
+        Some(past) => Some(past.entry.pid),
     }
 }
 

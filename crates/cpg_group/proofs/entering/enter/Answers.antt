@@ -16,7 +16,7 @@ pub enter_trail-requires-clause-trail : goal.enter_trail-requires-clause-trail
 enter_trail-requires-clause-trail c =
     let kept = c.args.trails.now.kept.entries in
     let there = trail_there kept c.in-Some.index c.of.result c.pair_mut-trail.result.0.now c.pair_mut-trail.result.1.now c.pair_mut-trail.ensures.unique c.pair_mut-trail.ensures.value c.in-Some.ensures in
-    let found = sym there ∙ ap (λ (conn : ConnId). lookup (is_conn conn) c.args.trails.now.kept.entries) (c.of.ensures ∙ ap conn_of c.entry.ensures) in
+    let found = sym there ∙ ap (λ (conn : ConnId). lookup (is_conn conn) c.args.trails.now.kept.entries) c.of.ensures in
     subst (IsTrail c.args.records.now (conn_of c.args.next.now.entry)) (sym (ap or_no_trail found)) (c.requires.trails.1 (conn_of c.args.next.now.entry))
 
 pub returns-in-Some-clause-longer : goal.returns-in-Some-clause-longer
@@ -25,7 +25,7 @@ returns-in-Some-clause-longer c =
     let trail = c.enter_trail.new.trail in
     on_ok c.enter_trail.result
     (AreTrails-set kept _ c.args.records.now (record_of c.args.records.now c.args.next.now.entry) c.of.result c.pair_mut-trail.result.1.now trail
-    c.requires.trails (trail_there kept c.in-Some.index c.of.result c.pair_mut-trail.result.0.now c.pair_mut-trail.result.1.now c.pair_mut-trail.ensures.unique c.pair_mut-trail.ensures.value c.in-Some.ensures) (c.of.ensures ∙ ap conn_of c.entry.ensures) (trail_set_there kept c.in-Some.index c.of.result c.pair_mut-trail.result.0.now c.pair_mut-trail.result.1.now c.pair_mut-trail.ensures.unique c.pair_mut-trail.ensures.value c.in-Some.ensures trail))
+    c.requires.trails (trail_there kept c.in-Some.index c.of.result c.pair_mut-trail.result.0.now c.pair_mut-trail.result.1.now c.pair_mut-trail.ensures.unique c.pair_mut-trail.ensures.value c.in-Some.ensures) c.of.ensures (trail_set_there kept c.in-Some.index c.of.result c.pair_mut-trail.result.0.now c.pair_mut-trail.result.1.now c.pair_mut-trail.ensures.unique c.pair_mut-trail.ensures.value c.in-Some.ensures trail))
     c.enter_trail.ensures.longer
 
 pub returns-in-Some-clause-kept : goal.returns-in-Some-clause-kept

@@ -10,4 +10,4 @@ returns-clause-longer c =
     let next : Record = record_of c.args.records.now c.args.next.now.entry in
     AreTrails-added c.args.trails.now.kept.entries c.reserve.new.self c.insert.new.self.entries c.args.records.now next c.of.result c.enter_trail.new.trail
     c.requires.trails c.requires.absent c.reserve.ensures.entries
-    (c.of.ensures ∙ ap conn_of c.entry.ensures ∙ ap (λ (r : Record). conn_of r.entry) c.in_ok-enter_trail.ensures.ok) c.in_ok-insert.ensures.entries c.in_ok-enter_trail.ensures.longer
+    (c.of.ensures ∙ ap (λ (r : Record). conn_of r.entry) c.in_ok-enter_trail.ensures.ok) c.in_ok-insert.ensures.entries c.in_ok-enter_trail.ensures.longer

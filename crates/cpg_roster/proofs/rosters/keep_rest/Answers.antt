@@ -9,7 +9,7 @@ returns-in-Some c = (
   search arith,
   leavers_out (conn_of c.args.past.now.entry) c.args.before.now c.args.past.now.members c.in-Some.kept.value.keys c.take_out.new.processes.keys
       (subst (λ boxed. AreKept (kept_of boxed) c.args.before.now) c.in-Some.is c.requires.kept).1 c.requires.left.1
-      (subst (λ conn. TakesOut conn c.args.before.now c.in-Some.kept.value.keys c.take_out.new.processes.keys) (c.of-conn.ensures ∙ ap conn_of c.entry.ensures)
+      (subst (λ conn. TakesOut conn c.args.before.now c.in-Some.kept.value.keys c.take_out.new.processes.keys) c.of-conn.ensures
       (subst (λ members. TakesOut c.of-conn.result members c.in-Some.kept.value.keys c.take_out.new.processes.keys) c.as_slice.ensures
       (subst (λ set. TakesOut c.of-conn.result c.as_slice.result.now set.keys c.take_out.new.processes.keys) c.deref_mut.ensures.value c.take_out.ensures)))
       c.requires.left.0,

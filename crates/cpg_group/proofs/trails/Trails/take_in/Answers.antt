@@ -15,7 +15,7 @@ pub lengthen-requires-clause-trail : goal.lengthen-requires-clause-trail
 lengthen-requires-clause-trail c =
     let kept = c.args.self.now.kept.entries in
     let there = trail_there kept c.in-Some.index c.of.result c.pair_mut-trail.result.0.now c.pair_mut-trail.result.1.now c.pair_mut-trail.ensures.unique c.pair_mut-trail.ensures.value c.in-Some.ensures in
-    let found = sym there ∙ ap (λ (conn : ConnId). lookup (is_conn conn) c.args.self.now.kept.entries) (c.of.ensures ∙ ap conn_of c.entry.ensures) in
+    let found = sym there ∙ ap (λ (conn : ConnId). lookup (is_conn conn) c.args.self.now.kept.entries) c.of.ensures in
     subst (IsTrail c.args.records.now (conn_of c.args.next.now.entry)) (sym (ap or_no_trail found)) (c.requires.trails.1 (conn_of c.args.next.now.entry))
 
 pub returns-in-Some-clause-longer : goal.returns-in-Some-clause-longer
@@ -24,7 +24,7 @@ returns-in-Some-clause-longer c =
     let trail = c.lengthen.new.trail in
     on_ok c.lengthen.result
     (AreTrails-set kept _ c.args.records.now c.args.next.now c.of.result c.pair_mut-trail.result.1.now trail
-    c.requires.trails (trail_there kept c.in-Some.index c.of.result c.pair_mut-trail.result.0.now c.pair_mut-trail.result.1.now c.pair_mut-trail.ensures.unique c.pair_mut-trail.ensures.value c.in-Some.ensures) (c.of.ensures ∙ ap conn_of c.entry.ensures) (trail_set_there kept c.in-Some.index c.of.result c.pair_mut-trail.result.0.now c.pair_mut-trail.result.1.now c.pair_mut-trail.ensures.unique c.pair_mut-trail.ensures.value c.in-Some.ensures trail))
+    c.requires.trails (trail_there kept c.in-Some.index c.of.result c.pair_mut-trail.result.0.now c.pair_mut-trail.result.1.now c.pair_mut-trail.ensures.unique c.pair_mut-trail.ensures.value c.in-Some.ensures) c.of.ensures (trail_set_there kept c.in-Some.index c.of.result c.pair_mut-trail.result.0.now c.pair_mut-trail.result.1.now c.pair_mut-trail.ensures.unique c.pair_mut-trail.ensures.value c.in-Some.ensures trail))
     c.lengthen.ensures.longer
 
 pub returns-in-Some-clause-same : goal.returns-in-Some-clause-same
