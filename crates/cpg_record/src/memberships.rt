@@ -187,7 +187,10 @@ fn without_conn(alloc: Global, members: &[Member], conn: &ConnId) -> Result<Arc<
     ensures ok { IfOk result (λ list. (arc_value list).items ≡ without conn.now members.now) }
     ensures memory { IsOkUnless result Refusal.Memory }
 {
-    let mut list = Vec::from_slice(alloc, members)?;
-    list.retain(|member| !member.conn_id().is(conn));
-    Ok(Arc::new(alloc, Kept::from_vec(list))?)
+    let list: Kept = members
+        .iter()
+        .copied()
+        .filter(|member| !member.conn_id().is(conn))
+        .collect(alloc)?;
+    Ok(Arc::new(alloc, list)?)
 }
