@@ -153,11 +153,13 @@ impl Ring {
     }
 
     /// Takes the first delivered entries that it has of its own from the shelf, where they lie for all that delivered
-    /// the same: who asks the ring sees no difference.
+    /// the same: who asks the ring sees no difference. A ring of one node shares nothing.
     pub fn share(&mut self, shelf: &Shelf)
         ensures { self.new ≡ self.old }
     {
-        self.held.share(shelf);
+        if self.settings.nodes > 1 {
+            self.held.share(shelf);
+        }
     }
 
     /// What it delivered, for who frees it piece by piece; all else of it is freed.
