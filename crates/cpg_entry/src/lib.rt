@@ -7,8 +7,7 @@
 //! carry stands in `specs/Ranges.antt`, and what the types of its fields give in `specs/Widths.antt`.
 //!
 //! All nodes of a ring deliver the same entries. A `Ledger` is one node's list of them; a `Shelf` holds the first ones
-//! of all that begin alike once, in blocks, and a block has its entries in common with a `Keeper`, as with the records of
-//! a node. That blocks are taken in place of equal entries is this project's own.
+//! of all that begin alike once, in blocks. That blocks are taken in place of equal entries is this project's own.
 //! Proved: who reads a ledger sees the same entries, whether they are its own or those of a block, and whoever laid the
 //! block down. No call waits for another thread.
 #![tactic(auto)]

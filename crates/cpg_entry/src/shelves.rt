@@ -6,7 +6,6 @@ ghost use Rattle.std.specs.Arc.{arc_value};
 use crate::blocks::{BLOCK, LIGHT_BYTES};
 use crate::calls::{Call, Op};
 use crate::entries::Entry;
-use crate::shared::SharedEntry;
 use cpg_cred::Refusal;
 use once_cell::race::OnceBox;
 use std::alloc::Global;
