@@ -8,7 +8,7 @@ ghost use Rattle.cpg_embed.specs.Rules.{rule_of};
 
 use crate::rules::RuleLine;
 use crate::seats::Seats;
-use crate::statuses::{OK, number_of};
+use crate::statuses::OK;
 use bytes::Bytes;
 use cpg_cred::{Cred, Refusal};
 use cpg_entry::{Call, Message, Name};
@@ -70,7 +70,7 @@ impl Endpoint {
                 *conn = number;
                 OK
             }
-            Err(refusal) => number_of(refusal),
+            Err(refusal) => refusal.number(),
         }
     }
 
@@ -80,7 +80,7 @@ impl Endpoint {
     {
         match self.node.submit(conn, call) {
             Ok(()) => OK,
-            Err(refused) => number_of(refused.refusal),
+            Err(refused) => refused.refusal.number(),
         }
     }
 
@@ -90,7 +90,7 @@ impl Endpoint {
     {
         match Name::from_slice(self.alloc, group) {
             Ok(name) => self.submit(conn, Call::Join(name)),
-            Err(refusal) => number_of(refusal),
+            Err(refusal) => refusal.number(),
         }
     }
 
@@ -107,7 +107,7 @@ impl Endpoint {
     {
         match Message::from_slice(self.alloc, message) {
             Ok(message) => self.submit(conn, Call::Send(message)),
-            Err(refusal) => number_of(refusal),
+            Err(refusal) => refusal.number(),
         }
     }
 
@@ -116,11 +116,11 @@ impl Endpoint {
         ensures { IsInserted self.old conn group.now index (rule_of line.now) result self.new }
     {
         let Some(rule) = line.rule() else {
-            return number_of(Refusal::Range);
+            return Refusal::Range.number();
         };
         match Name::from_slice(self.alloc, group) {
             Ok(name) => self.submit(conn, Call::Insert(name, index, rule)),
-            Err(refusal) => number_of(refusal),
+            Err(refusal) => refusal.number(),
         }
     }
 
@@ -130,7 +130,7 @@ impl Endpoint {
     {
         match Name::from_slice(self.alloc, group) {
             Ok(name) => self.submit(conn, Call::Remove(name, id)),
-            Err(refusal) => number_of(refusal),
+            Err(refusal) => refusal.number(),
         }
     }
 
@@ -140,7 +140,7 @@ impl Endpoint {
     {
         match self.node.disconnect(conn) {
             Ok(()) => OK,
-            Err(refusal) => number_of(refusal),
+            Err(refusal) => refusal.number(),
         }
     }
 }
