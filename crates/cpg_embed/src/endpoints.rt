@@ -8,7 +8,7 @@ ghost use Rattle.cpg_embed.specs.Rules.{rule_of};
 
 use crate::rules::RuleLine;
 use crate::seats::Seats;
-use crate::statuses::{OK, number_of};
+use crate::statuses::OK;
 use bytes::Bytes;
 use cpg_cred::{Cred, Refusal};
 use cpg_entry::{Call, Message, Name, Rule, SharedRule};
@@ -79,7 +79,7 @@ impl Endpoint {
                 *conn = number;
                 OK
             }
-            Err(refusal) => number_of(refusal),
+            Err(refusal) => refusal.number(),
         }
     }
 
@@ -89,7 +89,7 @@ impl Endpoint {
     {
         match self.node.submit(conn, call) {
             Ok(()) => OK,
-            Err(refused) => number_of(refused.refusal),
+            Err(refused) => refused.refusal.number(),
         }
     }
 
@@ -99,7 +99,7 @@ impl Endpoint {
     {
         match Name::from_slice(self.alloc, group) {
             Ok(name) => self.submit(conn, Call::Join(name)),
-            Err(refusal) => number_of(refusal),
+            Err(refusal) => refusal.number(),
         }
     }
 
@@ -116,7 +116,7 @@ impl Endpoint {
     {
         match Message::from_slice(self.alloc, message) {
             Ok(message) => self.submit(conn, Call::Send(message)),
-            Err(refusal) => number_of(refusal),
+            Err(refusal) => refusal.number(),
         }
     }
 
@@ -125,11 +125,11 @@ impl Endpoint {
         ensures { IsInserted self.old conn group.now index (rule_of line.now) result self.new }
     {
         let Some(rule) = line.rule() else {
-            return number_of(Refusal::Range);
+            return Refusal::Range.number();
         };
         match insert_of(self.alloc, group, index, rule) {
             Ok(call) => self.submit(conn, call),
-            Err(refusal) => number_of(refusal),
+            Err(refusal) => refusal.number(),
         }
     }
 
@@ -139,7 +139,7 @@ impl Endpoint {
     {
         match Name::from_slice(self.alloc, group) {
             Ok(name) => self.submit(conn, Call::Remove(name, id)),
-            Err(refusal) => number_of(refusal),
+            Err(refusal) => refusal.number(),
         }
     }
 
@@ -149,7 +149,7 @@ impl Endpoint {
     {
         match self.node.disconnect(conn) {
             Ok(()) => OK,
-            Err(refusal) => number_of(refusal),
+            Err(refusal) => refusal.number(),
         }
     }
 }

@@ -7,7 +7,7 @@ ghost use Rattle.cpg_record.specs.Membership.{is_allowed, is_end};
 ghost use Rattle.cpg_embed.specs.Seats.{seats_one, seat_at, seats_from, seats_of, seat_in, AreEnded, AreSeated, IsSeat};
 
 use crate::endpoints::Endpoint;
-use crate::statuses::{NONE, OK, number_of};
+use crate::statuses::{NONE, OK};
 use cpg_cred::Refusal;
 use cpg_entry::{Call, Op};
 use cpg_record::{ConnId, Record};
@@ -128,7 +128,7 @@ impl Endpoint {
                 self.seats = Some(seats);
                 OK
             }
-            Err(refusal) => number_of(refusal),
+            Err(refusal) => refusal.number(),
         }
     }
 
