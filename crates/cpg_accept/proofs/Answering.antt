@@ -1,5 +1,5 @@
 -- asks that are answered one after the other
-use Rattle.std.proofs.Common.{◌≡◌, ℕ, ◌<◌, zero, suc, List, [], ◌∷◌, length, get_or, false, true≢false, Option, Result, Ok, Err, refl, ap, ◌∙◌, arith}
+use Rattle.std.proofs.Common.{◌≡◌, ℕ, List, ◌∷◌, false, true≢false, Option, Result, Ok, Err, ap, ◌∙◌}
 use Rattle.std.specs.Prelude.{if◌then◌else◌, is_ok}
 use Rattle.cpg_cred.specs.Listed.{Listed}
 use Rattle.cpg_cred.specs.declared.admission.Via.{Via}
@@ -22,9 +22,3 @@ pub fault_of_all : (before answers : List (Option Via)) (all said : Result (List
     → answers_with before all ≡ answers_with answers said → said ≡ Err fault → all ≡ Err fault
 fault_of_all before answers (Ok later) said fault same e = absurd (true≢false (ap is_ok (same ∙ ap (answers_with answers) e)))
 fault_of_all before answers (Err first) said fault same e = same ∙ ap (answers_with answers) e
-
--- an item of a list is there, whatever would stand in for it past the end
-pub item_there : {A : Type 0} (xs : List A) (i : ℕ) (other : A) → i < length xs → get_or xs i (get_or xs i other) ≡ get_or xs i other
-item_there [] i other within = absurd (omega arith)
-item_there (x ∷ xs) zero other within = refl
-item_there (x ∷ xs) (suc i) other within = item_there xs i other (omega arith)

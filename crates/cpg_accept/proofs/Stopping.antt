@@ -7,9 +7,9 @@ use Rattle.cpg_conf.specs.Names.{next_number}
 use Rattle.cpg_text.specs.declared.faults.Fault.{Fault}
 use Rattle.cpg_accept.specs.declared.parts.Kind.{Kind}
 use Rattle.cpg_accept.specs.declared.parts.Kind.TheVariants.{Names, Conf, Ask}
-use Rattle.cpg_accept.specs.Accepting.{Admitted, Ends, MemoryAt, MemoryIn, all_taken, and_then, read_in, taken}
+use Rattle.cpg_accept.specs.Accepting.{Admitted, MemoryAt, MemoryIn, all_taken, and_then, read_in, taken}
 use Rattle.cpg_accept.specs.Parts.{Piece}
-use Rattle.cpg_accept.specs.Steps.{EndsRead, RefusesPart, StopsAt, StopsIn}
+use Rattle.cpg_accept.specs.Steps.{RefusesPart, StopsAt, StopsIn}
 
 -- what was not read of a names or conf part, as a fault of that part
 pub refused_part : {A : Type 0} (part : ℕ) (make : A → Admitted) (read : Result A Refusal) (refused : Refusal)
@@ -45,9 +45,3 @@ pub stops_amid : (before left : List Piece) (part : ℕ) (old new : Admitted) (f
     → StopsIn part left new fault → StopsIn 1 before old fault
 stops_amid before left part old new fault same amid (inl memory) = inl (amid memory)
 stops_amid before left part old new fault same amid (inr first) = inr (subst (λ made. made ≡ Err fault) (sym same) first)
-
--- a script that was read ends as it says
-pub ends_after : (script : List ℕ) (fault : Fault) (old new : Option (List ℕ)) → EndsRead script fault old new → Ends script fault old new
-ends_after script fault old new (inl write) = inr (inl write)
-ends_after script fault old new (inr (inl memory, kept)) = inr (inr (inl (inr memory, kept)))
-ends_after script fault old new (inr (inr first, kept)) = inr (inr (inr (first, kept)))

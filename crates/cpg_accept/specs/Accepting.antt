@@ -1,6 +1,6 @@
 -- what is printed of a script of names, conf texts and asks, and what its faults leave
-use Rattle.std.specs.Prelude.{◌≡◌, ◌⊎◌, ℕ, List, [], ◌∷◌, ◌++◌, map, if◌then◌else◌, Option, Some, None, Result, Ok, Err}
-use Rattle.std.specs.List.{concat}
+use Rattle.std.specs.Prelude.{◌≡◌, ◌⊎◌, ℕ, List, [], ◌∷◌, ◌++◌, if◌then◌else◌, Option, Some, None, Result, Ok, Err}
+use Rattle.std.specs.List.{flat_map}
 use Rattle.std.specs.Io.KnownBytes.{Appends, Keeps}
 use Rattle.cpg_cred.specs.Listed.{Listed, with_listed}
 use Rattle.cpg_cred.specs.declared.admission.Via.{Via}
@@ -11,7 +11,7 @@ use Rattle.cpg_text.specs.Streams.{AppendsFront}
 use Rattle.cpg_conf.specs.Listed.{listed}
 use Rattle.cpg_conf.specs.Names.{Known, no_names, known_of, next_number}
 use Rattle.cpg_text.specs.declared.faults.Fault.{Fault}
-use Rattle.cpg_accept.specs.Asks.{HasAsk, answers_from, answer_line}
+use Rattle.cpg_accept.specs.Asks.{HasAsk, answers_from}
 use Rattle.cpg_accept.specs.Parts.{Piece, parts_from, text_before}
 use Rattle.cpg_accept.specs.declared.parts.Kind.{Kind}
 use Rattle.cpg_accept.specs.declared.parts.Kind.TheVariants.{Names, Conf, Ask}
@@ -66,19 +66,19 @@ taken_after None parts = all_taken 1 parts nobody
 abbrev pub admitted_by : List ℕ → Result Admitted Fault
 admitted_by script = taken_after (first_command 1 (lines_of (text_before (lines_of script)))) (parts_from 1 (lines_of script))
 
--- the lines that are printed of answers
-abbrev pub answer_lines : Admitted → List (List ℕ)
-answer_lines admitted = map answer_line admitted.answers
+-- the text of answers, each of which is told so
+abbrev pub answers_told : (Option Via → List ℕ) → List (Option Via) → List ℕ
+answers_told told answers = flat_map told answers
 
 -- all is written where the script has no fault
-abbrev pub IsWritten : Result Admitted Fault → Option (List ℕ) → Option (List ℕ) → Type 0
-IsWritten (Ok admitted) old new = Appends old new (concat (answer_lines admitted))
-IsWritten (Err fault) old new = ⊥
+abbrev pub IsWritten : (Option Via → List ℕ) → Result Admitted Fault → Option (List ℕ) → Option (List ℕ) → Type 0
+IsWritten told (Ok admitted) old new = Appends old new (answers_told told admitted.answers)
+IsWritten told (Err fault) old new = ⊥
 
 -- a front of the text is written where a write failed
-abbrev pub LeavesFront : Result Admitted Fault → Option (List ℕ) → Option (List ℕ) → Type 0
-LeavesFront (Ok admitted) old new = AppendsFront old new (concat (answer_lines admitted))
-LeavesFront (Err fault) old new = ⊥
+abbrev pub LeavesFront : (Option Via → List ℕ) → Result Admitted Fault → Option (List ℕ) → Option (List ℕ) → Type 0
+LeavesFront told (Ok admitted) old new = AppendsFront old new (answers_told told admitted.answers)
+LeavesFront told (Err fault) old new = ⊥
 
 -- memory was refused to a names or conf part that has no fault: it is told with the part's number
 abbrev pub IsMemoryOf : ℕ → Fault → Result Admitted Fault → Type 0
@@ -115,11 +115,14 @@ MemoryAfter None parts fault = MemoryIn 1 parts nobody fault
 abbrev pub LacksMemory : List ℕ → Fault → Type 0
 LacksMemory script fault = MemoryAfter (first_command 1 (lines_of (text_before (lines_of script)))) (parts_from 1 (lines_of script)) fault
 
--- why a script ends with a fault, and what is left written then: it could not be read, a write failed,
--- memory was refused to the reading, or to a part before any fault, or the fault is the script's first
-abbrev pub Ends : List ℕ → Fault → Option (List ℕ) → Option (List ℕ) → Type 0
-Ends script fault old new =
-    ((fault ≡ whole_fault refusal.Read) × Keeps old new)
-    ⊎ (((fault ≡ whole_fault refusal.Write) × LeavesFront (admitted_by script) old new)
+-- why a script that was read ends with a fault, and what is left written then: a write failed, memory was refused to
+-- the text, or to a part before any fault, or the fault is the script's first
+abbrev pub EndsRead : (Option Via → List ℕ) → List ℕ → Fault → Option (List ℕ) → Option (List ℕ) → Type 0
+EndsRead told script fault old new =
+    ((fault ≡ whole_fault refusal.Write) × LeavesFront told (admitted_by script) old new)
     ⊎ ((((fault ≡ whole_fault refusal.Memory) ⊎ LacksMemory script fault) × Keeps old new)
-    ⊎ ((admitted_by script ≡ Err fault) × Keeps old new)))
+    ⊎ ((admitted_by script ≡ Err fault) × Keeps old new))
+
+-- or it could not be read
+abbrev pub Ends : (Option Via → List ℕ) → List ℕ → Fault → Option (List ℕ) → Option (List ℕ) → Type 0
+Ends told script fault old new = ((fault ≡ whole_fault refusal.Read) × Keeps old new) ⊎ EndsRead told script fault old new

@@ -1,4 +1,4 @@
--- steps of the reading functions; of these `AnswersAre` alone stands in the contract of a public function, `answer_script`
+-- steps of the reading and writing functions, which no contract of a public function cites
 use Rattle.std.specs.Prelude.{◌≡◌, ◌⊎◌, ℕ, ◌+◌, List, length, [], ◌∷◌, ◌++◌, Option, Some, None, option_map, Result, Ok, Err}
 use Rattle.std.specs.Borrow.{Bor}
 use Rattle.std.specs.Io.KnownBytes.{Keeps}
@@ -6,8 +6,9 @@ use Rattle.cpg_cred.specs.declared.admission.Via.{Via}
 use Rattle.cpg_cred.specs.declared.refusals.Refusal.{Refusal}
 use Rattle.cpg_cred.specs.declared.refusals.Refusal.TheVariants.{BadCommand, Memory, Write}
 use Rattle.cpg_text.specs.declared.faults.Fault.{Fault}
-use Rattle.cpg_accept.specs.Accepting.{Admitted, LacksMemory, LeavesFront, MemoryIn, admitted_by, all_taken, whole_fault}
+use Rattle.cpg_accept.specs.Accepting.{Admitted, MemoryIn, all_taken, whole_fault}
 use Rattle.cpg_text.specs.Lines.{lines_left, lines_of}
+use Rattle.cpg_text.specs.Streams.{AppendsFront}
 use Rattle.cpg_conf.specs.Names.{next_number}
 use Rattle.cpg_accept.specs.Asks.{HasAsk}
 use Rattle.cpg_accept.specs.Parts.{Piece, parts_from, text_before}
@@ -64,9 +65,8 @@ StopsAt _ part text made fault = RefusesPart part made fault
 abbrev pub StopsIn : ℕ → List Piece → Admitted → Fault → Type 0
 StopsIn part parts admitted fault = MemoryIn part parts admitted fault ⊎ (all_taken part parts admitted ≡ Err fault)
 
--- why a script that was read ends with a fault, and what is left written then: a write failed, memory was refused
--- to a part before any fault, or the fault is the script's first
-abbrev pub EndsRead : List ℕ → Fault → Option (List ℕ) → Option (List ℕ) → Type 0
-EndsRead script fault old new =
-    ((fault ≡ whole_fault Write) × LeavesFront (admitted_by script) old new)
-    ⊎ ((LacksMemory script fault ⊎ (admitted_by script ≡ Err fault)) × Keeps old new)
+-- what a refusal leaves of a text that is made whole before it is written
+abbrev pub LeavesText : List ℕ → Refusal → Option (List ℕ) → Option (List ℕ) → Type 0
+LeavesText text Write old new = AppendsFront old new text
+LeavesText text Memory old new = Keeps old new
+LeavesText text _ old new = ⊥

@@ -11,5 +11,5 @@ mod admitting;
 mod asks;
 mod parts;
 
-pub use accepting::{accept_script, answer_script};
+pub use accepting::{TellsAnswer, accept_in_form, accept_script};
 pub use asks::answer_text;

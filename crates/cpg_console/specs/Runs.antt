@@ -2,6 +2,7 @@
 use Rattle.std.specs.Prelude.{ℕ, ◌≡◌, ◌≤◌, Bool, true, false, List, length, map, Option, Some, None, Result, Ok, Err}
 use Rattle.std.specs.Io.KnownBytes.{Keeps}
 use Rattle.cpg_cred.specs.Listed.{Listed}
+use Rattle.cpg_cred.specs.declared.admission.Via.{Via}
 use Rattle.cpg_cred.specs.declared.refusals.Refusal.{Refusal}
 use Rattle.cpg_cred.specs.declared.refusals.Refusal.TheVariants.{Range, Write}
 use Rattle.cpg_text.specs.declared.streams.TheConstants.{MOST_BYTES}
@@ -11,16 +12,17 @@ use Rattle.cpg_ring.specs.States.{IsSettings}
 use Rattle.cpg_ring.specs.declared.settings.Settings.{Settings}
 use Rattle.cpg_world_laws.specs.Worlds.{WorldValue, new_world}
 use Rattle.cpg_accept.specs.Accepting as accept
+use Rattle.cpg_accept.specs.Asks.{answer_line}
 use Rattle.cpg_judge.specs.Judging as judge
 use Rattle.cpg_judge.specs.Scripts.{entries_of_script}
-use Rattle.cpg_judge.specs.Filtering as filtered
+use Rattle.cpg_judge.specs.Filtering.{filtered}
 use Rattle.cpg_step.specs.Running as step
 use Rattle.cpg_step.specs.Scripts.{commands_of_script}
 use Rattle.cpg_step.specs.declared.commands.Command.{Command}
 use Rattle.cpg_draw.specs.Drawing as draw
 use Rattle.cpg_step.specs.NumberedSteps as numbers
-use Rattle.cpg_json.specs.Judging as json
-use Rattle.cpg_json.specs.Accepting as json_accept
+use Rattle.cpg_json.specs.Answers.{accept_json}
+use Rattle.cpg_json.specs.Judging.{judged_json}
 use Rattle.cpg_json.specs.Marks.{heads_of}
 use Rattle.cpg_json.specs.Stepping as json_step
 use Rattle.cpg_why.specs.Forms.{plain}
@@ -135,25 +137,31 @@ Echoes s (Some list) script None old new =
 Echoes s (Some list) script (Some (Fault fault)) old new = (fault.part ≡ None) × EchoesUpTo s list script fault.refusal old new
 Echoes s (Some list) script _ old new = ⊥
 
--- the judgement of a script, as text or as JSON, is written
+-- the form in which a script's entries are told
+abbrev pub judged_as : Form → List ℕ → judge.Form
+judged_as Text script = judge.judged_text
+judged_as Json script = judged_json (why.numbers_of script)
+
+-- the judgement of a script is written in its form
 abbrev pub IsJudged : Form → List ℕ → Option (List ℕ) → Option (List ℕ) → Type 0
-IsJudged Text script old new = judge.IsWritten (entries_of_script script) old new
-IsJudged Json script old new = json.IsWritten (why.numbers_of script) (entries_of_script script) old new
+IsJudged form script old new = judge.IsWritten (judged_as form script) (entries_of_script script) old new
 
 -- what a refusal leaves of it
 abbrev pub LeavesJudged : Form → List ℕ → Refusal → Option (List ℕ) → Option (List ℕ) → Type 0
-LeavesJudged Text script refused old new = judge.Leaves (entries_of_script script) refused old new
-LeavesJudged Json script refused old new = json.Leaves (why.numbers_of script) (entries_of_script script) refused old new
+LeavesJudged form script refused old new = judge.Leaves (judged_as form script) (entries_of_script script) refused old new
 
--- the answers to a script's asks, as text or as JSON, are written
+-- how the answer to an ask is told
+abbrev pub answered_as : Form → Option Via → List ℕ
+answered_as Text = answer_line
+answered_as Json = accept_json
+
+-- the answers to a script's asks are written in their form
 abbrev pub AreAnswered : Form → List ℕ → Option (List ℕ) → Option (List ℕ) → Type 0
-AreAnswered Text script old new = accept.IsWritten (accept.admitted_by script) old new
-AreAnswered Json script old new = json_accept.AreWritten (accept.admitted_by script) old new
+AreAnswered form script old new = accept.IsWritten (answered_as form) (accept.admitted_by script) old new
 
 -- what a fault leaves of them
 abbrev pub LeavesAnswered : Form → List ℕ → script_faults.Fault → Option (List ℕ) → Option (List ℕ) → Type 0
-LeavesAnswered Text script fault old new = accept.Ends script fault old new
-LeavesAnswered Json script fault old new = json_accept.Ends script fault old new
+LeavesAnswered form script fault old new = accept.Ends (answered_as form) script fault old new
 
 -- why nothing is explained, as a failure: of the entries of a script, or of those that nodes delivered
 abbrev pub failure_of_why : why_faults.WhyFault → Failure
@@ -228,8 +236,8 @@ HasWrongWord (ClusterWhy inquiry settings words) = list_of_words (map (λ word. 
 abbrev pub Prints : Run → List ℕ → Option Failure → Option (List ℕ) → Option (List ℕ) → Type 0
 Prints (Judge form) script None old new = (length script ≤ MOST_BYTES) × IsJudged form script old new
 Prints (Judge form) script (Some (Fault fault)) old new = (fault.part ≡ None) × LeavesJudged form script fault.refusal old new
-Prints (JudgeOnly filter) script None old new = (length script ≤ MOST_BYTES) × filtered.IsWritten filter (entries_of_script script) old new
-Prints (JudgeOnly filter) script (Some (Fault fault)) old new = (fault.part ≡ None) × filtered.Leaves filter (entries_of_script script) fault.refusal old new
+Prints (JudgeOnly filter) script None old new = (length script ≤ MOST_BYTES) × judge.IsWritten (filtered filter) (entries_of_script script) old new
+Prints (JudgeOnly filter) script (Some (Fault fault)) old new = (fault.part ≡ None) × judge.Leaves (filtered filter) (entries_of_script script) fault.refusal old new
 Prints (Why form asked) script failure old new = Explains asked script failure old new
 Prints (Accept form) script None old new = (length script ≤ MOST_BYTES) × AreAnswered form script old new
 Prints (Accept form) script (Some (Fault fault)) old new = LeavesAnswered form script fault old new

@@ -8,10 +8,10 @@ ghost use Rattle.cpg_why.specs.Scripts.{numbers_of, EndsWhy, IsWritten, Leaves};
 ghost use Rattle.cpg_console.specs.Runs.{AreAnswered, IsJudged, LeavesAnswered, LeavesJudged};
 
 use crate::runs::Form;
-use cpg_accept::accept_script;
+use cpg_accept::{accept_in_form, accept_script};
 use cpg_json::why::AsJson;
-use cpg_json::{accept_json, judge_json};
-use cpg_judge::judge_script;
+use cpg_json::{AdmittedAsJson, JudgedAsJson};
+use cpg_judge::{judge_in_form, judge_script};
 use cpg_text::{Fault, MOST_BYTES};
 use cpg_why::{AsText, Asked, WhyFault, why_script};
 use std::alloc::Global;
@@ -33,7 +33,7 @@ pub fn judge<R: Read, W: Write>(
 {
     match form {
         Form::Text => judge_script(alloc, reader, writer),
-        Form::Json => judge_json(alloc, reader, writer),
+        Form::Json => judge_in_form(alloc, &JudgedAsJson, reader, writer),
     }
 }
 
@@ -52,7 +52,7 @@ pub fn accept<R: Read, W: Write>(
 {
     match form {
         Form::Text => accept_script(alloc, reader, writer),
-        Form::Json => accept_json(alloc, reader, writer),
+        Form::Json => accept_in_form::<AdmittedAsJson, R, W>(alloc, reader, writer),
     }
 }
 

@@ -29,7 +29,8 @@ use cpg_cluster::Manner;
 use cpg_cred::Refusal;
 use cpg_draw::Excerpt;
 use cpg_json::Marks;
-use cpg_judge::filter::{Filter, judge_filtered};
+use cpg_judge::filter::Filter;
+use cpg_judge::judge_in_form;
 use cpg_ring::Settings;
 use cpg_text::Fault;
 use cpg_why::Asked;
@@ -264,7 +265,7 @@ where
 {
     match run {
         Run::Judge(form) => judge(alloc, *form, reader, writer)?,
-        Run::JudgeOnly(filter) => judge_filtered(alloc, filter, reader, writer)?,
+        Run::JudgeOnly(filter) => judge_in_form(alloc, filter, reader, writer)?,
         Run::Why(form, asked) => explain(alloc, *form, *asked, reader, writer)?,
         Run::Accept(form) => accept(alloc, *form, reader, writer)?,
         Run::Step(form, settings, words) => {

@@ -7,7 +7,6 @@ pub mod Heads
 pub mod Hearing
 pub mod Listing
 pub mod Put
-pub mod Recorded
 pub mod Texted
 pub mod Told
 pub mod Whole

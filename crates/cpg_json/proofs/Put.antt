@@ -13,14 +13,14 @@ use Rattle.cpg_json.specs.SessionAnswers.{audit_text}
 
 -- the line of the record at a place more is put
 pub known_put : (head first lines new : List ℕ) (seat : SeatValue) (i : ℕ) (past : Record) → record_at (records_of seat) (i + 1) ≡ Some past
-    → lines ≡ first ++ concat (records_json (λ place. head) (take i (records_of seat))) → new ≡ lines ++ record_json head (i + 1) past → new ≡ first ++ concat (records_json (λ place. head) (take (i + 1) (records_of seat)))
+    → lines ≡ first ++ concat (records_json head (take i (records_of seat))) → new ≡ lines ++ record_json head (i + 1) past → new ≡ first ++ concat (records_json head (take (i + 1) (records_of seat)))
 known_put head first lines new seat i past stands before put =
     let lower : i + 1 - 1 ≡ i = omega arith in
     let at : slice_get (records_of seat) i ≡ Some past = ap (slice_get (records_of seat)) (sym lower) ∙ (sym (record_at-index (records_of seat) (i + 1) (omega arith)) ∙ stands) in
     record_put head first lines new (records_of seat) i past (slice_get_within (records_of seat) i past at) (get_or_from_slice_get (records_of seat) i past past at) before put
 
 -- all lines are put, and the count
-pub seat_put : (head first lines new : List ℕ) (seat : SeatValue) (count : ℕ) → count ≡ length seat → lines ≡ first ++ concat (records_json (λ place. head) (records_of seat)) → new ≡ lines ++ count_json head count → new ≡ first ++ audit_text head (records_of seat)
+pub seat_put : (head first lines new : List ℕ) (seat : SeatValue) (count : ℕ) → count ≡ length seat → lines ≡ first ++ concat (records_json head (records_of seat)) → new ≡ lines ++ count_json head count → new ≡ first ++ audit_text head (records_of seat)
 seat_put head first lines new seat count counted before put =
     let count_of : count ≡ length (records_of seat) = counted ∙ sym (length-map seat (λ (known : ℕ × Record). known.1)) in
-    lines_and_last first lines new (records_json (λ place. head) (records_of seat)) (count_json head (length (records_of seat))) before (put ∙ ap (λ n. lines ++ count_json head n) count_of)
+    lines_and_last first lines new (records_json head (records_of seat)) (count_json head (length (records_of seat))) before (put ∙ ap (λ n. lines ++ count_json head n) count_of)

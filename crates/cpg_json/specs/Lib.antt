@@ -1,4 +1,3 @@
-pub mod Accepting
 pub mod Admitted
 pub mod Answers
 pub mod Calls

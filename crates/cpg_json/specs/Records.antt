@@ -51,14 +51,14 @@ record_fields head place past = head_of (codes "record") head ∷ asked_fields p
 abbrev pub record_json : List ℕ → ℕ → Record → List ℕ
 record_json head place past = line (record_fields head place past)
 
--- the lines of records, the first of which stands at place 1, each behind the head of its place
-abbrev pub records_json : (ℕ → List ℕ) → List Record → List (List ℕ)
-records_json heads records = map (λ past. record_json (heads past.0) past.0 past.1) (enumerate_from 1 records)
+-- the lines of records, the first of which stands at place 1, each behind the same head
+abbrev pub records_json : List ℕ → List Record → List (List ℕ)
+records_json head records = map (λ past. record_json head past.0 past.1) (enumerate_from 1 records)
 
 -- how many records there are
 abbrev pub count_json : List ℕ → ℕ → List ℕ
 count_json head count = line (head_of (codes "count") head ∷ number (codes "records") count ∷ [])
 
--- the lines of records and of their count, each behind the same head
+-- the lines of records and of their count
 abbrev pub counted_json : List ℕ → List Record → List (List ℕ)
-counted_json head records = records_json (λ place. head) records ++ count_json head (length records) ∷ []
+counted_json head records = records_json head records ++ count_json head (length records) ∷ []

@@ -1,15 +1,11 @@
 -- steps of the writing functions, which no contract of a public function cites
 use Rattle.std.specs.Prelude.{ℕ, ◌≡◌, ◌≤◌, ◌⊎◌, ◌+◌, ◌-◌, List, [], ◌∷◌, length, map, Option, Some, None}
 use Rattle.std.specs.List.{concat, flat_map, range_with_len, slice_get}
-use Rattle.std.specs.Io.KnownBytes.{Keeps}
-use Rattle.cpg_cred.specs.declared.refusals.Refusal.{Refusal}
-use Rattle.cpg_cred.specs.declared.refusals.Refusal.TheVariants as refusal
 use Rattle.cpg_rules.specs.declared.rules.Rule.{Rule}
 use Rattle.cpg_record.specs.declared.connections.ConnId.{ConnId}
 use Rattle.cpg_record.specs.declared.records.Record.{Record}
 use Rattle.cpg_record.specs.Events.{events}
 use Rattle.cpg_record.specs.Judging.{judged}
-use Rattle.cpg_text.specs.Streams.{AppendsFront}
 use Rattle.cpg_world_laws.specs.Replies.{Answer, AreReplies}
 use Rattle.cpg_world_laws.specs.Worlds.{WorldValue}
 use Rattle.cpg_step.specs.declared.commands.Command.{Command}
@@ -59,9 +55,3 @@ MayBeDone w command world = (world ≡ w) ⊎ (world ≡ after w (command ∷ []
 abbrev pub rule_json_of : List ℕ → Option (ℕ × Rule) → List ℕ
 rule_json_of head None = []
 rule_json_of head (Some rule) = rule_json head rule
-
--- what a refusal leaves of a text that is made whole before it is written
-abbrev pub LeavesText : List ℕ → Refusal → Option (List ℕ) → Option (List ℕ) → Type 0
-LeavesText text refusal.Write old new = AppendsFront old new text
-LeavesText text refusal.Memory old new = Keeps old new
-LeavesText text _ old new = ⊥

@@ -6,6 +6,7 @@ ghost use Rattle.cpg_json.specs.Admitted.{admitted_json, admitted_json_echo, ech
 
 use crate::answers::{put_accept, put_refusal, via_name};
 use crate::objects::{put_end, put_kind, put_number, put_word};
+use cpg_accept::TellsAnswer;
 use cpg_accept::admit::{TellsAdmitted, print_in_form};
 use cpg_conf::Numbers;
 use cpg_cred::{Cred, Refusal, Via};
@@ -34,6 +35,16 @@ fn put_group(line: &mut Vec<u8>, gid: u32) -> Result<(), Refusal>
 /// Objects of JSON, one a line.
 #[derive(Debug, Clone, Copy)]
 pub struct AdmittedAsJson;
+
+impl TellsAnswer for AdmittedAsJson {
+    ghost use Rattle.cpg_json.specs.Answers.{accept_json};
+
+    ghost told = { accept_json };
+
+    fn put(text: &mut Vec<u8>, answer: Option<Via>) -> Result<(), Refusal> {
+        put_accept(text, answer)
+    }
+}
 
 impl TellsAdmitted for AdmittedAsJson {
     ghost use Rattle.cpg_json.specs.Admitted.{as_json};

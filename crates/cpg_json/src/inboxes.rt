@@ -1,10 +1,10 @@
-//! The inboxes, written one after the other.
+//! An inbox, written.
 //!
 //! Proved: each function puts its lines behind those that were written and gathered, or leaves after a refusal what
 //! `Gathers` says of them.
 
 ghost use Rattle.std.specs.Prelude.{◌≡◌, ◌≤◌, ◌++◌, Some, length, map, take, OnOk, IsOkUnless};
-ghost use Rattle.std.specs.List.{concat, flat_map};
+ghost use Rattle.std.specs.List.{concat};
 ghost use Rattle.std.specs.Option.{option_copied};
 ghost use Rattle.cpg_record.specs.Events as events;
 ghost use Rattle.cpg_record.specs.Judging.{judged};
@@ -159,7 +159,7 @@ fn write_events<W: Write>(
 }
 
 /// Writes the inbox of a connection: a line that names it, and its events by place.
-fn write_inbox<W: Write>(
+pub(crate) fn write_inbox<W: Write>(
     writer: &mut W,
     lines: &mut Vec<u8>,
     policy: &Policy,
@@ -180,25 +180,4 @@ fn write_inbox<W: Write>(
         conn,
     };
     write_events(writer, lines, &inbox)
-}
-
-/// Writes the inboxes of the connections, one after the other.
-pub(crate) fn write_inboxes<W: Write>(
-    writer: &mut W,
-    lines: &mut Vec<u8>,
-    policy: &Policy,
-    tails: &Tails,
-    front: &mut Vec<u8>,
-    conns: &[ConnId],
-) -> Result<(), Refusal>
-    requires { AreTails tails.now (judged policy.now) (length (judged policy.now)) }
-    ensures { Gathers result (W.contents writer.old) lines.old.items (W.contents writer.new) lines.new.items (flat_map (inbox_lines (judged policy.now)) conns.now) }
-{
-    for conn in conns {
-        match write_inbox(writer, lines, policy, tails, front, conn) {
-            Ok(()) => {}
-            Err(refusal) => return Err(refusal),
-        }
-    }
-    Ok(())
 }

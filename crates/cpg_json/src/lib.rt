@@ -4,7 +4,6 @@
 //! `specs/`, byte for byte, where the reader and the writer tell their bytes; but for reasons, which plain code words.
 #![tactic(auto)]
 
-mod accepting;
 mod acting;
 mod admitting;
 mod answers;
@@ -25,10 +24,9 @@ mod strings;
 mod tails;
 pub mod why;
 
-pub use accepting::accept_json;
-pub use admitting::{print_json, print_json_echo};
+pub use admitting::{AdmittedAsJson, print_json, print_json_echo};
 pub use cpg_text::Fault;
-pub use judging::judge_json;
+pub use judging::{JudgedAsJson, JudgedObjects};
 pub use laws::{strings_are_printable, strings_read_back, texts_are_printable};
 pub use marks::{Marks, number_at, put_event_word, put_look_word};
 pub use running::step_json;

@@ -96,7 +96,7 @@ fn put_audit_of(lines: &mut Vec<u8>, head: &[u8], node: &Node) -> Result<(), Ref
 
 fn put_records(lines: &mut Vec<u8>, head: &[u8], records: &[Record]) -> Result<(), Refusal>
     requires { length records.now ≤ most_places }
-    ensures ok { OnOk result (lines.new.items ≡ lines.old.items ++ concat (records_json (λ place. head.now) records.now)) }
+    ensures ok { OnOk result (lines.new.items ≡ lines.old.items ++ concat (records_json head.now records.now)) }
     ensures memory { IsOkUnless result Refusal.Memory }
 {
     let mut place = 0u32;

@@ -8,8 +8,9 @@ use Rattle.cpg_record.specs.declared.records.Record.{Record}
 use Rattle.cpg_record.specs.Events.{events}
 use Rattle.cpg_record.specs.Nexts.{IsNextTold, TellsNoMore}
 use Rattle.cpg_record.specs.Places.{record_at}
-use Rattle.cpg_judge.specs.Filtering.{audit_at, event_kept, keeps_there, lines_at, told_lines}
-use Rattle.cpg_judge.specs.FilterSteps.{audits_upto, lines_between}
+use Rattle.cpg_judge.specs.Filtering.{event_kept, keeps_there, lines_at, told_lines}
+use Rattle.cpg_judge.specs.FilterSteps.{lines_between}
+use Rattle.cpg_judge.specs.Judging.{Form, told_at, told_upto}
 use Rattle.cpg_judge.specs.declared.filter.filters.Filter.{Filter}
 
 -- numbers in a row, parted
@@ -30,16 +31,16 @@ pub concat_flat_map : {A : Type 0} (f : A → List (List ℕ)) (xs : List A) →
 concat_flat_map f [] = refl
 concat_flat_map f (x ∷ xs) = concat-append (f x) (flat_map f xs) ∙ ap (λ l. concat (f x) ++ l) (concat_flat_map f xs)
 
-module _ (f : Filter) (rs : List Record) where
-  -- the audit lines of one place more, and then those of the later ones
-  pub audits_parted : (count more : ℕ) → audits_upto f rs (count + more) ≡ audits_upto f rs count ++ flat_map (audit_at f rs) (range_with_len (1 + count) more)
-  audits_parted count more =
-      ap (flat_map (audit_at f rs)) (numbers_parted 1 count more) ∙ flat_map-append (audit_at f rs) (range_with_len 1 count) (range_with_len (1 + count) more)
+module _ (f : Form) (rs : List Record) where
+  -- the lines of the records of one place more, and then those of the later ones
+  pub told_parted : (count more : ℕ) → told_upto f rs (count + more) ≡ told_upto f rs count ++ flat_map (told_at f rs) (range_with_len (1 + count) more)
+  told_parted count more =
+      ap (flat_map (told_at f rs)) (numbers_parted 1 count more) ∙ flat_map-append (told_at f rs) (range_with_len 1 count) (range_with_len (1 + count) more)
 
-  pub one_audit_more : (count : ℕ) → audits_upto f rs (count + 1) ≡ audits_upto f rs count ++ audit_at f rs (count + 1)
-  one_audit_more count =
+  pub one_told_more : (count : ℕ) → told_upto f rs (count + 1) ≡ told_upto f rs count ++ told_at f rs (count + 1)
+  one_told_more count =
       let here : 1 + count ≡ count + 1 = omega arith in
-      audits_parted count 1 ∙ ap (λ n. audits_upto f rs count ++ (audit_at f rs n ++ [])) here ∙ ap (λ l. audits_upto f rs count ++ l) (append-nil (audit_at f rs (count + 1)))
+      told_parted count 1 ∙ ap (λ n. told_upto f rs count ++ (told_at f rs n ++ [])) here ∙ ap (λ l. told_upto f rs count ++ l) (append-nil (told_at f rs (count + 1)))
 
 module _ (f : Filter) (rs : List Record) (conn : ConnId) where
   -- a place that tells nothing has no lines

@@ -1,4 +1,3 @@
-pub mod Audits
 pub mod Behind
 pub mod Between
 pub mod Ends
@@ -12,3 +11,5 @@ pub mod Places
 pub mod Reading
 pub mod Shown
 pub mod Telling
+pub mod Told
+pub mod Whole

@@ -3,12 +3,8 @@ use Rattle.std.specs.Prelude.{ℕ, ◌+◌, ◌-◌, List}
 use Rattle.std.specs.List.{flat_map, range_with_len}
 use Rattle.cpg_record.specs.declared.connections.ConnId.{ConnId}
 use Rattle.cpg_record.specs.declared.records.Record.{Record}
-use Rattle.cpg_judge.specs.Filtering.{audit_at, lines_at}
+use Rattle.cpg_judge.specs.Filtering.{lines_at}
 use Rattle.cpg_judge.specs.declared.filter.filters.Filter.{Filter}
-
--- the audit lines of the first places
-abbrev pub audits_upto : Filter → List Record → ℕ → List (List ℕ)
-audits_upto f records count = flat_map (audit_at f records) (range_with_len 1 count)
 
 -- the lines of the places above one, up to another
 abbrev pub lines_between : Filter → List Record → ConnId → ℕ → ℕ → List (List ℕ)

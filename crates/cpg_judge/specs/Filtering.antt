@@ -1,31 +1,21 @@
--- what is printed of a script of entries through a filter, and what its faults leave
-use Rattle.std.specs.Prelude.{ℕ, ◌≡◌, ◌==◌, Bool, false, List, [], ◌∷◌, ◌++◌, length, if◌then◌else◌, Option, Some, None, Result, Ok, Err}
+-- what is told of a script of entries through a filter
+use Rattle.std.specs.Prelude.{ℕ, ◌==◌, Bool, false, List, [], ◌∷◌, length, if◌then◌else◌, Option, Some, None}
 use Rattle.std.specs.List.{concat, flat_map, range_with_len}
-use Rattle.std.specs.Io.KnownBytes.{Appends, Keeps}
-use Rattle.cpg_cred.specs.declared.refusals.Refusal.{Refusal}
-use Rattle.cpg_cred.specs.declared.refusals.Refusal.TheVariants as refusal
-use Rattle.cpg_entry.specs.declared.entries.Entry.{Entry}
 use Rattle.cpg_record.specs.declared.connections.ConnId.{ConnId}
 use Rattle.cpg_record.specs.declared.events.Event.{Event}
 use Rattle.cpg_record.specs.declared.records.Record.{Record}
-use Rattle.cpg_record.specs.Connections.{conns_of}
 use Rattle.cpg_record.specs.Events.{events}
-use Rattle.cpg_record.specs.Judging.{judged}
 use Rattle.cpg_record.specs.Places.{record_at}
-use Rattle.cpg_text.specs.Written.{LeavesLines}
 use Rattle.cpg_print.specs.Events.{event_line, inbox_line}
 use Rattle.cpg_print.specs.Records.{audit_line, count_line}
 use Rattle.cpg_judge.specs.Filters.{keeps_conn, keeps_event, keeps_place, keeps_record}
+use Rattle.cpg_judge.specs.Judging.{Form}
 use Rattle.cpg_judge.specs.declared.filter.filters.Filter.{Filter}
 use Rattle.cpg_judge.specs.declared.filter.filters.Only.{Only}
 
--- the audit line of a place, where it is kept
-abbrev pub audit_by : Filter → ℕ → Option Record → List (List ℕ)
-audit_by f place None = []
-audit_by f place (Some r) = if keeps_record f place r then audit_line place r ∷ [] else []
-
-abbrev pub audit_at : Filter → List Record → ℕ → List (List ℕ)
-audit_at f records place = audit_by f place (record_at records place)
+-- the audit line of the record of a place, where it is kept
+abbrev pub audit_kept : Filter → ℕ → Record → List (List ℕ)
+audit_kept f place r = if keeps_record f place r then audit_line place r ∷ [] else []
 
 -- the record is there, and its place is kept
 abbrev pub keeps_there : Filter → ℕ → Option Record → Bool
@@ -50,25 +40,9 @@ abbrev pub headed : ConnId → List (List ℕ) → List (List ℕ)
 headed conn lines = if length (concat lines) == 0 then [] else inbox_line conn ∷ lines
 
 -- the inbox of a connection that is kept
-abbrev pub inbox_lines : Filter → List Record → ConnId → List (List ℕ)
-inbox_lines f records conn = if keeps_conn f.conn conn then headed conn (told_lines f records conn) else []
+abbrev pub inbox_kept : Filter → List Record → ConnId → List (List ℕ)
+inbox_kept f records conn = if keeps_conn f.conn conn then headed conn (told_lines f records conn) else []
 
--- the lines that are printed of entries: the audit lines that are kept, the count of all, and what is kept of each inbox
-abbrev pub filtered_lines : Filter → List Entry → List (List ℕ)
-filtered_lines f entries =
-    flat_map (audit_at f (judged entries)) (range_with_len 1 (length (judged entries)))
-    ++ count_line (length entries) ∷ flat_map (inbox_lines f (judged entries)) (conns_of entries)
-
--- all is written where the script has a meaning
-abbrev pub IsWritten : Filter → Result (List Entry) ℕ → Option (List ℕ) → Option (List ℕ) → Type 0
-IsWritten f (Ok entries) old new = Appends old new (concat (filtered_lines f entries))
-IsWritten f (Err line) old new = ⊥
-
--- what a refusal leaves written: nothing after a bad line, which it names, nor where the script could not
--- be read; else what it leaves of the lines
-abbrev pub Leaves : Filter → Result (List Entry) ℕ → Refusal → Option (List ℕ) → Option (List ℕ) → Type 0
-Leaves f (Err bad) (refusal.BadCommand line) old new = (line ≡ bad) × Keeps old new
-Leaves f (Err bad) refusal.Memory old new = Keeps old new
-Leaves f script refusal.Read old new = Keeps old new
-Leaves f (Ok entries) refused old new = LeavesLines (filtered_lines f entries) refused old new
-Leaves _ _ _ old new = ⊥
+-- the lines of text that are kept: audit lines, the count of all entries, and what is kept of each inbox
+abbrev pub filtered : Filter → Form
+filtered f = record { record_lines = audit_kept f; count = count_line; inbox_lines = inbox_kept f }

@@ -3,10 +3,8 @@
 //! The filters are this project's own. Proved: what is written are the lines of the definition
 //! (`specs/Filtering.antt`), byte for byte, where the reader and the writer tell their bytes.
 
-mod audits;
 mod filtering;
 mod filters;
 mod inboxes;
 
-pub use filtering::judge_filtered;
 pub use filters::{Filter, Only};

@@ -6,6 +6,7 @@
 #![tactic(auto)]
 
 pub mod filter;
+mod forms;
 mod gathering;
 mod inboxes;
 mod judging;
@@ -13,6 +14,7 @@ mod output;
 mod scripts;
 mod texts;
 
+pub use forms::{JudgedAsText, PutsJudged, TellsJudged};
 pub use gathering::{write_all, write_much};
-pub use judging::judge_script;
+pub use judging::{judge_in_form, judge_script};
 pub use scripts::judge_lines;

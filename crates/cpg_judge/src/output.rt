@@ -1,17 +1,17 @@
-//! The inboxes, written one after the other.
+//! An inbox, written as text.
 //!
 //! Proved: each function puts its lines behind those that were written and gathered, or leaves after a refusal what
 //! `Gathers` says of them.
 
 ghost use Rattle.std.specs.Prelude.{◌≡◌, ◌≤◌, ◌-◌, ◌++◌, Some, drop, length, map, OnOk, IsOkUnless};
-ghost use Rattle.std.specs.List.{concat, flat_map};
+ghost use Rattle.std.specs.List.{concat};
 ghost use Rattle.cpg_record.specs.Events as events;
 ghost use Rattle.cpg_record.specs.Judging.{judged};
 ghost use Rattle.cpg_record.specs.Nexts.{is_made_by};
 ghost use Rattle.cpg_record.specs.Places.{IsNextOf};
 ghost use Rattle.cpg_print.specs.Events.{event_line};
 ghost use Rattle.cpg_judge.specs.Gathering.{Gathers};
-ghost use Rattle.cpg_judge.specs.Judging.{inbox_lines};
+ghost use Rattle.cpg_judge.specs.Judging.{inbox_text};
 ghost use Rattle.cpg_judge.specs.Texts.{lines_at, lines_between, AreTexts, Makes};
 
 use crate::gathering::{gather, write_much};
@@ -104,7 +104,7 @@ fn write_places<W: Write>(
 }
 
 /// Writes the inbox of a connection: a line that names it, and its events by place.
-fn write_inbox<W: Write>(
+pub fn write_inbox<W: Write>(
     writer: &mut W,
     lines: &mut Vec<u8>,
     policy: &Policy,
@@ -112,28 +112,8 @@ fn write_inbox<W: Write>(
     conn: &ConnId,
 ) -> Result<(), Refusal>
     requires { AreTexts texts.now (judged policy.now) (length (judged policy.now)) }
-    ensures { Gathers result (W.contents writer.old) lines.old.items (W.contents writer.new) lines.new.items (inbox_lines (judged policy.now) conn.now) }
+    ensures { Gathers result (W.contents writer.old) lines.old.items (W.contents writer.new) lines.new.items (inbox_text (judged policy.now) conn.now) }
 {
     put_inbox(lines, conn)?;
     write_places(writer, lines, &Inbox::of(policy, texts, *conn))
-}
-
-/// Writes the inboxes of the connections, one after the other.
-pub fn write_inboxes<W: Write>(
-    writer: &mut W,
-    lines: &mut Vec<u8>,
-    policy: &Policy,
-    texts: &Texts,
-    conns: &[ConnId],
-) -> Result<(), Refusal>
-    requires { AreTexts texts.now (judged policy.now) (length (judged policy.now)) }
-    ensures { Gathers result (W.contents writer.old) lines.old.items (W.contents writer.new) lines.new.items (flat_map (inbox_lines (judged policy.now)) conns.now) }
-{
-    for conn in conns {
-        match write_inbox(writer, lines, policy, texts, conn) {
-            Ok(()) => {}
-            Err(refusal) => return Err(refusal),
-        }
-    }
-    Ok(())
 }

@@ -246,7 +246,7 @@ impl Text {
 /// The texts of all groups, kept for names that share their bytes with the records. Contracts see it as the list of
 /// names with texts; a group that is not there has none.
 #[derive(Drop)]
-pub(crate) struct Texts {
+pub struct Texts {
     kept: IndexMap<Name, Text, BuildHasherDefault<NameHasher>>,
     none: Text,
     // Where the texts of the place before are kept. They are believed only where their group has the wanted name.

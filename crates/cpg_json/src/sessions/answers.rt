@@ -127,7 +127,7 @@ fn put_records(
 ) -> Result<(), Refusal>
     requires seat { IsSeatOf board.now.cells seat.now }
     requires count { count ≡ length seat.now }
-    ensures ok { OnOk result (text.new.items ≡ text.old.items ++ concat (records_json (λ place. head.now) (records_of seat.now))) }
+    ensures ok { OnOk result (text.new.items ≡ text.old.items ++ concat (records_json head.now (records_of seat.now))) }
     ensures memory { IsOkUnless result Refusal.Memory }
 {
     for index in 0..count {

@@ -1,4 +1,4 @@
-//! What is kept of the inboxes, written one after the other.
+//! What is kept of an inbox.
 //!
 //! Proved: each function puts its lines behind those that were written and gathered, or leaves after a refusal what
 //! `Gathers` says of them.
@@ -8,11 +8,11 @@ ghost use Rattle.std.specs.List.{concat, flat_map};
 ghost use Rattle.cpg_record.specs.Events.{events};
 ghost use Rattle.cpg_record.specs.Judging.{judged};
 ghost use Rattle.cpg_judge.specs.Gathering.{Gathers};
-ghost use Rattle.cpg_judge.specs.Filtering.{event_kept, headed, inbox_lines, lines_at, told_lines};
+ghost use Rattle.cpg_judge.specs.Filtering.{event_kept, headed, inbox_kept, lines_at, told_lines};
 
-use crate::filter::audits::record_of;
 use crate::filter::filters::{Filter, Only, keeps_event};
 use crate::gathering::write_much;
+use crate::judging::record_of;
 use cpg_cred::Refusal;
 use cpg_group::Policy;
 use cpg_print::{put_event, put_inbox};
@@ -123,7 +123,7 @@ fn put_inbox_kept(
     filter: &Filter<'_>,
     conn: &ConnId,
 ) -> Result<(), Refusal>
-    ensures ok { OnOk result (lines.new.items ≡ lines.old.items ++ concat (inbox_lines filter.now (judged policy.now) conn.now)) }
+    ensures ok { OnOk result (lines.new.items ≡ lines.old.items ++ concat (inbox_kept filter.now (judged policy.now) conn.now)) }
     ensures memory { IsOkUnless result Refusal.Memory }
 {
     if filter.keeps_conn(conn) {
@@ -133,34 +133,15 @@ fn put_inbox_kept(
 }
 
 /// Writes what is kept of the inbox of a connection. `Memory` leaves nothing of it.
-fn write_inbox<W: Write>(
+pub fn write_inbox<W: Write>(
     writer: &mut W,
     lines: &mut Vec<u8>,
     policy: &Policy,
     filter: &Filter<'_>,
     conn: &ConnId,
 ) -> Result<(), Refusal>
-    ensures { Gathers result (W.contents writer.old) lines.old.items (W.contents writer.new) lines.new.items (inbox_lines filter.now (judged policy.now) conn.now) }
+    ensures { Gathers result (W.contents writer.old) lines.old.items (W.contents writer.new) lines.new.items (inbox_kept filter.now (judged policy.now) conn.now) }
 {
     put_inbox_kept(lines, policy, filter, conn)?;
     write_much(writer, lines)
-}
-
-/// Writes what is kept of the inboxes of the connections, one after the other.
-pub(crate) fn write_inboxes<W: Write>(
-    writer: &mut W,
-    lines: &mut Vec<u8>,
-    policy: &Policy,
-    filter: &Filter<'_>,
-    conns: &[ConnId],
-) -> Result<(), Refusal>
-    ensures { Gathers result (W.contents writer.old) lines.old.items (W.contents writer.new) lines.new.items (flat_map (inbox_lines filter.now (judged policy.now)) conns.now) }
-{
-    for conn in conns {
-        match write_inbox(writer, lines, policy, filter, conn) {
-            Ok(()) => {}
-            Err(refusal) => return Err(refusal),
-        }
-    }
-    Ok(())
 }
