@@ -23,8 +23,7 @@ use Rattle.cpg_draw.specs.Drawing as draw
 use Rattle.cpg_step.specs.NumberedSteps as numbers
 use Rattle.cpg_json.specs.Answers.{accept_json}
 use Rattle.cpg_json.specs.Judging.{judged_json}
-use Rattle.cpg_json.specs.Marks.{heads_of}
-use Rattle.cpg_json.specs.Stepping as json_step
+use Rattle.cpg_json.specs.Stepping.{stepped_json}
 use Rattle.cpg_why.specs.Forms.{plain}
 use Rattle.cpg_why.specs.Scripts as why
 use Rattle.cpg_why.specs.Explaining as told_steps
@@ -57,15 +56,18 @@ status_after (Some (Fault fault)) = 1
 status_after (Some BadWord) = 2
 status_after (Some (Missing absent)) = 2
 
+-- the form in which the commands of a script are told, whose lines have those numbers
+abbrev pub stepped_as : Stepped → List ℕ → step.Form
+stepped_as stepped.Text numbers = step.stepped_text
+stepped_as (stepped.Json marks) numbers = stepped_json marks numbers
+
 -- a script, whose commands' lines have those numbers, was run over a world, and all its lines are written
 abbrev pub IsRun : Stepped → List ℕ → Result (List Command) ℕ → WorldValue → Option (List ℕ) → Option (List ℕ) → WorldValue → Type 0
-IsRun stepped.Text numbers commands w old new world = step.IsRun commands w old new world
-IsRun (stepped.Json marks) numbers commands w old new world = json_step.IsRun (heads_of marks numbers) commands w old new world
+IsRun form numbers commands w old new world = step.IsRun (stepped_as form numbers) commands w old new world
 
 -- what a refusal leaves of it
 abbrev pub LeavesRun : Stepped → List ℕ → Result (List Command) ℕ → Refusal → WorldValue → Option (List ℕ) → Option (List ℕ) → WorldValue → Type 0
-LeavesRun stepped.Text numbers commands refused w old new world = step.Leaves commands refused w old new world
-LeavesRun (stepped.Json marks) numbers commands refused w old new world = json_step.Leaves (heads_of marks numbers) commands refused w old new world
+LeavesRun form numbers commands refused w old new world = step.Leaves (stepped_as form numbers) commands refused w old new world
 
 -- The script was run over a new world, and all its lines are written.
 abbrev pub StepsAll : Stepped → Settings → Listed → List ℕ → Option (List ℕ) → Option (List ℕ) → Type 0

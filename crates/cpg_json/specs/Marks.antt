@@ -1,17 +1,15 @@
 -- what stands at the head of an object: the number of the script's line that it answers, and what is asked for beside it
-use Rattle.std.specs.Prelude.{ℕ, ◌+◌, ◌-◌, List, [], ◌∷◌, ◌++◌, length, map, codes, decimal, slice_index, Option, Some, None}
+use Rattle.std.specs.Prelude.{ℕ, ◌+◌, ◌-◌, List, [], ◌∷◌, ◌++◌, map, codes, decimal, Option, Some, None}
 use Rattle.std.specs.List.{range_with_len}
 use Rattle.cpg_world_laws.specs.declared.events.WorldEvent.{WorldEvent}
 use Rattle.cpg_world_laws.specs.declared.events.WorldEvent.TheVariants as event
-use Rattle.cpg_world_laws.specs.Worlds.{WorldValue}
 use Rattle.cpg_step.specs.declared.commands.Command.{Command}
 use Rattle.cpg_step.specs.declared.commands.Command.TheVariants.{Act, Look}
 use Rattle.cpg_step.specs.declared.commands.Look.{Look as LookValue}
 use Rattle.cpg_step.specs.declared.commands.Look.TheVariants as look
-use Rattle.cpg_step.specs.Running.{after}
 use Rattle.cpg_json.specs.Objects.{array, field, more, number, word}
 use Rattle.cpg_json.specs.declared.marks.Marks.{Marks}
-use Rattle.cpg_json.specs.declared.marks.Marks.TheVariants.{Line, Echo, Numbers}
+use Rattle.cpg_json.specs.declared.marks.Marks.TheVariants.{Echo, Numbers}
 
 -- ---- lines
 
@@ -70,17 +68,12 @@ frames_between before last = range_with_len (before + 1) (last - before)
 abbrev pub numbers_field : ℕ → ℕ → List ℕ
 numbers_field before last = field (codes "numbers") (array (map decimal (frames_between before last)))
 
--- what stands at the head of an answer to that line, whose command is of that; so many frames were sent before it, and so many after it
-abbrev pub mark_fields : Marks → ℕ → List ℕ → ℕ → ℕ → List (List ℕ)
-mark_fields Line n of before last = number (codes "line") n ∷ []
-mark_fields Echo n of before last = number (codes "line") n ∷ field (codes "echo") (word (echo_words n of)) ∷ []
-mark_fields Numbers n of before last = number (codes "line") n ∷ numbers_field before last ∷ []
+-- what stands at the head of an answer to that line, whose command is of that
+abbrev pub mark_fields : Marks → ℕ → List ℕ → List (List ℕ)
+mark_fields Echo n of = number (codes "line") n ∷ field (codes "echo") (word (echo_words n of)) ∷ []
+mark_fields _ n of = number (codes "line") n ∷ []
 
--- the head of a command's answers by its index and the world that it meets
-abbrev pub Heads : Type 0
-Heads = ℕ → WorldValue → Command → List ℕ
-
--- the same with those marks, where the lines of commands have those numbers
-abbrev pub heads_of : Marks → List ℕ → Heads
-heads_of marks numbers index w command =
-    more (mark_fields marks (slice_index numbers index) (command_word command) (length w.sent) (length (after w (command ∷ [])).sent))
+-- and then, where so many frames were sent before the command and so many after it
+abbrev pub sent_fields : Marks → ℕ → ℕ → List (List ℕ)
+sent_fields Numbers before last = numbers_field before last ∷ []
+sent_fields _ before last = []

@@ -3,7 +3,7 @@
 //! Proved: what is put is the definition in `specs/Marks.antt`.
 
 ghost use Rattle.std.specs.Prelude.{◌≡◌, ◌≤◌, ◌++◌, codes, map, decimal, slice_index, OnOk, IsOkUnless};
-ghost use Rattle.cpg_json.specs.Marks.{command_word, conn_word, echo_words, event_word, frames_between, line_fields, look_word, mark_fields, node_word, numbers_field};
+ghost use Rattle.cpg_json.specs.Marks.{command_word, conn_word, echo_words, event_word, frames_between, line_fields, look_word, mark_fields, node_word, numbers_field, sent_fields};
 ghost use Rattle.cpg_json.specs.Objects.{after_comma, field, joined, more, word};
 
 use crate::objects::{put_name, put_number};
@@ -21,13 +21,6 @@ pub enum Marks {
     Echo,
     /// That number, and the numbers of the frames that the command sent.
     Numbers,
-}
-
-/// The marks of a script's answers, and the numbers of the lines of its commands.
-#[derive(Debug, Clone, Copy)]
-pub(crate) struct Heading<'a> {
-    pub(crate) marks: Marks,
-    pub(crate) numbers: &'a [u32],
 }
 
 /// Puts the number of a line, where there is one, at the head's end.
@@ -51,23 +44,36 @@ pub fn number_at(numbers: &[u32], index: usize) -> u32
     }
 }
 
-/// Puts the marks of a command's answers at the head's end: so many frames were sent before it, and so many after it.
+/// Puts the marks of the answers to a command at the head's end, whose line has that number.
 pub(crate) fn put_marks(
     head: &mut Vec<u8>,
-    heading: &Heading<'_>,
-    index: usize,
+    marks: Marks,
+    number: u32,
     command: &Command,
+) -> Result<(), Refusal>
+    ensures ok { OnOk result (head.new.items ≡ head.old.items ++ more (mark_fields marks number (command_word command.now))) }
+    ensures memory { IsOkUnless result Refusal.Memory }
+{
+    put_number(head, "line", u64::from(number))?;
+    match marks {
+        Marks::Line | Marks::Numbers => Ok(()),
+        Marks::Echo => put_echo(head, number, command),
+    }
+}
+
+/// Puts the numbers of the frames that the command sent, where they are asked for: so many were sent before it, and so
+/// many after it.
+pub(crate) fn put_sent(
+    head: &mut Vec<u8>,
+    marks: Marks,
     before: usize,
     last: usize,
 ) -> Result<(), Refusal>
-    ensures ok { OnOk result (head.new.items ≡ head.old.items ++ more (mark_fields heading.now.marks (slice_index heading.now.numbers.now index) (command_word command.now) before last)) }
+    ensures ok { OnOk result (head.new.items ≡ head.old.items ++ more (sent_fields marks before last)) }
     ensures memory { IsOkUnless result Refusal.Memory }
 {
-    let number = number_at(heading.numbers, index);
-    put_number(head, "line", u64::from(number))?;
-    match heading.marks {
-        Marks::Line => Ok(()),
-        Marks::Echo => put_echo(head, number, command),
+    match marks {
+        Marks::Line | Marks::Echo => Ok(()),
         Marks::Numbers => put_numbers(head, before, last),
     }
 }

@@ -4,3 +4,4 @@ pub mod LastNumbers
 pub mod Lengths
 pub mod Listing
 pub mod NumberedRuns
+pub mod Whole

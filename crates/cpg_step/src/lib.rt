@@ -8,6 +8,7 @@
 
 mod acting;
 mod commands;
+mod forms;
 mod looking;
 mod numbered;
 pub mod numbers;
@@ -20,8 +21,9 @@ mod scripts;
 pub use acting::{answer_to, do_command};
 pub use commands::{Command, Look};
 pub use cpg_text::Fault;
+pub use forms::{PutsSteps, SteppedAsText, TellsSteps};
 pub use looking::put_look;
 pub use printing::{put_answer, put_frame};
 pub use reading::{command_in_line, read_node, read_node_alone};
-pub use running::run_script;
+pub use running::{run_in_form, run_script};
 pub use scripts::read_commands;
