@@ -9,7 +9,7 @@ use crate::gates::{Chance, Fates, Notes, gate_of};
 use cpg_board::Board;
 use cpg_cluster::trace::{recorded_by, write_trace};
 use cpg_cluster::{
-    Manner, Numbered, Patience, Sessions, Shown, command_in_line, do_command, hand_on,
+    Numbered, RunOptions, Sessions, TextForm, WaitLimit, command_in_line, do_command, hand_on,
 };
 use cpg_cred::{AcceptList, Refusal};
 use cpg_daemon::{Cluster, Front, HistoryName, Member, Running};
@@ -37,9 +37,9 @@ pub struct Plan {
 }
 
 /// How a command is answered: a `wait` looks once.
-const AT_ONCE: Manner<Shown> = Manner {
-    patience: Patience::Millis(0),
-    form: Shown::Plain,
+const AT_ONCE: RunOptions<TextForm> = RunOptions {
+    wait_limit: WaitLimit::Millis(0),
+    form: TextForm::Plain,
 };
 
 /// What the line's command prints.

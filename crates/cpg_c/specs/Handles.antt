@@ -7,7 +7,7 @@ use Rattle.cpg_embed.specs.Endpoints.{EndpointValue}
 use Rattle.cpg_embed.specs.Closing.{with_remains}
 use Rattle.cpg_conf.specs.Names.{Known}
 use Rattle.cpg_embed.specs.Opening.{IsOpened, IsConfOpened}
-use Rattle.cpg_embed.specs.Statuses.{number}
+use Rattle.cpg_cred.specs.Shown.{number}
 use Rattle.cpg_embed.specs.declared.opening.Setup.{Setup}
 use Rattle.cpg_embed.specs.declared.opening.Fault.{Fault}
 use Rattle.cpg_embed.specs.declared.statuses.TheConstants.{OK, CLOSED, BUSY}

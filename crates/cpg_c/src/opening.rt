@@ -7,7 +7,7 @@ ghost use Rattle.cpg_c.specs.Handles.{IsOpenedAt, IsConfOpenedAt};
 
 use crate::handles::Handle;
 use cpg_cred::Refusal;
-use cpg_embed::{BUSY, Fault, OK, Setup, number_of, open, open_conf};
+use cpg_embed::{BUSY, Fault, OK, Setup, open, open_conf};
 use std::alloc::Global;
 
 /// Opens a node of that setup, which lets in those users and groups.
@@ -32,7 +32,7 @@ pub extern "C" fn cpgring_open(
                     *handle = Handle::of(boxed);
                     OK
                 }
-                Err(_) => number_of(Refusal::Memory),
+                Err(_) => Refusal::Memory.number(),
             },
             Err(status) => status,
         },
@@ -62,7 +62,7 @@ pub extern "C" fn cpgring_open_conf(
                     *handle = Handle::of(boxed);
                     OK
                 }
-                Err(_) => number_of(Refusal::Memory),
+                Err(_) => Refusal::Memory.number(),
             },
             Err(status) => status,
         },

@@ -9,8 +9,8 @@ use Rattle.cpg_print.specs.Records.{audit_lines, count_line}
 use Rattle.cpg_cluster.specs.declared.commands.Command.{Command}
 use Rattle.cpg_cluster.specs.declared.commands.Command.TheVariants as command
 use Rattle.cpg_cluster.specs.declared.commands.Numbered.{Numbered}
-use Rattle.cpg_cluster.specs.declared.forms.Shown.{Shown}
-use Rattle.cpg_cluster.specs.declared.forms.Shown.TheVariants.{Plain, Echoed}
+use Rattle.cpg_cluster.specs.declared.forms.TextForm.{TextForm}
+use Rattle.cpg_cluster.specs.declared.forms.TextForm.TheVariants.{Plain, Echoed}
 use Rattle.cpg_cluster.specs.declared.replies.Reply.{Reply}
 use Rattle.cpg_cluster.specs.declared.replies.Reply.TheVariants.{Opened, Admitted, Took, Nothing, Members, Groups, Audit, Closed, Safe}
 use Rattle.cpg_cluster.specs.Answers.{Answer}
@@ -70,12 +70,12 @@ abbrev pub echoed : List ℕ → List ℕ → List ℕ
 echoed words text = flat_map (echoed_line words) (lines_of text)
 
 -- a text of an answer alone, or each of its lines after its echo
-abbrev pub text_as : Shown → Numbered → Answer → List ℕ → List ℕ
+abbrev pub text_as : TextForm → Numbered → Answer → List ℕ → List ℕ
 text_as Plain line answer text = text
 text_as Echoed line answer text = echoed (echo_of line answer) text
 
 -- an answer alone, or each of its lines after its echo
-abbrev pub shown_as : Shown → Printed
+abbrev pub shown_as : TextForm → Printed
 shown_as shown line answer = text_as shown line answer (answer_text answer)
 
 -- the answers to commands, one after the other, by that form

@@ -11,7 +11,7 @@ ghost use Rattle.cpg_cluster.specs.Steps.{AreWithin, SeatsOn};
 
 use crate::asking::serve;
 use crate::commands::{Ask, Command, Numbered};
-use crate::forms::{Manner, Patience, PutsAnswer};
+use crate::forms::{PutsAnswer, RunOptions, WaitLimit};
 use crate::replies::Reply;
 use crate::sessions::{Sessions, learn};
 use cpg_cred::{Cred, NodeId, Refusal, is_memory};
@@ -46,7 +46,7 @@ fn serve_open<B: HistoryName, G, H: Wait + Clock>(
     rt: &H,
     alloc: Global,
     running: &Running<B, G>,
-    patience: Patience,
+    wait_limit: WaitLimit,
     slot: &mut Option<Session<B>>,
     asked: &Ask,
 ) -> Result<Reply, Refusal>
@@ -57,7 +57,7 @@ fn serve_open<B: HistoryName, G, H: Wait + Clock>(
 {
     match slot {
         None => Err(Refusal::NoConnection),
-        Some(session) => serve(rt, alloc, running, patience, session, asked),
+        Some(session) => serve(rt, alloc, running, wait_limit, session, asked),
     }
 }
 
@@ -101,7 +101,7 @@ fn ask<B: HistoryName, G, H: Wait + Clock>(
     rt: &H,
     alloc: Global,
     running: &Running<B, G>,
-    patience: Patience,
+    wait_limit: WaitLimit,
     slots: &mut Vec<Option<Session<B>>>,
     number: u32,
     asked: &Ask,
@@ -118,7 +118,7 @@ fn ask<B: HistoryName, G, H: Wait + Clock>(
         rt,
         alloc,
         running,
-        patience,
+        wait_limit,
         &mut slots[number as usize - 1],
         asked,
     )
@@ -165,7 +165,7 @@ fn answer<B: HistoryName, G, H: Wait + Clock>(
     rt: &H,
     alloc: Global,
     running: &Running<B, G>,
-    patience: Patience,
+    wait_limit: WaitLimit,
     sessions: &mut Sessions<B>,
     command: &Command,
 ) -> Result<Reply, Refusal>
@@ -177,7 +177,7 @@ fn answer<B: HistoryName, G, H: Wait + Clock>(
     let Sessions { slots, front } = sessions;
     match command {
         Command::Connect(node, pid, cred) => connect(rt, running, slots, *node, *pid, *cred),
-        Command::Ask(number, asked) => ask(rt, alloc, running, patience, slots, *number, asked),
+        Command::Ask(number, asked) => ask(rt, alloc, running, wait_limit, slots, *number, asked),
         Command::Close(number) => close(rt, running, slots, front, *number),
         Command::Safe(node) => Ok(mark(rt, running, front, *node)),
     }
@@ -189,7 +189,7 @@ pub fn answer_with_memory<B: HistoryName, G, H: Wait + Clock>(
     rt: &H,
     alloc: Global,
     running: &Running<B, G>,
-    patience: Patience,
+    wait_limit: WaitLimit,
     sessions: &mut Sessions<B>,
     command: &Command,
 ) -> Result<Result<Reply, Refusal>, Refusal>
@@ -199,7 +199,7 @@ pub fn answer_with_memory<B: HistoryName, G, H: Wait + Clock>(
     ensures within { AreWithin running.now.nodes sessions.new.slots }
     ensures memory { IsOkUnless result Refusal.Memory }
 {
-    let answer = answer(rt, alloc, running, patience, sessions, command);
+    let answer = answer(rt, alloc, running, wait_limit, sessions, command);
     if is_memory(&answer) {
         return Err(Refusal::Memory);
     }
@@ -214,18 +214,20 @@ pub fn do_command<B: HistoryName, G, H: Wait + Clock, P: PutsAnswer>(
     text: &mut Vec<u8>,
     running: &Running<B, G>,
     sessions: &mut Sessions<B>,
-    manner: &Manner<P>,
+    options: &RunOptions<P>,
     line: &Numbered,
 ) -> Result<(), Refusal>
     requires command { IsWithin running.now.nodes line.now.command }
     requires within { AreWithin running.now.nodes sessions.old.slots }
     requires none { text.old.items ≡ [] }
-    ensures ok { OnOk result (IsDone (P.printed manner.now.form) B.start sessions.old line.now text.new.items sessions.new) }
+    ensures ok { OnOk result (IsDone (P.printed options.now.form) B.start sessions.old line.now text.new.items sessions.new) }
     ensures done { OnErr result (MayBeDone B.start sessions.old line.now.command sessions.new) }
     ensures within { AreWithin running.now.nodes sessions.new.slots }
     ensures memory { IsOkUnless result Refusal.Memory }
 {
-    let patience = manner.patience;
-    let answer = answer_with_memory(rt, alloc, running, patience, sessions, &line.command)?;
-    manner.form.put(alloc, text, running.board(), line, &answer)
+    let wait_limit = options.wait_limit;
+    let answer = answer_with_memory(rt, alloc, running, wait_limit, sessions, &line.command)?;
+    options
+        .form
+        .put(alloc, text, running.board(), line, &answer)
 }

@@ -14,7 +14,7 @@ ghost use Rattle.cpg_cluster.specs.Answers.{Serves};
 ghost use Rattle.cpg_cluster.specs.Steps.{SeatsOn, IsPolled, poll_of};
 
 use crate::commands::Ask;
-use crate::forms::Patience;
+use crate::forms::WaitLimit;
 use crate::replies::Reply;
 use cpg_board::{Board, Seat};
 use cpg_cred::Refusal;
@@ -184,19 +184,19 @@ fn wait_within<B: HistoryName, G, H: Wait + Clock>(
     Ok(Reply::Nothing(session.seat().len()))
 }
 
-/// The session's next event, once it comes; nothing where patience ends before. Where the clock can't be read, a
+/// The session's next event, once it comes; nothing where the wait limit ends before. Where the clock can't be read, a
 /// time is as long as `MOST_POLLS` polls.
 fn wait<B: HistoryName, G, H: Wait + Clock>(
     rt: &H,
     running: &Running<B, G>,
-    patience: Patience,
+    wait_limit: WaitLimit,
     session: &mut Session<B>,
 ) -> Result<Reply, Refusal>
     requires { session.old.who.id.node ≤ running.now.nodes }
     ensures answer { Serves B.start session.old asks.Wait result session.new }
     ensures seats { SeatsOn B.cells result }
 {
-    if let Patience::Millis(millis) = patience {
+    if let WaitLimit::Millis(millis) = wait_limit {
         if let Ok(start) = Instant::now(rt) {
             let time = Duration::from_millis(millis);
             let mut looked = false;
@@ -284,7 +284,7 @@ pub fn serve<B: HistoryName, G, H: Wait + Clock>(
     rt: &H,
     alloc: Global,
     running: &Running<B, G>,
-    patience: Patience,
+    wait_limit: WaitLimit,
     session: &mut Session<B>,
     asked: &Ask,
 ) -> Result<Reply, Refusal>
@@ -295,7 +295,7 @@ pub fn serve<B: HistoryName, G, H: Wait + Clock>(
 {
     match asked {
         Ask::Call(call) => submit(rt, alloc, running, session, call),
-        Ask::Wait => wait(rt, running, patience, session),
+        Ask::Wait => wait(rt, running, wait_limit, session),
         Ask::List(group) => list(rt, running, session, group.as_slice()),
         Ask::Groups => groups(rt, running, session),
         Ask::Audit => audit(running, &*session),

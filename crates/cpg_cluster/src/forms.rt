@@ -18,7 +18,7 @@ use std::alloc::Global;
 
 /// How long a session that waits is asked for its next event.
 #[derive(Debug, Clone, Copy)]
-pub enum Patience {
+pub enum WaitLimit {
     /// For `MOST_POLLS` looks.
     Looks,
     /// For so many milliseconds by the clock, and at least once.
@@ -27,9 +27,9 @@ pub enum Patience {
 
 /// How a script's commands are answered.
 #[derive(Debug, Clone, Copy)]
-pub struct Manner<P> {
+pub struct RunOptions<P> {
     /// How long a wait looks.
-    pub patience: Patience,
+    pub wait_limit: WaitLimit,
     /// What is printed of an answer.
     pub form: P,
 }
@@ -60,14 +60,14 @@ pub trait PutsAnswer {
 
 /// Answers as text.
 #[derive(Debug, Clone, Copy)]
-pub enum Shown {
+pub enum TextForm {
     /// Alone.
     Plain,
     /// Each line after the number of the command's line and its session: `7 s2 `, or `7 - ` where it has none.
     Echoed,
 }
 
-impl PutsAnswer for Shown {
+impl PutsAnswer for TextForm {
     ghost use Rattle.cpg_cluster.specs.Lines.{shown_as};
 
     ghost printed = { λ shown. shown_as shown };
@@ -81,8 +81,8 @@ impl PutsAnswer for Shown {
         answer: &Result<Reply, Refusal>,
     ) -> Result<(), Refusal> {
         match self {
-            Shown::Plain => put_answer(alloc, text, board, answer),
-            Shown::Echoed => {
+            TextForm::Plain => put_answer(alloc, text, board, answer),
+            TextForm::Echoed => {
                 let mut alone = Vec::new(alloc);
                 put_answer(alloc, &mut alone, board, answer)?;
                 put_after_echo(alloc, text, line, answer, alone.as_slice())
@@ -93,9 +93,9 @@ impl PutsAnswer for Shown {
 
 /// Answers as text, and where a session that waited was told nothing, what is known, in a line that begins with `#`.
 #[derive(Debug, Clone, Copy)]
-pub struct Noted {
+pub struct NotedForm {
     /// How they are shown.
-    pub shown: Shown,
+    pub shown: TextForm,
     /// What is known of each wait.
     pub known: Known,
 }
@@ -116,7 +116,7 @@ fn put_noted(
     put_note(text, known, answer)
 }
 
-impl PutsAnswer for Noted {
+impl PutsAnswer for NotedForm {
     ghost use Rattle.cpg_cluster.specs.Notes.{noted_as};
 
     ghost printed = { λ noted. noted_as noted.known noted.shown };
@@ -130,8 +130,8 @@ impl PutsAnswer for Noted {
         answer: &Result<Reply, Refusal>,
     ) -> Result<(), Refusal> {
         match self.shown {
-            Shown::Plain => put_noted(alloc, text, board, &self.known, answer),
-            Shown::Echoed => {
+            TextForm::Plain => put_noted(alloc, text, board, &self.known, answer),
+            TextForm::Echoed => {
                 let mut alone = Vec::new(alloc);
                 put_noted(alloc, &mut alone, board, &self.known, answer)?;
                 put_after_echo(alloc, text, line, answer, alone.as_slice())
@@ -141,7 +141,7 @@ impl PutsAnswer for Noted {
 }
 
 /// Waits of `MOST_POLLS` looks, and answers alone.
-pub const PLAIN: Manner<Shown> = Manner {
-    patience: Patience::Looks,
-    form: Shown::Plain,
+pub const PLAIN: RunOptions<TextForm> = RunOptions {
+    wait_limit: WaitLimit::Looks,
+    form: TextForm::Plain,
 };

@@ -6,7 +6,7 @@ ghost use Rattle.std.specs.Prelude.{◌≡◌, ◌++◌, OnOk, IsOkUnless};
 ghost use Rattle.cpg_cluster.specs.Notes.{all_text, counted, end_text, note_of, note_line, of_places_text, places_text, seen_text, span_text, waited_text};
 
 use crate::asking::MOST_POLLS;
-use crate::forms::Patience;
+use crate::forms::WaitLimit;
 use crate::replies::Reply;
 use cpg_cred::Refusal;
 use cpg_ring::Settings;
@@ -16,22 +16,22 @@ use cpg_text::{push_number, put};
 #[derive(Debug, Clone, Copy)]
 pub struct Known {
     /// How long it looks.
-    pub patience: Patience,
+    pub wait_limit: WaitLimit,
     /// The ring's settings.
     pub settings: Settings,
 }
 
 /// Puts how long a wait looks at the text's end.
-fn put_span(text: &mut Vec<u8>, patience: Patience) -> Result<(), Refusal>
-    ensures ok { OnOk result (text.new.items ≡ text.old.items ++ span_text patience) }
+fn put_span(text: &mut Vec<u8>, wait_limit: WaitLimit) -> Result<(), Refusal>
+    ensures ok { OnOk result (text.new.items ≡ text.old.items ++ span_text wait_limit) }
     ensures memory { IsOkUnless result Refusal.Memory }
 {
-    match patience {
-        Patience::Looks => {
+    match wait_limit {
+        WaitLimit::Looks => {
             push_number(text, u64::from(MOST_POLLS))?;
             put(text, " looks")
         }
-        Patience::Millis(millis) => {
+        WaitLimit::Millis(millis) => {
             push_number(text, millis)?;
             put(text, " ms")
         }
@@ -39,12 +39,12 @@ fn put_span(text: &mut Vec<u8>, patience: Patience) -> Result<(), Refusal>
 }
 
 /// Puts how long was waited at the text's end.
-fn put_waited(text: &mut Vec<u8>, patience: Patience) -> Result<(), Refusal>
-    ensures ok { OnOk result (text.new.items ≡ text.old.items ++ waited_text patience) }
+fn put_waited(text: &mut Vec<u8>, wait_limit: WaitLimit) -> Result<(), Refusal>
+    ensures ok { OnOk result (text.new.items ≡ text.old.items ++ waited_text wait_limit) }
     ensures memory { IsOkUnless result Refusal.Memory }
 {
     put(text, "# nothing was told in ")?;
-    put_span(text, patience)
+    put_span(text, wait_limit)
 }
 
 /// Puts a number between two words at the text's end.
@@ -114,7 +114,7 @@ fn put_note_line(text: &mut Vec<u8>, known: &Known, seen: u64) -> Result<(), Ref
     ensures ok { OnOk result (text.new.items ≡ text.old.items ++ note_line known.now seen) }
     ensures memory { IsOkUnless result Refusal.Memory }
 {
-    put_waited(text, known.patience)?;
+    put_waited(text, known.wait_limit)?;
     put(text, "; the session has seen ")?;
     put_seen(text, &known.settings, seen)?;
     put(text, "\n")

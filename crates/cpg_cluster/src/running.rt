@@ -13,7 +13,7 @@ ghost use Rattle.cpg_cluster.specs.Steps.{AreWithin};
 
 use crate::acting::do_command;
 use crate::commands::{Ask, Command, Numbered};
-use crate::forms::{Manner, PLAIN, PutsAnswer, Shown};
+use crate::forms::{PLAIN, PutsAnswer, RunOptions, TextForm};
 use crate::scripts::read_commands;
 use crate::sessions::Sessions;
 use cpg_cred::Refusal;
@@ -38,7 +38,7 @@ pub fn run_sessions<B, G, H, R, W, P>(
     reader: &mut R,
     writer: &mut W,
     running: &Running<B, G>,
-    manner: &Manner<P>,
+    options: &RunOptions<P>,
     sessions: &mut Sessions<B>,
 ) -> Result<(), Fault>
 where
@@ -49,9 +49,9 @@ where
     P: PutsAnswer,
     requires { AreWithin running.now.nodes sessions.old.slots }
     ensures ok { OnOk result (IfSome (R.remaining reader.old) (λ script.
-        (length script ≤ MOST_BYTES) × Runs (P.printed manner.now.form) B.start (commands_of_script running.now.nodes script) sessions.old (W.contents writer.old) (W.contents writer.new) sessions.new)) }
+        (length script ≤ MOST_BYTES) × Runs (P.printed options.now.form) B.start (commands_of_script running.now.nodes script) sessions.old (W.contents writer.old) (W.contents writer.new) sessions.new)) }
     ensures err { IfErr result (λ fault. IfSome (R.remaining reader.old) (λ script.
-        Stops (P.printed manner.now.form) B.start (commands_of_script running.now.nodes script) fault.refusal sessions.old (W.contents writer.old) (W.contents writer.new) sessions.new)) }
+        Stops (P.printed options.now.form) B.start (commands_of_script running.now.nodes script) fault.refusal sessions.old (W.contents writer.old) (W.contents writer.new) sessions.new)) }
 
     // Nothing is written before the script was read and checked, even where the reader tells no bytes.
     ensures ends { IfErr result (λ fault. EndsRunning fault.refusal (W.contents writer.old) (W.contents writer.new)) }
@@ -61,7 +61,7 @@ where
     let script = read_whole(alloc, reader)?;
     let commands = read_commands(alloc, running.nodes(), script.as_slice())?;
     let commands = commands.as_slice();
-    run_commands(rt, alloc, writer, running, manner, sessions, commands)?;
+    run_commands(rt, alloc, writer, running, options, sessions, commands)?;
     Ok(())
 }
 
@@ -81,9 +81,9 @@ where
     R: Read,
     W: Write,
     ensures ok { OnOk result (IfSome (R.remaining reader.old) (λ script.
-        (length script ≤ MOST_BYTES) × IsRun (shown_as Shown.Plain) B.start (commands_of_script running.now.nodes script) (W.contents writer.old) (W.contents writer.new))) }
+        (length script ≤ MOST_BYTES) × IsRun (shown_as TextForm.Plain) B.start (commands_of_script running.now.nodes script) (W.contents writer.old) (W.contents writer.new))) }
     ensures err { IfErr result (λ fault. IfSome (R.remaining reader.old) (λ script.
-        Leaves (shown_as Shown.Plain) B.start (commands_of_script running.now.nodes script) fault.refusal (W.contents writer.old) (W.contents writer.new))) }
+        Leaves (shown_as TextForm.Plain) B.start (commands_of_script running.now.nodes script) fault.refusal (W.contents writer.old) (W.contents writer.new))) }
     ensures ends { IfErr result (λ fault. EndsRunning fault.refusal (W.contents writer.old) (W.contents writer.new)) }
     ensures whole { IfErr result (λ fault. fault.part ≡ None) }
 {
@@ -97,18 +97,18 @@ fn run_commands<B: HistoryName, G, H: Wait + Clock, W: Write, P: PutsAnswer>(
     alloc: Global,
     writer: &mut W,
     running: &Running<B, G>,
-    manner: &Manner<P>,
+    options: &RunOptions<P>,
     sessions: &mut Sessions<B>,
     lines: &[Numbered],
 ) -> Result<(), Refusal>
     requires lines { All (λ line. IsWithin running.now.nodes line.command) lines.now }
     requires within { AreWithin running.now.nodes sessions.old.slots }
-    ensures ok { OnOk result (Runs (P.printed manner.now.form) B.start (Ok lines.now) sessions.old (W.contents writer.old) (W.contents writer.new) sessions.new) }
-    ensures err { IfErr result (λ refusal. IsStopped refusal (P.printed manner.now.form) B.start sessions.old lines.now (W.contents writer.old) (W.contents writer.new) sessions.new) }
+    ensures ok { OnOk result (Runs (P.printed options.now.form) B.start (Ok lines.now) sessions.old (W.contents writer.old) (W.contents writer.new) sessions.new) }
+    ensures err { IfErr result (λ refusal. IsStopped refusal (P.printed options.now.form) B.start sessions.old lines.now (W.contents writer.old) (W.contents writer.new) sessions.new) }
     ensures within { AreWithin running.now.nodes sessions.new.slots }
 {
     for line in lines {
-        match run_command(rt, alloc, writer, running, sessions, manner, line) {
+        match run_command(rt, alloc, writer, running, sessions, options, line) {
             Ok(()) => {}
             Err(refusal) => return Err(refusal),
         }
@@ -155,17 +155,17 @@ fn run_command<B: HistoryName, G, H: Wait + Clock, W: Write, P: PutsAnswer>(
     writer: &mut W,
     running: &Running<B, G>,
     sessions: &mut Sessions<B>,
-    manner: &Manner<P>,
+    options: &RunOptions<P>,
     line: &Numbered,
 ) -> Result<(), Refusal>
     requires command { IsWithin running.now.nodes line.now.command }
     requires within { AreWithin running.now.nodes sessions.old.slots }
-    ensures ok { OnOk result (AreDone (P.printed manner.now.form) B.start sessions.old (line.now ∷ []) (W.contents writer.old) (W.contents writer.new) sessions.new) }
+    ensures ok { OnOk result (AreDone (P.printed options.now.form) B.start sessions.old (line.now ∷ []) (W.contents writer.old) (W.contents writer.new) sessions.new) }
     ensures within { AreWithin running.now.nodes sessions.new.slots }
-    ensures err { IfErr result (λ refusal. LeavesOf refusal (P.printed manner.now.form) B.start sessions.old line.now (W.contents writer.old) (W.contents writer.new) sessions.new) }
+    ensures err { IfErr result (λ refusal. LeavesOf refusal (P.printed options.now.form) B.start sessions.old line.now (W.contents writer.old) (W.contents writer.new) sessions.new) }
 {
     hand_on_before(writer, line)?;
     let mut text = Vec::new(alloc);
-    do_command(rt, alloc, &mut text, running, sessions, manner, line)?;
+    do_command(rt, alloc, &mut text, running, sessions, options, line)?;
     write_whole(writer, text.as_slice())
 }

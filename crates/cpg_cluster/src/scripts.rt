@@ -13,7 +13,7 @@ use std::alloc::Global;
 
 /// The numbers of the script's lines that are not ignored; lines are counted from 1.
 #[tactic(auto, using(cpg_text::proofs::Lengths::lines_few, crate::proofs::Scripted::number_ignored, crate::proofs::Scripted::number_held))]
-fn read_numbers(alloc: Global, script: &[u8]) -> Result<Vec<u32>, Refusal>
+pub fn read_numbers(alloc: Global, script: &[u8]) -> Result<Vec<u32>, Refusal>
     requires { length script.now ≤ MOST_BYTES }
     ensures ok { IfOk result (λ numbers. numbers.items ≡ numbers_of script.now) }
     ensures memory { IsOkUnless result Refusal.Memory }

@@ -1,7 +1,6 @@
 -- what is told of the entries on a new cluster's board, and of one that is not there
 use Rattle.std.proofs.Common.{◌≡◌, ◌≤◌, ℕ, List, [], length, Option, Some, None, Result, Ok, Err, inl, refl, sym, ap, ◌∙◌, subst}
-use Rattle.std.proofs.lemmas.Bool.{false≢true}
-use Rattle.std.specs.Prelude.{IfSome, IsSome}
+use Rattle.std.specs.Prelude.{IfSome}
 use Rattle.std.proofs.KnownBytes.{Keeps-refl}
 use Rattle.cpg_cred.specs.Listed.{Listed}
 use Rattle.cpg_cred.specs.declared.refusals.Refusal.{Refusal}
@@ -9,7 +8,6 @@ use Rattle.cpg_cred.specs.declared.refusals.Refusal.TheVariants as refusal
 use Rattle.cpg_text.specs.declared.streams.TheConstants.{MOST_BYTES}
 use Rattle.cpg_accept.specs.Accepting.{whole_fault}
 use Rattle.cpg_text.specs.declared.faults.Fault as script
-use Rattle.cpg_ring.specs.States.{IsSettings}
 use Rattle.cpg_ring.specs.declared.settings.Settings.{Settings}
 use Rattle.cpg_why.specs.declared.asking.Asked.{Asked}
 use Rattle.cpg_why.specs.declared.asking.WhyFault.{WhyFault}
@@ -27,12 +25,8 @@ use Rattle.cpg_why.specs.Sessions.{RunsUnprinted, StopsUnprinted, LeavesSeated, 
 use Rattle.cpg_console.specs.declared.failures.Failure.{Failure}
 use Rattle.cpg_console.specs.declared.failures.Failure.TheVariants.{BadWord, Fault}
 use Rattle.cpg_console.specs.Runs.{failure_of_delivered, AuditedUpTo, TellsSessions}
-
--- nothing is written after a wrong word
-pub none_of_words : (known : Option (List ℕ)) (asked : Asked) (s : Settings) (list : Option Listed) (a : Option (List ℕ)) → list ≡ None
-    → IfSome known (λ lines. TellsSessions asked s list lines (Some BadWord) a a)
-none_of_words None asked s list a is = tt
-none_of_words (Some lines) asked s list a is = subst (λ (l : Option Listed). TellsSessions asked s l lines (Some BadWord) a a) (sym is) (refl, Keeps-refl a)
+use Rattle.cpg_console.specs.Starting.{IsNotStarted}
+use Rattle.cpg_console.proofs.NotStarted.{unless_started}
 
 none_stopped : (start : WorldValue) (commands : Result (List Numbered) ℕ) → StopsUnprinted start commands refusal.Memory no_sessions no_sessions
 none_stopped start (Ok lines) = (Some [], inl (Keeps-refl (Some []), refl))
@@ -54,18 +48,13 @@ none_of_memory known asked s list refused failure a is e =
     subst (λ (f : Failure). IfSome known (λ lines. TellsSessions asked s (Some list) lines (Some f) a a)) (sym (is ∙ ap (λ (r : Refusal). Fault (whole_fault r)) e))
     (untold known asked s list a)
 
--- the same of a list that words give
-pub none_of_words_memory : (known : Option (List ℕ)) (asked : Asked) (s : Settings) (words : Option Listed) (refused : Refusal) (failure : Failure) (a : Option (List ℕ))
-    → IsSome words → failure ≡ Fault (record { part = None; refusal = refused }) → refused ≡ refusal.Memory
-    → IfSome known (λ lines. TellsSessions asked s words lines (Some failure) a a)
-none_of_words_memory known asked s None refused failure a some is e = absurd (false≢true some)
-none_of_words_memory known asked s (Some list) refused failure a some is e = none_of_memory known asked s list refused failure a is e
-
--- and after settings out of their ranges
-pub none_of_settings : (known : Option (List ℕ)) (asked : Asked) (s : Settings) (list : Listed) (a : Option (List ℕ)) → ¬ IsSettings s
-    → IfSome known (λ lines. TellsSessions asked s (Some list) lines (Some (Fault (whole_fault refusal.Range))) a a)
-none_of_settings None asked s list a out = tt
-none_of_settings (Some lines) asked s list a out = (refl, (out, Keeps-refl a))
+-- nothing is written where there is no cluster
+pub none_audited : (known : Option (List ℕ)) (asked : Asked) (s : Settings) (list : Option Listed) (failure : Failure) (a : Option (List ℕ)) → IsNotStarted s list failure
+    → IfSome known (λ lines. TellsSessions asked s list lines (Some failure) a a)
+none_audited None asked s list failure a h = tt
+none_audited (Some lines) asked s list failure a h =
+    unless_started (λ l f. TellsSessions asked s l lines (Some f) a a) s list failure (refl, Keeps-refl a)
+    (λ l. (refl, ([], no_memory plain (new_world s l) (commands_of_script s.nodes lines) asked a))) (λ l out. (refl, (out, Keeps-refl a))) h
 
 -- the whole script was run over the new cluster, and what is asked is told of its board
 pub all_told : (known : Option (List ℕ)) (asked : Asked) (s : Settings) (list : Listed) (cluster : ClusterValue) (start : WorldValue) (board : List ℕ) (a b : Option (List ℕ))

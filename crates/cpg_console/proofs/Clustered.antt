@@ -1,7 +1,6 @@
 -- what is written of a script that is run over a new cluster, and of one that finds none
 use Rattle.std.proofs.Common.{◌≡◌, ℕ, List, Option, Some, None, Result, Ok, Err, inl, refl, sym, ap, ◌∙◌, subst}
-use Rattle.std.proofs.lemmas.Bool.{false≢true}
-use Rattle.std.specs.Prelude.{IfSome, IsSome, IfErr, OnOk}
+use Rattle.std.specs.Prelude.{IfSome}
 use Rattle.std.proofs.KnownBytes.{Keeps-refl}
 use Rattle.cpg_cred.specs.Listed.{Listed}
 use Rattle.cpg_cred.specs.declared.refusals.Refusal.{Refusal}
@@ -9,7 +8,6 @@ use Rattle.cpg_cred.specs.declared.refusals.Refusal.TheVariants as refusal
 use Rattle.cpg_accept.specs.Accepting.{whole_fault}
 use Rattle.cpg_text.specs.declared.faults.Fault as script
 use Rattle.cpg_text.specs.Written.{WritesLate}
-use Rattle.cpg_ring.specs.States.{IsSettings}
 use Rattle.cpg_ring.specs.declared.settings.Settings.{Settings}
 use Rattle.cpg_cluster.specs.declared.commands.Numbered.{Numbered}
 use Rattle.cpg_world_laws.specs.Worlds.{WorldValue, new_world}
@@ -20,13 +18,9 @@ use Rattle.cpg_cluster.specs.Running as cluster
 use Rattle.cpg_cluster.specs.Scripts.{commands_of_script}
 use Rattle.cpg_console.specs.declared.failures.Failure.{Failure}
 use Rattle.cpg_console.specs.declared.failures.Failure.TheVariants.{BadWord, Fault, Missing}
-use Rattle.cpg_console.specs.Runs.{Clusters, ClustersAll, ClustersUpTo, FailsLate}
-use Rattle.cpg_console.specs.Starting.{ClusterLeaves}
-
--- nothing is written after a wrong word
-pub none_of_words : (known : Option (List ℕ)) (printed : Printed) (s : Settings) (list : Option Listed) (a : Option (List ℕ)) → list ≡ None → IfSome known (λ lines. Clusters printed s list lines (Some BadWord) a a)
-none_of_words None printed s list a is = tt
-none_of_words (Some lines) printed s list a is = subst (λ (l : Option Listed). Clusters printed s l lines (Some BadWord) a a) (sym is) (refl, Keeps-refl a)
+use Rattle.cpg_console.specs.Runs.{Clusters, ClustersAll, ClustersOf, ClustersUpTo, FailsLate}
+use Rattle.cpg_console.specs.Starting.{ClusterEnds, ClusterLeaves, IsNotStarted}
+use Rattle.cpg_console.proofs.NotStarted.{unless_started}
 
 no_memory : (printed : Printed) (start : WorldValue) (commands : Result (List Numbered) ℕ) (a : Option (List ℕ)) → cluster.Leaves printed start commands refusal.Memory a a
 no_memory printed start (Ok commands) a = (no_sessions, inl (Keeps-refl a, refl))
@@ -42,16 +36,13 @@ pub none_of_memory : (known : Option (List ℕ)) (printed : Printed) (s : Settin
 none_of_memory known printed s list refused failure a is e =
     subst (λ (f : Failure). IfSome known (λ lines. Clusters printed s (Some list) lines (Some f) a a)) (sym (is ∙ ap (λ (r : Refusal). Fault (whole_fault r)) e)) (ended known printed s list a)
 
--- the same of a list that words give
-pub none_of_words_memory : (known : Option (List ℕ)) (printed : Printed) (s : Settings) (words : Option Listed) (refused : Refusal) (failure : Failure) (a : Option (List ℕ))
-    → IsSome words → failure ≡ Fault (record { part = None; refusal = refused }) → refused ≡ refusal.Memory → IfSome known (λ lines. Clusters printed s words lines (Some failure) a a)
-none_of_words_memory known printed s None refused failure a some is e = absurd (false≢true some)
-none_of_words_memory known printed s (Some list) refused failure a some is e = none_of_memory known printed s list refused failure a is e
-
--- and after settings out of their ranges
-pub none_of_settings : (known : Option (List ℕ)) (printed : Printed) (s : Settings) (list : Listed) (a : Option (List ℕ)) → ¬ IsSettings s → IfSome known (λ lines. Clusters printed s (Some list) lines (Some (Fault (whole_fault refusal.Range))) a a)
-none_of_settings None printed s list a out = tt
-none_of_settings (Some lines) printed s list a out = (refl, (out, Keeps-refl a))
+-- nothing is written where there is no cluster
+pub none_clustered : (known : Option (List ℕ)) (printed : Printed) (s : Settings) (list : Option Listed) (failure : Failure) (a : Option (List ℕ)) → IsNotStarted s list failure
+    → IfSome known (λ lines. Clusters printed s list lines (Some failure) a a)
+none_clustered None printed s list failure a h = tt
+none_clustered (Some lines) printed s list failure a h =
+    unless_started (λ l f. Clusters printed s l lines (Some f) a a) s list failure (refl, Keeps-refl a)
+    (λ l. (refl, no_memory printed (new_world s l) (commands_of_script s.nodes lines) a)) (λ l out. (refl, (out, Keeps-refl a))) h
 
 no_range : (printed : Printed) (start : WorldValue) (commands : Result (List Numbered) ℕ) (a b : Option (List ℕ)) → cluster.Leaves printed start commands refusal.Range a b → ⊥
 no_range printed start (Ok commands) a b h = h.1
@@ -68,7 +59,7 @@ left printed s list lines (Missing what) a b h = h
 left printed s list lines (Fault fault) a b h = (h.0, up_to printed s list lines fault.refusal a b h.1)
 
 -- the script was run over a new cluster
-pub clustered : (known : Option (List ℕ)) (printed : Printed) (s : Settings) (list : Listed) (made : ClusterValue) (start : WorldValue) (a b : Option (List ℕ))
+clustered : (known : Option (List ℕ)) (printed : Printed) (s : Settings) (list : Listed) (made : ClusterValue) (start : WorldValue) (a b : Option (List ℕ))
     → made ≡ record { nodes = s.nodes; list = list } → new_world s list ≡ start
     → IfSome known (λ lines. ClustersAll printed made.nodes start lines a b) → IfSome known (λ lines. Clusters printed s (Some list) lines None a b)
 clustered None printed s list made start a b started named h = tt
@@ -76,13 +67,19 @@ clustered (Some lines) printed s list made start a b started named h =
     subst (λ (w : WorldValue). ClustersAll printed s.nodes w lines a b) (sym named) (subst (λ (c : ClusterValue). ClustersAll printed c.nodes start lines a b) started h)
 
 -- a fault of the script ended it
-pub left_clustered : (known : Option (List ℕ)) (printed : Printed) (s : Settings) (list : Listed) (made : ClusterValue) (start : WorldValue) (failure : Failure) (a b : Option (List ℕ))
+left_clustered : (known : Option (List ℕ)) (printed : Printed) (s : Settings) (list : Listed) (made : ClusterValue) (start : WorldValue) (failure : Failure) (a b : Option (List ℕ))
     → made ≡ record { nodes = s.nodes; list = list } → new_world s list ≡ start
     → IfSome known (λ lines. ClusterLeaves printed made.nodes start lines failure a b) → IfSome known (λ lines. Clusters printed s (Some list) lines (Some failure) a b)
 left_clustered None printed s list made start failure a b started named h = tt
 left_clustered (Some lines) printed s list made start failure a b started named h =
     left printed s list lines failure a b
     (subst (λ (w : WorldValue). ClusterLeaves printed s.nodes w lines failure a b) (sym named) (subst (λ (c : ClusterValue). ClusterLeaves printed c.nodes start lines failure a b) started h))
+
+-- how a script over a new cluster ended
+pub ends_clustered : (known : Option (List ℕ)) (printed : Printed) (s : Settings) (list : Listed) (made : ClusterValue) (start : WorldValue) (failure : Option Failure) (a b : Option (List ℕ))
+    → made ≡ record { nodes = s.nodes; list = list } → new_world s list ≡ start → ClusterEnds printed made.nodes start known failure a b → ClustersOf printed s (Some list) known failure a b
+ends_clustered known printed s list made start None a b started named h = clustered known printed s list made start a b started named h
+ends_clustered known printed s list made start (Some failure) a b started named h = left_clustered known printed s list made start failure a b started named h
 
 late_of : (refused : Refusal) (a b : Option (List ℕ)) → cluster.EndsRunning refused a b → WritesLate refused a b
 late_of refusal.Read a b h = h
@@ -93,12 +90,3 @@ late_of _ a b h = absurd h
 
 pub part_late : (fault : script.Fault) (a b : Option (List ℕ)) → cluster.EndsRunning fault.refusal a b → FailsLate (Fault fault) a b
 part_late fault a b h = late_of fault.refusal a b h
-
--- what holds after success, or of a failure
-pub when_ok : (r : Result (Unit {0}) Failure) (P Q : Type 0) → (P → Q) → OnOk r P → OnOk r Q
-when_ok (Ok done) P Q goes h = goes h
-when_ok (Err why) P Q goes h = tt
-
-pub when_err : (r : Result (Unit {0}) Failure) (P Q : Failure → Type 0) → ((why : Failure) → P why → Q why) → IfErr r P → IfErr r Q
-when_err (Ok done) P Q goes h = tt
-when_err (Err why) P Q goes h = goes why h

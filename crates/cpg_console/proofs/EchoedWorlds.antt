@@ -1,5 +1,5 @@
 -- what is written of a script whose run over a new world is echoed
-use Rattle.std.proofs.Common.{◌≡◌, ◌≤◌, ℕ, List, length, Option, Some, None, Result, Ok, Err, inl, inr, refl, sym, ap, subst}
+use Rattle.std.proofs.Common.{◌≡◌, ◌≤◌, ◌++◌, ◌∙◌, [], ℕ, List, length, Option, Some, None, Result, Ok, Err, OnOk, inl, inr, refl, sym, ap, subst, append-nil}
 use Rattle.std.specs.Prelude.{IfSome}
 use Rattle.std.proofs.KnownBytes.{Keeps-refl}
 use Rattle.cpg_cred.specs.Listed.{Listed}
@@ -12,6 +12,7 @@ use Rattle.cpg_ring.specs.declared.settings.Settings.{Settings}
 use Rattle.cpg_world_laws.specs.Worlds.{WorldValue, new_world}
 use Rattle.cpg_step.specs.declared.commands.Command.{Command}
 use Rattle.cpg_step.specs.Scripts.{commands_of_script}
+use Rattle.cpg_cluster.specs.Lines.{echoed}
 use Rattle.cpg_why.specs.Scripts.{numbers_of}
 use Rattle.cpg_console.specs.Echoing.{EndsEchoing, IsWritten, Leaves}
 use Rattle.cpg_console.specs.declared.failures.Failure.{Failure}
@@ -75,3 +76,10 @@ late_of _ a b h = absurd h
 
 pub echoed_late : (fault : script.Fault) (a b : Option (List ℕ)) → EndsEchoing fault.refusal a b → FailsLate (Fault fault) a b
 echoed_late fault a b h = late_of fault.refusal a b h
+
+-- lines of a look that were put behind the echo that was kept
+pub look_echoed : {T E : Type 0} (r : Result T E) (target : ℕ → List ℕ) (old new words answer echo text : List ℕ) → words ≡ echo → answer ≡ text
+    → OnOk r (new ≡ old ++ echoed words answer) → OnOk r ((index : ℕ) → echo ≡ target index → new ≡ old ++ (echoed (target index) text ++ []))
+look_echoed (Ok done) target old new words answer echo text kept same put = λ index met. put
+    ∙ ap (λ t. old ++ t) (ap (λ w. echoed w answer) (kept ∙ met) ∙ ap (echoed (target index)) same ∙ sym (append-nil (echoed (target index) text)))
+look_echoed (Err why) target old new words answer echo text kept same put = tt

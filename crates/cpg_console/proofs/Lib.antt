@@ -5,10 +5,10 @@ pub mod Lines
 pub mod Clustered
 pub mod Audited
 pub mod Pictured
+pub mod NotStarted
 pub mod Started
 pub mod Worded
 pub mod Shelled
-pub mod EchoedRuns
 pub mod EchoedWorlds
 pub mod Explained
 pub mod Traced

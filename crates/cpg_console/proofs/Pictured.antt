@@ -13,7 +13,7 @@ use Rattle.cpg_world_laws.specs.Worlds.{WorldValue, new_world}
 use Rattle.cpg_step.specs.declared.commands.Command.{Command}
 use Rattle.cpg_step.specs.Scripts.{commands_of_script}
 use Rattle.cpg_draw.specs.Drawing as draw
-use Rattle.cpg_step.specs.NumberedSteps as numbers
+use Rattle.cpg_step.specs.Gathering.{EndsGathered}
 use Rattle.cpg_console.specs.declared.runs.Picture.{Picture}
 use Rattle.cpg_console.specs.declared.runs.Picture.TheVariants as picture
 use Rattle.cpg_console.specs.declared.failures.Failure.{Failure}
@@ -77,7 +77,7 @@ part_drawn (Some lines) kind s (Some list) w fault a b e p h =
     (p, up_to kind s list lines fault.refusal a b (subst (λ (v : WorldValue). LeavesDrawn kind (commands_of_script v.settings.nodes lines) fault.refusal v a b) e h))
 
 -- lines with numbers end as pictures do
-pub ends_alike : (refused : Refusal) (a b : Option (List ℕ)) → numbers.EndsStepping refused a b → draw.EndsDrawing refused a b
+pub ends_alike : (refused : Refusal) (a b : Option (List ℕ)) → EndsGathered refused a b → draw.EndsDrawing refused a b
 ends_alike refusal.Read a b h = h
 ends_alike (refusal.BadCommand line) a b h = h
 ends_alike refusal.Write a b h = h

@@ -6,13 +6,14 @@ use Rattle.cpg_cred.specs.declared.refusals.Refusal.{Refusal}
 use Rattle.cpg_cred.specs.declared.refusals.Refusal.TheVariants as refusal
 use Rattle.cpg_accept.specs.Accepting.{whole_fault}
 use Rattle.cpg_text.specs.Lines.{lines_of}
-use Rattle.cpg_ring.specs.States.{IsSettings}
 use Rattle.cpg_ring.specs.declared.settings.Settings.{Settings}
 use Rattle.cpg_world_laws.specs.Worlds.{WorldValue, new_world}
 use Rattle.cpg_daemon.specs.Clusters.{ClusterValue}
 use Rattle.cpg_cluster.specs.Lines.{Printed}
 use Rattle.cpg_cluster.specs.Shelled.{IsEnded}
 use Rattle.cpg_console.specs.Shelling.{ShellEnds, Shells, ShellsUpTo}
+use Rattle.cpg_console.specs.Starting.{IsNotStarted}
+use Rattle.cpg_console.proofs.NotStarted.{unless_started}
 use Rattle.cpg_console.specs.declared.failures.Failure.{Failure}
 use Rattle.cpg_console.specs.declared.failures.Failure.TheVariants.{BadWord, Fault, Missing}
 
@@ -43,13 +44,11 @@ none_ended form start nodes (Some bytes) a t = record {
 pub none_of_memory : (form : Printed) (s : Settings) (list : Listed) (input : Option (List ℕ)) (a t : Option (List ℕ)) → Shells form s (Some list) (Some (Fault (whole_fault refusal.Memory))) input a a t t
 none_of_memory form s list input a t = (refl, none_ended form (new_world s list) s.nodes input a t)
 
--- nothing is printed after a wrong word
-pub none_of_words : (form : Printed) (s : Settings) (list : Option Listed) (input : Option (List ℕ)) (a t : Option (List ℕ)) → list ≡ None → Shells form s list (Some BadWord) input a a t t
-none_of_words form s list input a t is = subst (λ (l : Option Listed). Shells form s l (Some BadWord) input a a t t) (sym is) (refl, Keeps-refl a, Keeps-refl t)
-
--- and after settings out of their ranges
-pub none_of_settings : (form : Printed) (s : Settings) (list : Listed) (input : Option (List ℕ)) (a t : Option (List ℕ)) → ¬ IsSettings s → Shells form s (Some list) (Some (Fault (whole_fault refusal.Range))) input a a t t
-none_of_settings form s list input a t out = (refl, (out, Keeps-refl a, Keeps-refl t))
+-- nothing is printed where there is no cluster
+pub none_shelled : (form : Printed) (s : Settings) (list : Option Listed) (failure : Failure) (input : Option (List ℕ)) (a t : Option (List ℕ)) → IsNotStarted s list failure → Shells form s list (Some failure) input a a t t
+none_shelled form s list failure input a t h =
+    unless_started (λ l f. Shells form s l (Some f) input a a t t) s list failure (refl, Keeps-refl a, Keeps-refl t) (λ l. none_of_memory form s l input a t)
+    (λ l out. (refl, (out, Keeps-refl a, Keeps-refl t))) h
 
 no_range : (form : Printed) (start : WorldValue) (nodes : ℕ) (input a b t u : Option (List ℕ)) → IsEnded refusal.Range form start nodes input a b t u → ⊥
 no_range form start nodes input a b t u h = h.left

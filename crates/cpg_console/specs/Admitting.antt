@@ -20,7 +20,7 @@ use Rattle.cpg_hint.specs.Files.{file_hint}
 use Rattle.cpg_json.specs.Admitted.{admitted_json, admitted_json_echo}
 use Rattle.cpg_console.specs.Telling.{error_line}
 use Rattle.cpg_console.specs.declared.admitting.Admission.{Admission}
-use Rattle.cpg_console.specs.declared.admitting.AdmitManner.{AdmitManner}
+use Rattle.cpg_console.specs.declared.admitting.AdmitOptions.{AdmitOptions}
 use Rattle.cpg_console.specs.declared.admitting.Unadmitted.{Unadmitted}
 use Rattle.cpg_console.specs.declared.admitting.Unadmitted.TheVariants.{File, Word}
 use Rattle.cpg_console.specs.declared.runs.Form.{Form}
@@ -64,8 +64,8 @@ admitted_by_form forms.Text true list asks = admitted_echo list asks
 admitted_by_form forms.Json false list asks = admitted_json list asks
 admitted_by_form forms.Json true list asks = admitted_json_echo list asks
 
-abbrev pub admitted_as : AdmitManner → Listed → List Cred → List ℕ
-admitted_as manner list asks = admitted_by_form manner.form manner.echo list asks
+abbrev pub admitted_as : AdmitOptions → Listed → List Cred → List ℕ
+admitted_as options list asks = admitted_by_form options.form options.echo list asks
 
 -- and then, unless a file has a fault
 abbrev pub and_then : {A B : Type 0} → Result A AdmitFault → (A → Result B Unadmitted) → Result B Unadmitted
@@ -78,13 +78,13 @@ unless_wrong None more = more
 unless_wrong (Some index) more = Err (Word index)
 
 -- what is printed by those names of whom words ask of that are right, or the first fault of a conf file
-abbrev pub printed_asked : AdmitManner → Known → List NamedText → List (Bor (List ℕ)) → Result (List ℕ) Unadmitted
-printed_asked manner names confs words = and_then (listed_onto names 0 confs nothing) (λ list. Ok (admitted_as manner list (asks_in names words)))
+abbrev pub printed_asked : AdmitOptions → Known → List NamedText → List (Bor (List ℕ)) → Result (List ℕ) Unadmitted
+printed_asked options names confs words = and_then (listed_onto names 0 confs nothing) (λ list. Ok (admitted_as options list (asks_in names words)))
 
 -- what is printed, or why nothing is: the first fault of the names, then the first wrong word, then the first fault of a conf file
-abbrev pub printed_by : AdmitManner → Admission → List (Bor (List ℕ)) → Result (List ℕ) Unadmitted
-printed_by manner a words =
-    and_then (names_told a) (λ names. unless_wrong (first_wrong_ask names words) (printed_asked manner names a.confs.now words))
+abbrev pub printed_by : AdmitOptions → Admission → List (Bor (List ℕ)) → Result (List ℕ) Unadmitted
+printed_by options a words =
+    and_then (names_told a) (λ names. unless_wrong (first_wrong_ask names words) (printed_asked options names a.confs.now words))
 
 -- why nothing is printed: that, or want of memory
 abbrev pub IsUnprinted : Result (List ℕ) Unadmitted → Unadmitted → Type 0
@@ -120,5 +120,5 @@ abbrev pub AdmitsBy : Bool → Admission → Result (List ℕ) Unadmitted → Re
 AdmitsBy hints a printed (Ok status) old new told said = EndsBy hints a printed status old new told said
 AdmitsBy hints a printed (Err index) old new told said = (printed ≡ Err (Word index)) × Keeps old new × Keeps told said
 
-abbrev pub Admits : AdmitManner → Admission → List (Bor (List ℕ)) → Result ℕ ℕ → Option (List ℕ) → Option (List ℕ) → Option (List ℕ) → Option (List ℕ) → Type 0
-Admits manner a words ended old new told said = AdmitsBy manner.hints a (printed_by manner a words) ended old new told said
+abbrev pub Admits : AdmitOptions → Admission → List (Bor (List ℕ)) → Result ℕ ℕ → Option (List ℕ) → Option (List ℕ) → Option (List ℕ) → Option (List ℕ) → Type 0
+Admits options a words ended old new told said = AdmitsBy options.hints a (printed_by options a words) ended old new told said

@@ -5,8 +5,8 @@ use Rattle.cpg_cred.specs.declared.refusals.Refusal.{Refusal}
 use Rattle.cpg_cred.specs.declared.refusals.Refusal.TheVariants as refusal
 use Rattle.cpg_accept.specs.Accepting.{whole_fault}
 use Rattle.cpg_hint.specs.Hints.{hint_text}
-use Rattle.cpg_hint.specs.declared.kinds.Kind.{Kind}
-use Rattle.cpg_hint.specs.declared.kinds.Kind.TheVariants as kind
+use Rattle.cpg_hint.specs.declared.kinds.ScriptKind.{ScriptKind}
+use Rattle.cpg_hint.specs.declared.kinds.ScriptKind.TheVariants as kind
 use Rattle.cpg_console.specs.declared.failures.Failure.{Failure}
 use Rattle.cpg_console.specs.declared.failures.Failure.TheVariants.{BadWord, Fault, Missing}
 use Rattle.cpg_console.specs.Words.{wrong_hint}
@@ -14,7 +14,7 @@ use Rattle.cpg_console.specs.declared.runs.Run.{Run}
 use Rattle.cpg_console.specs.declared.runs.Run.TheVariants.{Judge, JudgeOnly, Why, Accept, Step, StepWhy, Draw, Number, Echo, Cluster, ClusterWhy}
 
 -- the kind of script that a run reads
-abbrev pub kind_of : Run → Kind
+abbrev pub kind_of : Run → ScriptKind
 kind_of (Judge form) = kind.Judge
 kind_of (JudgeOnly filter) = kind.Judge
 kind_of (Why form asked) = kind.Judge
@@ -24,7 +24,7 @@ kind_of (StepWhy form asked settings words) = kind.Step settings.nodes
 kind_of (Draw picture settings words) = kind.Step settings.nodes
 kind_of (Number settings words) = kind.Step settings.nodes
 kind_of (Echo settings words) = kind.Step settings.nodes
-kind_of (Cluster manner chances settings words) = kind.Cluster settings.nodes
+kind_of (Cluster options chances settings words) = kind.Cluster settings.nodes
 kind_of (ClusterWhy inquiry settings words) = kind.Cluster settings.nodes
 
 -- the words of a run's command line that let users and groups in
@@ -38,7 +38,7 @@ words_of (StepWhy form asked settings words) = words.now
 words_of (Draw picture settings words) = words.now
 words_of (Number settings words) = words.now
 words_of (Echo settings words) = words.now
-words_of (Cluster manner chances settings words) = words.now
+words_of (Cluster options chances settings words) = words.now
 words_of (ClusterWhy inquiry settings words) = words.now
 
 -- what is told behind the line of a fault, of the script or of a word

@@ -1,13 +1,12 @@
 pub mod Admitting
 pub mod Chances
-pub mod EchoSteps
 pub mod Echoing
 pub mod Hinting
 pub mod Pipes
 pub mod Progress
 pub mod Runs
 pub mod Shelling
-pub mod Speaking
+pub mod OutputForms
 pub mod Starting
 pub mod Telling
 pub mod Tracing

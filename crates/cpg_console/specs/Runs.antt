@@ -1,5 +1,5 @@
 -- what a run of the program prints of a script, and how it ends
-use Rattle.std.specs.Prelude.{ℕ, ◌≡◌, ◌≤◌, Bool, true, false, List, length, map, Option, Some, None, Result, Ok, Err}
+use Rattle.std.specs.Prelude.{ℕ, ◌≡◌, ◌≤◌, Bool, true, false, List, length, map, Option, Some, None, Result, Ok, Err, IfSome}
 use Rattle.std.specs.Io.KnownBytes.{Keeps}
 use Rattle.cpg_cred.specs.Listed.{Listed}
 use Rattle.cpg_cred.specs.declared.admission.Via.{Via}
@@ -20,11 +20,11 @@ use Rattle.cpg_step.specs.Running as step
 use Rattle.cpg_step.specs.Scripts.{commands_of_script}
 use Rattle.cpg_step.specs.declared.commands.Command.{Command}
 use Rattle.cpg_draw.specs.Drawing as draw
-use Rattle.cpg_step.specs.NumberedSteps as numbers
+use Rattle.cpg_step.specs.Gathering.{IsGathered, LeavesGathered}
+use Rattle.cpg_step.specs.NumberedSteps.{stepped_numbered}
 use Rattle.cpg_json.specs.Answers.{accept_json}
 use Rattle.cpg_json.specs.Judging.{judged_json}
-use Rattle.cpg_json.specs.Marks.{heads_of}
-use Rattle.cpg_json.specs.Stepping as json_step
+use Rattle.cpg_json.specs.Stepping.{stepped_json}
 use Rattle.cpg_why.specs.Forms.{plain}
 use Rattle.cpg_why.specs.Scripts as why
 use Rattle.cpg_why.specs.Explaining as told_steps
@@ -36,7 +36,7 @@ use Rattle.cpg_cluster.specs.Lines.{Printed}
 use Rattle.cpg_cluster.specs.Running as cluster
 use Rattle.cpg_cluster.specs.Scripts as clustered
 use Rattle.cpg_console.specs.Echoing as echo
-use Rattle.cpg_console.specs.Speaking.{spoken_as}
+use Rattle.cpg_console.specs.OutputForms.{output_as}
 use Rattle.cpg_console.specs.Words.{list_of_words}
 use Rattle.cpg_console.specs.declared.failures.Among.TheVariants.{Script, Delivered}
 use Rattle.cpg_console.specs.declared.failures.Failure.{Failure}
@@ -57,15 +57,18 @@ status_after (Some (Fault fault)) = 1
 status_after (Some BadWord) = 2
 status_after (Some (Missing absent)) = 2
 
+-- the form in which the commands of a script are told, whose lines have those numbers
+abbrev pub stepped_as : Stepped → List ℕ → step.Form
+stepped_as stepped.Text numbers = step.stepped_text
+stepped_as (stepped.Json marks) numbers = stepped_json marks numbers
+
 -- a script, whose commands' lines have those numbers, was run over a world, and all its lines are written
 abbrev pub IsRun : Stepped → List ℕ → Result (List Command) ℕ → WorldValue → Option (List ℕ) → Option (List ℕ) → WorldValue → Type 0
-IsRun stepped.Text numbers commands w old new world = step.IsRun commands w old new world
-IsRun (stepped.Json marks) numbers commands w old new world = json_step.IsRun (heads_of marks numbers) commands w old new world
+IsRun form numbers commands w old new world = step.IsRunIn (stepped_as form numbers) commands w old new world
 
 -- what a refusal leaves of it
 abbrev pub LeavesRun : Stepped → List ℕ → Result (List Command) ℕ → Refusal → WorldValue → Option (List ℕ) → Option (List ℕ) → WorldValue → Type 0
-LeavesRun stepped.Text numbers commands refused w old new world = step.Leaves commands refused w old new world
-LeavesRun (stepped.Json marks) numbers commands refused w old new world = json_step.Leaves (heads_of marks numbers) commands refused w old new world
+LeavesRun form numbers commands refused w old new world = step.LeavesIn (stepped_as form numbers) commands refused w old new world
 
 -- The script was run over a new world, and all its lines are written.
 abbrev pub StepsAll : Stepped → Settings → Listed → List ℕ → Option (List ℕ) → Option (List ℕ) → Type 0
@@ -104,13 +107,13 @@ TellsSteps asked s (Some list) script (Some BadWord) old new = ⊥
 abbrev pub IsDrawn : Picture → Result (List Command) ℕ → WorldValue → Option (List ℕ) → Option (List ℕ) → Type 0
 IsDrawn (picture.Svg x) commands w old new = draw.IsDrawn commands old new
 IsDrawn (picture.Lines x) commands w old new = draw.IsDrawn commands old new
-IsDrawn picture.Numbered commands w old new = numbers.IsStepped commands w old new
+IsDrawn picture.Numbered commands w old new = IsGathered stepped_numbered commands w old new
 
 -- what a refusal leaves of it
 abbrev pub LeavesDrawn : Picture → Result (List Command) ℕ → Refusal → WorldValue → Option (List ℕ) → Option (List ℕ) → Type 0
 LeavesDrawn (picture.Svg x) commands refused w old new = draw.Leaves commands refused old new
 LeavesDrawn (picture.Lines x) commands refused w old new = draw.Leaves commands refused old new
-LeavesDrawn picture.Numbered commands refused w old new = numbers.Leaves commands refused w old new
+LeavesDrawn picture.Numbered commands refused w old new = LeavesGathered stepped_numbered commands refused w old new
 
 -- What a refusal leaves written of the picture of a script's run; Range tells that there is no world of those settings.
 abbrev pub DrawsUpTo : Picture → Settings → Listed → List ℕ → Refusal → Option (List ℕ) → Option (List ℕ) → Type 0
@@ -196,6 +199,11 @@ Clusters printed s (Some list) script None old new = ClustersAll printed s.nodes
 Clusters printed s (Some list) script (Some (Fault fault)) old new = (fault.part ≡ None) × ClustersUpTo printed s list script fault.refusal old new
 Clusters printed s (Some list) script _ old new = ⊥
 
+-- the same of the script that a reader tells, where that is known
+abbrev pub ClustersOf : Printed → Settings → Option Listed → Option (List ℕ) → Option Failure → Option (List ℕ) → Option (List ℕ) → Type 0
+ClustersOf printed s list input None old new = IfSome input (λ script. Clusters printed s list script None old new)
+ClustersOf printed s list input (Some failure) old new = IfSome input (λ script. Clusters printed s list script (Some failure) old new)
+
 -- what is asked is told of the entries that stand on a board of so many places
 abbrev pub IsAudited : Asked → ℕ → Option (List ℕ) → Option (List ℕ) → Type 0
 IsAudited asked places old new = (board : List ℕ) × (length board ≡ places) × audit.IsTold plain board asked old new
@@ -218,6 +226,11 @@ TellsSessions asked s (Some list) script (Some (Missing absent)) old new =
     × ((board : List ℕ) × audit.Leaves plain board (new_world s list) (clustered.commands_of_script s.nodes script) asked (why_fault.Missing absent.what) old new)
 TellsSessions asked s (Some list) script (Some BadWord) old new = ⊥
 
+-- the same of the script that a reader tells, where that is known
+abbrev pub TellsSessionsOf : Asked → Settings → Option Listed → Option (List ℕ) → Option Failure → Option (List ℕ) → Option (List ℕ) → Type 0
+TellsSessionsOf asked s list input None old new = IfSome input (λ script. TellsSessions asked s list script None old new)
+TellsSessionsOf asked s list input (Some failure) old new = IfSome input (λ script. TellsSessions asked s list script (Some failure) old new)
+
 -- a word of the run's command line lets nobody in
 abbrev pub HasWrongWord : Run → Type 0
 HasWrongWord (Judge form) = ⊥
@@ -229,7 +242,7 @@ HasWrongWord (StepWhy form asked settings words) = list_of_words (map (λ word. 
 HasWrongWord (Draw picture settings words) = list_of_words (map (λ word. word.now) words.now) ≡ None
 HasWrongWord (Number settings words) = list_of_words (map (λ word. word.now) words.now) ≡ None
 HasWrongWord (Echo settings words) = list_of_words (map (λ word. word.now) words.now) ≡ None
-HasWrongWord (Cluster manner chances settings words) = list_of_words (map (λ word. word.now) words.now) ≡ None
+HasWrongWord (Cluster options chances settings words) = list_of_words (map (λ word. word.now) words.now) ≡ None
 HasWrongWord (ClusterWhy inquiry settings words) = list_of_words (map (λ word. word.now) words.now) ≡ None
 
 -- what a run writes of a script to standard output: all of its text, or after a fault what that fault leaves
@@ -246,7 +259,7 @@ Prints (StepWhy form asked settings words) script failure old new = TellsSteps a
 Prints (Draw kind settings words) script failure old new = Draws kind settings (list_of_words (map (λ word. word.now) words.now)) script failure old new
 Prints (Number settings words) script failure old new = Draws picture.Numbered settings (list_of_words (map (λ word. word.now) words.now)) script failure old new
 Prints (Echo settings words) script failure old new = Echoes settings (list_of_words (map (λ word. word.now) words.now)) script failure old new
-Prints (Cluster manner chances settings words) script failure old new = Clusters (spoken_as manner.form) settings (list_of_words (map (λ word. word.now) words.now)) script failure old new
+Prints (Cluster options chances settings words) script failure old new = Clusters (output_as options.form) settings (list_of_words (map (λ word. word.now) words.now)) script failure old new
 Prints (ClusterWhy inquiry settings words) script failure old new =
     TellsSessions inquiry.asked settings (list_of_words (map (λ word. word.now) words.now)) script failure old new
 Prints _ script _ old new = ⊥

@@ -14,8 +14,8 @@ use Rattle.cpg_cluster.specs.Shelled.{IsEnded, IsShelled}
 use Rattle.cpg_console.specs.Runs.{failure_told}
 use Rattle.cpg_console.specs.Telling.{told_text}
 use Rattle.cpg_console.specs.Words.{wrong_hint}
-use Rattle.cpg_console.specs.declared.speaking.Spoken.{Spoken}
-use Rattle.cpg_console.specs.declared.speaking.Spoken.TheVariants.{Noted}
+use Rattle.cpg_console.specs.declared.output_form.OutputForm.{OutputForm}
+use Rattle.cpg_console.specs.declared.output_form.OutputForm.TheVariants.{Noted}
 use Rattle.cpg_console.specs.declared.failures.Failure.{Failure}
 use Rattle.cpg_console.specs.declared.failures.Failure.TheVariants.{BadWord, Fault}
 
@@ -38,7 +38,7 @@ Shells form s (Some list) (Some (Fault fault)) input old new told said = (fault.
 Shells form s (Some list) (Some failure) input old new told said = ⊥
 
 -- where it is told what is known, the first wrong word is told of, too
-abbrev pub word_told : Spoken → List (Bor (List ℕ)) → Option Failure → List ℕ
+abbrev pub word_told : OutputForm → List (Bor (List ℕ)) → Option Failure → List ℕ
 word_told (Noted noted) words (Some BadWord) = wrong_hint words
 word_told _ words _ = []
 

@@ -24,35 +24,35 @@ conn_text conn = decimal conn.node ++ codes "." ++ decimal conn.conn
 abbrev pub one_or_more : ℕ → List ℕ → List ℕ → List ℕ
 one_or_more count one more = decimal count ++ (if count == 1 then one else more)
 
--- the line of a place that none of so many entries has
-abbrev pub entry_line : Among → ℕ → ℕ → List ℕ
-entry_line Script place entries = codes "cpgring: there is no entry " ++ decimal place ++ codes ": the script has " ++ decimal entries ++ codes "\n"
-entry_line Delivered place entries =
-    codes "cpgring: there is no entry " ++ decimal place ++ codes ": " ++ one_or_more entries (codes " was delivered\n") (codes " were delivered\n")
+-- the words before a connection and before a process that are not there
+abbrev pub before_connection : Among → List ℕ
+before_connection Script = codes "connection "
+before_connection Delivered = codes "entry of "
 
--- the line of a connection that made none of the entries, which so many made
-abbrev pub conn_line : Among → ConnId → ℕ → List ℕ
-conn_line Script conn conns = codes "cpgring: there is no connection " ++ conn_text conn ++ codes ": the script has " ++ decimal conns ++ codes "\n"
-conn_line Delivered conn conns =
-    codes "cpgring: there is no entry of " ++ conn_text conn ++ codes ": " ++ one_or_more conns (codes " connection has one\n") (codes " connections have one\n")
+abbrev pub before_process : Among → List ℕ
+before_process Script = codes "connection of process "
+before_process Delivered = codes "entry of process "
 
--- the line of a process that made none of the entries, which so many connections made
-abbrev pub process_line : Among → ℕ → ℕ → List ℕ
-process_line Script pid conns = codes "cpgring: there is no connection of process " ++ decimal pid ++ codes ": the script has " ++ decimal conns ++ codes "\n"
-process_line Delivered pid conns =
-    codes "cpgring: there is no entry of process " ++ decimal pid ++ codes ": " ++ one_or_more conns (codes " connection has one\n") (codes " connections have one\n")
+-- what is asked of and is not there, as it is named
+abbrev pub absent_text : Among → absent.Missing → List ℕ
+absent_text among (Entry place entries) = codes "entry " ++ decimal place
+absent_text among (Event conn event events) = codes "event " ++ decimal event
+absent_text among (Connection conn conns) = before_connection among ++ conn_text conn
+absent_text among (Process pid conns) = before_process among ++ decimal pid
 
--- the line of an event that is none of so many that a connection was told
-abbrev pub event_line : ConnId → ℕ → ℕ → List ℕ
-event_line conn event events =
-    codes "cpgring: there is no event " ++ decimal event ++ codes ": " ++ conn_text conn ++ codes " was told " ++ decimal events ++ codes "\n"
+-- how many there are of what could be asked of
+abbrev pub present_text : Among → absent.Missing → List ℕ
+present_text among (Event conn event events) = conn_text conn ++ codes " was told " ++ decimal events
+present_text Script (Entry place entries) = codes "the script has " ++ decimal entries
+present_text Script (Connection conn conns) = codes "the script has " ++ decimal conns
+present_text Script (Process pid conns) = codes "the script has " ++ decimal conns
+present_text Delivered (Entry place entries) = one_or_more entries (codes " was delivered") (codes " were delivered")
+present_text Delivered (Connection conn conns) = one_or_more conns (codes " connection has one") (codes " connections have one")
+present_text Delivered (Process pid conns) = one_or_more conns (codes " connection has one") (codes " connections have one")
 
 -- the line of what is asked of and is not there
 abbrev pub missing_line : Among → absent.Missing → List ℕ
-missing_line among (Entry place entries) = entry_line among place entries
-missing_line among (Connection conn conns) = conn_line among conn conns
-missing_line among (Event conn event events) = event_line conn event events
-missing_line among (Process pid conns) = process_line among pid conns
+missing_line among what = codes "cpgring: there is no " ++ absent_text among what ++ codes ": " ++ present_text among what ++ codes "\n"
 
 -- the line of a failure
 abbrev pub failure_line : Failure → List ℕ

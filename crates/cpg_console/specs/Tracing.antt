@@ -64,5 +64,5 @@ WasKeptOf keeps settings list old new = IfSome list (λ l. WasKept keeps (new_wo
 
 -- the keeper has what the run left: of a run of sessions its cluster's, of any other nothing
 abbrev pub IsLeft : {K : Type 0} → (WorldValue → List WorldEvent → List MemberValue → K → K → Type 0) → Run → K → K → Type 0
-IsLeft keeps (Cluster manner chances settings words) old new = WasKeptOf keeps settings (list_of_words (map (λ word. word.now) words.now)) old new
+IsLeft keeps (Cluster options chances settings words) old new = WasKeptOf keeps settings (list_of_words (map (λ word. word.now) words.now)) old new
 IsLeft keeps run old new = new ≡ old

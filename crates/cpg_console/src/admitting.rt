@@ -35,7 +35,7 @@ pub struct Admission<'a> {
 
 /// How `cpgring admit` answers.
 #[derive(Debug, Clone, Copy)]
-pub struct AdmitManner {
+pub struct AdmitOptions {
     /// How lines are written.
     pub form: Form,
     /// Whether each answer has the UID and the GID that were asked for.
@@ -125,19 +125,19 @@ impl<'a> Admission<'a> {
 /// unless its reader has left.
 pub fn perform_admit<W: Write, E: Write>(
     alloc: Global,
-    manner: &AdmitManner,
+    options: &AdmitOptions,
     admission: &Admission<'_>,
     words: &[&str],
     writer: &mut Piped<W>,
     errors: &mut E,
 ) -> Result<u8, usize>
-    ensures { Admits manner.now admission.now words.now result (W.contents (stream_of writer.old)) (W.contents (stream_of writer.new)) (E.contents errors.old) (E.contents errors.new) }
+    ensures { Admits options.now admission.now words.now result (W.contents (stream_of writer.old)) (W.contents (stream_of writer.new)) (E.contents errors.old) (E.contents errors.new) }
 {
-    match print_admitted(alloc, manner, admission, words) {
+    match print_admitted(alloc, options, admission, words) {
         Ok(text) => Ok(write_text(writer, errors, text.as_slice())),
         Err(Unadmitted::Word(index)) => Err(index),
         Err(Unadmitted::File(fault)) => {
-            tell(alloc, errors, manner.hints, admission, &fault);
+            tell(alloc, errors, options.hints, admission, &fault);
             Ok(1)
         }
     }
@@ -146,33 +146,33 @@ pub fn perform_admit<W: Write, E: Write>(
 /// What is printed, or the first fault, or the index of the first wrong word.
 fn print_admitted(
     alloc: Global,
-    manner: &AdmitManner,
+    options: &AdmitOptions,
     admission: &Admission<'_>,
     words: &[&str],
 ) -> Result<Vec<u8>, Unadmitted>
-    ensures ok { IfOk result (λ text. printed_by manner.now admission.now words.now ≡ Ok text.items) }
-    ensures err { IfErr result (IsUnprinted (printed_by manner.now admission.now words.now)) }
+    ensures ok { IfOk result (λ text. printed_by options.now admission.now words.now ≡ Ok text.items) }
+    ensures err { IfErr result (IsUnprinted (printed_by options.now admission.now words.now)) }
 {
     let names = read_names(alloc, &admission.names_from())?;
     match find_wrong_ask(&names, words) {
         Some(index) => Err(Unadmitted::Word(index)),
-        None => print_asked(alloc, manner, &names, admission.confs, words),
+        None => print_asked(alloc, options, &names, admission.confs, words),
     }
 }
 
 /// What is printed of those whom words ask of that are right, or the first fault of a conf file.
 fn print_asked(
     alloc: Global,
-    manner: &AdmitManner,
+    options: &AdmitOptions,
     names: &Names,
     confs: &[NamedText<'_>],
     words: &[&str],
 ) -> Result<Vec<u8>, Unadmitted>
-    ensures ok { IfOk result (λ text. printed_asked manner.now names.now confs.now words.now ≡ Ok text.items) }
-    ensures err { IfErr result (IsUnprinted (printed_asked manner.now names.now confs.now words.now)) }
+    ensures ok { IfOk result (λ text. printed_asked options.now names.now confs.now words.now ≡ Ok text.items) }
+    ensures err { IfErr result (IsUnprinted (printed_asked options.now names.now confs.now words.now)) }
 {
     let numbers = list_confs(alloc, names, confs)?;
-    match print_words(alloc, manner, names, &numbers, words) {
+    match print_words(alloc, options, names, &numbers, words) {
         Ok(text) => Ok(text),
         Err(refusal) => Err(Unadmitted::File(AdmitFault {
             file: File::Conf(0),
@@ -184,29 +184,29 @@ fn print_asked(
 /// What is printed of those whom words ask of by the listed users and groups.
 fn print_words(
     alloc: Global,
-    manner: &AdmitManner,
+    options: &AdmitOptions,
     names: &Names,
     numbers: &Numbers,
     words: &[&str],
 ) -> Result<Vec<u8>, Refusal>
-    ensures ok { IfOk result (λ text. text.items ≡ admitted_as manner.now (numbers_listed numbers.now) (asks_in names.now words.now)) }
+    ensures ok { IfOk result (λ text. text.items ≡ admitted_as options.now (numbers_listed numbers.now) (asks_in names.now words.now)) }
     ensures memory { IsOkUnless result Refusal.Memory }
 {
     let asks = read_asks(alloc, names, words)?;
-    print_as(alloc, manner, numbers, asks.as_slice())
+    print_as(alloc, options, numbers, asks.as_slice())
 }
 
 /// What is printed of those whom the listed users and groups let in.
 fn print_as(
     alloc: Global,
-    manner: &AdmitManner,
+    options: &AdmitOptions,
     numbers: &Numbers,
     asks: &[Cred],
 ) -> Result<Vec<u8>, Refusal>
-    ensures ok { IfOk result (λ text. text.items ≡ admitted_as manner.now (numbers_listed numbers.now) asks.now) }
+    ensures ok { IfOk result (λ text. text.items ≡ admitted_as options.now (numbers_listed numbers.now) asks.now) }
     ensures memory { IsOkUnless result Refusal.Memory }
 {
-    match (manner.form, manner.echo) {
+    match (options.form, options.echo) {
         (Form::Text, false) => print(alloc, numbers, asks),
         (Form::Text, true) => print_echo(alloc, numbers, asks),
         (Form::Json, false) => print_json(alloc, numbers, asks),

@@ -9,30 +9,25 @@ ghost use Rattle.cpg_why.specs.Forms.{plain};
 ghost use Rattle.cpg_why.specs.Scripts.{EndsWhy};
 ghost use Rattle.cpg_cluster.specs.Scripts.{commands_of_script};
 ghost use Rattle.cpg_why.specs.Sessions.{AreRun, IsTold, Leaves};
-ghost use Rattle.cpg_console.specs.Runs.{FailsLate, TellsSessions};
+ghost use Rattle.cpg_console.specs.Runs.{failure_of, FailsLate, TellsSessionsOf};
 ghost use Rattle.cpg_console.specs.Words.{list_of_words};
 ghost use Rattle.cpg_world_laws.specs.Worlds.{new_world};
 
 use crate::chances::Chances;
 use crate::failures::{Failure, undelivered};
-use crate::founding::new_board;
+use crate::founding::{Grounds, Host, found};
 use crate::runs::Form;
-use crate::words::read_list;
-use cpg_board::Board;
-use cpg_cluster::{Patience, Sessions};
-use cpg_cred::{AcceptList, Refusal};
+use cpg_cluster::{Sessions, WaitLimit};
+use cpg_cred::Refusal;
 use cpg_daemon::{Cluster, HistoryName, Running};
 use cpg_json::why::AsJson;
-use cpg_ring::{Settings, are_settings};
+use cpg_ring::Settings;
 use cpg_text::MOST_BYTES;
 use cpg_why::sessions::why_of_sessions;
 use cpg_why::{AsText, Asked, Tells, WhyFault};
 use std::alloc::Global;
 use std::io::{Read, Write};
 use std::marker::Brand;
-use std::sync::Wait;
-use std::thread::Threads;
-use std::time::Clock;
 
 /// What is asked once a script of sessions was run.
 #[derive(Debug, Clone, Copy)]
@@ -42,7 +37,7 @@ pub struct Inquiry {
     /// What is asked of the entries that stand on the board then.
     pub asked: Asked,
     /// How long a wait of the script looks.
-    pub patience: Patience,
+    pub wait_limit: WaitLimit,
     /// What becomes of the cluster's frames.
     pub chances: Chances,
 }
@@ -52,8 +47,8 @@ pub struct Inquiry {
 ///
 /// A wrong word comes first, then settings out of their ranges, then the faults of the script, and then that what is
 /// asked of is not there.
-#[tactic(auto, using(crate::proofs::Audited::none_of_words, crate::proofs::Audited::none_of_words_memory))]
-pub fn explain_over_cluster<H, R, W>(
+#[tactic(auto, using(crate::proofs::Audited::none_audited, crate::proofs::Started::none_late))]
+pub fn explain_over_cluster<H: Host + 'static, R: Read, W: Write>(
     rt: H,
     alloc: Global,
     inquiry: &Inquiry,
@@ -62,84 +57,41 @@ pub fn explain_over_cluster<H, R, W>(
     reader: &mut R,
     writer: &mut W,
 ) -> Result<(), Failure>
-where
-    H: Threads + Wait + Clock + Copy + Send + 'static,
-    R: Read,
-    W: Write,
-    ensures ok { OnOk result (IfSome (R.remaining reader.old) (λ script.
-        TellsSessions (inquiry.now).asked settings (list_of_words (map (λ word. word.now) words.now)) script None (W.contents writer.old) (W.contents writer.new))) }
-    ensures err { IfErr result (λ failure. IfSome (R.remaining reader.old) (λ script.
-        TellsSessions (inquiry.now).asked settings (list_of_words (map (λ word. word.now) words.now)) script (Some failure) (W.contents writer.old) (W.contents writer.new))) }
+    ensures tells { TellsSessionsOf (inquiry.now).asked settings (list_of_words (map (λ word. word.now) words.now))
+        (R.remaining reader.old) (failure_of result) (W.contents writer.old) (W.contents writer.new) }
     ensures late { IfErr result (λ failure. FailsLate failure (W.contents writer.old) (W.contents writer.new)) }
     ensures word { (result ≡ Err Failure.BadWord) ↔ (list_of_words (map (λ word. word.now) words.now) ≡ None) }
 {
-    match read_list(alloc, words) {
-        Err(refusal) => Err(Failure::from(refusal)),
-        Ok(None) => Err(Failure::BadWord),
-        Ok(Some(list)) => explain_listed(rt, alloc, inquiry, settings, list, reader, writer),
-    }
-}
-
-/// The same over a new cluster of those settings and that list. The board is made here, and named.
-#[tactic(auto, using(crate::proofs::Audited::none_of_settings, crate::proofs::Audited::none_of_memory))]
-fn explain_listed<H, R, W>(
-    rt: H,
-    alloc: Global,
-    inquiry: &Inquiry,
-    settings: Settings,
-    list: AcceptList,
-    reader: &mut R,
-    writer: &mut W,
-) -> Result<(), Failure>
-where
-    H: Threads + Wait + Clock + Copy + Send + 'static,
-    R: Read,
-    W: Write,
-    ensures ok { OnOk result (IfSome (R.remaining reader.old) (λ script.
-        TellsSessions (inquiry.now).asked settings (Some list) script None (W.contents writer.old) (W.contents writer.new))) }
-    ensures err { IfErr result (λ failure. IfSome (R.remaining reader.old) (λ script.
-        TellsSessions (inquiry.now).asked settings (Some list) script (Some failure) (W.contents writer.old) (W.contents writer.new))) }
-    ensures late { IfErr result (λ failure. FailsLate failure (W.contents writer.old) (W.contents writer.new)) }
-    ensures word { result ≢ Err Failure.BadWord }
-{
-    if !are_settings(&settings) {
-        return Err(Failure::from(Refusal::Range));
-    }
-    match new_board(alloc, settings, false) {
-        Err(_) => Err(Failure::from(Refusal::Memory)),
-        Ok(board) => explain_on::<Brand, H, R, W>(
-            rt, alloc, inquiry, settings, board, &list, reader, writer,
+    match found(alloc, settings, words, false) {
+        Err(failure) => Err(failure),
+        Ok(grounds) => explain_on::<Brand, H, R, W>(
+            rt, alloc, inquiry, settings, grounds, reader, writer,
         ),
     }
 }
 
-/// The same over a new cluster on that board.
+/// The same over a new cluster on those grounds.
 #[tactic(auto, using(crate::proofs::Audited::none_of_memory, crate::proofs::Audited::all_told, crate::proofs::Audited::part_told, crate::proofs::Explained::part_late))]
-fn explain_on<B, H, R, W>(
+fn explain_on<B, H: Host + 'static, R: Read, W: Write>(
     rt: H,
     alloc: Global,
     inquiry: &Inquiry,
     settings: Settings,
-    board: Board,
-    list: &AcceptList,
+    grounds: Grounds,
     reader: &mut R,
     writer: &mut W,
 ) -> Result<(), Failure>
 where
     B: HistoryName + Send + Sync + 'static,
-    H: Threads + Wait + Clock + Copy + Send + 'static,
-    R: Read,
-    W: Write,
-    requires name { (board.cells ≡ B.cells) × (board.table ≡ B.table) × (new_world settings list.now ≡ B.start) }
+    requires name { (grounds.board.cells ≡ B.cells) × (grounds.board.table ≡ B.table) × (new_world settings grounds.list ≡ B.start) }
     requires places { length B.cells ≡ settings.places }
-    ensures ok { OnOk result (IfSome (R.remaining reader.old) (λ script.
-        TellsSessions (inquiry.now).asked settings (Some list.now) script None (W.contents writer.old) (W.contents writer.new))) }
-    ensures err { IfErr result (λ failure. IfSome (R.remaining reader.old) (λ script.
-        TellsSessions (inquiry.now).asked settings (Some list.now) script (Some failure) (W.contents writer.old) (W.contents writer.new))) }
+    ensures tells { TellsSessionsOf (inquiry.now).asked settings (Some grounds.list)
+        (R.remaining reader.old) (failure_of result) (W.contents writer.old) (W.contents writer.new) }
     ensures late { IfErr result (λ failure. FailsLate failure (W.contents writer.old) (W.contents writer.new)) }
     ensures word { result ≢ Err Failure.BadWord }
 {
-    match Cluster::<B, Chances>::start(rt, alloc, settings, board, list, inquiry.chances) {
+    let Grounds { board, list } = grounds;
+    match Cluster::<B, Chances>::start(rt, alloc, settings, board, &list, inquiry.chances) {
         Err(_) => Err(Failure::from(Refusal::Memory)),
         Ok(cluster) => match explain_over(rt, alloc, inquiry, cluster, reader, writer) {
             Err(fault) => Err(undelivered(fault)),
@@ -149,7 +101,7 @@ where
 }
 
 /// The same over the cluster, which is stopped.
-fn explain_over<B, H, R, W>(
+fn explain_over<B, H: Host, R: Read, W: Write>(
     rt: H,
     alloc: Global,
     inquiry: &Inquiry,
@@ -159,9 +111,6 @@ fn explain_over<B, H, R, W>(
 ) -> Result<(), WhyFault>
 where
     B: HistoryName + Send + Sync + 'static,
-    H: Threads + Wait + Clock + Copy,
-    R: Read,
-    W: Write,
     ensures ok { OnOk result (IfSome (R.remaining reader.old) (λ script.
         (length script ≤ MOST_BYTES) × AreRun B.start (commands_of_script cluster.nodes script))) }
     ensures told { OnOk result (IsTold plain B.cells (inquiry.now).asked (W.contents writer.old) (W.contents writer.new)) }
@@ -175,7 +124,7 @@ where
 }
 
 /// Runs the script over running nodes, and writes what is asked in the form that is asked for.
-fn explain<B, H, R, W>(
+fn explain<B: HistoryName, H: Host, R: Read, W: Write>(
     rt: &H,
     alloc: Global,
     inquiry: &Inquiry,
@@ -183,11 +132,6 @@ fn explain<B, H, R, W>(
     writer: &mut W,
     running: &Running<B, Chances>,
 ) -> Result<(), WhyFault>
-where
-    B: HistoryName,
-    H: Wait + Clock,
-    R: Read,
-    W: Write,
     ensures ok { OnOk result (IfSome (R.remaining reader.old) (λ script.
         (length script ≤ MOST_BYTES) × AreRun B.start (commands_of_script running.now.nodes script))) }
     ensures told { OnOk result (IsTold plain B.cells (inquiry.now).asked (W.contents writer.old) (W.contents writer.new)) }
@@ -203,7 +147,7 @@ where
 
 /// The same in that form.
 #[tactic(auto, using(crate::proofs::Audited::ran_unprinted, crate::proofs::Audited::told_seated, crate::proofs::Audited::left_seated))]
-fn explain_as<F, B, H, R, W>(
+fn explain_as<F: Tells, B: HistoryName, H: Host, R: Read, W: Write>(
     rt: &H,
     alloc: Global,
     inquiry: &Inquiry,
@@ -211,12 +155,6 @@ fn explain_as<F, B, H, R, W>(
     writer: &mut W,
     running: &Running<B, Chances>,
 ) -> Result<(), WhyFault>
-where
-    F: Tells,
-    B: HistoryName,
-    H: Wait + Clock,
-    R: Read,
-    W: Write,
     ensures ok { OnOk result (IfSome (R.remaining reader.old) (λ script.
         (length script ≤ MOST_BYTES) × AreRun B.start (commands_of_script running.now.nodes script))) }
     ensures told { OnOk result (IsTold F.form B.cells (inquiry.now).asked (W.contents writer.old) (W.contents writer.new)) }
@@ -232,7 +170,7 @@ where
         reader,
         writer,
         running,
-        inquiry.patience,
+        inquiry.wait_limit,
         inquiry.asked,
         &mut sessions,
         &mut seat,

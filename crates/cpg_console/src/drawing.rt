@@ -15,7 +15,8 @@ use crate::runs::Picture;
 use crate::stepping::world_by;
 use cpg_draw::{Shape, draw_script};
 use cpg_ring::Settings;
-use cpg_step::numbers::step_numbered;
+use cpg_step::numbers::SteppedWithNumbers;
+use cpg_step::run_gathered;
 use cpg_text::{Fault, MOST_BYTES};
 use cpg_world::World;
 use std::alloc::Global;
@@ -71,6 +72,6 @@ fn draw<R: Read, W: Write>(
         Picture::Lines(excerpt) => {
             draw_script(alloc, reader, writer, Shape::Lines, excerpt, world)
         }
-        Picture::Numbered => step_numbered(alloc, reader, writer, world),
+        Picture::Numbered => run_gathered(alloc, &SteppedWithNumbers, reader, writer, world),
     }
 }

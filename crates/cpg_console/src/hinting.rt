@@ -13,78 +13,66 @@ ghost use Rattle.cpg_console.specs.Pipes.{has_left, written};
 ghost use Rattle.cpg_console.specs.Runs.{FailsLate, HasWrongWord, IsOfWords, Runs};
 ghost use Rattle.cpg_console.specs.Telling.{told_text};
 ghost use Rattle.cpg_console.specs.Tracing.{IsLeft};
-ghost use Rattle.cpg_console.specs.Words.{wrong_hint};
 
 use crate::failures::Failure;
+use crate::founding::Host;
 use crate::pipes::Piped;
 use crate::runs::{Ended, Run, hand_on, perform, tell};
 use crate::telling::write_front;
 use crate::tracing::KeepsEnds;
 use crate::words::{has_wrong, hint_wrong};
 use cpg_cred::Refusal;
-use cpg_hint::{Kind, hint_of};
+use cpg_hint::{ScriptKind, hint_of};
 use cpg_text::read_whole;
 use std::alloc::Global;
 use std::io::{BufWriter, Read, Write};
-use std::sync::Wait;
-use std::thread::Threads;
-use std::time::Clock;
 
 /// The kind of script that a run reads.
-fn kind_of(run: &Run<'_>) -> Kind
+fn kind_of(run: &Run<'_>) -> ScriptKind
     ensures { result ≡ kind_of run.now }
 {
     match run {
-        Run::Judge(_) | Run::JudgeOnly(_) | Run::Why(_, _) => Kind::Judge,
-        Run::Accept(_) => Kind::Accept,
+        Run::Judge(_) | Run::JudgeOnly(_) | Run::Why(_, _) => ScriptKind::Judge,
+        Run::Accept(_) => ScriptKind::Accept,
         Run::Step(_, settings, _)
         | Run::StepWhy(_, _, settings, _)
         | Run::Draw(_, settings, _)
         | Run::Number(settings, _)
-        | Run::Echo(settings, _) => Kind::Step(settings.nodes),
+        | Run::Echo(settings, _) => ScriptKind::Step(settings.nodes),
         Run::Cluster(_, _, settings, _) | Run::ClusterWhy(_, settings, _) => {
-            Kind::Cluster(settings.nodes)
+            ScriptKind::Cluster(settings.nodes)
         }
     }
 }
 
-/// Whether a word of the run's command line lets nobody in.
-fn has_wrong_word(run: &Run<'_>) -> bool
-    ensures { (result ≡ true) ↔ HasWrongWord run.now }
+/// The words of the run's command line that let users and groups in.
+fn words_of<'a>(run: &Run<'a>) -> &'a [&'a str]
+    ensures { result.now ≡ words_of run.now }
 {
     match run {
-        Run::Judge(_) | Run::JudgeOnly(_) | Run::Why(_, _) | Run::Accept(_) => false,
+        Run::Judge(_) | Run::JudgeOnly(_) | Run::Why(_, _) | Run::Accept(_) => &[],
         Run::Step(_, _, words)
         | Run::StepWhy(_, _, _, words)
         | Run::Draw(_, _, words)
         | Run::Number(_, words)
         | Run::Echo(_, words)
         | Run::Cluster(_, _, _, words)
-        | Run::ClusterWhy(_, _, words) => has_wrong(words),
+        | Run::ClusterWhy(_, _, words) => words,
     }
 }
 
-/// What a person needs to mend the first word of the run's command line that lets nobody in.
-fn hint_words(alloc: Global, run: &Run<'_>) -> Result<Vec<u8>, Refusal>
-    ensures ok { IfOk result (λ hint. hint.items ≡ wrong_hint (words_of run.now)) }
-    ensures memory { IsOkUnless result Refusal.Memory }
+/// Whether a word of the run's command line lets nobody in.
+#[tactic(auto, using(crate::proofs::Worded::wrong_by))]
+fn has_wrong_word(run: &Run<'_>) -> bool
+    ensures { (result ≡ true) ↔ HasWrongWord run.now }
 {
-    match run {
-        Run::Judge(_) | Run::JudgeOnly(_) | Run::Why(_, _) | Run::Accept(_) => Ok(Vec::new(alloc)),
-        Run::Step(_, _, words)
-        | Run::StepWhy(_, _, _, words)
-        | Run::Draw(_, _, words)
-        | Run::Number(_, words)
-        | Run::Echo(_, words)
-        | Run::Cluster(_, _, _, words)
-        | Run::ClusterWhy(_, _, words) => hint_wrong(alloc, words),
-    }
+    has_wrong(words_of(run))
 }
 
 /// Runs the subcommand over the streams as `perform` does, and tells a hint behind the line of a script's fault.
 ///
 /// The script is read whole before anything else is done; where it can't be read, that is the fault, but for a wrong word.
-pub fn perform_with_hint<H, R, W, E, K>(
+pub fn perform_with_hint<H: Host + 'static, R: Read, W: Write + Drop, E: Write, K: KeepsEnds>(
     rt: H,
     alloc: Global,
     run: &Run<'_>,
@@ -93,12 +81,6 @@ pub fn perform_with_hint<H, R, W, E, K>(
     errors: &mut E,
     keeper: &mut K,
 ) -> Ended
-where
-    H: Threads + Wait + Clock + Copy + Send + 'static,
-    R: Read,
-    W: Write + Drop,
-    E: Write,
-    K: KeepsEnds,
     ensures output { IfSome (R.remaining reader.old) (λ script.
         Runs run.now script result.flushed result.failure (written W.contents writer.old) (written W.contents writer.new)
         ⊎ (IsSomeAnd result.failure EndsUnread × Keeps (written W.contents writer.old) (written W.contents writer.new))) }
@@ -121,7 +103,7 @@ where
 
 /// Runs the subcommand over the script that was read, and tells a hint behind the line of its fault.
 #[tactic(auto, using(crate::proofs::Fronts::then_all, crate::proofs::Fronts::then_front, crate::proofs::Fronts::front_more))]
-fn run_read<H, W, E, K>(
+fn run_read<H: Host + 'static, W: Write + Drop, E: Write, K: KeepsEnds>(
     rt: H,
     alloc: Global,
     run: &Run<'_>,
@@ -130,11 +112,6 @@ fn run_read<H, W, E, K>(
     errors: &mut E,
     keeper: &mut K,
 ) -> Ended
-where
-    H: Threads + Wait + Clock + Copy + Send + 'static,
-    W: Write + Drop,
-    E: Write,
-    K: KeepsEnds,
     ensures output { Runs run.now script.now result.flushed result.failure (written W.contents writer.old) (written W.contents writer.new) }
     ensures late { IfSome result.failure (λ failure. FailsLate failure (written W.contents writer.old) (written W.contents writer.new)) }
     ensures word { (result.failure ≡ Some Failure.BadWord) ↔ HasWrongWord run.now }
@@ -188,7 +165,7 @@ fn hint_for(
 {
     match failure {
         Some(Failure::Fault(fault)) => hint_of(alloc, kind_of(run), script, fault),
-        Some(Failure::BadWord) => hint_words(alloc, run),
+        Some(Failure::BadWord) => hint_wrong(alloc, words_of(run)),
         _ => Ok(Vec::new(alloc)),
     }
 }
@@ -228,16 +205,13 @@ fn tell_unread<E: Write>(
 }
 
 /// Ends a run whose script could not be read; a hint is told of a wrong word.
-fn end_unread<W, E>(
+fn end_unread<W: Write + Drop, E: Write>(
     alloc: Global,
     run: &Run<'_>,
     refusal: Refusal,
     writer: &mut BufWriter<Piped<W>>,
     errors: &mut E,
 ) -> Ended
-where
-    W: Write + Drop,
-    E: Write,
     requires { (refusal ≡ Refusal.Memory) ⊎ (refusal ≡ Refusal.Read) }
     ensures failure { IsSomeAnd result.failure EndsUnread }
     ensures kept { Keeps (written W.contents writer.old) (written W.contents writer.new) }

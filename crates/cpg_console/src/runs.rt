@@ -19,13 +19,14 @@ use crate::clustering::run_cluster;
 use crate::drawing::draw_over_world;
 use crate::echoing::echo_over_world;
 use crate::failures::Failure;
+use crate::founding::Host;
 use crate::judging::{accept, explain, judge};
+use crate::output_form::OutputForm;
 use crate::pipes::Piped;
-use crate::speaking::Spoken;
 use crate::stepping::{explain_over_world, step_over_world};
 use crate::telling::tell_failure;
 use crate::tracing::KeepsEnds;
-use cpg_cluster::Manner;
+use cpg_cluster::RunOptions;
 use cpg_cred::Refusal;
 use cpg_draw::Excerpt;
 use cpg_json::Marks;
@@ -36,9 +37,6 @@ use cpg_text::Fault;
 use cpg_why::Asked;
 use std::alloc::Global;
 use std::io::{BufWriter, Read, Write};
-use std::sync::Wait;
-use std::thread::Threads;
-use std::time::Clock;
 
 /// How lines are written.
 #[derive(Debug, Clone, Copy)]
@@ -92,8 +90,8 @@ pub enum Run<'a> {
     /// `cpgring step --echo`: the same as `Step`, each line behind the number of its script line and what its command is of.
     Echo(Settings, &'a [&'a str]),
     /// `cpgring run`: a script of sessions is run over a new cluster of those settings, whose nodes let in
-    /// whom the words let in, and answers as the manner says; of its frames becomes what the chances say.
-    Cluster(Manner<Spoken>, Chances, Settings, &'a [&'a str]),
+    /// whom the words let in, and answers as the options say; of its frames becomes what the chances say.
+    Cluster(RunOptions<OutputForm>, Chances, Settings, &'a [&'a str]),
     /// `cpgring run --why`: it is told why entries that stand on such a cluster's board after the script were answered
     /// as they were.
     ClusterWhy(Inquiry, Settings, &'a [&'a str]),
@@ -128,7 +126,7 @@ impl Ended {
 /// What was gathered is handed on also after a fault; where that fails, the fault is `Write`. Why a run ended
 /// early is told on standard error, as far as the stream allows; where there is nothing to tell, or the reader of
 /// standard output has left, nothing is.
-pub fn perform<H, R, W, E, K>(
+pub fn perform<H: Host + 'static, R: Read, W: Write + Drop, E: Write, K: KeepsEnds>(
     rt: H,
     alloc: Global,
     run: &Run<'_>,
@@ -137,12 +135,6 @@ pub fn perform<H, R, W, E, K>(
     errors: &mut E,
     keeper: &mut K,
 ) -> Ended
-where
-    H: Threads + Wait + Clock + Copy + Send + 'static,
-    R: Read,
-    W: Write + Drop,
-    E: Write,
-    K: KeepsEnds,
     ensures output { IfSome (R.remaining reader.old) (λ script.
         Runs run.now script result.flushed result.failure (written W.contents writer.old) (written W.contents writer.new)) }
 
@@ -200,7 +192,7 @@ pub fn hand_on<W: Write + Drop>(writer: &mut BufWriter<W>) -> bool
 
 /// Runs the subcommand and flushes. The failure, and whether all that was written is handed on.
 #[tactic(auto, using(crate::proofs::Flushed::word_told))]
-fn run_flushed<H, R, W, K>(
+fn run_flushed<H: Host + 'static, R: Read, W: Write + Drop, K: KeepsEnds>(
     rt: H,
     alloc: Global,
     run: &Run<'_>,
@@ -208,11 +200,6 @@ fn run_flushed<H, R, W, K>(
     writer: &mut BufWriter<W>,
     keeper: &mut K,
 ) -> (Option<Failure>, bool)
-where
-    H: Threads + Wait + Clock + Copy + Send + 'static,
-    R: Read,
-    W: Write + Drop,
-    K: KeepsEnds,
     ensures output { IfSome (R.remaining reader.old) (λ script.
         Runs run.now script result.1 result.0 (writer_contents W.contents writer.old) (writer_contents W.contents writer.new)) }
     ensures late { IfSome result.0 (λ failure. FailsLate failure (writer_contents W.contents writer.old) (writer_contents W.contents writer.new)) }
@@ -241,7 +228,7 @@ pub fn failure_after(done: Result<(), Failure>, flushed: bool) -> Option<Failure
 }
 
 /// Runs the script by the subcommand's rule.
-fn run_script<H, R, W, K>(
+fn run_script<H: Host + 'static, R: Read, W: Write, K: KeepsEnds>(
     rt: H,
     alloc: Global,
     run: &Run<'_>,
@@ -249,11 +236,6 @@ fn run_script<H, R, W, K>(
     writer: &mut W,
     keeper: &mut K,
 ) -> Result<(), Failure>
-where
-    H: Threads + Wait + Clock + Copy + Send + 'static,
-    R: Read,
-    W: Write,
-    K: KeepsEnds,
     ensures ok { OnOk result (IfSome (R.remaining reader.old) (λ script.
         Prints run.now script None (W.contents writer.old) (W.contents writer.new))) }
     ensures err { IfErr result (λ failure. IfSome (R.remaining reader.old) (λ script.
@@ -284,9 +266,9 @@ where
         Run::Echo(settings, words) => {
             echo_over_world(alloc, *settings, words, reader, writer)?;
         }
-        Run::Cluster(manner, chances, settings, words) => {
+        Run::Cluster(options, chances, settings, words) => {
             run_cluster(
-                rt, alloc, manner, *chances, *settings, words, reader, writer, keeper,
+                rt, alloc, options, *chances, *settings, words, reader, writer, keeper,
             )?;
         }
         Run::ClusterWhy(inquiry, settings, words) => {

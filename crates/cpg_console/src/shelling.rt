@@ -3,11 +3,12 @@
 //! Proved: the words of the command line come first, then the settings, then the lines; what is printed and told, and the
 //! status.
 
-ghost use Rattle.std.specs.Prelude.{◌≡◌, ◌⊎◌, ◌++◌, None, Some, map, OnOk, OnErr, IfErr, IfOk, IfSome, IsOkUnless};
+ghost use Rattle.std.specs.Prelude.{◌≡◌, ◌⊎◌, ◌++◌, None, Some, map, OnOk, OnErr, IfOk, IfSome, IsOkUnless};
 ghost use Rattle.cpg_text.specs.Streams.{AppendsFront};
 ghost use Rattle.cpg_console.specs.Pipes.{has_left, written};
+ghost use Rattle.cpg_console.specs.Runs.{failure_of};
 ghost use Rattle.cpg_console.specs.Shelling.{ShellEnds, ShellRuns, Shells, word_told};
-ghost use Rattle.cpg_console.specs.Speaking.{spoken_as};
+ghost use Rattle.cpg_console.specs.OutputForms.{output_as};
 ghost use Rattle.cpg_console.specs.Telling.{told_text};
 ghost use Rattle.cpg_console.specs.Tracing.{WasKept, WasKeptOf};
 ghost use Rattle.cpg_console.specs.Words.{list_of_words};
@@ -15,34 +16,30 @@ ghost use Rattle.cpg_world_laws.specs.Worlds.{new_world};
 
 use crate::chances::Chances;
 use crate::failures::Failure;
-use crate::founding::new_board;
+use crate::founding::{Grounds, Host, found};
+use crate::output_form::OutputForm;
 use crate::pipes::Piped;
 use crate::runs::{Ended, failure_after, hand_on, tell};
-use crate::speaking::Spoken;
 use crate::telling::write_front;
 use crate::tracing::{KeepsEnds, stop_kept};
-use crate::words::{hint_wrong, read_list};
-use cpg_board::Board;
-use cpg_cluster::Manner;
+use crate::words::hint_wrong;
+use cpg_cluster::RunOptions;
 use cpg_cluster::shell::shell_lines;
-use cpg_cred::{AcceptList, Refusal};
+use cpg_cred::Refusal;
 use cpg_daemon::{Cluster, HistoryName};
-use cpg_ring::{Settings, are_settings};
+use cpg_ring::Settings;
 use std::alloc::Global;
 use std::io::{BufWriter, Read, Write};
 use std::marker::Brand;
-use std::sync::Wait;
-use std::thread::Threads;
-use std::time::Clock;
 
 /// Answers the lines of the reader over a new cluster of those settings, whose nodes let in whom the words let in, stops
 /// the cluster, and tells why that ended early, if it did.
 ///
 /// A wrong word comes first, then settings out of their ranges, then the faults of the shell.
-pub fn perform_shell<H, R, W, E, K>(
+pub fn perform_shell<H: Host + 'static, R: Read, W: Write + Drop, E: Write, K: KeepsEnds>(
     rt: H,
     alloc: Global,
-    manner: &Manner<Spoken>,
+    options: &RunOptions<OutputForm>,
     chances: Chances,
     settings: Settings,
     words: &[&str],
@@ -51,25 +48,19 @@ pub fn perform_shell<H, R, W, E, K>(
     errors: &mut E,
     keeper: &mut K,
 ) -> Ended
-where
-    H: Threads + Wait + Clock + Copy + Send + 'static,
-    R: Read,
-    W: Write + Drop,
-    E: Write,
-    K: KeepsEnds,
-    ensures runs { ShellRuns (spoken_as (manner.now).form) settings (list_of_words (map (λ word. word.now) words.now)) (has_left writer.new) result.flushed result.failure
-        (word_told (manner.now).form words.now result.failure)
+    ensures runs { ShellRuns (output_as (options.now).form) settings (list_of_words (map (λ word. word.now) words.now)) (has_left writer.new) result.flushed result.failure
+        (word_told (options.now).form words.now result.failure)
         (R.remaining reader.old) (written W.contents writer.old) (written W.contents writer.new) (E.contents errors.old) (E.contents errors.new) }
     ensures kept { result.failure ≡ None → WasKeptOf K.keeps settings (list_of_words (map (λ word. word.now) words.now)) keeper.old keeper.new }
     ensures left { IfSome result.failure (λ _. (keeper.new ≡ keeper.old) ⊎ WasKeptOf K.keeps settings (list_of_words (map (λ word. word.now) words.now)) keeper.old keeper.new) }
 {
     let done = run_shell(
-        rt, alloc, manner, chances, settings, words, reader, writer, errors, keeper,
+        rt, alloc, options, chances, settings, words, reader, writer, errors, keeper,
     );
     let flushed = hand_on(writer);
     let failure = failure_after(done, flushed);
     let left = writer.get_ref().has_left();
-    let told = tell_hinted(alloc, errors, left, &manner.form, words, &failure);
+    let told = tell_hinted(alloc, errors, left, &options.form, words, &failure);
     Ended {
         failure,
         flushed,
@@ -84,7 +75,7 @@ fn tell_hinted<E: Write>(
     alloc: Global,
     errors: &mut E,
     left: bool,
-    form: &Spoken,
+    form: &OutputForm,
     words: &[&str],
     failure: &Option<Failure>,
 ) -> bool
@@ -102,7 +93,7 @@ fn tell_hinted<E: Write>(
 fn tell_word<E: Write>(
     alloc: Global,
     errors: &mut E,
-    form: &Spoken,
+    form: &OutputForm,
     words: &[&str],
     failure: &Option<Failure>,
 ) -> bool
@@ -117,7 +108,7 @@ fn tell_word<E: Write>(
 /// What is told of the first wrong word, where that is the failure and it is told what is known.
 fn word_hint(
     alloc: Global,
-    form: &Spoken,
+    form: &OutputForm,
     words: &[&str],
     failure: &Option<Failure>,
 ) -> Result<Vec<u8>, Refusal>
@@ -125,17 +116,17 @@ fn word_hint(
     ensures memory { IsOkUnless result Refusal.Memory }
 {
     match (form, failure) {
-        (Spoken::Noted(_), Some(Failure::BadWord)) => hint_wrong(alloc, words),
+        (OutputForm::Noted(_), Some(Failure::BadWord)) => hint_wrong(alloc, words),
         _ => Ok(Vec::new(alloc)),
     }
 }
 
 /// Answers the lines over a new cluster, and stops it.
-#[tactic(auto, using(crate::proofs::Shelled::none_of_words, crate::proofs::Shelled::none_of_memory))]
-fn run_shell<H, R, W, E, K>(
+#[tactic(auto, using(crate::proofs::Shelled::none_shelled))]
+fn run_shell<H: Host + 'static, R: Read, W: Write, E: Write, K: KeepsEnds>(
     rt: H,
     alloc: Global,
-    manner: &Manner<Spoken>,
+    options: &RunOptions<OutputForm>,
     chances: Chances,
     settings: Settings,
     words: &[&str],
@@ -144,76 +135,28 @@ fn run_shell<H, R, W, E, K>(
     errors: &mut E,
     keeper: &mut K,
 ) -> Result<(), Failure>
-where
-    H: Threads + Wait + Clock + Copy + Send + 'static,
-    R: Read,
-    W: Write,
-    E: Write,
-    K: KeepsEnds,
-    ensures ok { OnOk result (Shells (spoken_as (manner.now).form) settings (list_of_words (map (λ word. word.now) words.now)) None
-        (R.remaining reader.old) (W.contents writer.old) (W.contents writer.new) (E.contents errors.old) (E.contents errors.new)) }
-    ensures err { IfErr result (λ failure. Shells (spoken_as (manner.now).form) settings (list_of_words (map (λ word. word.now) words.now)) (Some failure)
-        (R.remaining reader.old) (W.contents writer.old) (W.contents writer.new) (E.contents errors.old) (E.contents errors.new)) }
+    ensures shells { Shells (output_as (options.now).form) settings (list_of_words (map (λ word. word.now) words.now)) (failure_of result)
+        (R.remaining reader.old) (W.contents writer.old) (W.contents writer.new) (E.contents errors.old) (E.contents errors.new) }
     ensures kept { OnOk result (WasKeptOf K.keeps settings (list_of_words (map (λ word. word.now) words.now)) keeper.old keeper.new) }
     ensures left { OnErr result ((keeper.new ≡ keeper.old) ⊎ WasKeptOf K.keeps settings (list_of_words (map (λ word. word.now) words.now)) keeper.old keeper.new) }
 {
-    match read_list(alloc, words) {
-        Err(refusal) => Err(Failure::from(refusal)),
-        Ok(None) => Err(Failure::BadWord),
-        Ok(Some(list)) => shell_listed(
-            rt, alloc, manner, chances, settings, list, reader, writer, errors, keeper,
+    match found(alloc, settings, words, keeper.is_asked()) {
+        Err(failure) => Err(failure),
+        Ok(grounds) => shell_on::<Brand, H, R, W, E, K>(
+            rt, alloc, options, chances, settings, grounds, reader, writer, errors, keeper,
         ),
     }
 }
 
-/// Answers the lines over a new cluster of those settings and that list. The board is made here, and named.
-#[tactic(auto, using(crate::proofs::Shelled::none_of_settings, crate::proofs::Shelled::none_of_memory))]
-fn shell_listed<H, R, W, E, K>(
-    rt: H,
-    alloc: Global,
-    manner: &Manner<Spoken>,
-    chances: Chances,
-    settings: Settings,
-    list: AcceptList,
-    reader: &mut R,
-    writer: &mut W,
-    errors: &mut E,
-    keeper: &mut K,
-) -> Result<(), Failure>
-where
-    H: Threads + Wait + Clock + Copy + Send + 'static,
-    R: Read,
-    W: Write,
-    E: Write,
-    K: KeepsEnds,
-    ensures ok { OnOk result (Shells (spoken_as (manner.now).form) settings (Some list) None
-        (R.remaining reader.old) (W.contents writer.old) (W.contents writer.new) (E.contents errors.old) (E.contents errors.new)) }
-    ensures err { IfErr result (λ failure. Shells (spoken_as (manner.now).form) settings (Some list) (Some failure)
-        (R.remaining reader.old) (W.contents writer.old) (W.contents writer.new) (E.contents errors.old) (E.contents errors.new)) }
-    ensures kept { OnOk result (WasKept K.keeps (new_world settings list) keeper.old keeper.new) }
-    ensures left { OnErr result ((keeper.new ≡ keeper.old) ⊎ WasKept K.keeps (new_world settings list) keeper.old keeper.new) }
-{
-    if !are_settings(&settings) {
-        return Err(Failure::from(Refusal::Range));
-    }
-    match new_board(alloc, settings, keeper.is_asked()) {
-        Err(_) => Err(Failure::from(Refusal::Memory)),
-        Ok(board) => shell_on::<Brand, H, R, W, E, K>(
-            rt, alloc, manner, chances, settings, board, &list, reader, writer, errors, keeper,
-        ),
-    }
-}
-
-/// Answers the lines over a new cluster on that board.
+/// Answers the lines over a new cluster on those grounds.
 #[tactic(auto, using(crate::proofs::Shelled::none_of_memory, crate::proofs::Shelled::shelled))]
-fn shell_on<B, H, R, W, E, K>(
+fn shell_on<B, H: Host + 'static, R: Read, W: Write, E: Write, K: KeepsEnds>(
     rt: H,
     alloc: Global,
-    manner: &Manner<Spoken>,
+    options: &RunOptions<OutputForm>,
     chances: Chances,
     settings: Settings,
-    board: Board,
-    list: &AcceptList,
+    grounds: Grounds,
     reader: &mut R,
     writer: &mut W,
     errors: &mut E,
@@ -221,30 +164,24 @@ fn shell_on<B, H, R, W, E, K>(
 ) -> Result<(), Failure>
 where
     B: HistoryName + Send + Sync + 'static,
-    H: Threads + Wait + Clock + Copy + Send + 'static,
-    R: Read,
-    W: Write,
-    E: Write,
-    K: KeepsEnds,
-    requires name { (board.cells ≡ B.cells) × (board.table ≡ B.table) × (new_world settings list.now ≡ B.start) }
-    ensures ok { OnOk result (Shells (spoken_as (manner.now).form) settings (Some list.now) None
-        (R.remaining reader.old) (W.contents writer.old) (W.contents writer.new) (E.contents errors.old) (E.contents errors.new)) }
-    ensures err { IfErr result (λ failure. Shells (spoken_as (manner.now).form) settings (Some list.now) (Some failure)
-        (R.remaining reader.old) (W.contents writer.old) (W.contents writer.new) (E.contents errors.old) (E.contents errors.new)) }
+    requires name { (grounds.board.cells ≡ B.cells) × (grounds.board.table ≡ B.table) × (new_world settings grounds.list ≡ B.start) }
+    ensures shells { Shells (output_as (options.now).form) settings (Some grounds.list) (failure_of result)
+        (R.remaining reader.old) (W.contents writer.old) (W.contents writer.new) (E.contents errors.old) (E.contents errors.new) }
     ensures kept { OnOk result (WasKept K.keeps B.start keeper.old keeper.new) }
     ensures left { OnErr result ((keeper.new ≡ keeper.old) ⊎ WasKept K.keeps B.start keeper.old keeper.new) }
 {
-    match Cluster::<B, Chances>::start(rt, alloc, settings, board, list, chances) {
+    let Grounds { board, list } = grounds;
+    match Cluster::<B, Chances>::start(rt, alloc, settings, board, &list, chances) {
         Err(_) => Err(Failure::from(Refusal::Memory)),
-        Ok(cluster) => { shell_over(rt, alloc, manner, cluster, reader, writer, errors, keeper) },
+        Ok(cluster) => { shell_over(rt, alloc, options, cluster, reader, writer, errors, keeper) },
     }
 }
 
 /// Answers the lines over the cluster, and stops it.
-fn shell_over<B, H, R, W, E, K>(
+fn shell_over<B, H: Host, R: Read, W: Write, E: Write, K: KeepsEnds>(
     rt: H,
     alloc: Global,
-    manner: &Manner<Spoken>,
+    options: &RunOptions<OutputForm>,
     cluster: Cluster<B, Chances>,
     reader: &mut R,
     writer: &mut W,
@@ -253,18 +190,11 @@ fn shell_over<B, H, R, W, E, K>(
 ) -> Result<(), Failure>
 where
     B: HistoryName + Send + Sync + 'static,
-    H: Threads + Wait + Clock + Copy,
-    R: Read,
-    W: Write,
-    E: Write,
-    K: KeepsEnds,
-    ensures ok { OnOk result (ShellEnds (spoken_as (manner.now).form) B.start cluster.nodes None
-        (R.remaining reader.old) (W.contents writer.old) (W.contents writer.new) (E.contents errors.old) (E.contents errors.new)) }
-    ensures err { IfErr result (λ failure. ShellEnds (spoken_as (manner.now).form) B.start cluster.nodes (Some failure)
-        (R.remaining reader.old) (W.contents writer.old) (W.contents writer.new) (E.contents errors.old) (E.contents errors.new)) }
+    ensures shells { ShellEnds (output_as (options.now).form) B.start cluster.nodes (failure_of result)
+        (R.remaining reader.old) (W.contents writer.old) (W.contents writer.new) (E.contents errors.old) (E.contents errors.new) }
     ensures kept { WasKept K.keeps B.start keeper.old keeper.new }
 {
-    let done = shell_lines(&rt, alloc, reader, writer, errors, &cluster, manner);
+    let done = shell_lines(&rt, alloc, reader, writer, errors, &cluster, options);
     stop_kept(&rt, alloc, cluster, keeper);
     match done {
         Ok(()) => Ok(()),

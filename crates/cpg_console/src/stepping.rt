@@ -18,10 +18,10 @@ use crate::failures::{Failure, undelivered};
 use crate::runs::{Form, Stepped};
 use crate::words::read_list;
 use cpg_cred::AcceptList;
-use cpg_json::step_json;
+use cpg_json::SteppedAsJson;
 use cpg_json::why::AsJson;
 use cpg_ring::Settings;
-use cpg_step::run_script;
+use cpg_step::{run_in_form, run_script};
 use cpg_text::{Fault, MOST_BYTES};
 use cpg_why::steps::why_of_steps;
 use cpg_why::{AsText, Asked, WhyFault};
@@ -89,7 +89,7 @@ fn step<R: Read, W: Write>(
 {
     match form {
         Stepped::Text => run_script(alloc, reader, writer, world),
-        Stepped::Json(marks) => step_json(alloc, marks, reader, writer, world),
+        Stepped::Json(marks) => run_in_form(alloc, &SteppedAsJson { marks }, reader, writer, world),
     }
 }
 

@@ -8,7 +8,7 @@ ghost use Rattle.std.specs.Io.KnownBytes.{Appends};
 ghost use Rattle.cpg_text.specs.Streams.{AppendsFront};
 ghost use Rattle.cpg_text.specs.Faults.{part_text};
 ghost use Rattle.cpg_accept.specs.Accepting.{whole_fault};
-ghost use Rattle.cpg_console.specs.Telling.{conn_line, conn_text, entry_line, error_line, event_line, failure_line, missing_line, process_line};
+ghost use Rattle.cpg_console.specs.Telling.{absent_text, before_connection, before_process, conn_text, error_line, failure_line, missing_line, one_or_more, present_text};
 
 use crate::failures::{Among, Failure};
 use arrayvec::ArrayString;
@@ -108,154 +108,98 @@ fn line_of(fault: &Fault) -> Result<ArrayString<ROOM>, fmt::Error>
 fn missing_line(among: Among, what: &Missing) -> Result<ArrayString<ROOM>, fmt::Error>
     ensures { IfOk result (λ line. line.bytes ≡ missing_line among what.now) }
 {
+    let mut line = ArrayString::new();
+    line.write_str("cpgring: there is no ")?;
+    put_absent(&mut line, among, what)?;
+    line.write_str(": ")?;
+    put_present(&mut line, among, what)?;
+    line.write_str("\n")?;
+    Ok(line)
+}
+
+/// Puts what is asked of and is not there at the line's end.
+fn put_absent(line: &mut ArrayString<ROOM>, among: Among, what: &Missing) -> Result<(), fmt::Error>
+    ensures { OnOk result (line.new.bytes ≡ line.old.bytes ++ absent_text among what.now) }
+{
     match what {
-        Missing::Entry { place, entries } => entry_line(among, *place, *entries),
-        Missing::Connection { conn, conns } => conn_line(among, conn, *conns),
-        Missing::Process { pid, conns } => process_line(among, *pid, *conns),
-        Missing::Event {
-            conn,
-            event,
-            events,
-        } => event_line(conn, *event, *events),
+        Missing::Entry { place, .. } => put_numbered(line, "entry ", *place),
+        Missing::Event { event, .. } => put_numbered(line, "event ", *event),
+        Missing::Connection { conn, .. } => put_conn(line, before_connection(among), conn),
+        Missing::Process { pid, .. } => put_numbered(line, before_process(among), *pid),
     }
 }
 
-/// The line of an event that is none of the so many that a connection was told.
-fn event_line(conn: &ConnId, event: u32, events: u32) -> Result<ArrayString<ROOM>, fmt::Error>
-    ensures { IfOk result (λ line. line.bytes ≡ event_line conn.now event events) }
-{
-    let mut line = ArrayString::new();
-    line.write_str("cpgring: there is no event ")?;
-    put_number(&mut line, event)?;
-    line.write_str(": ")?;
-    put_conn(&mut line, conn)?;
-    line.write_str(" was told ")?;
-    put_number(&mut line, events)?;
-    line.write_str("\n")?;
-    Ok(line)
-}
-
-/// The line of a place at which none of so many entries stands.
-fn entry_line(among: Among, place: u32, entries: u32) -> Result<ArrayString<ROOM>, fmt::Error>
-    ensures { IfOk result (λ line. line.bytes ≡ entry_line among place entries) }
+/// The words before a connection that is not there.
+fn before_connection(among: Among) -> &'static str
+    ensures { result.now ≡ before_connection among }
 {
     match among {
-        Among::Script => entry_of_script(place, entries),
-        Among::Delivered => entry_of_delivered(place, entries),
+        Among::Script => "connection ",
+        Among::Delivered => "entry of ",
     }
 }
 
-fn entry_of_script(place: u32, entries: u32) -> Result<ArrayString<ROOM>, fmt::Error>
-    ensures { IfOk result (λ line. line.bytes ≡ entry_line Among.Script place entries) }
-{
-    let mut line = ArrayString::new();
-    line.write_str("cpgring: there is no entry ")?;
-    put_number(&mut line, place)?;
-    line.write_str(": the script has ")?;
-    put_number(&mut line, entries)?;
-    line.write_str("\n")?;
-    Ok(line)
-}
-
-fn entry_of_delivered(place: u32, entries: u32) -> Result<ArrayString<ROOM>, fmt::Error>
-    ensures { IfOk result (λ line. line.bytes ≡ entry_line Among.Delivered place entries) }
-{
-    let mut line = ArrayString::new();
-    line.write_str("cpgring: there is no entry ")?;
-    put_number(&mut line, place)?;
-    line.write_str(": ")?;
-    put_number(&mut line, entries)?;
-    line.write_str(if entries == 1 {
-        " was delivered\n"
-    } else {
-        " were delivered\n"
-    })?;
-    Ok(line)
-}
-
-/// The line of a connection that is none of the so many that made an entry.
-fn conn_line(among: Among, conn: &ConnId, conns: u32) -> Result<ArrayString<ROOM>, fmt::Error>
-    ensures { IfOk result (λ line. line.bytes ≡ conn_line among conn.now conns) }
+/// The words before a process that is not there.
+fn before_process(among: Among) -> &'static str
+    ensures { result.now ≡ before_process among }
 {
     match among {
-        Among::Script => conn_of_script(conn, conns),
-        Among::Delivered => conn_of_delivered(conn, conns),
+        Among::Script => "connection of process ",
+        Among::Delivered => "entry of process ",
     }
 }
 
-fn conn_of_script(conn: &ConnId, conns: u32) -> Result<ArrayString<ROOM>, fmt::Error>
-    ensures { IfOk result (λ line. line.bytes ≡ conn_line Among.Script conn.now conns) }
+/// Puts what there is in its place at the line's end.
+fn put_present(line: &mut ArrayString<ROOM>, among: Among, what: &Missing) -> Result<(), fmt::Error>
+    ensures { OnOk result (line.new.bytes ≡ line.old.bytes ++ present_text among what.now) }
 {
-    let mut line = ArrayString::new();
-    line.write_str("cpgring: there is no connection ")?;
-    put_conn(&mut line, conn)?;
-    line.write_str(": the script has ")?;
-    put_number(&mut line, conns)?;
-    line.write_str("\n")?;
-    Ok(line)
-}
-
-fn conn_of_delivered(conn: &ConnId, conns: u32) -> Result<ArrayString<ROOM>, fmt::Error>
-    ensures { IfOk result (λ line. line.bytes ≡ conn_line Among.Delivered conn.now conns) }
-{
-    let mut line = ArrayString::new();
-    line.write_str("cpgring: there is no entry of ")?;
-    put_conn(&mut line, conn)?;
-    line.write_str(": ")?;
-    put_number(&mut line, conns)?;
-    line.write_str(if conns == 1 {
-        " connection has one\n"
-    } else {
-        " connections have one\n"
-    })?;
-    Ok(line)
-}
-
-/// The line of a process of which no connection is among the so many that made an entry.
-fn process_line(among: Among, pid: u32, conns: u32) -> Result<ArrayString<ROOM>, fmt::Error>
-    ensures { IfOk result (λ line. line.bytes ≡ process_line among pid conns) }
-{
-    match among {
-        Among::Script => process_of_script(pid, conns),
-        Among::Delivered => process_of_delivered(pid, conns),
+    match (among, what) {
+        (_, Missing::Event { conn, events, .. }) => {
+            put_conn(line, "", conn)?;
+            put_numbered(line, " was told ", *events)
+        }
+        (Among::Script, Missing::Entry { entries, .. }) => {
+            put_numbered(line, "the script has ", *entries)
+        }
+        (Among::Script, Missing::Connection { conns, .. } | Missing::Process { conns, .. }) => {
+            put_numbered(line, "the script has ", *conns)
+        }
+        (Among::Delivered, Missing::Entry { entries, .. }) => {
+            put_counted(line, *entries, " was delivered", " were delivered")
+        }
+        (Among::Delivered, Missing::Connection { conns, .. } | Missing::Process { conns, .. }) => {
+            put_counted(line, *conns, " connection has one", " connections have one")
+        }
     }
 }
 
-fn process_of_script(pid: u32, conns: u32) -> Result<ArrayString<ROOM>, fmt::Error>
-    ensures { IfOk result (λ line. line.bytes ≡ process_line Among.Script pid conns) }
+/// Puts the words and NODE.CONN at the line's end.
+fn put_conn(line: &mut ArrayString<ROOM>, words: &str, conn: &ConnId) -> Result<(), fmt::Error>
+    ensures { OnOk result (line.new.bytes ≡ line.old.bytes ++ words.now ++ conn_text conn.now) }
 {
-    let mut line = ArrayString::new();
-    line.write_str("cpgring: there is no connection of process ")?;
-    put_number(&mut line, pid)?;
-    line.write_str(": the script has ")?;
-    put_number(&mut line, conns)?;
-    line.write_str("\n")?;
-    Ok(line)
+    put_numbered(line, words, u32::from(conn.node.get()))?;
+    put_numbered(line, ".", u32::from(conn.conn))
 }
 
-fn process_of_delivered(pid: u32, conns: u32) -> Result<ArrayString<ROOM>, fmt::Error>
-    ensures { IfOk result (λ line. line.bytes ≡ process_line Among.Delivered pid conns) }
+/// Puts the words and the number at the line's end.
+fn put_numbered(line: &mut ArrayString<ROOM>, words: &str, number: u32) -> Result<(), fmt::Error>
+    ensures { OnOk result (line.new.bytes ≡ line.old.bytes ++ words.now ++ decimal number) }
 {
-    let mut line = ArrayString::new();
-    line.write_str("cpgring: there is no entry of process ")?;
-    put_number(&mut line, pid)?;
-    line.write_str(": ")?;
-    put_number(&mut line, conns)?;
-    line.write_str(if conns == 1 {
-        " connection has one\n"
-    } else {
-        " connections have one\n"
-    })?;
-    Ok(line)
+    line.write_str(words)?;
+    put_number(line, number)
 }
 
-/// Puts NODE.CONN at the line's end.
-fn put_conn(line: &mut ArrayString<ROOM>, conn: &ConnId) -> Result<(), fmt::Error>
-    ensures { OnOk result (line.new.bytes ≡ line.old.bytes ++ conn_text conn.now) }
+/// Puts the count at the line's end, and the words for one, or else those for more.
+fn put_counted(
+    line: &mut ArrayString<ROOM>,
+    count: u32,
+    one: &str,
+    more: &str,
+) -> Result<(), fmt::Error>
+    ensures { OnOk result (line.new.bytes ≡ line.old.bytes ++ one_or_more count one.now more.now) }
 {
-    put_number(line, u32::from(conn.node.get()))?;
-    line.write_str(".")?;
-    put_number(line, u32::from(conn.conn))
+    put_number(line, count)?;
+    line.write_str(if count == 1 { one } else { more })
 }
 
 /// Puts which part the fault is of at the line's end, where it is a part's.
@@ -265,8 +209,7 @@ fn put_part(line: &mut ArrayString<ROOM>, part: Option<u32>) -> Result<(), fmt::
     let Some(part) = part else {
         return Ok(());
     };
-    line.write_str("part ")?;
-    put_number(line, part)?;
+    put_numbered(line, "part ", part)?;
     line.write_str(": ")
 }
 

@@ -1,6 +1,7 @@
 //! How a call says no.
 
 ghost use Rattle.std.specs.Prelude.{◌≡◌, ◌↔◌, Err, IsTrue};
+ghost use Rattle.cpg_cred.specs.Shown.{name, number};
 
 use crate::bases::By;
 use std::alloc::{AllocError, AllocFailed};
@@ -75,6 +76,86 @@ pub enum Refusal {
     Write,
 }
 
+impl Refusal {
+    /// Its number.
+    pub fn number(self) -> u32
+        ensures { result ≡ number self }
+    {
+        match self {
+            Refusal::Memory => 1,
+            Refusal::Access => 2,
+            Refusal::NoConnection => 3,
+            Refusal::BadName => 4,
+            Refusal::TooLong => 5,
+            Refusal::QueueFull => 6,
+            Refusal::ConnectionsFull => 7,
+            Refusal::Foreign => 8,
+            Refusal::NotMine => 9,
+            Refusal::Stale => 10,
+            Refusal::Implausible => 11,
+            Refusal::Held => 12,
+            Refusal::FarAhead => 13,
+            Refusal::Malformed => 14,
+            Refusal::RingEnd => 15,
+            Refusal::NoFrame => 16,
+            Refusal::Differs => 17,
+            Refusal::BoardFull => 18,
+            Refusal::Behind(_) => 19,
+            Refusal::Stopped => 20,
+            Refusal::Denied(_) => 21,
+            Refusal::BadLine(_) => 31,
+            Refusal::Unopened(_) => 32,
+            Refusal::Unclosed => 33,
+            Refusal::BadItem(_) => 34,
+            Refusal::BadValue(_) => 35,
+            Refusal::UnknownName(_) => 36,
+            Refusal::Range => 37,
+            Refusal::BadCommand(_) => 41,
+            Refusal::Read => 42,
+            Refusal::Write => 43,
+        }
+    }
+
+    /// Its name.
+    pub fn name(self) -> &'static str
+        ensures { result.now ≡ name self }
+    {
+        match self {
+            Refusal::Memory => "Memory",
+            Refusal::Access => "Access",
+            Refusal::NoConnection => "NoConnection",
+            Refusal::BadName => "BadName",
+            Refusal::TooLong => "TooLong",
+            Refusal::QueueFull => "QueueFull",
+            Refusal::ConnectionsFull => "ConnectionsFull",
+            Refusal::Foreign => "Foreign",
+            Refusal::NotMine => "NotMine",
+            Refusal::Stale => "Stale",
+            Refusal::Implausible => "Implausible",
+            Refusal::Held => "Held",
+            Refusal::FarAhead => "FarAhead",
+            Refusal::Malformed => "Malformed",
+            Refusal::RingEnd => "RingEnd",
+            Refusal::NoFrame => "NoFrame",
+            Refusal::Differs => "Differs",
+            Refusal::BoardFull => "BoardFull",
+            Refusal::Behind(_) => "Behind",
+            Refusal::Stopped => "Stopped",
+            Refusal::Denied(_) => "Denied",
+            Refusal::BadLine(_) => "BadLine",
+            Refusal::Unopened(_) => "Unopened",
+            Refusal::Unclosed => "Unclosed",
+            Refusal::BadItem(_) => "BadItem",
+            Refusal::BadValue(_) => "BadValue",
+            Refusal::UnknownName(_) => "UnknownName",
+            Refusal::Range => "Range",
+            Refusal::BadCommand(_) => "BadCommand",
+            Refusal::Read => "Read",
+            Refusal::Write => "Write",
+        }
+    }
+}
+
 impl fmt::Display for Refusal {
     ghost use Rattle.cpg_cred.specs.Shown.{refusal_text};
     ghost use Rattle.std.specs.Prelude.{Some};
@@ -82,38 +163,17 @@ impl fmt::Display for Refusal {
     ghost output = { λ refusal. Some (refusal_text refusal) };
 
     fn fmt<W: fmt::Write>(&self, f: &mut fmt::Formatter<W>) -> fmt::Result {
+        write!(f, "{} {}", self.number(), self.name())?;
         match self {
-            Refusal::Memory => write!(f, "1 Memory"),
-            Refusal::Access => write!(f, "2 Access"),
-            Refusal::NoConnection => write!(f, "3 NoConnection"),
-            Refusal::BadName => write!(f, "4 BadName"),
-            Refusal::TooLong => write!(f, "5 TooLong"),
-            Refusal::QueueFull => write!(f, "6 QueueFull"),
-            Refusal::ConnectionsFull => write!(f, "7 ConnectionsFull"),
-            Refusal::Foreign => write!(f, "8 Foreign"),
-            Refusal::NotMine => write!(f, "9 NotMine"),
-            Refusal::Stale => write!(f, "10 Stale"),
-            Refusal::Implausible => write!(f, "11 Implausible"),
-            Refusal::Held => write!(f, "12 Held"),
-            Refusal::FarAhead => write!(f, "13 FarAhead"),
-            Refusal::Malformed => write!(f, "14 Malformed"),
-            Refusal::RingEnd => write!(f, "15 RingEnd"),
-            Refusal::NoFrame => write!(f, "16 NoFrame"),
-            Refusal::Differs => write!(f, "17 Differs"),
-            Refusal::BoardFull => write!(f, "18 BoardFull"),
-            Refusal::Behind(reached) => write!(f, "19 Behind {reached}"),
-            Refusal::Stopped => write!(f, "20 Stopped"),
-            Refusal::Denied(by) => write!(f, "21 Denied {by}"),
-            Refusal::BadLine(line) => write!(f, "31 BadLine {line}"),
-            Refusal::Unopened(line) => write!(f, "32 Unopened {line}"),
-            Refusal::Unclosed => write!(f, "33 Unclosed"),
-            Refusal::BadItem(line) => write!(f, "34 BadItem {line}"),
-            Refusal::BadValue(line) => write!(f, "35 BadValue {line}"),
-            Refusal::UnknownName(line) => write!(f, "36 UnknownName {line}"),
-            Refusal::Range => write!(f, "37 Range"),
-            Refusal::BadCommand(line) => write!(f, "41 BadCommand {line}"),
-            Refusal::Read => write!(f, "42 Read"),
-            Refusal::Write => write!(f, "43 Write"),
+            Refusal::Denied(by) => write!(f, " {by}"),
+            Refusal::Behind(number)
+            | Refusal::BadLine(number)
+            | Refusal::Unopened(number)
+            | Refusal::BadItem(number)
+            | Refusal::BadValue(number)
+            | Refusal::UnknownName(number)
+            | Refusal::BadCommand(number) => write!(f, " {number}"),
+            _ => Ok(()),
         }
     }
 }

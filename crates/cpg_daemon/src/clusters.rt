@@ -98,11 +98,11 @@ fn new_running<B: HistoryName, G>(
 where
     G: Drop,
     requires start { (list ≡ B.start.list) × (nodes ≡ B.start.settings.nodes) }
-    requires nodes { (vec_len stations ≡ nodes) × (vec_len wakers.bells ≡ nodes) × (vec_len wakers.signs ≡ nodes) × (nodes ≤ 8) }
+    requires nodes { (vec_len stations ≡ nodes) × (vec_len wakers.bells ≡ nodes) × (vec_len wakers.flags ≡ nodes) × (nodes ≤ 8) }
     ensures ok { IfOk result (λ running. arc_value running ≡ record { nodes = nodes; list = list }) }
     ensures memory { IsOkUnless result Refusal.Memory }
 {
-    let Wakers { bells, signs } = wakers;
+    let Wakers { bells, flags } = wakers;
     Ok(Arc::new(
         alloc,
         Running {
@@ -112,7 +112,7 @@ where
             stations,
             gate,
             bells,
-            signs,
+            flags,
             calls: CachePadded::new(AtomicU64::new(0)),
             halted: AtomicBool::new(false),
         },

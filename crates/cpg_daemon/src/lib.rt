@@ -7,12 +7,12 @@
 
 mod beginning;
 mod clusters;
+mod flags;
 mod gates;
 mod lines;
 mod making;
 mod running;
 mod sessions;
-mod signs;
 mod stopping;
 mod turns;
 

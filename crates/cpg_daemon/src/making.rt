@@ -7,9 +7,9 @@ ghost use Rattle.cpg_history.specs.Histories.{first_world};
 ghost use Rattle.cpg_daemon.specs.Links.{links_of, peers_of, peer_of};
 
 use crate::clusters::Links;
+use crate::flags::{NodeFlags, new_flags};
 use crate::lines::{Incoming, Lines, Outgoing, ROOM};
 use crate::running::Lock;
-use crate::signs::{Sign, new_signs};
 use crate::stopping::Room;
 use cpg_cred::{NodeId, Refusal};
 use cpg_history::{Beginning, History, HistoryName, Member, Parcel, Pen, new_member, new_spares};
@@ -234,16 +234,16 @@ fn new_nodes<B: HistoryName>(
 #[derive(Drop)]
 pub(crate) struct Wakers {
     pub bells: Vec<CachePadded<Bell>>,
-    pub signs: Vec<CachePadded<Sign>>,
+    pub flags: Vec<CachePadded<NodeFlags>>,
 }
 
 fn new_wakers(alloc: Global, nodes: u8) -> Result<Wakers, Refusal>
-    ensures ok { IfOk result (λ wakers. (vec_len wakers.bells ≡ nodes) × (vec_len wakers.signs ≡ nodes)) }
+    ensures ok { IfOk result (λ wakers. (vec_len wakers.bells ≡ nodes) × (vec_len wakers.flags ≡ nodes)) }
     ensures memory { IsOkUnless result Refusal.Memory }
 {
     let bells = new_bells(alloc, nodes)?;
-    let signs = new_signs(alloc, nodes)?;
-    Ok(Wakers { bells, signs })
+    let flags = new_flags(alloc, nodes)?;
+    Ok(Wakers { bells, flags })
 }
 
 /// What a cluster is made of but for its history and its gate: all that asks for memory.
@@ -267,7 +267,7 @@ pub(crate) fn new_parts<B: HistoryName, R: Wait>(
     requires begins { first_world beginning.now ≡ B.start }
     requires pens { pens ≡ all_nodes }
     ensures nodes { IfOk result (λ parts. (vec_len parts.stations ≡ beginning.now.settings.nodes) × (parts.room.nodes ≡ beginning.now.settings.nodes)) }
-    ensures wakers { IfOk result (λ parts. (vec_len parts.wakers.bells ≡ beginning.now.settings.nodes) × (vec_len parts.wakers.signs ≡ beginning.now.settings.nodes)) }
+    ensures wakers { IfOk result (λ parts. (vec_len parts.wakers.bells ≡ beginning.now.settings.nodes) × (vec_len parts.wakers.flags ≡ beginning.now.settings.nodes)) }
     ensures lines { IfOk result (λ parts. (vec_len parts.lines.outgoing ≡ links_of beginning.now.settings.nodes) × (vec_len parts.lines.incoming ≡ links_of beginning.now.settings.nodes)) }
     ensures memory { IsOkUnless result Refusal.Memory }
 {

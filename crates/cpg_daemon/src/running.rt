@@ -6,7 +6,7 @@ ghost use Rattle.cpg_history.specs.Members.{IsSafeAt};
 ghost use Rattle.cpg_daemon.specs.Clusters.{IsMarkIn};
 ghost use Rattle.cpg_daemon.specs.Links.{next_of};
 
-use crate::signs::Sign;
+use crate::flags::NodeFlags;
 use cpg_board::{Board, Seat};
 use cpg_cred::{AcceptList, NodeId};
 use cpg_history::{Front, History, HistoryName, Member, Parcel};
@@ -44,7 +44,7 @@ pub struct Running<B: HistoryName, G> {
     pub(crate) stations: Vec<Lock<B>>,
     pub(crate) gate: G,
     pub(crate) bells: Vec<CachePadded<Bell>>,
-    pub(crate) signs: Vec<CachePadded<Sign>>,
+    pub(crate) flags: Vec<CachePadded<NodeFlags>>,
     /// How many calls were admitted, at any node. All sessions count it up, and what else stands here is hardly ever
     /// written, so it stands alone.
     pub(crate) calls: CachePadded<AtomicU64>,
@@ -60,7 +60,7 @@ impl<B: HistoryName, G> Model for Running<B, G> {
 
     ghost view = { λ running. record { nodes = running.nodes; list = running.list } };
 
-    ghost invariant = { λ running. (running.list ≡ B.start.list) × (running.nodes ≡ B.start.settings.nodes) × (vec_len running.stations ≡ running.nodes) × (vec_len running.bells ≡ running.nodes) × (vec_len running.signs ≡ running.nodes) × (running.nodes ≤ 8) };
+    ghost invariant = { λ running. (running.list ≡ B.start.list) × (running.nodes ≡ B.start.settings.nodes) × (vec_len running.stations ≡ running.nodes) × (vec_len running.bells ≡ running.nodes) × (vec_len running.flags ≡ running.nodes) × (running.nodes ≤ 8) };
 }
 
 /// The pause after a look at a station that was held.
@@ -114,7 +114,7 @@ impl<B: HistoryName, G> Running<B, G> {
     /// A node's station, once nobody else holds it. A lock that was slept for twice is left to those who sleep, so that
     /// each of its sections then waits for a thread to be woken; they take some microseconds, so a thread looks
     /// for a while before it sleeps. A session that would only be answered as just before holds none: it looks at the node's
-    /// signs first, which change under this lock alone.
+    /// flags first, which change under this lock alone.
     pub(crate) fn hold<R: Wait>(&self, rt: &R, node: NodeId) -> Held<'_, B>
         requires { node ≤ self.now.nodes }
     {
@@ -165,10 +165,10 @@ impl<B: HistoryName, G> Running<B, G> {
 
     /// Halts all nodes: later calls of sessions are answered with Stopped.
     pub fn halt<R: Wait>(&self, rt: &R) {
-        for (station, sign) in self.stations.iter().zip(self.signs.iter()) {
+        for (station, flags) in self.stations.iter().zip(self.flags.iter()) {
             let mut held = station.lock(rt);
             held.halt();
-            sign.halt();
+            flags.halt();
         }
         self.halted.store(true, Ordering::SeqCst);
         self.ring_all(News::Halt);
@@ -187,10 +187,10 @@ impl<B: HistoryName, G> Running<B, G> {
     }
 
     /// What a node's sessions may look at without its lock.
-    pub(crate) fn sign(&self, node: NodeId) -> &Sign
+    pub(crate) fn flags(&self, node: NodeId) -> &NodeFlags
         requires { node ≤ self.now.nodes }
     {
-        &self.signs[usize::from(node.get()) - 1]
+        &self.flags[usize::from(node.get()) - 1]
     }
 
     /// Rings all bells.

@@ -108,14 +108,14 @@ impl<B: HistoryName, G> Running<B, G> {
         })
     }
 
-    /// Has the node's sign say what a refusal tells of its station, whose lock is held: that its queue is full, or that it is
+    /// Has the node's flags say what a refusal tells of its station, whose lock is held: that its queue is full, or that it is
     /// halted. A station that is not as a session knows it halts at that.
     fn note_refusal(&self, node: NodeId, refusal: Refusal)
         requires { node ≤ self.now.nodes }
     {
         match refusal {
-            Refusal::QueueFull => self.sign(node).fill(),
-            Refusal::Stopped => self.sign(node).halt(),
+            Refusal::QueueFull => self.flags(node).fill(),
+            Refusal::Stopped => self.flags(node).halt(),
             _ => {}
         }
     }
@@ -136,7 +136,7 @@ impl<B: HistoryName, G> Running<B, G> {
         requires { node ≤ self.now.nodes }
         ensures { IsTrue result → call_refusal call.now ≡ None }
     {
-        self.sign(node).is_full() && !self.are_halted() && call_refusal(call).is_none()
+        self.flags(node).is_full() && !self.are_halted() && call_refusal(call).is_none()
     }
 
     /// Puts a call of the session last among what waits at its station, whose lock is held. Refused as `submit` is.
@@ -254,7 +254,7 @@ impl<B: HistoryName, G> Running<B, G> {
         ensures { IsTrue result → TakesOne B.start session.now (Ok None) session.now }
     {
         match session.quiet {
-            Some(told) => told == self.sign(session.who.id.node).told() && !self.are_halted(),
+            Some(told) => told == self.flags(session.who.id.node).told() && !self.are_halted(),
             None => false,
         }
     }
@@ -266,7 +266,7 @@ impl<B: HistoryName, G> Running<B, G> {
         ensures { IfSome result (λ told. length (audit_of station.now.station.node) ≡ length seat.now) }
     {
         if station.station().delivered() as usize == seat.len() {
-            Some(self.sign(node).note())
+            Some(self.flags(node).note())
         } else {
             None
         }

@@ -11,53 +11,58 @@ use cpg_link::{Bell, Depth, News};
 use std::sync::Wait;
 use std::thread;
 
-/// After how many idle turns in a row a node sends its last token again.
-const IDLE_TURNS: u32 = 64;
+/// How a node's thread paces its turns: the policy is this project's own. Turns, tokens and frames are counted in a row;
+/// sleeps are in microseconds, and each is at most so long.
+///
+/// A thread that finds no frame looks again for `looked_turns`, and then sleeps lightly between its turns until a frame
+/// wakes it. After `idle_turns`, some milliseconds, it sends its last token again; a token comes round in less, even where
+/// the nodes share a processor. With each token sent again it sleeps longer, up to `slowest_resent` times, so that
+/// whoever's token is the last finds the time for its own idle turns. After `most_in_vain` of them, or frames refused, it
+/// takes it that there is no way on.
+///
+/// After `calm_tokens` that brought nothing and took nothing along a ring is calm: in so many rounds the places that were
+/// given out have been asked for and delivered. A thread then waits longer for a token, and so doesn't send its own again
+/// where another thread is late or at rest. `lost_stale` frames refused show that a token was lost, and not only sent again
+/// too early: the ring is calm no more. After `rest_tokens` it is at rest: so many more that all nodes are calm before the
+/// first of them rests, whose counts differ by a round or two. A thread at rest is woken by data and by calls; eight that
+/// wake by themselves as seldom as this use less than a hundredth of a processor. The token moves on with each sleep that
+/// ends, and so comes round within eight of `due_turns`, after which it is overdue.
+///
+/// A thread takes at most `turns_at_once` before it delivers: so many frames are a burst and the token behind it. Between
+/// two visits of the token at most 56 places come, of seven other nodes, so that no frame is too far ahead of a node that has
+/// yet to deliver, unless it is late by a round.
+#[derive(Debug, Clone, Copy)]
+struct Pacing {
+    looked_turns: u32,
+    light_micros: u64,
+    idle_turns: u32,
+    slowest_resent: u32,
+    most_in_vain: u32,
+    vain_micros: u64,
+    calm_tokens: u32,
+    calm_micros: u64,
+    lost_stale: u32,
+    rest_tokens: u32,
+    deep_micros: u64,
+    due_turns: u32,
+    turns_at_once: u32,
+}
 
-/// For how many idle turns in a row a thread only looks for a frame before it takes the next; after those that follow
-/// it sleeps. So 64 idle turns take some milliseconds, and a token comes round in less even where the nodes share
-/// a processor.
-const LOOKED_TURNS: u32 = 32;
-
-/// For how many microseconds a thread sleeps lightly at most: it is woken by a frame.
-const LIGHT_MICROS: u64 = 50;
-
-/// For how many tokens sent again since a frame came a thread sleeps so long once more: whoever's token is the last finds
-/// the time for its own idle turns then.
-const SLOWEST_RESENT: u32 = 15;
-
-/// After how many tokens sent again, or frames refused, a thread takes it that there is no way on, and for how many
-/// microseconds it then sleeps at most.
-const MOST_IN_VAIN: u32 = 1024;
-
-const VAIN_MICROS: u64 = 10_000;
-
-/// After how many tokens in a row that brought nothing and took nothing along a ring is calm: in so many rounds the places
-/// that were given out have been asked for and delivered. A thread then waits longer for a token, so many microseconds
-/// at most, and so doesn't send its own again where another thread is late or at rest.
-const CALM_TOKENS: u32 = 6;
-
-const CALM_MICROS: u64 = 10_000;
-
-/// After how many the ring is at rest: so many more that all nodes are calm before the first of them rests, whose counts
-/// differ by a round or two.
-const REST_TOKENS: u32 = 12;
-
-/// After how many idle turns in a row the token is overdue: while the ring is at rest it moves on with each sleep that
-/// ends, and so comes round within eight of these.
-const DUE_TURNS: u32 = 32;
-
-/// How many turns in a row a thread takes at most before it delivers: so many frames are a burst and the token behind it.
-/// Between two visits of the token at most 56 places come, of seven other nodes, so that no frame is too far ahead of a node
-/// that has yet to deliver, unless it is late by a round.
-const TURNS_AT_ONCE: u32 = 9;
-
-/// How many frames refused in a row show that a token was lost, and not only sent again too early: the ring is calm no more.
-const LOST_STALE: u32 = 2;
-
-/// For how many microseconds a thread of a ring at rest sleeps at most: it is woken by data and by calls. Eight threads
-/// that wake so often use less than a hundredth of a processor.
-const DEEP_MICROS: u64 = 100_000;
+const PACING: Pacing = Pacing {
+    looked_turns: 32,
+    light_micros: 50,
+    idle_turns: 64,
+    slowest_resent: 15,
+    most_in_vain: 1024,
+    vain_micros: 10_000,
+    calm_tokens: 6,
+    calm_micros: 10_000,
+    lost_stale: 2,
+    rest_tokens: 12,
+    deep_micros: 100_000,
+    due_turns: 32,
+    turns_at_once: 9,
+};
 
 /// What a turn did.
 #[derive(Debug, Clone, Copy, PartialEq, Eq)]
@@ -86,7 +91,7 @@ impl Turn {
 
 /// How long nothing much has happened.
 #[derive(Debug, Clone, Copy)]
-struct Lull {
+struct IdleState {
     /// How many of the last turns were idle since a token was sent again.
     idle: u32,
     /// How many tokens in a row brought nothing and took nothing along, since a call was admitted.
@@ -97,9 +102,9 @@ struct Lull {
     stale: u32,
 }
 
-impl Lull {
+impl IdleState {
     /// After a turn that was busy.
-    const NONE: Lull = Lull {
+    const NONE: IdleState = IdleState {
         idle: 0,
         quiet: 0,
         resent: 0,
@@ -107,21 +112,21 @@ impl Lull {
     };
 
     /// After one turn more.
-    fn after(self, turn: Turn) -> Lull
+    fn after(self, turn: Turn) -> IdleState
         ensures { result.idle ≤ self.idle + 1 }
     {
         match turn {
-            Turn::Busy => Lull::NONE,
-            Turn::Quiet => Lull {
+            Turn::Busy => IdleState::NONE,
+            Turn::Quiet => IdleState {
                 quiet: self.quiet.saturating_add(1),
-                ..Lull::NONE
+                ..IdleState::NONE
             },
-            Turn::Stale => Lull {
+            Turn::Stale => IdleState {
                 quiet: self.quiet,
                 stale: self.stale.saturating_add(1),
-                ..Lull::NONE
+                ..IdleState::NONE
             },
-            Turn::Idle => Lull {
+            Turn::Idle => IdleState {
                 idle: self.idle.saturating_add(1),
                 ..self
             },
@@ -129,10 +134,10 @@ impl Lull {
     }
 
     /// After a token was sent again.
-    fn after_resend(self) -> Lull
+    fn after_resend(self) -> IdleState
         ensures { result.idle ≡ 0 }
     {
-        Lull {
+        IdleState {
             idle: 0,
             resent: self.resent.saturating_add(1),
             ..self
@@ -140,24 +145,27 @@ impl Lull {
     }
 
     /// After calls were admitted.
-    fn after_calls(self) -> Lull
+    fn after_calls(self) -> IdleState
         ensures { (result.quiet ≡ 0) × (result.idle ≡ self.idle) }
     {
-        Lull { quiet: 0, ..self }
+        IdleState { quiet: 0, ..self }
     }
 
     /// Whether the ring is calm.
     fn is_calm(self) -> bool
         ensures { IsTrue result → 6 ≤ self.quiet }
     {
-        self.quiet >= CALM_TOKENS && self.stale < LOST_STALE
+        self.quiet >= PACING.calm_tokens && self.stale < PACING.lost_stale
     }
 
     /// Whether the ring is at rest.
     fn is_rest(self) -> bool
         ensures { IsTrue result → (12 ≤ self.quiet) × (self.idle ≤ 32) × (self.resent ≡ 0) }
     {
-        self.is_calm() && self.quiet >= REST_TOKENS && self.idle <= DUE_TURNS && self.resent == 0
+        self.is_calm()
+            && self.quiet >= PACING.rest_tokens
+            && self.idle <= PACING.due_turns
+            && self.resent == 0
     }
 
     /// How deep to sleep, once one turn more has found nothing.
@@ -179,49 +187,49 @@ impl Lull {
         ensures { IfSome result (λ micros. micros ≤ 100_000) }
     {
         if self.is_rest() {
-            Some(DEEP_MICROS)
-        } else if self.resent > MOST_IN_VAIN || self.stale > MOST_IN_VAIN {
-            Some(VAIN_MICROS)
+            Some(PACING.deep_micros)
+        } else if self.resent > PACING.most_in_vain || self.stale > PACING.most_in_vain {
+            Some(PACING.vain_micros)
         } else if self.is_calm() {
-            Some(CALM_MICROS)
-        } else if self.idle <= LOOKED_TURNS {
+            Some(PACING.calm_micros)
+        } else if self.idle <= PACING.looked_turns {
             None
         } else {
-            Some(LIGHT_MICROS * u64::from(self.resent.min(SLOWEST_RESENT) + 1))
+            Some(PACING.light_micros * u64::from(self.resent.min(PACING.slowest_resent) + 1))
         }
     }
 }
 
 /// What a node's thread goes by between its turns.
 #[derive(Debug, Clone, Copy)]
-struct Pace {
+struct Backoff {
     /// The number of the next turn; it stays at its last value.
     turn: u64,
-    lull: Lull,
+    idle_state: IdleState,
     /// How many calls it knows to be admitted.
     calls: u64,
     /// Whether the last delivery was refused: each turn tries it again.
     owes: bool,
 }
 
-impl Pace {
+impl Backoff {
     /// Before the first turn.
-    const FIRST: Pace = Pace {
+    const FIRST: Backoff = Backoff {
         turn: 1,
-        lull: Lull::NONE,
+        idle_state: IdleState::NONE,
         calls: 0,
         owes: false,
     };
 
     /// After one turn more, and so many calls.
-    fn after(self, turn: Turn, calls: u64) -> Pace {
-        let lull = self.lull.after(turn);
-        Pace {
+    fn after(self, turn: Turn, calls: u64) -> Backoff {
+        let idle_state = self.idle_state.after(turn);
+        Backoff {
             turn: self.turn.saturating_add(1),
-            lull: if calls == self.calls {
-                lull
+            idle_state: if calls == self.calls {
+                idle_state
             } else {
-                lull.after_calls()
+                idle_state.after_calls()
             },
             calls,
             ..self
@@ -229,12 +237,16 @@ impl Pace {
     }
 
     /// Once the same turn delivered something, too, or was refused to, or neither.
-    fn after_delivery(self, has_delivered: bool, owes: bool) -> Pace
+    fn after_delivery(self, has_delivered: bool, owes: bool) -> Backoff
         ensures same { (result.turn ≡ self.turn) × (result.calls ≡ self.calls) × (result.owes ≡ owes) }
-        ensures idle { result.lull.idle ≤ self.lull.idle }
+        ensures idle { result.idle_state.idle ≤ self.idle_state.idle }
     {
-        Pace {
-            lull: if has_delivered { Lull::NONE } else { self.lull },
+        Backoff {
+            idle_state: if has_delivered {
+                IdleState::NONE
+            } else {
+                self.idle_state
+            },
             owes,
             ..self
         }
@@ -302,12 +314,12 @@ fn are_answered<B: HistoryName>(incoming: &[Incoming<B>]) -> bool {
     incoming.iter().any(|end| end.answer.is_some())
 }
 
-/// Waits between two turns until the thread's bell is rung, for as long at most as the lull says.
-fn rest<R: Wait>(rt: &R, bell: &Bell, lull: Lull) {
-    if !lull.is_rest() && bell.is_rung_soon() {
+/// Waits between two turns until the thread's bell is rung, for as long at most as the idle state says.
+fn rest<R: Wait>(rt: &R, bell: &Bell, idle_state: IdleState) {
+    if !idle_state.is_rest() && bell.is_rung_soon() {
         return;
     }
-    if let Some(micros) = lull.most_micros() {
+    if let Some(micros) = idle_state.most_micros() {
         bell.sleep(rt, micros);
     }
 }
@@ -394,14 +406,14 @@ impl<B: HistoryName, G: Gate> Running<B, G> {
         }
     }
 
-    /// Delivers what the node can, at the end of a turn. Before the lock is given back the node's signs say so.
+    /// Delivers what the node can, at the end of a turn. Before the lock is given back the node's flags say so.
     fn deliver_all<R: Wait>(
         &self,
         rt: &R,
         node: NodeId,
-        pace: Pace,
+        backoff: Backoff,
         station: &mut Member<B>,
-    ) -> Pace
+    ) -> Backoff
         requires { node ≤ self.now.nodes }
     {
         let mut has_delivered = false;
@@ -418,9 +430,9 @@ impl<B: HistoryName, G: Gate> Running<B, G> {
         }
         self.show(node, has_delivered, is_refused);
         if is_refused && station.is_halted() {
-            self.sign(node).halt();
+            self.flags(node).halt();
         }
-        pace.after_delivery(has_delivered, is_refused)
+        backoff.after_delivery(has_delivered, is_refused)
     }
 
     /// Sends the node's last token again.
@@ -434,28 +446,28 @@ impl<B: HistoryName, G: Gate> Running<B, G> {
         }
     }
 
-    /// Has the node's signs say what became of its deliveries. A refusal may have halted the node.
+    /// Has the node's flags say what became of its deliveries. A refusal may have halted the node.
     fn show(&self, node: NodeId, has_delivered: bool, is_refused: bool)
         requires { node ≤ self.now.nodes }
     {
-        let sign = self.sign(node);
+        let flags = self.flags(node);
         if has_delivered || is_refused {
-            sign.tell();
+            flags.tell();
         }
         if is_refused {
-            sign.open();
+            flags.open();
         }
     }
 
     /// What the thread goes by after what it heard in a turn. After a busy turn no call can make the ring less calm, so that
     /// it doesn't look for one.
-    fn paced(&self, pace: Pace, heard: Turn) -> Pace {
+    fn backed_off(&self, backoff: Backoff, heard: Turn) -> Backoff {
         let calls = if heard == Turn::Busy {
-            pace.calls
+            backoff.calls
         } else {
             self.calls()
         };
-        pace.after(heard, calls)
+        backoff.after(heard, calls)
     }
 
     /// How many turns in a row a thread takes under one lock at most, before it delivers what they brought. It asks the gate,
@@ -464,7 +476,7 @@ impl<B: HistoryName, G: Gate> Running<B, G> {
         ensures { (1 ≤ result) × (result ≤ 9) }
     {
         if self.gate.lets_all_begin() {
-            TURNS_AT_ONCE
+            PACING.turns_at_once
         } else {
             1
         }
@@ -474,22 +486,22 @@ impl<B: HistoryName, G: Gate> Running<B, G> {
     /// no frame, and where all are halted.
     fn hear_on(
         &self,
-        pace: Pace,
+        backoff: Backoff,
         station: &mut Member<B>,
         incoming: &mut [Incoming<B>],
         turns: u32,
-    ) -> Pace {
-        let mut pace = self.paced(pace, self.hear_each(station, incoming));
+    ) -> Backoff {
+        let mut backoff = self.backed_off(backoff, self.hear_each(station, incoming));
         for _ in 1..turns {
             if are_answered(incoming) || self.are_halted() {
                 break;
             }
             if !take_each(incoming) {
-                return self.paced(pace, Turn::Idle);
+                return self.backed_off(backoff, Turn::Idle);
             }
-            pace = self.paced(pace, self.hear_each(station, incoming));
+            backoff = self.backed_off(backoff, self.hear_each(station, incoming));
         }
-        pace
+        backoff
     }
 
     /// Whether what was heard is answered before anything is delivered, since other nodes wait for it. A node that is alone
@@ -501,21 +513,21 @@ impl<B: HistoryName, G: Gate> Running<B, G> {
     }
 
     /// Such turns under one lock, the last of which delivers what the node can, where it is not to be answered first. Before
-    /// the lock is given back under which the token took calls along, the node's signs say so.
+    /// the lock is given back under which the token took calls along, the node's flags say so.
     fn hear_under_lock<R: Wait>(
         &self,
         rt: &R,
         node: NodeId,
-        pace: Pace,
+        backoff: Backoff,
         incoming: &mut [Incoming<B>],
-    ) -> Pace
+    ) -> Backoff
         requires { node ≤ self.now.nodes }
     {
         let turns = self.turns_at_once();
         let mut station = self.hold(rt, node);
-        let heard = self.hear_on(pace, &mut station, incoming, turns);
+        let heard = self.hear_on(backoff, &mut station, incoming, turns);
         if are_answered(incoming) {
-            self.sign(node).open();
+            self.flags(node).open();
         }
         if self.is_awaited(incoming) {
             return heard;
@@ -524,11 +536,11 @@ impl<B: HistoryName, G: Gate> Running<B, G> {
     }
 
     /// What is left of a turn once its frames were answered.
-    fn deliver_after<R: Wait>(&self, rt: &R, node: NodeId, pace: Pace) -> Pace
+    fn deliver_after<R: Wait>(&self, rt: &R, node: NodeId, backoff: Backoff) -> Backoff
         requires { node ≤ self.now.nodes }
     {
         let mut station = self.hold(rt, node);
-        self.deliver_all(rt, node, pace, &mut station)
+        self.deliver_all(rt, node, backoff, &mut station)
     }
 
     /// One turn, or several under one lock: what is heard is answered before anything is delivered, where others wait for the
@@ -537,16 +549,16 @@ impl<B: HistoryName, G: Gate> Running<B, G> {
         &self,
         rt: &R,
         node: NodeId,
-        pace: Pace,
+        backoff: Backoff,
         incoming: &mut [Incoming<B>],
         outgoing: &mut [Outgoing<B>],
-    ) -> Pace
+    ) -> Backoff
         requires { node ≤ self.now.nodes }
     {
-        if !take_each(incoming) && !pace.owes {
-            return self.paced(pace, Turn::Idle);
+        if !take_each(incoming) && !backoff.owes {
+            return self.backed_off(backoff, Turn::Idle);
         }
-        let next = self.hear_under_lock(rt, node, pace, incoming);
+        let next = self.hear_under_lock(rt, node, backoff, incoming);
         let is_awaited = self.is_awaited(incoming);
         self.answer_each(rt, node, incoming, outgoing);
         if is_awaited {
@@ -557,12 +569,12 @@ impl<B: HistoryName, G: Gate> Running<B, G> {
     }
 
     /// Whether the thread is to end: all are halted, or its own station is. A station halts where it refuses a delivery that
-    /// differs, and where it is not as a session knows it; whoever meets that has the node's sign say so before the lock is
+    /// differs, and where it is not as a session knows it; whoever meets that has the node's flags say so before the lock is
     /// given back, so that none is taken here.
     fn is_over(&self, node: NodeId) -> bool
         requires { node ≤ self.now.nodes }
     {
-        self.are_halted() || self.sign(node).is_halted()
+        self.are_halted() || self.flags(node).is_halted()
     }
 
     /// One turn or several, and what the thread goes by after them. After so many idle turns the last token is sent again.
@@ -570,19 +582,19 @@ impl<B: HistoryName, G: Gate> Running<B, G> {
         &self,
         rt: &R,
         node: NodeId,
-        pace: Pace,
+        backoff: Backoff,
         incoming: &mut [Incoming<B>],
         outgoing: &mut [Outgoing<B>],
-    ) -> Pace
+    ) -> Backoff
         requires { node ≤ self.now.nodes }
     {
-        let next = self.turn(rt, node, pace, incoming, outgoing);
-        if next.lull.idle < IDLE_TURNS {
+        let next = self.turn(rt, node, backoff, incoming, outgoing);
+        if next.idle_state.idle < PACING.idle_turns {
             return next;
         }
         self.send_again(rt, node, outgoing);
-        Pace {
-            lull: next.lull.after_resend(),
+        Backoff {
+            idle_state: next.idle_state.after_resend(),
             ..next
         }
     }
@@ -593,26 +605,26 @@ impl<B: HistoryName, G: Gate> Running<B, G> {
         requires { node ≤ self.now.nodes }
         ensures { (vec_len result.outgoing ≡ vec_len lines.outgoing) × (vec_len result.incoming ≡ vec_len lines.incoming) }
     {
-        let mut pace = Pace::FIRST;
+        let mut backoff = Backoff::FIRST;
         for _ in rt.forever() {
-            let depth = pace.lull.depth();
+            let depth = backoff.idle_state.depth();
             self.bell(node).announce(depth);
             if self.is_over(node) {
                 break;
             }
-            if !self.gate.may_turn(node, pace.turn) {
+            if !self.gate.may_turn(node, backoff.turn) {
                 thread::yield_now();
                 continue;
             }
-            pace = self.go_on(
+            backoff = self.go_on(
                 rt,
                 node,
-                pace,
+                backoff,
                 lines.incoming.as_mut_slice(),
                 lines.outgoing.as_mut_slice(),
             );
-            if depth != Depth::Awake && pace.lull.depth() == depth {
-                rest(rt, self.bell(node), pace.lull);
+            if depth != Depth::Awake && backoff.idle_state.depth() == depth {
+                rest(rt, self.bell(node), backoff.idle_state);
             }
         }
         lines

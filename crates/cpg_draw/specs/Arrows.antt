@@ -4,13 +4,13 @@ use Rattle.cpg_entry.specs.declared.frames.Frame.{Frame}
 use Rattle.cpg_entry.specs.declared.frames.Frame.TheVariants as frame
 use Rattle.cpg_ring.specs.Worlds.{item, with_item}
 use Rattle.cpg_draw.specs.declared.arrows.Arrow.{Arrow}
-use Rattle.cpg_draw.specs.declared.arrows.Kind.{Kind}
-use Rattle.cpg_draw.specs.declared.arrows.Kind.TheVariants.{Data, Again, Token}
+use Rattle.cpg_draw.specs.declared.arrows.ArrowKind.{ArrowKind}
+use Rattle.cpg_draw.specs.declared.arrows.ArrowKind.TheVariants.{Data, Again, Token}
 use Rattle.cpg_draw.specs.declared.excerpts.Spot.{Spot}
 use Rattle.cpg_draw.specs.Sets.{with_node}
 
 -- What a frame is in a row that brought a token of that seq: the token; or data, served again where its place is not above that seq.
-abbrev pub kind_of : ℕ → Frame → Kind
+abbrev pub kind_of : ℕ → Frame → ArrowKind
 kind_of seq (frame.Token token) = Token
 kind_of seq (frame.Packet packet) = if nat_le packet.place seq then Again else Data
 

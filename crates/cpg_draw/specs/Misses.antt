@@ -2,8 +2,8 @@
 use Rattle.std.specs.Prelude.{ℕ, zero, suc, ◌+◌, Bool, true, false, not, ◌&&◌, ◌||◌, ◌==◌, nat_lt, List, [], ◌∷◌, ◌++◌, if◌then◌else◌}
 use Rattle.std.specs.List.{list_any}
 use Rattle.cpg_draw.specs.declared.arrows.Arrow.{Arrow}
-use Rattle.cpg_draw.specs.declared.arrows.Kind.{Kind}
-use Rattle.cpg_draw.specs.declared.arrows.Kind.TheVariants.{Data, Again, Token}
+use Rattle.cpg_draw.specs.declared.arrows.ArrowKind.{ArrowKind}
+use Rattle.cpg_draw.specs.declared.arrows.ArrowKind.TheVariants.{Data, Again, Token}
 use Rattle.cpg_draw.specs.declared.misses.Miss.{Miss}
 use Rattle.cpg_draw.specs.Sets.{has}
 
@@ -11,7 +11,7 @@ use Rattle.cpg_draw.specs.Sets.{has}
 abbrev pub next_of : ℕ → ℕ → ℕ
 next_of nodes node = if nat_lt node nodes then node + 1 else 1
 
-abbrev pub is_token : Kind → Bool
+abbrev pub is_token : ArrowKind → Bool
 is_token Token = true
 is_token Data = false
 is_token Again = false

@@ -10,8 +10,8 @@ use Rattle.cpg_world_laws.specs.Replies.{Answer, AreReplies}
 use Rattle.cpg_step.specs.declared.commands.Command.{Command}
 use Rattle.cpg_step.specs.declared.commands.Command.TheVariants.{Act, Look}
 use Rattle.cpg_step.specs.declared.commands.Look.{Look as LookValue}
-use Rattle.cpg_step.specs.declared.commands.Look.TheVariants.{Show, Audit, Rules, Safe}
 use Rattle.cpg_step.specs.Running.{events_in, after}
+use Rattle.cpg_step.specs.Targets.{frame_of_target, look_target, node_of_target}
 use Rattle.cpg_draw.specs.declared.arrows.Arrow.{Arrow}
 use Rattle.cpg_draw.specs.declared.excerpts.Excerpt.{Excerpt}
 use Rattle.cpg_draw.specs.declared.excerpts.Spot.{Spot}
@@ -55,27 +55,15 @@ act_row spot arrows w e a = record {
   answer = Some a;
 }
 
--- the node of a command that only looks, 0 where it looks at none
-abbrev pub look_at : LookValue → ℕ
-look_at (Show k) = 0
-look_at (Audit n) = n
-look_at (Rules n g) = n
-look_at (Safe n) = n
-
--- the number of the frame that it shows; 0 is no frame's
-abbrev pub shows : LookValue → ℕ
-shows (Show k) = k
-shows _ = 0
-
--- its row: the frame that it shows, or its node as it is
+-- the row of a command that only looks: the frame that it is of, or its node as it is
 abbrev pub look_row : Spot → List Arrow → WorldValue → LookValue → Row
 look_row spot arrows w l = record {
   spot = spot;
-  node = look_at l;
-  arrow = item arrows (shows l);
+  node = node_of_target (look_target l);
+  arrow = item arrows (frame_of_target (look_target l));
   sent_before = length w.sent;
   sent_after = length w.sent;
-  state = state_of (item w.nodes (look_at l));
+  state = state_of (item w.nodes (node_of_target (look_target l)));
   answer = None;
 }
 

@@ -10,7 +10,7 @@ use cpg_entry::Frame;
 
 /// What an arrow stands for.
 #[derive(Debug, Clone, Copy, PartialEq, Eq)]
-pub enum Kind {
+pub enum ArrowKind {
     /// An entry at its place, sent for the first time.
     Data,
     /// An entry at its place, served again to a node that asked for it.
@@ -29,7 +29,7 @@ pub struct Arrow {
     /// The node that sent it, from 1; 0 where it comes from outside the ring.
     pub node: u8,
     /// What it is.
-    pub kind: Kind,
+    pub kind: ArrowKind,
     /// Its place, or its hop.
     pub mark: u64,
     /// The nodes that a row brought it to, a bit for each.
@@ -50,13 +50,13 @@ pub(crate) fn make_arrow(number: u64, sent: Spot, node: u8, seq: u32, frame: &Fr
     }
 }
 
-fn kind_in(seq: u32, frame: &Frame) -> Kind
+fn kind_in(seq: u32, frame: &Frame) -> ArrowKind
     ensures { result ≡ kind_of seq frame.now }
 {
     match frame {
-        Frame::Token(_) => Kind::Token,
-        Frame::Packet(packet) if packet.place <= seq => Kind::Again,
-        Frame::Packet(_) => Kind::Data,
+        Frame::Token(_) => ArrowKind::Token,
+        Frame::Packet(packet) if packet.place <= seq => ArrowKind::Again,
+        Frame::Packet(_) => ArrowKind::Data,
     }
 }
 

@@ -2,7 +2,7 @@
 
 ghost use Rattle.std.specs.Prelude.{IsOkUnless};
 
-use crate::arrows::{Arrow, Kind};
+use crate::arrows::{Arrow, ArrowKind};
 use cpg_cred::Refusal;
 use cpg_text::{push_number, put};
 
@@ -13,15 +13,15 @@ fn gap(at: u8, arrow: Option<Arrow>, column: u8) -> &'static str {
     };
     if arrow.node <= column && column < at {
         match arrow.kind {
-            Kind::Data => "-->",
-            Kind::Again => "==>",
-            Kind::Token => "..>",
+            ArrowKind::Data => "-->",
+            ArrowKind::Again => "==>",
+            ArrowKind::Token => "..>",
         }
     } else if at <= column && column < arrow.node {
         match arrow.kind {
-            Kind::Data => "<--",
-            Kind::Again => "<==",
-            Kind::Token => "<..",
+            ArrowKind::Data => "<--",
+            ArrowKind::Again => "<==",
+            ArrowKind::Token => "<..",
         }
     } else {
         "   "

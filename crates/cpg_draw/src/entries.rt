@@ -46,7 +46,7 @@ fn put_record(line: &mut Vec<u8>, past: &Record) -> Result<(), Refusal>
     ensures memory { IsOkUnless result Refusal.Memory }
 {
     put(line, ": ")?;
-    put_entry(line, past.entry())?;
+    put_entry(line, &past.entry)?;
     put(line, " -> ")?;
     put_verdict(line, past.verdict)
 }

@@ -7,7 +7,7 @@ ghost use Rattle.cpg_draw.specs.Misses.{next_of, is_token, goes_to, misses_at, m
 ghost use Rattle.cpg_draw.specs.Passed.{passed_in};
 ghost use Rattle.cpg_draw.specs.Sets.{has};
 
-use crate::arrows::{Arrow, Kind};
+use crate::arrows::{Arrow, ArrowKind};
 use crate::sets::contains;
 use cpg_cred::Refusal;
 use std::alloc::Global;
@@ -31,13 +31,13 @@ fn next(nodes: u8, node: u8) -> u8
 }
 
 /// Whether it is the token.
-pub fn holds_token(kind: Kind) -> bool
+pub fn holds_token(kind: ArrowKind) -> bool
     ensures { result ≡ is_token kind }
 {
     match kind {
-        Kind::Token => true,
-        Kind::Data => false,
-        Kind::Again => false,
+        ArrowKind::Token => true,
+        ArrowKind::Data => false,
+        ArrowKind::Again => false,
     }
 }
 

@@ -7,8 +7,9 @@ ghost use Rattle.cpg_ring.specs.Worlds.{item};
 ghost use Rattle.cpg_world_laws.specs.Worlds.{node_in};
 ghost use Rattle.cpg_step.specs.Commands.{IsWithin, LooksWithin};
 ghost use Rattle.cpg_step.specs.declared.commands.Command.TheVariants.{Act, Look as Seen};
+ghost use Rattle.cpg_step.specs.Targets.{frame_of_target, node_of_target};
 ghost use Rattle.cpg_draw.specs.Excerpts.{if_shown};
-ghost use Rattle.cpg_draw.specs.Rows.{brings, look_at, look_row, shows, state_of};
+ghost use Rattle.cpg_draw.specs.Rows.{brings, look_row, state_of};
 ghost use Rattle.cpg_draw.specs.Steps.{IsActed, StandsBefore};
 
 use crate::arrows::{Arrow, find_arrow, note_brought};
@@ -16,7 +17,7 @@ use crate::excerpts::{Excerpt, Spot, is_shown, spot_at};
 use crate::frames::{push_arrows, seq_at};
 use cpg_cred::Refusal;
 use cpg_node::Node;
-use cpg_step::{Command, Look, answer_to};
+use cpg_step::{Command, Look, Target, answer_to, look_target};
 use cpg_world::{Reply, World, WorldEvent};
 use std::alloc::Global;
 
@@ -115,36 +116,34 @@ fn moves(row: &Row) -> bool
     row.arrow.is_some() || row.sent_before < row.sent_after
 }
 
-/// The node that is looked at, from 1; 0 where it is none.
-fn looked_at(look: &Look) -> u8
-    ensures { result ≡ look_at look.now }
+/// The node of the target, from 1; 0 where it is a frame.
+fn node_of(target: &Target) -> u8
+    ensures { result ≡ node_of_target target.now }
 {
-    match look {
-        Look::Show(_) => 0,
-        Look::Audit(node) | Look::Rules(node, _) | Look::Safe(node) => node.get(),
+    match target {
+        Target::Frame(_) => 0,
+        Target::Node(node) | Target::Connection(node, _) => node.get(),
     }
 }
 
-/// The number of the frame that is looked at; 0 where it is none.
-fn shown_by(look: &Look) -> u64
-    ensures { result ≡ shows look.now }
+/// The number of the frame that the target is; 0 where it is none.
+fn frame_of(target: &Target) -> u64
+    ensures { result ≡ frame_of_target target.now }
 {
-    match look {
-        Look::Show(number) => *number,
+    match target {
+        Target::Frame(number) => *number,
         _ => 0,
     }
 }
 
-/// The node that is looked at, as it is.
-fn state_seen(world: &World, look: &Look) -> Option<State>
-    requires { LooksWithin (length world.now.nodes) look.now }
-    ensures { result ≡ state_of (item world.now.nodes (look_at look.now)) }
+/// The node of the target, as it is.
+fn state_seen(world: &World, target: &Target) -> Option<State>
+    requires { node_of_target target.now ≤ length world.now.nodes }
+    ensures { result ≡ state_of (item world.now.nodes (node_of_target target.now)) }
 {
-    match look {
-        Look::Show(_) => None,
-        Look::Audit(node) | Look::Rules(node, _) | Look::Safe(node) => {
-            Some(state_at(world.node(*node)))
-        }
+    match target {
+        Target::Frame(_) => None,
+        Target::Node(node) | Target::Connection(node, _) => Some(state_at(world.node(*node))),
     }
 }
 
@@ -153,13 +152,14 @@ fn look_row(arrows: &[Arrow], spot: Spot, world: &World, look: &Look) -> Row
     requires { LooksWithin (length world.now.nodes) look.now }
     ensures { result ≡ look_row spot arrows.now world.now look.now }
 {
+    let target = look_target(look);
     Row {
         spot,
-        node: looked_at(look),
-        arrow: find_arrow(arrows, shown_by(look) as usize),
+        node: node_of(&target),
+        arrow: find_arrow(arrows, frame_of(&target) as usize),
         sent_before: world.sent(),
         sent_after: world.sent(),
-        state: state_seen(world, look),
+        state: state_seen(world, &target),
         answer: None,
     }
 }

@@ -2,7 +2,7 @@
 
 ghost use Rattle.std.specs.Prelude.{IsOkUnless};
 
-use crate::arrows::{Arrow, Kind, find_arrow};
+use crate::arrows::{Arrow, ArrowKind, find_arrow};
 use crate::entries::{put_carried, put_told};
 use crate::excerpts::{Excerpt, reaches};
 use crate::misses::{Miss, holds_token};
@@ -10,21 +10,21 @@ use crate::pictures::Picture;
 use crate::rows::Row;
 use cpg_cred::{NodeId, Refusal};
 use cpg_print::put_call;
-use cpg_step::{Command, Look};
+use cpg_step::{Command, Target, command_name, command_target};
 use cpg_text::{push_number, put};
 use cpg_world::{World, WorldEvent};
 use std::alloc::Global;
 
 /// Puts what an arrow stands for.
-pub(crate) fn put_kind(line: &mut Vec<u8>, kind: Kind) -> Result<(), Refusal>
+pub(crate) fn put_kind(line: &mut Vec<u8>, kind: ArrowKind) -> Result<(), Refusal>
     ensures memory { IsOkUnless result Refusal.Memory }
 {
     put(
         line,
         match kind {
-            Kind::Data => "data ",
-            Kind::Again => "again ",
-            Kind::Token => "token ",
+            ArrowKind::Data => "data ",
+            ArrowKind::Again => "again ",
+            ArrowKind::Token => "token ",
         },
     )
 }
@@ -106,44 +106,34 @@ pub(crate) fn put_start(
     }
 }
 
-fn put_numbered(line: &mut Vec<u8>, word: &str, number: u64) -> Result<(), Refusal>
+fn put_number(line: &mut Vec<u8>, number: u64) -> Result<(), Refusal>
     ensures memory { IsOkUnless result Refusal.Memory }
 {
-    put(line, word)?;
     put(line, " ")?;
     push_number(line, number)
 }
 
-/// Puts an event, as a row names it.
-fn put_event(line: &mut Vec<u8>, event: &WorldEvent) -> Result<(), Refusal>
+/// Puts the number of the connection or the frame that a command is of. The column tells its node.
+fn put_target(line: &mut Vec<u8>, target: Target) -> Result<(), Refusal>
     ensures memory { IsOkUnless result Refusal.Memory }
 {
-    match event {
-        WorldEvent::Connect(_, _, _) => put(line, "connect"),
-        WorldEvent::Submit(_, conn, call) => {
-            put_numbered(line, "call", u64::from(*conn))?;
-            put_call(line, call)
-        }
-        WorldEvent::Disconnect(_, conn) => put_numbered(line, "disconnect", u64::from(*conn)),
-        WorldEvent::Frame(_, number) => put_numbered(line, "frame", *number as u64),
-        WorldEvent::Timer(_) => put(line, "timer"),
-        WorldEvent::Deliver(_) => put(line, "deliver"),
-        WorldEvent::Take(_, conn) => put_numbered(line, "take", u64::from(*conn)),
-        WorldEvent::List(_, conn, _) => put_numbered(line, "list", u64::from(*conn)),
-        WorldEvent::Groups(_, conn) => put_numbered(line, "groups", u64::from(*conn)),
+    match target {
+        Target::Frame(number) => put_number(line, number),
+        Target::Node(_) => Ok(()),
+        Target::Connection(_, conn) => put_number(line, u64::from(conn)),
     }
 }
 
-/// Puts a command, as a row names it.
+/// Puts a command, as a row names it: a call with what is called, and a frame's arrival with its number.
 fn put_command(line: &mut Vec<u8>, command: &Command) -> Result<(), Refusal>
     ensures memory { IsOkUnless result Refusal.Memory }
 {
+    put(line, command_name(command))?;
+    put_target(line, command_target(command))?;
     match command {
-        Command::Act(event) => put_event(line, event),
-        Command::Look(Look::Show(number)) => put_numbered(line, "show", *number),
-        Command::Look(Look::Audit(_)) => put(line, "audit"),
-        Command::Look(Look::Rules(_, _)) => put(line, "rules"),
-        Command::Look(Look::Safe(_)) => put(line, "safe"),
+        Command::Act(WorldEvent::Submit(_, _, call)) => put_call(line, call),
+        Command::Act(WorldEvent::Frame(_, number)) => put_number(line, *number as u64),
+        _ => Ok(()),
     }
 }
 

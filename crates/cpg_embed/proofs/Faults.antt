@@ -9,7 +9,7 @@ use Rattle.cpg_embed.specs.Endpoints.{EndpointValue}
 use Rattle.cpg_embed.specs.Opening.{IsOpened, IsFaultOf, IsListOpened, IsConfOpened, TellsNoFault, fault_in, no_fault}
 use Rattle.cpg_embed.specs.declared.opening.Setup.{Setup}
 use Rattle.cpg_embed.specs.declared.opening.Fault.{Fault}
-use Rattle.cpg_embed.specs.Statuses.{number}
+use Rattle.cpg_cred.specs.Shown.{number}
 
 -- a refusal to read is the text's fault, where it has one, and else a want of memory
 pub refused_text : {A : Type 0} (text : ℕ) (read : Result A Refusal) (why : Refusal) → FailsBy read why → IsFaultOf text read (number why) (fault_in text why)

@@ -10,7 +10,8 @@ use Rattle.cpg_ring.specs.States.{Frame}
 use Rattle.cpg_wire.specs.Reading.{frame_of}
 use Rattle.cpg_embed.specs.Endpoints.{EndpointValue, at_node}
 use Rattle.cpg_embed.specs.Frames.{IsHeardBy, IsRead, IsFrameStatus}
-use Rattle.cpg_embed.specs.Statuses.{number, IfElse}
+use Rattle.cpg_cred.specs.Shown.{number}
+use Rattle.cpg_embed.specs.Statuses.{IfElse}
 use Rattle.cpg_embed.specs.declared.statuses.TheConstants.{BUSY}
 
 by_refusal : (e : EndpointValue) (f : Frame) (why : Refusal) (new : NodeValue) → frame_refusal e.node f ≡ Some why → new ≡ e.node → IsHeardBy e f (frame_refusal e.node f) (number why) (at_node e new)

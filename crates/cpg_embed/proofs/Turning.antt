@@ -8,7 +8,8 @@ use Rattle.cpg_node.specs.Answers.{IsTurnAnswer}
 use Rattle.cpg_ring.specs.States.{Token}
 use Rattle.cpg_embed.specs.Endpoints.{EndpointValue, at_node, with_frames}
 use Rattle.cpg_embed.specs.Frames.{IsHeardAlone, IsTurned, IsTurnStatus}
-use Rattle.cpg_embed.specs.Statuses.{IfElse, number}
+use Rattle.cpg_cred.specs.Shown.{number}
+use Rattle.cpg_embed.specs.Statuses.{IfElse}
 use Rattle.cpg_embed.specs.declared.statuses.TheConstants.{OK, NONE, BUSY}
 
 -- the token was heard

@@ -7,7 +7,8 @@ use Rattle.cpg_entry.specs.declared.calls.Call.{Call}
 use Rattle.cpg_entry.specs.declared.calls.Call.TheVariants.{Insert}
 use Rattle.cpg_node.specs.Nodes.{open_client}
 use Rattle.cpg_node.specs.Calls.{connect_refusal, connected, submit_refusal, submitted, closed_refusal, disconnected}
-use Rattle.cpg_embed.specs.Statuses.{number, IsStatus}
+use Rattle.cpg_cred.specs.Shown.{number}
+use Rattle.cpg_embed.specs.Statuses.{IsStatus}
 use Rattle.cpg_embed.specs.Endpoints.{EndpointValue, at_node}
 
 -- Connect: the connection's number is the next one.

@@ -4,7 +4,7 @@ use Rattle.cpg_cred.specs.declared.refusals.Refusal.TheVariants as refusal
 use Rattle.cpg_record.specs.declared.events.Event.{Event}
 use Rattle.cpg_node.specs.declared.connections.Client.{Client}
 use Rattle.cpg_node.specs.Calls.{next_event, took}
-use Rattle.cpg_embed.specs.Statuses.{number}
+use Rattle.cpg_cred.specs.Shown.{number}
 use Rattle.cpg_embed.specs.Endpoints.{EndpointValue, at_node, with_event}
 use Rattle.cpg_embed.specs.Telling.{told_of}
 use Rattle.cpg_embed.specs.declared.processes.Process.{Process}

@@ -9,7 +9,8 @@ use Rattle.cpg_wire.specs.Spelling.{spelling}
 use Rattle.cpg_wire.specs.declared.codes.Version.TheVariants.{Two}
 use Rattle.cpg_node.specs.Answers.{spelled}
 use Rattle.cpg_node.specs.Calls.{frame_refusal, after_frame, answers_to, node_after_delivery}
-use Rattle.cpg_embed.specs.Statuses.{number, IfElse, IsHanded}
+use Rattle.cpg_cred.specs.Shown.{number}
+use Rattle.cpg_embed.specs.Statuses.{IfElse, IsHanded}
 use Rattle.cpg_embed.specs.Endpoints.{EndpointValue, at_node, with_frames}
 use Rattle.cpg_embed.specs.declared.statuses.TheConstants.{OK, BUSY, NONE}
 

@@ -9,7 +9,8 @@ use Rattle.cpg_ring.specs.States.{Token}
 use Rattle.cpg_node.specs.declared.connections.Client.{Client}
 use Rattle.cpg_node.specs.Nodes.{records_of, asker_by}
 use Rattle.cpg_node.specs.Calls.{list_for}
-use Rattle.cpg_embed.specs.Statuses.{number, IsHanded}
+use Rattle.cpg_cred.specs.Shown.{number}
+use Rattle.cpg_embed.specs.Statuses.{IsHanded}
 use Rattle.cpg_embed.specs.Endpoints.{EndpointValue}
 use Rattle.cpg_embed.specs.Processes.{listed_of}
 use Rattle.cpg_embed.specs.Rules.{line_of}

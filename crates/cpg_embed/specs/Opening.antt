@@ -6,7 +6,7 @@ use Rattle.cpg_cred.specs.Listed.{Listed, with_listed}
 use Rattle.cpg_ring.specs.Rings.{IsRingNode}
 use Rattle.cpg_ring.specs.declared.settings.Settings.{Settings}
 use Rattle.cpg_node.specs.Nodes.{NodeValue, new_value}
-use Rattle.cpg_embed.specs.Statuses.{number}
+use Rattle.cpg_cred.specs.Shown.{number}
 use Rattle.cpg_embed.specs.Endpoints.{EndpointValue, new_endpoint}
 use Rattle.cpg_conf.specs.Listed.{listed, nothing}
 use Rattle.cpg_conf.specs.Names.{Known}

@@ -10,7 +10,7 @@ use Rattle.cpg_record.specs.declared.records.Record.{Record}
 use Rattle.cpg_record.specs.Connections.{conn_of, is_conn}
 use Rattle.cpg_record.specs.Membership.{is_allowed, ends}
 use Rattle.cpg_node.specs.Nodes.{records_of}
-use Rattle.cpg_embed.specs.Statuses.{number}
+use Rattle.cpg_cred.specs.Shown.{number}
 use Rattle.cpg_embed.specs.Endpoints.{EndpointValue}
 use Rattle.cpg_embed.specs.declared.statuses.TheConstants.{OK, NONE}
 

@@ -2,41 +2,8 @@
 use Rattle.std.specs.Prelude.{◌≡◌, ℕ, List, ◌++◌, length, drop, nat_le, Option, Some, None, ◌⊎◌, Bool, true, false}
 use Rattle.cpg_cred.specs.declared.refusals.Refusal.{Refusal}
 use Rattle.cpg_cred.specs.declared.refusals.Refusal.TheVariants as refusal
+use Rattle.cpg_cred.specs.Shown.{number}
 use Rattle.cpg_embed.specs.declared.statuses.TheConstants.{OK, SPACE, NONE}
-
--- the number of a refusal, which its printed form begins with
-abbrev pub number : Refusal → ℕ
-number refusal.Memory = 1
-number refusal.Access = 2
-number refusal.NoConnection = 3
-number refusal.BadName = 4
-number refusal.TooLong = 5
-number refusal.QueueFull = 6
-number refusal.ConnectionsFull = 7
-number refusal.Foreign = 8
-number refusal.NotMine = 9
-number refusal.Stale = 10
-number refusal.Implausible = 11
-number refusal.Held = 12
-number refusal.FarAhead = 13
-number refusal.Malformed = 14
-number refusal.RingEnd = 15
-number refusal.NoFrame = 16
-number refusal.Differs = 17
-number refusal.BoardFull = 18
-number (refusal.Behind reached) = 19
-number refusal.Stopped = 20
-number (refusal.Denied by) = 21
-number (refusal.BadLine line) = 31
-number (refusal.Unopened line) = 32
-number refusal.Unclosed = 33
-number (refusal.BadItem line) = 34
-number (refusal.BadValue line) = 35
-number (refusal.UnknownName line) = 36
-number refusal.Range = 37
-number (refusal.BadCommand line) = 41
-number refusal.Read = 42
-number refusal.Write = 43
 
 -- A status: the number of the first refusal that fits, with nothing changed; where none fits, 0 with what was done, or Memory's
 -- with nothing changed.

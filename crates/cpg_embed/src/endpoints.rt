@@ -1,6 +1,6 @@
 //! A node with what it still has to hand over, and the calls of its connections.
 
-ghost use Rattle.std.specs.Prelude.{◌≡◌};
+ghost use Rattle.std.specs.Prelude.{◌≡◌, IfOk, IsOkUnless};
 ghost use Rattle.cpg_entry.specs.declared.calls.Call.TheVariants as calls;
 ghost use Rattle.cpg_embed.specs.Calls.{IsConnected, IsSubmitted, IsCopied, IsInserted, IsDisconnected};
 ghost use Rattle.cpg_embed.specs.Endpoints.{new_endpoint};
@@ -8,10 +8,10 @@ ghost use Rattle.cpg_embed.specs.Rules.{rule_of};
 
 use crate::rules::RuleLine;
 use crate::seats::Seats;
-use crate::statuses::{OK, number_of};
+use crate::statuses::OK;
 use bytes::Bytes;
 use cpg_cred::{Cred, Refusal};
-use cpg_entry::{Call, Message, Name};
+use cpg_entry::{Call, Message, Name, Rule, SharedRule};
 use cpg_node::{Event, Names, Node, Processes, Remains};
 use std::alloc::Global;
 use std::marker::Model;
@@ -43,6 +43,15 @@ impl Model for Endpoint {
     ghost view = { λ e. record { node = e.node; made = e.made.items; given = e.given; event = e.event; processes = e.processes; names = e.names; seats = e.seats; remains = e.remains } };
 }
 
+/// The call to put the rule into the group's table, at that index.
+fn insert_of(alloc: Global, group: &[u8], index: u8, rule: Rule) -> Result<Call, Refusal>
+    ensures ok { IfOk result (λ call. call ≡ calls.Insert group.now index rule) }
+    ensures memory { IsOkUnless result Refusal.Memory }
+{
+    let group = Name::from_slice(alloc, group)?;
+    Ok(Call::Insert(group, index, SharedRule::new(alloc, rule)?))
+}
+
 impl Endpoint {
     /// The endpoint of that node, which has nothing to hand over.
     pub fn new(alloc: Global, node: Node) -> Endpoint
@@ -70,7 +79,7 @@ impl Endpoint {
                 *conn = number;
                 OK
             }
-            Err(refusal) => number_of(refusal),
+            Err(refusal) => refusal.number(),
         }
     }
 
@@ -80,7 +89,7 @@ impl Endpoint {
     {
         match self.node.submit(conn, call) {
             Ok(()) => OK,
-            Err(refused) => number_of(refused.refusal),
+            Err(refused) => refused.refusal.number(),
         }
     }
 
@@ -90,7 +99,7 @@ impl Endpoint {
     {
         match Name::from_slice(self.alloc, group) {
             Ok(name) => self.submit(conn, Call::Join(name)),
-            Err(refusal) => number_of(refusal),
+            Err(refusal) => refusal.number(),
         }
     }
 
@@ -107,7 +116,7 @@ impl Endpoint {
     {
         match Message::from_slice(self.alloc, message) {
             Ok(message) => self.submit(conn, Call::Send(message)),
-            Err(refusal) => number_of(refusal),
+            Err(refusal) => refusal.number(),
         }
     }
 
@@ -116,11 +125,11 @@ impl Endpoint {
         ensures { IsInserted self.old conn group.now index (rule_of line.now) result self.new }
     {
         let Some(rule) = line.rule() else {
-            return number_of(Refusal::Range);
+            return Refusal::Range.number();
         };
-        match Name::from_slice(self.alloc, group) {
-            Ok(name) => self.submit(conn, Call::Insert(name, index, rule)),
-            Err(refusal) => number_of(refusal),
+        match insert_of(self.alloc, group, index, rule) {
+            Ok(call) => self.submit(conn, call),
+            Err(refusal) => refusal.number(),
         }
     }
 
@@ -130,7 +139,7 @@ impl Endpoint {
     {
         match Name::from_slice(self.alloc, group) {
             Ok(name) => self.submit(conn, Call::Remove(name, id)),
-            Err(refusal) => number_of(refusal),
+            Err(refusal) => refusal.number(),
         }
     }
 
@@ -140,7 +149,7 @@ impl Endpoint {
     {
         match self.node.disconnect(conn) {
             Ok(()) => OK,
-            Err(refusal) => number_of(refusal),
+            Err(refusal) => refusal.number(),
         }
     }
 }

@@ -11,7 +11,7 @@ ghost use Rattle.cpg_embed.specs.Telling.{group_in, message_in, members_in, left
 
 use crate::endpoints::Endpoint;
 use crate::processes::Process;
-use crate::statuses::{NONE, OK, hand, number_of};
+use crate::statuses::{NONE, OK, hand};
 use crate::told::Told;
 use cpg_node::Event;
 use cpg_record::{Member, Move};
@@ -28,7 +28,7 @@ impl Endpoint {
                 OK
             }
             Ok(None) => NONE,
-            Err(refusal) => number_of(refusal),
+            Err(refusal) => refusal.number(),
         }
     }
 

@@ -6,7 +6,7 @@ ghost use Rattle.cpg_node.specs.Calls.{place_to_deliver};
 ghost use Rattle.cpg_embed.specs.Frames.{IsFrameStatus, IsTimerStatus, IsTurnStatus, IsNextFrame, IsDelivered};
 
 use crate::endpoints::Endpoint;
-use crate::statuses::{BUSY, NONE, OK, hand, number_of};
+use crate::statuses::{BUSY, NONE, OK, hand};
 use cpg_cred::Refusal;
 
 /// A frame that goes to all other nodes.
@@ -30,7 +30,7 @@ impl Endpoint {
                 self.given = 0;
                 OK
             }
-            Err(refusal) => number_of(refusal),
+            Err(refusal) => refusal.number(),
         }
     }
 
@@ -51,10 +51,10 @@ impl Endpoint {
                         self.given = 0;
                         OK
                     }
-                    Err(_) => number_of(Refusal::Memory),
+                    Err(_) => Refusal::Memory.number(),
                 }
             }
-            Err(refusal) => number_of(refusal),
+            Err(refusal) => refusal.number(),
         }
     }
 
@@ -74,7 +74,7 @@ impl Endpoint {
                 OK
             }
             Ok(false) => NONE,
-            Err(refusal) => number_of(refusal),
+            Err(refusal) => refusal.number(),
         }
     }
 
@@ -108,7 +108,7 @@ impl Endpoint {
                 OK
             }
             Ok(None) => NONE,
-            Err(refusal) => number_of(refusal),
+            Err(refusal) => refusal.number(),
         }
     }
 }

@@ -27,5 +27,5 @@ pub use opening::{Fault, Setup, open, open_conf};
 pub use processes::Process;
 pub use records::Audited;
 pub use rules::RuleLine;
-pub use statuses::{BUSY, CLOSED, NONE, OK, SPACE, limits, number_of};
+pub use statuses::{BUSY, CLOSED, NONE, OK, SPACE, limits};
 pub use told::Told;

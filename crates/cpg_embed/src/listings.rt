@@ -11,7 +11,7 @@ ghost use Rattle.cpg_embed.specs.Listings.{IsListed, AreNamed, IsNamed, IsReache
 use crate::endpoints::Endpoint;
 use crate::processes::Process;
 use crate::rules::RuleLine;
-use crate::statuses::{NONE, OK, hand, number_of};
+use crate::statuses::{NONE, OK, hand};
 
 impl Endpoint {
     /// Lists the members of a group, and tells how many there are. They are told one at a time until the
@@ -25,7 +25,7 @@ impl Endpoint {
                 self.processes = Some(processes);
                 OK
             }
-            Err(refusal) => number_of(refusal),
+            Err(refusal) => refusal.number(),
         }
     }
 
@@ -56,7 +56,7 @@ impl Endpoint {
                 self.names = Some(names);
                 OK
             }
-            Err(refusal) => number_of(refusal),
+            Err(refusal) => refusal.number(),
         }
     }
 

@@ -6,7 +6,6 @@ ghost use Rattle.cpg_conf.specs.Names.{known_of};
 ghost use Rattle.cpg_embed.specs.Opening.{IsOpened, IsNodeOpened, IsConfOpened, IsFaultOf, listing_of, line_in};
 
 use crate::endpoints::Endpoint;
-use crate::statuses::number_of;
 use cpg_conf::{Names, read_conf};
 use cpg_cred::{AcceptList, NodeId, Refusal};
 use cpg_node::{Node, Settings};
@@ -53,7 +52,7 @@ fn open_list(alloc: Global, setup: &Setup, list: AcceptList) -> Result<Endpoint,
 {
     match open_node(alloc, setup, list) {
         Ok(node) => Ok(Endpoint::new(alloc, node)),
-        Err(refusal) => Err(number_of(refusal)),
+        Err(refusal) => Err(refusal.number()),
     }
 }
 
@@ -63,7 +62,7 @@ pub fn open(alloc: Global, setup: &Setup, users: &[u32], groups: &[u32]) -> Resu
 {
     let mut list = AcceptList::new(alloc);
     if let Err(refusal) = list.add_all(users, groups) {
-        return Err(number_of(refusal));
+        return Err(refusal.number());
     }
     open_list(alloc, setup, list)
 }
@@ -104,7 +103,7 @@ fn read_names(alloc: Global, text: &[u8], fault: &mut Fault) -> Result<Names, u3
                 text: 1,
                 line: line_in(refusal),
             };
-            Err(number_of(refusal))
+            Err(refusal.number())
         }
     }
 }
@@ -127,7 +126,7 @@ fn read_list(
                 text: 2,
                 line: line_in(refused.refusal),
             };
-            Err(number_of(refused.refusal))
+            Err(refused.refusal.number())
         }
     }
 }

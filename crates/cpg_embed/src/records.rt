@@ -69,17 +69,17 @@ impl Audited {
             Some(group) => group.as_slice().len(),
             None => 0,
         };
-        let message_len = match sent_in(&past.entry().op) {
+        let message_len = match sent_in(&past.entry.op) {
             Some(message) => message.len(),
             None => 0,
         };
         Audited {
-            node: u32::from(past.entry().node.get()),
-            conn: u32::from(past.entry().conn),
-            pid: past.entry().pid,
-            uid: past.entry().cred.uid,
-            gid: past.entry().cred.gid,
-            call: call_number(&past.entry().op),
+            node: u32::from(past.entry.node.get()),
+            conn: u32::from(past.entry.conn),
+            pid: past.entry.pid,
+            uid: past.entry.cred.uid,
+            gid: past.entry.cred.gid,
+            call: call_number(&past.entry.op),
             verdict: verdict_number(past.verdict),
             basis: basis_number(past.verdict),
             rule: rule_number(past.verdict),
@@ -145,7 +145,7 @@ impl Endpoint {
         ensures { AreHanded (message_at (record_at (records_of self.now.node) place)) buffer.old result buffer.new }
     {
         match self.record(place) {
-            Some(past) => match sent_in(&past.entry().op) {
+            Some(past) => match sent_in(&past.entry.op) {
                 Some(message) => hand(message, buffer),
                 None => NONE,
             },
@@ -158,7 +158,7 @@ impl Endpoint {
         ensures { option_copied result ≡ message_at (record_at (records_of self.now.node) place) }
     {
         match self.record(place) {
-            Some(past) => sent_in(&past.entry().op),
+            Some(past) => sent_in(&past.entry.op),
             None => None,
         }
     }
@@ -170,7 +170,7 @@ impl Endpoint {
         ensures { IsProcess (notified_at (record_at (records_of self.now.node) place) index) result process.new }
     {
         let told = match self.record(place) {
-            Some(past) if index == 0 => Some(Process::of_maker(past.entry())),
+            Some(past) if index == 0 => Some(Process::of_maker(&past.entry)),
             Some(past) => hearer(past, index - 1),
             None => None,
         };

@@ -7,7 +7,7 @@ ghost use Rattle.cpg_record.specs.Membership.{is_allowed, is_end};
 ghost use Rattle.cpg_embed.specs.Seats.{seats_one, seat_at, seats_from, seats_of, seat_in, AreEnded, AreSeated, IsSeat};
 
 use crate::endpoints::Endpoint;
-use crate::statuses::{NONE, OK, number_of};
+use crate::statuses::{NONE, OK};
 use cpg_cred::Refusal;
 use cpg_entry::{Call, Op};
 use cpg_record::{ConnId, Record};
@@ -34,7 +34,7 @@ fn seats_one(past: &Record) -> bool
     ensures { result ≡ seats_one past.now }
 {
     past.verdict.is_allowed()
-        && match &past.entry().op {
+        && match &past.entry.op {
             Op::Act(Call::Join(_)) => true,
             _ => false,
         }
@@ -45,7 +45,7 @@ fn ends_one(past: &Record) -> bool
     ensures { result ≡ (is_allowed past.now.verdict && is_end past.now.entry.op) }
 {
     past.verdict.is_allowed()
-        && match &past.entry().op {
+        && match &past.entry.op {
             Op::Act(Call::Leave) | Op::Gone => true,
             _ => false,
         }
@@ -61,7 +61,7 @@ fn put_seat(
     ensures ok { OnOk result ((later : List RecordValue) → AreEnded ended.now.keys later → places.new.items ≡ places.old.items ++ seat_at place past.now later) }
     ensures memory { IsOkUnless result Refusal.Memory }
 {
-    if seats_one(past) && !ended.contains(&ConnId::of(past.entry())) {
+    if seats_one(past) && !ended.contains(&ConnId::of(&past.entry)) {
         places.push(place)?;
     }
     Ok(())
@@ -73,7 +73,7 @@ fn put_ended(ended: &mut IndexSet<ConnId>, past: &Record) -> Result<(), Refusal>
     ensures memory { IsOkUnless result Refusal.Memory }
 {
     if ends_one(past) {
-        ended.insert(ConnId::of(past.entry()))?;
+        ended.insert(ConnId::of(&past.entry))?;
     }
     Ok(())
 }
@@ -128,7 +128,7 @@ impl Endpoint {
                 self.seats = Some(seats);
                 OK
             }
-            Err(refusal) => number_of(refusal),
+            Err(refusal) => refusal.number(),
         }
     }
 

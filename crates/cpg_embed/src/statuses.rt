@@ -1,9 +1,7 @@
 //! The numbers that calls answer.
 
 ghost use Rattle.std.specs.Prelude.{◌≡◌, ◌++◌, IsTrue, length, drop, nat_le, false};
-ghost use Rattle.cpg_embed.specs.Statuses.{number, IsHanded};
-
-use cpg_cred::Refusal;
+ghost use Rattle.cpg_embed.specs.Statuses.{IsHanded};
 
 /// The call was done.
 pub const OK: u32 = 0;
@@ -24,45 +22,6 @@ pub const NONE: u32 = 67;
 pub fn limits()
     ensures { (OK ≡ 0) × (CLOSED ≡ 64) × (SPACE ≡ 65) × (BUSY ≡ 66) × (NONE ≡ 67) }
 {}
-
-/// The number of a refusal, which its printed form begins with.
-pub fn number_of(refusal: Refusal) -> u32
-    ensures { result ≡ number refusal }
-{
-    match refusal {
-        Refusal::Memory => 1,
-        Refusal::Access => 2,
-        Refusal::NoConnection => 3,
-        Refusal::BadName => 4,
-        Refusal::TooLong => 5,
-        Refusal::QueueFull => 6,
-        Refusal::ConnectionsFull => 7,
-        Refusal::Foreign => 8,
-        Refusal::NotMine => 9,
-        Refusal::Stale => 10,
-        Refusal::Implausible => 11,
-        Refusal::Held => 12,
-        Refusal::FarAhead => 13,
-        Refusal::Malformed => 14,
-        Refusal::RingEnd => 15,
-        Refusal::NoFrame => 16,
-        Refusal::Differs => 17,
-        Refusal::BoardFull => 18,
-        Refusal::Behind(_) => 19,
-        Refusal::Stopped => 20,
-        Refusal::Denied(_) => 21,
-        Refusal::BadLine(_) => 31,
-        Refusal::Unopened(_) => 32,
-        Refusal::Unclosed => 33,
-        Refusal::BadItem(_) => 34,
-        Refusal::BadValue(_) => 35,
-        Refusal::UnknownName(_) => 36,
-        Refusal::Range => 37,
-        Refusal::BadCommand(_) => 41,
-        Refusal::Read => 42,
-        Refusal::Write => 43,
-    }
-}
 
 /// Hands the bytes over, into the buffer's front, where they fit.
 pub(crate) fn hand(bytes: &[u8], buffer: &mut [u8]) -> u32

@@ -5,11 +5,12 @@ ghost use Rattle.cpg_entry.specs.Entries.{is_move};
 
 use crate::messages::Message;
 use crate::names::Name;
-use cpg_rules::{Refusal, Rule};
+use crate::shared::SharedRule;
+use cpg_rules::Refusal;
 use std::alloc::Global;
 
 /// What a connection asks.
-#[derive(Debug, PartialEq, Eq, Drop)]
+#[derive(Debug, Drop)]
 pub enum Call {
     /// To become a member of the group (cpg_join(3)).
     Join(Name),
@@ -18,7 +19,7 @@ pub enum Call {
     /// To multicast to its group (cpg_mcast_joined(3)).
     Send(Message),
     /// To put the rule into the group's table at that index, counted from 0.
-    Insert(Name, u8, Rule),
+    Insert(Name, u8, SharedRule),
     /// To take the rule of that id out of the group's table.
     Remove(Name, u32),
 }
@@ -36,7 +37,9 @@ impl Call {
             Call::Join(group) => Call::Join(group.copy(alloc)?),
             Call::Leave => Call::Leave,
             Call::Send(message) => Call::Send(message.copy(alloc)?),
-            Call::Insert(group, index, rule) => Call::Insert(group.copy(alloc)?, *index, *rule),
+            Call::Insert(group, index, rule) => {
+                Call::Insert(group.copy(alloc)?, *index, rule.copy()?)
+            }
             Call::Remove(group, id) => Call::Remove(group.copy(alloc)?, *id),
         })
     }
@@ -59,7 +62,7 @@ impl Call {
 }
 
 /// What an entry does: a call, or the end of its connection.
-#[derive(Debug, PartialEq, Eq, Drop)]
+#[derive(Debug, Drop)]
 pub enum Op {
     Act(Call),
     /// The connection has ended.

@@ -8,7 +8,7 @@ use cpg_rules::{NodeId, Refusal};
 use std::alloc::Global;
 
 /// An entry at its place.
-#[derive(Debug, PartialEq, Eq, Drop)]
+#[derive(Debug, Drop)]
 pub struct Packet {
     /// The ring's number.
     pub ring: u32,
@@ -68,7 +68,7 @@ impl Token {
 }
 
 /// What one datagram carries.
-#[derive(Debug, PartialEq, Eq, Drop)]
+#[derive(Debug, Drop)]
 pub enum Frame {
     Packet(Packet),
     Token(Token),

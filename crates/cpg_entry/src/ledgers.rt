@@ -10,8 +10,7 @@ use crate::blocks::BLOCK;
 use crate::entries::Entry;
 use crate::growing::reserve_ahead;
 use crate::ranges::MOST_PLACES;
-use crate::shared::SharedEntry;
-use crate::shelves::{Block, Keeper, Shelf};
+use crate::shelves::{Block, Shelf};
 use cpg_cred::Refusal;
 use std::alloc::Global;
 use std::fmt;
@@ -62,7 +61,7 @@ fn count_laid(blocks: &[Block]) -> usize
 }
 
 /// The entries of the block of that index.
-fn items_at(blocks: &[Block], index: usize) -> &[SharedEntry]
+fn items_at(blocks: &[Block], index: usize) -> &[Entry]
     requires blocks { All IsBlock blocks.now }
     requires within { index < length blocks.now }
     ensures count { length result.now ≡ BLOCK }
@@ -78,7 +77,7 @@ fn item_laid(blocks: &[Block], index: usize) -> &Entry
     ensures { slice_get (laid blocks.now) index ≡ Some result.now }
 {
     let block = items_at(blocks, index / BLOCK);
-    block[index % BLOCK].get()
+    &block[index % BLOCK]
 }
 
 /// Puts the block behind the others in place of the first own entries, which it has, too, where there is memory to.
@@ -193,10 +192,9 @@ impl Ledger {
 
     /// Takes the first 256 of its own entries from the shelf, in the place where lists that begin alike put the same
     /// ones, where its own are 512, 768 and so on: so the last ones stay its own, and it is to be asked after each entry.
-    /// A block that is laid down there has the entries in common with the keeper. Who reads the list sees no difference.
-    /// Its own stay where memory is refused, and where others lie on the shelf.
+    /// Who reads the list sees no difference. Its own stay where memory is refused, and where others lie on the shelf.
     #[inline(always)]
-    pub fn share<K: Keeper>(&mut self, shelf: &Shelf, keeper: &K)
+    pub fn share(&mut self, shelf: &Shelf)
         ensures items { self.new.items ≡ self.old.items }
         ensures room { self.old.room ≤ self.new.room }
         // A block more or none, after which at least a block's own ones are left.
@@ -204,14 +202,14 @@ impl Ledger {
     {
         let own = self.own.len();
         if own >= 2 * BLOCK && own % BLOCK == 0 {
-            self.share_first(shelf, keeper);
+            self.share_first(shelf);
         }
     }
 
     /// Takes the first 256 of its own entries from the shelf, if it has so many.
     #[inline(never)]
     #[tactic(auto, using(crate::proofs::Laid::first_full, crate::proofs::Laid::length_append))]
-    fn share_first<K: Keeper>(&mut self, shelf: &Shelf, keeper: &K)
+    fn share_first(&mut self, shelf: &Shelf)
         ensures items { self.new.items ≡ self.old.items }
         ensures room { self.old.room ≤ self.new.room }
         ensures laid { self.new.in_blocks ≡ self.old.in_blocks ⊎ self.new.in_blocks ≡ self.old.in_blocks + BLOCK }
@@ -219,9 +217,8 @@ impl Ledger {
         if self.own.len() < BLOCK {
             return;
         }
-        let laid = count_laid(self.blocks.as_slice());
         let own = &self.own.as_slice()[..BLOCK];
-        let Some(block) = shelf.find_same(self.blocks.len(), laid, own, keeper) else {
+        let Some(block) = shelf.find_same(self.blocks.len(), own) else {
             return;
         };
         lay(&mut self.blocks, &mut self.own, block);

@@ -1,11 +1,10 @@
 //! What members send.
 
-ghost use Rattle.std.specs.Prelude.{◌≡◌, ◌<◌, ◌≤◌, ◌-◌, ◌↔◌, length, drop, IsTrue, IfOk, OnErr, IsOkUnless};
+ghost use Rattle.std.specs.Prelude.{◌≡◌, ◌<◌, ◌≤◌, ◌-◌, ◌↔◌, length, drop, IsTrue, IfOk, OnErr, IsOkUnless, vec_len};
 
-use crate::bodies::{Body, KEPT_INSIDE};
+use crate::bodies::{Body, Few, KEPT_INSIDE};
 use bytes::Bytes;
 use cpg_rules::Refusal;
-use smallvec::SmallVec;
 use std::alloc::Global;
 use std::marker::Model;
 use std::sync::Arc;
@@ -21,11 +20,13 @@ pub struct Message {
 
 impl Model for Message {
     ghost use Rattle.std.specs.Prelude.{List, ℕ};
-    ghost use Rattle.cpg_entry.specs.Bodies.{bytes_of};
+    ghost use Rattle.cpg_entry.specs.Bodies.{bytes_of, IsKept};
 
     ghost Value = { List ℕ };
 
     ghost view = { λ message. bytes_of message.body };
+
+    ghost invariant = { λ message. IsKept message.body };
 }
 
 impl Message {
@@ -38,26 +39,25 @@ impl Message {
         ensures outside { OnErr result (KEPT_INSIDE < length bytes.now) }
     {
         let body = if bytes.len() <= KEPT_INSIDE {
-            Body::Own(SmallVec::from_slice(alloc, bytes)?)
+            Body::Few(Few::of(bytes))
         } else {
             Body::List(Arc::new(alloc, Vec::from_slice(alloc, bytes)?)?)
         };
         Ok(Message { body })
     }
 
-    /// The message of those bytes. It is never refused: where memory to share a long one is, each copy takes its own.
-    pub fn from_vec(bytes: Vec<u8>) -> Message
-        ensures { result ≡ bytes.items }
+    /// The message of those bytes. A long one keeps their list, to be shared.
+    pub fn from_vec(bytes: Vec<u8>) -> Result<Message, Refusal>
+        ensures ok { IfOk result (λ message. message ≡ bytes.items) }
+        ensures memory { IsOkUnless result Refusal.Memory }
+        ensures outside { OnErr result (KEPT_INSIDE < vec_len bytes) }
     {
         let body = if bytes.len() <= KEPT_INSIDE {
-            Body::Own(SmallVec::from_vec(bytes))
+            Body::Few(Few::of(bytes.as_slice()))
         } else {
-            match Arc::new(*bytes.allocator(), bytes) {
-                Ok(shared) => Body::List(shared),
-                Err(failed) => Body::Own(SmallVec::from_vec(failed.value)),
-            }
+            Body::List(Arc::new(*bytes.allocator(), bytes)?)
         };
-        Message { body }
+        Ok(Message { body })
     }
 
     /// The message of a frame's last bytes, so many, which a long one shares with the frame.
@@ -78,17 +78,13 @@ impl Message {
     }
 
     /// A message of the same bytes, which the two share where they are many.
-    pub fn copy(&self, alloc: Global) -> Result<Message, Refusal>
+    pub fn copy(&self, _alloc: Global) -> Result<Message, Refusal>
         ensures ok { IfOk result (λ message. message ≡ self.now) }
         ensures memory { IsOkUnless result Refusal.Memory }
         ensures outside { OnErr result (KEPT_INSIDE < length self.now) }
     {
-        let bytes = self.as_slice();
-        if bytes.len() <= KEPT_INSIDE {
-            return Message::from_slice(alloc, bytes);
-        }
         let body = match &self.body {
-            Body::Own(_) => return Message::from_slice(alloc, bytes),
+            Body::Few(few) => Body::Few(few.twin()),
             Body::List(list) => Body::List(Arc::try_clone(list)?),
             Body::Part(part) => Body::Part(Arc::try_clone(part)?),
         };
@@ -100,7 +96,7 @@ impl Message {
         ensures { result.now ≡ self.now }
     {
         match &self.body {
-            Body::Own(bytes) => bytes.as_slice(),
+            Body::Few(few) => few.as_slice(),
             Body::List(list) => list.as_slice(),
             Body::Part(part) => part.as_slice(),
         }

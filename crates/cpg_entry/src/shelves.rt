@@ -1,13 +1,11 @@
 //! Where blocks lie that many lists have in common.
 
-ghost use Rattle.std.specs.Prelude.{◌≡◌, ◌+◌, ◌/◌, ◌≤◌, None, length, IsTrue, IfOk, IfSome, IsOkUnless};
+ghost use Rattle.std.specs.Prelude.{◌≡◌, ◌/◌, ◌≤◌, None, IsTrue, IfOk, IfSome, IsOkUnless};
 ghost use Rattle.std.specs.Arc.{arc_value};
-ghost use Rattle.cpg_entry.specs.declared.ranges.TheConstants.{MOST_PLACES};
 
 use crate::blocks::{BLOCK, LIGHT_BYTES};
 use crate::calls::{Call, Op};
 use crate::entries::Entry;
-use crate::shared::SharedEntry;
 use cpg_cred::Refusal;
 use once_cell::race::OnceBox;
 use std::alloc::Global;
@@ -15,23 +13,7 @@ use std::marker::Model;
 use std::sync::Arc;
 
 /// A block of entries that ledgers share.
-pub(crate) type Block = Arc<Vec<SharedEntry>>;
-
-/// Who keeps the entries of a ledger, too, each of which the two may have in common.
-pub trait Keeper {
-    /// The entry of that index, counted from 0, as it is kept. Every answer is lawful: what is not the ledger's entry is
-    /// not taken.
-    fn kept_at(&self, index: usize) -> Option<&SharedEntry>;
-}
-
-/// Nobody: each entry of the ledger is its own.
-pub struct NoKeeper;
-
-impl Keeper for NoKeeper {
-    fn kept_at(&self, _index: usize) -> Option<&SharedEntry> {
-        None
-    }
-}
+pub(crate) type Block = Arc<Vec<Entry>>;
 
 /// Blocks of entries in a row, each laid down once by the first ledger that has it. Contracts see how many there is a
 /// place for.
@@ -50,14 +32,14 @@ impl Model for Shelf {
 }
 
 /// Whether the lists have the same entries.
-fn are_same(one: &[SharedEntry], other: &[Entry]) -> bool
+fn are_same(one: &[Entry], other: &[Entry]) -> bool
     ensures { IsTrue result → one.now ≡ other.now }
 {
     if one.len() != other.len() {
         return false;
     }
     for index in 0..one.len() {
-        if !one[index].get().equals(&other[index]) {
+        if !one[index].equals(&other[index]) {
             return false;
         }
     }
@@ -85,45 +67,13 @@ fn are_light(entries: &[Entry]) -> bool {
     true
 }
 
-/// The entry as it is kept elsewhere, where that is the same, or else a copy of it.
-fn in_common(
-    alloc: Global,
-    entry: &Entry,
-    kept: Option<&SharedEntry>,
-) -> Result<SharedEntry, Refusal>
-    ensures { IfOk result (λ shared. shared ≡ entry.now) }
-{
-    match kept {
-        Some(kept) if kept.get().equals(entry) => kept.share(),
-        _ => SharedEntry::copy_of(alloc, entry),
-    }
-}
-
-/// A block of the entries, the first of which has that index: as the keeper has them, or else of copies.
-fn gathered<K: Keeper>(
-    alloc: Global,
-    first: usize,
-    entries: &[Entry],
-    keeper: &K,
-) -> Result<Block, Refusal>
-    requires { first + length entries.now ≤ MOST_PLACES }
-    ensures { IfOk result (λ block. (arc_value block).items ≡ entries.now) }
-{
-    let mut block = Vec::with_capacity(alloc, entries.len())?;
-    for index in 0..entries.len() {
-        let kept = keeper.kept_at(first + index);
-        block.push(in_common(alloc, &entries[index], kept)?)?;
-    }
-    Ok(Arc::new(alloc, block)?)
-}
-
 /// A block of copies of the entries.
 fn copied(alloc: Global, entries: &[Entry]) -> Result<Block, Refusal>
     ensures { IfOk result (λ block. (arc_value block).items ≡ entries.now) }
 {
     let mut block = Vec::with_capacity(alloc, entries.len())?;
     for entry in entries {
-        block.push(SharedEntry::copy_of(alloc, entry)?)?;
+        block.push(entry.copy(alloc)?)?;
     }
     Ok(Arc::new(alloc, block)?)
 }
@@ -164,17 +114,10 @@ impl Shelf {
     }
 
     /// A block with these entries for an empty cell, where it is laid down, or that of who came first.
-    fn fill<K: Keeper>(
-        &self,
-        cell: &OnceBox<Block>,
-        first: usize,
-        entries: &[Entry],
-        keeper: &K,
-    ) -> Option<Block>
-        requires { first + length entries.now ≤ MOST_PLACES }
+    fn fill(&self, cell: &OnceBox<Block>, entries: &[Entry]) -> Option<Block>
         ensures { IfSome result (λ block. (arc_value block).items ≡ entries.now) }
     {
-        let block = gathered(self.alloc, first, entries, keeper).ok()?;
+        let block = copied(self.alloc, entries).ok()?;
         if self.lays_down(cell, &block) {
             return Some(block);
         }
@@ -184,18 +127,10 @@ impl Shelf {
         }
     }
 
-    /// A block with these entries, the first of which has that index in the ledger: the block of that index, where it has
-    /// them, or a new one, which is laid down there where nothing lies. Entries whose messages are long have a block of
-    /// copies, since their bytes are shared anyway. None where another block lies there, where the shelf has no such
-    /// place, and where memory is refused.
-    pub(crate) fn find_same<K: Keeper>(
-        &self,
-        index: usize,
-        first: usize,
-        entries: &[Entry],
-        keeper: &K,
-    ) -> Option<Block>
-        requires { first + length entries.now ≤ MOST_PLACES }
+    /// A block with these entries: the one of that index, where it has them, or a new one, which is laid down there where
+    /// nothing lies. Entries whose messages are long have a block of their own, since their bytes are shared anyway. None
+    /// where another block lies there, where the shelf has no such place, and where memory is refused.
+    pub(crate) fn find_same(&self, index: usize, entries: &[Entry]) -> Option<Block>
         ensures same { IfSome result (λ block. (arc_value block).items ≡ entries.now) }
         ensures past { self.now ≤ index → result ≡ None }
     {
@@ -204,7 +139,7 @@ impl Shelf {
             return copied(self.alloc, entries).ok();
         }
         match cell.get() {
-            None => self.fill(cell, first, entries, keeper),
+            None => self.fill(cell, entries),
             Some(block) => same_block(block, entries),
         }
     }

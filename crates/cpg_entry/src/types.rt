@@ -56,7 +56,7 @@ pub fn call_fits(call: &Call)
     match call {
         Call::Insert(_, position, rule) => {
             u8_fits(*position);
-            who_fits(rule.who);
+            who_fits(rule.get().who);
         }
         Call::Remove(_, id) => u32_fits(*id),
         Call::Join(_) => {}

@@ -26,7 +26,7 @@ use Rattle.std.proofs.lemmas.List.{append-nil}
 use Rattle.cpg_record.proofs.Judging.{can_edit, ids_edited, Each-judged}
 use Rattle.cpg_group.specs.Standing.{GroupValue}
 use Rattle.cpg_group.specs.Standing.{Kept, kept_group, changed, group_past, standing, AreStanding, CanChange, CanTake}
-use Rattle.cpg_roster.specs.Processes.{process_in, is_process, ComesTo, OnceEach}
+use Rattle.cpg_members.specs.Processes.{process_in, is_process, ComesTo, OnceEach}
 
 -- ---- judged records
 

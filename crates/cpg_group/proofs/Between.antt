@@ -9,7 +9,7 @@ use Rattle.cpg_record.specs.Membership.{group_of}
 use Rattle.cpg_record.specs.Nexts.{is_made_by, reaches, IsNextTold, NoneWithin, TellsNoMore}
 use Rattle.cpg_record.specs.Places.{places_of, records_before, sooner, IsNextOf}
 use Rattle.cpg_record.proofs.Nexts.{groups_stay, next_of_either, next_told}
-use Rattle.cpg_group.specs.Trails.{group_at}
+use Rattle.cpg_group.specs.ConnectionLogs.{group_at}
 use Rattle.cpg_group.proofs.Counted.{next_by_count}
 
 -- no place is before the sooner of the two and not before the first

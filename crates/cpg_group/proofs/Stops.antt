@@ -1,4 +1,4 @@
--- What the trails of connections tell, and what one record more does to them.
+-- What the logs of connections tell, and what one record more does to them.
 use Rattle.std.proofs.Common.{◌≡◌, ℕ, zero, suc, ◌+◌, ◌-◌, ◌≤◌, leb, Bool, true, false, ◌&&◌, cond, List, [], ◌∷◌, ◌++◌, length, map, take, get_or, All, Option, Some, None, refl, sym, ap, subst, ◌∙◌, arith}
 use Rattle.std.specs.Prelude.{◌↔◌, is_some, option_map}
 use Rattle.std.specs.Cmp.{IsEquivalence}
@@ -33,34 +33,34 @@ use Rattle.cpg_record.proofs.Growing.{group_of_push, is_conn-true}
 use Rattle.cpg_record.proofs.Nexts.{groups_stay}
 use Rattle.cpg_record.proofs.Positions.{places_from-push, sound}
 use Rattle.cpg_record.proofs.Lasting.{is_conn-itself}
-use Rattle.cpg_group.specs.declared.trails.Stop.{Stop}
-use Rattle.cpg_group.specs.Trails.{group_at, join_after, join_by, joined_by, joined_in, kept_trail, or_no_trail, AreTrails, IsTrail, KeptTrails, StandsBy}
+use Rattle.cpg_group.specs.declared.logs.Stop.{Stop}
+use Rattle.cpg_group.specs.ConnectionLogs.{group_at, join_after, join_by, joined_by, joined_in, kept_log, or_no_log, AreConnectionLogs, IsConnectionLog, KeptLogs, StandsBy}
 use Rattle.cpg_record.proofs.Named.{lookup-push, lookup-set}
 use Rattle.cpg_group.proofs.Placed.{key_at, set_at}
 
 abbrev pub place_of : Stop → ℕ
 place_of stop = stop.place
 
--- ---- what a cut of a trail tells
+-- ---- what a cut of a log tells
 
 -- no own place up to the last: in no group
-pub join_none : (rs : List Record) (conn : ConnId) (trail : List Stop) (last k : ℕ) → IsTrail rs conn trail →
-    IsPartitionPoint (λ (stop : Stop). leb stop.place last ≡ true) (λ (stop : Stop). leb stop.place last ≡ false) trail k → k ≡ 0 →
+pub join_none : (rs : List Record) (conn : ConnId) (log : List Stop) (last k : ℕ) → IsConnectionLog rs conn log →
+    IsPartitionPoint (λ (stop : Stop). leb stop.place last ≡ true) (λ (stop : Stop). leb stop.place last ≡ false) log k → k ≡ 0 →
     group_at rs 0 ≡ group_of (take last rs) conn
-join_none rs conn trail last k are cut at =
-    sym (groups_stay rs conn 0 last (omega arith) (λ n r low high is. quiet_from_start place_of trail (is_made_by conn) rs are.0 last k cut at n r high is))
+join_none rs conn log last k are cut at =
+    sym (groups_stay rs conn 0 last (omega arith) (λ n r low high is. quiet_from_start place_of log (is_made_by conn) rs are.0 last k cut at n r high is))
 
 -- else the join by which the last own place stands
-pub join_some : (rs : List Record) (conn : ConnId) (trail : List Stop) (last k i : ℕ) (stop : Stop) → IsTrail rs conn trail →
-    IsPartitionPoint (λ (stop : Stop). leb stop.place last ≡ true) (λ (stop : Stop). leb stop.place last ≡ false) trail k → k ≡ suc i → slice_get trail i ≡ Some stop →
+pub join_some : (rs : List Record) (conn : ConnId) (log : List Stop) (last k i : ℕ) (stop : Stop) → IsConnectionLog rs conn log →
+    IsPartitionPoint (λ (stop : Stop). leb stop.place last ≡ true) (λ (stop : Stop). leb stop.place last ≡ false) log k → k ≡ suc i → slice_get log i ≡ Some stop →
     (stop.join ≤ last) × (group_at rs stop.join ≡ group_of (take last rs) conn)
-join_some rs conn trail last k i stop are cut at stands =
-    let within = slice_get_within trail i stop stands in
-    let here : get_or trail i stop ≡ stop = get_or_from_slice_get trail i stop stop stands in
+join_some rs conn log last k i stop are cut at stands =
+    let within = slice_get_within log i stop stands in
+    let here : get_or log i stop ≡ stop = get_or_from_slice_get log i stop stop stands in
     let by : StandsBy rs conn stop = subst (StandsBy rs conn) here (are.1 i stop within) in
-    let low : stop.place ≤ last = low_below place_of trail (is_made_by conn) rs are.0 last k cut i stop stands (omega arith) in (
+    let low : stop.place ≤ last = low_below place_of log (is_made_by conn) rs are.0 last k cut i stop stands (omega arith) in (
       omega (arith, by.0),
-      by.1 ∙ sym (groups_stay rs conn stop.place last low (λ n r above below is. quiet_since place_of trail (is_made_by conn) rs are.0 last k cut i stop at stands n r above below is)),
+      by.1 ∙ sym (groups_stay rs conn stop.place last low (λ n r above below is. quiet_since place_of log (is_made_by conn) rs are.0 last k cut i stop at stands n r above below is)),
     )
 
 -- ---- one record more
@@ -143,19 +143,19 @@ kept_by rs r conn stop within by = (
       ∙ ap (λ (past : List Record). group_of past conn) (sym (take-append-le stop.place rs (r ∷ []) within)),
 )
 
-stops_within : (rs : List Record) (conn : ConnId) (trail : List Stop) → IsTrail rs conn trail → All (λ (stop : Stop). stop.place ≤ length rs) trail
-stops_within rs conn trail are k d below =
-    let stop : Stop = get_or trail k d in
-    let stands : slice_get (places_of (is_made_by conn) rs) k ≡ Some (get_or trail k d).place =
-    ap (λ (ps : List ℕ). slice_get ps k) (sym are.0) ∙ slice_get-map place_of trail k ∙ ap (option_map place_of) (slice_get-get_or trail k d below) in
-    let there = sound (is_made_by conn) 1 rs k (get_or trail k d).place stands in
+stops_within : (rs : List Record) (conn : ConnId) (log : List Stop) → IsConnectionLog rs conn log → All (λ (stop : Stop). stop.place ≤ length rs) log
+stops_within rs conn log are k d below =
+    let stop : Stop = get_or log k d in
+    let stands : slice_get (places_of (is_made_by conn) rs) k ≡ Some (get_or log k d).place =
+    ap (λ (ps : List ℕ). slice_get ps k) (sym are.0) ∙ slice_get-map place_of log k ∙ ap (option_map place_of) (slice_get-get_or log k d below) in
+    let there = sound (is_made_by conn) 1 rs k (get_or log k d).place stands in
     omega (arith, there.counted, slice_get_within rs there.index there.r there.stands)
 
--- a trail ends at the records' end
-all_passed : (rs : List Record) (conn : ConnId) (trail : List Stop) → IsTrail rs conn trail →
-    IsPartitionPoint (λ (stop : Stop). leb stop.place (length rs) ≡ true) (λ (stop : Stop). leb stop.place (length rs) ≡ false) trail (length trail)
-all_passed rs conn trail are = (
-  (λ i d low within. le-leb _ _ (stops_within rs conn trail are i d within)),
+-- a log ends at the records' end
+all_passed : (rs : List Record) (conn : ConnId) (log : List Stop) → IsConnectionLog rs conn log →
+    IsPartitionPoint (λ (stop : Stop). leb stop.place (length rs) ≡ true) (λ (stop : Stop). leb stop.place (length rs) ≡ false) log (length log)
+all_passed rs conn log are = (
+  (λ i d low within. le-leb _ _ (stops_within rs conn log are i d within)),
   (λ i d above within. absurd (omega (arith, above, within))),
 )
 
@@ -163,44 +163,44 @@ all_past : (rs : List Record) (conn : ConnId) → group_of (take (length rs) rs)
 all_past rs conn = ap (λ (past : List Record). group_of past conn) (take_all (length rs) rs (omega arith))
 
 -- so its last stop has the join that the connection stands by after all records
-pub last_none : (rs : List Record) (conn : ConnId) (trail : List Stop) → IsTrail rs conn trail → None ≡ slice_get trail (length trail - 1) → group_at rs 0 ≡ group_of rs conn
+pub last_none : (rs : List Record) (conn : ConnId) (log : List Stop) → IsConnectionLog rs conn log → None ≡ slice_get log (length log - 1) → group_at rs 0 ≡ group_of rs conn
 last_none rs conn [] are none = join_none rs conn [] (length rs) 0 are (all_passed rs conn [] are) refl ∙ all_past rs conn
-last_none rs conn (stop ∷ trail) are none =
-    absurd (none-some _ (none ∙ slice_get-get_or (stop ∷ trail) (length (stop ∷ trail) - 1) stop (omega arith)))
+last_none rs conn (stop ∷ log) are none =
+    absurd (none-some _ (none ∙ slice_get-get_or (stop ∷ log) (length (stop ∷ log) - 1) stop (omega arith)))
 
-pub last_some : (rs : List Record) (conn : ConnId) (trail : List Stop) (stop : Stop) → IsTrail rs conn trail → Some stop ≡ slice_get trail (length trail - 1) →
+pub last_some : (rs : List Record) (conn : ConnId) (log : List Stop) (stop : Stop) → IsConnectionLog rs conn log → Some stop ≡ slice_get log (length log - 1) →
     (stop.join ≤ length rs) × (group_at rs stop.join ≡ group_of rs conn)
-last_some rs conn trail stop are stands =
-    let within = slice_get_within trail (length trail - 1) stop (sym stands) in
-    let by = join_some rs conn trail (length rs) (length trail) (length trail - 1) stop are (all_passed rs conn trail are) (omega (arith, within)) (sym stands) in
+last_some rs conn log stop are stands =
+    let within = slice_get_within log (length log - 1) stop (sym stands) in
+    let by = join_some rs conn log (length rs) (length log) (length log - 1) stop are (all_passed rs conn log are) (omega (arith, within)) (sym stands) in
     (by.0, by.1 ∙ all_past rs conn)
 
-all_kept : (rs : List Record) (r : Record) (conn : ConnId) (trail : List Stop) → IsTrail rs conn trail → All (StandsBy (rs ++ r ∷ []) conn) trail
-all_kept rs r conn trail are k d below = kept_by rs r conn (get_or trail k d) (stops_within rs conn trail are k d below) (are.1 k d below)
+all_kept : (rs : List Record) (r : Record) (conn : ConnId) (log : List Stop) → IsConnectionLog rs conn log → All (StandsBy (rs ++ r ∷ []) conn) log
+all_kept rs r conn log are k d below = kept_by rs r conn (get_or log k d) (stops_within rs conn log are k d below) (are.1 k d below)
 
 places_kept : (rs : List Record) (r : Record) (conn : ConnId) (made : Bool) → is_made_by conn r ≡ made →
     places_of (is_made_by conn) (rs ++ r ∷ []) ≡ places_of (is_made_by conn) rs ++ cond made ((1 + length rs) ∷ []) []
 places_kept rs r conn made is =
     places_from-push (is_made_by conn) 1 rs r ∙ ap (λ (b : Bool). places_of (is_made_by conn) rs ++ cond b ((1 + length rs) ∷ []) []) is
 
--- the maker's trail with its stop
-pub trail_longer : (rs : List Record) (r : Record) (stop : Stop) (trail : List Stop) →
-    stop.place ≡ length rs + 1 → StandsBy (rs ++ r ∷ []) (conn_of r.entry) stop → IsTrail rs (conn_of r.entry) trail → IsTrail (rs ++ r ∷ []) (conn_of r.entry) (trail ++ stop ∷ [])
-trail_longer rs r stop trail at by are =
+-- the maker's log with its stop
+pub log_longer : (rs : List Record) (r : Record) (stop : Stop) (log : List Stop) →
+    stop.place ≡ length rs + 1 → StandsBy (rs ++ r ∷ []) (conn_of r.entry) stop → IsConnectionLog rs (conn_of r.entry) log → IsConnectionLog (rs ++ r ∷ []) (conn_of r.entry) (log ++ stop ∷ [])
+log_longer rs r stop log at by are =
     let here : stop.place ≡ 1 + length rs = omega arith in
     let conn : ConnId = conn_of r.entry in (
-      map-append place_of trail (stop ∷ [])
+      map-append place_of log (stop ∷ [])
           ∙ ap (λ (ps : List ℕ). ps ++ stop.place ∷ []) are.0
           ∙ ap (λ (n : ℕ). places_of (is_made_by conn) rs ++ n ∷ []) here
           ∙ sym (places_kept rs r conn true (is_conn-itself conn)),
-      All-append (StandsBy (rs ++ r ∷ []) conn) trail (stop ∷ []) (all_kept rs r conn trail are) (All-cons (StandsBy (rs ++ r ∷ []) conn) stop [] by (λ k d h. absurd (omega arith))),
+      All-append (StandsBy (rs ++ r ∷ []) conn) log (stop ∷ []) (all_kept rs r conn log are) (All-cons (StandsBy (rs ++ r ∷ []) conn) stop [] by (λ k d h. absurd (omega arith))),
     )
 
 -- and every other as it was
-trail_elsewhere : (rs : List Record) (r : Record) (conn : ConnId) (trail : List Stop) → is_conn conn (conn_of r.entry) ≡ false → IsTrail rs conn trail → IsTrail (rs ++ r ∷ []) conn trail
-trail_elsewhere rs r conn trail is are = (
+log_elsewhere : (rs : List Record) (r : Record) (conn : ConnId) (log : List Stop) → is_conn conn (conn_of r.entry) ≡ false → IsConnectionLog rs conn log → IsConnectionLog (rs ++ r ∷ []) conn log
+log_elsewhere rs r conn log is are = (
   are.0 ∙ sym (places_kept rs r conn false is ∙ append-nil (places_of (is_made_by conn) rs)),
-  all_kept rs r conn trail are,
+  all_kept rs r conn log are,
 )
 
 -- the connections of one record more
@@ -210,20 +210,20 @@ conns_past rs r =
     ∙ ap (fold with_conn []) (map-append conn_of (entries_of rs) (r.entry ∷ []))
     ∙ fold_push with_conn [] (map conn_of (entries_of rs)) (conn_of r.entry)
 
--- the trails where the maker's alone was set
-AreTrails-past : (old new : KeptTrails) (rs : List Record) (r : Record) (trail : List Stop) → AreTrails old rs → IsTrail (rs ++ r ∷ []) (conn_of r.entry) trail →
+-- the logs where the maker's alone was set
+AreConnectionLogs-past : (old new : KeptLogs) (rs : List Record) (r : Record) (log : List Stop) → AreConnectionLogs old rs → IsConnectionLog (rs ++ r ∷ []) (conn_of r.entry) log →
     keys_of new ≡ with_conn (keys_of old) (conn_of r.entry) →
-    ((c : ConnId) → kept_trail new c ≡ cond (is_conn c (conn_of r.entry)) trail (kept_trail old c)) → AreTrails new (rs ++ r ∷ [])
-AreTrails-past old new rs r trail are own keys set = (
+    ((c : ConnId) → kept_log new c ≡ cond (is_conn c (conn_of r.entry)) log (kept_log old c)) → AreConnectionLogs new (rs ++ r ∷ [])
+AreConnectionLogs-past old new rs r log are own keys set = (
   keys ∙ ap (λ (conns : List ConnId). with_conn conns (conn_of r.entry)) are.0 ∙ sym (conns_past rs r),
-  (λ conn. subst (IsTrail (rs ++ r ∷ []) conn) (sym (set conn)) (by_case conn (is_conn conn (conn_of r.entry)) refl)),
+  (λ conn. subst (IsConnectionLog (rs ++ r ∷ []) conn) (sym (set conn)) (by_case conn (is_conn conn (conn_of r.entry)) refl)),
 )
   where
-    by_case : (conn : ConnId) (b : Bool) → is_conn conn (conn_of r.entry) ≡ b → IsTrail (rs ++ r ∷ []) conn (cond b trail (kept_trail old conn))
-    by_case conn false is = trail_elsewhere rs r conn (kept_trail old conn) is (are.1 conn)
-    by_case conn true is = subst (λ (c : ConnId). IsTrail (rs ++ r ∷ []) c trail) (sym (is_conn-true conn (conn_of r.entry) is)) own
+    by_case : (conn : ConnId) (b : Bool) → is_conn conn (conn_of r.entry) ≡ b → IsConnectionLog (rs ++ r ∷ []) conn (cond b log (kept_log old conn))
+    by_case conn false is = log_elsewhere rs r conn (kept_log old conn) is (are.1 conn)
+    by_case conn true is = subst (λ (c : ConnId). IsConnectionLog (rs ++ r ∷ []) c log) (sym (is_conn-true conn (conn_of r.entry) is)) own
 
--- ---- trails by connections
+-- ---- logs by connections
 
 pub is_conn-Decides : (a b : ConnId) → (is_conn a b ≡ true) ↔ (a ≡ b)
 is_conn-Decides a b = (is_conn-true a b, (λ same. subst (λ (c : ConnId). is_conn a c ≡ true) same (is_conn-itself a)))
@@ -244,100 +244,100 @@ flipped a b = by_case (is_conn a b) (is_conn b a) refl refl
 is_conn-laws : IsEquivalence is_conn
 is_conn-laws = record { refl = is_conn-itself; symm = flipped; congr = λ a b c same. ap (λ (conn : ConnId). is_conn conn c) ((is_conn-Decides a b).0 same) }
 
-module _ (kept : KeptTrails) (i : ℕ) (conn k : ConnId) (v : SmallVec Stop)
+module _ (kept : KeptLogs) (i : ℕ) (conn k : ConnId) (v : SmallVec Stop)
     (apart : IsDistinct is_conn (keys_of kept)) (at : slice_get kept i ≡ Some (k, v)) (here : slice_get (keys_of kept) i ≡ Some conn) where
   meant : k ≡ conn
   meant = ap (λ o. unwrap_or o conn) (sym (key_at kept i k v at) ∙ here)
 
-  -- the trail at the index of a connection is the one that is found for it
-  pub trail_there : lookup (is_conn conn) kept ≡ Some v
-  trail_there = ap (λ c. lookup (is_conn c) kept) (sym meant) ∙ lookup_from_place is_conn-laws kept i k v apart at
+  -- the log at the index of a connection is the one that is found for it
+  pub log_there : lookup (is_conn conn) kept ≡ Some v
+  log_there = ap (λ c. lookup (is_conn c) kept) (sym meant) ∙ lookup_from_place is_conn-laws kept i k v apart at
 
   -- and what is set there is set for the connection
-  pub trail_set_there : (w : SmallVec Stop) → set_value_at kept i w ≡ set_value (is_conn conn) kept w
-  trail_set_there w = set_at is_conn-laws kept i k v w apart at ∙ ap (λ c. set_value (is_conn c) kept w) meant
+  pub log_set_there : (w : SmallVec Stop) → set_value_at kept i w ≡ set_value (is_conn conn) kept w
+  log_set_there w = set_at is_conn-laws kept i k v w apart at ∙ ap (λ c. set_value (is_conn c) kept w) meant
 
--- the connections stay where a trail is set
-conns_set : (kept : KeptTrails) (conn : ConnId) (w : SmallVec Stop) → is_some (lookup (is_conn conn) kept) ≡ true →
+-- the connections stay where a log is set
+conns_set : (kept : KeptLogs) (conn : ConnId) (w : SmallVec Stop) → is_some (lookup (is_conn conn) kept) ≡ true →
     keys_of (set_value (is_conn conn) kept w) ≡ with_conn (keys_of kept) conn
 conns_set kept conn w there =
     keys-set_value (is_conn conn) kept w
     ∙ ap (λ (b : Bool). cond b (keys_of kept) (keys_of kept ++ conn ∷ [])) (sym there ∙ is_some-lookup (is_conn conn) kept)
 
--- and that of a trail that is added comes last
-conns_added : (kept : KeptTrails) (conn : ConnId) (w : SmallVec Stop) → lookup (is_conn conn) kept ≡ None →
+-- and that of a log that is added comes last
+conns_added : (kept : KeptLogs) (conn : ConnId) (w : SmallVec Stop) → lookup (is_conn conn) kept ≡ None →
     keys_of (kept ++ (conn, w) ∷ []) ≡ with_conn (keys_of kept) conn
 conns_added kept conn w none =
     map-append (λ entry. entry.0) kept ((conn, w) ∷ [])
     ∙ ap (λ (b : Bool). cond b (keys_of kept) (keys_of kept ++ conn ∷ [])) (sym (ap is_some none) ∙ is_some-lookup (is_conn conn) kept)
 
 -- and every other stays
-trail_set : (kept : KeptTrails) (conn q : ConnId) (w : SmallVec Stop) → is_some (lookup (is_conn conn) kept) ≡ true →
-    kept_trail (set_value (is_conn conn) kept w) q ≡ cond (is_conn q conn) w.items (kept_trail kept q)
-trail_set kept conn q w there =
-    ap or_no_trail (lookup-set is_conn is_conn-Decides kept conn w q there)
+log_set : (kept : KeptLogs) (conn q : ConnId) (w : SmallVec Stop) → is_some (lookup (is_conn conn) kept) ≡ true →
+    kept_log (set_value (is_conn conn) kept w) q ≡ cond (is_conn q conn) w.items (kept_log kept q)
+log_set kept conn q w there =
+    ap or_no_log (lookup-set is_conn is_conn-Decides kept conn w q there)
     ∙ by_case (is_conn conn q)
-    ∙ ap (λ (b : Bool). cond b w.items (kept_trail kept q)) (flipped conn q)
+    ∙ ap (λ (b : Bool). cond b w.items (kept_log kept q)) (flipped conn q)
   where
-    by_case : (b : Bool) → or_no_trail (cond b (Some w) (lookup (is_conn q) kept)) ≡ cond b w.items (or_no_trail (lookup (is_conn q) kept))
+    by_case : (b : Bool) → or_no_log (cond b (Some w) (lookup (is_conn q) kept)) ≡ cond b w.items (or_no_log (lookup (is_conn q) kept))
     by_case true = refl
     by_case false = refl
 
--- as it does where a trail is added
-trail_added : (kept : KeptTrails) (conn q : ConnId) (w : SmallVec Stop) → lookup (is_conn conn) kept ≡ None →
-    kept_trail (kept ++ (conn, w) ∷ []) q ≡ cond (is_conn q conn) w.items (kept_trail kept q)
-trail_added kept conn q w none =
-    ap or_no_trail (lookup-push is_conn is_conn-Decides kept conn w q none)
+-- as it does where a log is added
+log_added : (kept : KeptLogs) (conn q : ConnId) (w : SmallVec Stop) → lookup (is_conn conn) kept ≡ None →
+    kept_log (kept ++ (conn, w) ∷ []) q ≡ cond (is_conn q conn) w.items (kept_log kept q)
+log_added kept conn q w none =
+    ap or_no_log (lookup-push is_conn is_conn-Decides kept conn w q none)
     ∙ by_case (is_conn conn q)
-    ∙ ap (λ (b : Bool). cond b w.items (kept_trail kept q)) (flipped conn q)
+    ∙ ap (λ (b : Bool). cond b w.items (kept_log kept q)) (flipped conn q)
   where
-    by_case : (b : Bool) → or_no_trail (cond b (Some w) (lookup (is_conn q) kept)) ≡ cond b w.items (or_no_trail (lookup (is_conn q) kept))
+    by_case : (b : Bool) → or_no_log (cond b (Some w) (lookup (is_conn q) kept)) ≡ cond b w.items (or_no_log (lookup (is_conn q) kept))
     by_case true = refl
     by_case false = refl
 
--- what is set to the items that were there changes no trail
-trail_same : (kept : KeptTrails) (conn q : ConnId) (v w : SmallVec Stop) → lookup (is_conn conn) kept ≡ Some v → w.items ≡ v.items →
-    kept_trail (set_value (is_conn conn) kept w) q ≡ kept_trail kept q
-trail_same kept conn q v w there same = trail_set kept conn q w (ap is_some there) ∙ by_case (is_conn q conn) refl
+-- what is set to the items that were there changes no log
+log_same : (kept : KeptLogs) (conn q : ConnId) (v w : SmallVec Stop) → lookup (is_conn conn) kept ≡ Some v → w.items ≡ v.items →
+    kept_log (set_value (is_conn conn) kept w) q ≡ kept_log kept q
+log_same kept conn q v w there same = log_set kept conn q w (ap is_some there) ∙ by_case (is_conn q conn) refl
   where
-    by_case : (b : Bool) → is_conn q conn ≡ b → cond b w.items (kept_trail kept q) ≡ kept_trail kept q
+    by_case : (b : Bool) → is_conn q conn ≡ b → cond b w.items (kept_log kept q) ≡ kept_log kept q
     by_case false is = refl
-    by_case true is = same ∙ sym (ap (λ (c : ConnId). kept_trail kept c) (is_conn-true q conn is) ∙ ap or_no_trail there)
+    by_case true is = same ∙ sym (ap (λ (c : ConnId). kept_log kept c) (is_conn-true q conn is) ∙ ap or_no_log there)
 
--- ---- all trails where one is put in the map
+-- ---- all logs where one is put in the map
 
 -- the maker's was added, once there was room for it
-pub AreTrails-added : {S : Type 0} (old : KeptTrails) (roomy : IndexMap ConnId (SmallVec Stop) S) (new : KeptTrails) (rs : List Record) (r : Record) (conn : ConnId) (w : SmallVec Stop) →
-    AreTrails old rs → lookup (is_conn (conn_of r.entry)) old ≡ None → roomy.entries ≡ old → conn ≡ conn_of r.entry →
-    new ≡ insert_entry is_conn roomy.entries conn w → IsTrail (rs ++ r ∷ []) (conn_of r.entry) w.items → AreTrails new (rs ++ r ∷ [])
-AreTrails-added old roomy new rs r conn w are absent same is put own =
+pub AreConnectionLogs-added : {S : Type 0} (old : KeptLogs) (roomy : IndexMap ConnId (SmallVec Stop) S) (new : KeptLogs) (rs : List Record) (r : Record) (conn : ConnId) (w : SmallVec Stop) →
+    AreConnectionLogs old rs → lookup (is_conn (conn_of r.entry)) old ≡ None → roomy.entries ≡ old → conn ≡ conn_of r.entry →
+    new ≡ insert_entry is_conn roomy.entries conn w → IsConnectionLog (rs ++ r ∷ []) (conn_of r.entry) w.items → AreConnectionLogs new (rs ++ r ∷ [])
+AreConnectionLogs-added old roomy new rs r conn w are absent same is put own =
     let none : lookup (is_conn conn) roomy.entries ≡ None =
     ap (lookup (is_conn conn)) same ∙ ap (λ (q : ConnId). lookup (is_conn q) old) is ∙ absent in
     let grown : new ≡ old ++ (conn_of r.entry, w) ∷ [] =
     put ∙ insert_entry-new is_conn roomy conn w none
-    ∙ ap (λ (front : KeptTrails). front ++ (conn, w) ∷ []) same
+    ∙ ap (λ (front : KeptLogs). front ++ (conn, w) ∷ []) same
     ∙ ap (λ (q : ConnId). old ++ (q, w) ∷ []) is in
-    AreTrails-past old new rs r w.items are own
+    AreConnectionLogs-past old new rs r w.items are own
     (ap keys_of grown ∙ conns_added old (conn_of r.entry) w absent)
-    (λ q. ap (λ (kept : KeptTrails). kept_trail kept q) grown ∙ trail_added old (conn_of r.entry) q w absent)
+    (λ q. ap (λ (kept : KeptLogs). kept_log kept q) grown ∙ log_added old (conn_of r.entry) q w absent)
 
 -- the maker's was there, and is set
-pub AreTrails-set : (old new : KeptTrails) (rs : List Record) (r : Record) (conn : ConnId) (v w : SmallVec Stop) →
-    AreTrails old rs → lookup (is_conn conn) old ≡ Some v → conn ≡ conn_of r.entry →
-    new ≡ set_value (is_conn conn) old w → IsTrail (rs ++ r ∷ []) (conn_of r.entry) w.items → AreTrails new (rs ++ r ∷ [])
-AreTrails-set old new rs r conn v w are found is put own =
+pub AreConnectionLogs-set : (old new : KeptLogs) (rs : List Record) (r : Record) (conn : ConnId) (v w : SmallVec Stop) →
+    AreConnectionLogs old rs → lookup (is_conn conn) old ≡ Some v → conn ≡ conn_of r.entry →
+    new ≡ set_value (is_conn conn) old w → IsConnectionLog (rs ++ r ∷ []) (conn_of r.entry) w.items → AreConnectionLogs new (rs ++ r ∷ [])
+AreConnectionLogs-set old new rs r conn v w are found is put own =
     let there : is_some (lookup (is_conn (conn_of r.entry)) old) ≡ true =
     ap (λ (q : ConnId). is_some (lookup (is_conn q) old)) (sym is) ∙ ap is_some found in
     let grown : new ≡ set_value (is_conn (conn_of r.entry)) old w =
     put ∙ ap (λ (q : ConnId). set_value (is_conn q) old w) is in
-    AreTrails-past old new rs r w.items are own
+    AreConnectionLogs-past old new rs r w.items are own
     (ap keys_of grown ∙ conns_set old (conn_of r.entry) w there)
-    (λ q. ap (λ (kept : KeptTrails). kept_trail kept q) grown ∙ trail_set old (conn_of r.entry) q w there)
+    (λ q. ap (λ (kept : KeptLogs). kept_log kept q) grown ∙ log_set old (conn_of r.entry) q w there)
 
 -- one was set to the stops that it had
-pub AreTrails-same : (old new : KeptTrails) (rs : List Record) (conn : ConnId) (v w : SmallVec Stop) →
-    AreTrails old rs → lookup (is_conn conn) old ≡ Some v → new ≡ set_value (is_conn conn) old w → w.items ≡ v.items → AreTrails new rs
-AreTrails-same old new rs conn v w are found put same = (
+pub AreConnectionLogs-same : (old new : KeptLogs) (rs : List Record) (conn : ConnId) (v w : SmallVec Stop) →
+    AreConnectionLogs old rs → lookup (is_conn conn) old ≡ Some v → new ≡ set_value (is_conn conn) old w → w.items ≡ v.items → AreConnectionLogs new rs
+AreConnectionLogs-same old new rs conn v w are found put same = (
   ap keys_of put ∙ keys-set_value (is_conn conn) old w ∙ are.0,
-  (λ q. subst (IsTrail rs q) (sym (ap (λ (kept : KeptTrails). kept_trail kept q) put ∙ trail_same old conn q v w found same)) (are.1 q)),
+  (λ q. subst (IsConnectionLog rs q) (sym (ap (λ (kept : KeptLogs). kept_log kept q) put ∙ log_same old conn q v w found same)) (are.1 q)),
 )

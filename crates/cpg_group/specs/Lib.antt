@@ -4,4 +4,4 @@ pub mod Heard
 pub mod Places
 pub mod Standing
 pub mod Telling
-pub mod Trails
+pub mod ConnectionLogs

@@ -9,7 +9,7 @@ use Rattle.cpg_record.specs.Nexts.{acts_in}
 use Rattle.cpg_record.specs.Places.{places_of}
 use Rattle.cpg_record.specs.RuleTables.{edited_by, rules_of}
 use Rattle.cpg_record.specs.Steps.{CanEditBy}
-use Rattle.cpg_roster.specs.Processes.{ComesTo}
+use Rattle.cpg_members.specs.Processes.{ComesTo}
 
 -- a group: its table, its members, and the places of the allowed entries that are of it
 pub record GroupValue : Type 0 where

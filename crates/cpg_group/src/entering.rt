@@ -1,25 +1,23 @@
-//! An entry judged and put among the records in one go: the trail of its connection and its group are each
+//! An entry judged and put among the records in one go: the log of its connection and its group are each
 //! looked up once, where they are kept, and first where those of the entry before are.
 
-ghost use Rattle.std.specs.Prelude.{◌≡◌, ◌+◌, ◌++◌, ◌∷◌, [], ℕ, List, length, true, None, if◌then◌else◌, IfOk, IfSome, OnOk, OnErr, IsOkUnless};
+ghost use Rattle.std.specs.Prelude.{◌≡◌, ◌+◌, ◌++◌, ◌∷◌, [], ℕ, List, length, true, None, if◌then◌else◌, IfSome, OnOk, OnErr, IsOkUnless};
 ghost use Rattle.std.specs.Map.{lookup};
 ghost use Rattle.std.specs.Option.{option_copied};
-ghost use Rattle.cpg_entry.specs.declared.calls.Call.TheVariants.{Join};
-ghost use Rattle.cpg_entry.specs.declared.calls.Op.TheVariants.{Act};
 ghost use Rattle.cpg_record.specs.Connections.{conn_of, is_conn};
 ghost use Rattle.cpg_record.specs.Judging.{entry_group, record_of};
 ghost use Rattle.cpg_record.specs.Membership.{group_of, is_allowed};
 ghost use Rattle.cpg_record.specs.Verdicts.{verdict};
 ghost use Rattle.cpg_group.specs.Entering.{CanEnter};
 ghost use Rattle.cpg_group.specs.Standing.{changed, group_past, kept_group, standing_for, CanChange};
-ghost use Rattle.cpg_group.specs.Trails.{AreTrails, IsTrail};
+ghost use Rattle.cpg_group.specs.ConnectionLogs.{AreConnectionLogs, IsConnectionLog};
 
 use crate::judging;
+use crate::logs::{ConnectionLogs, Stop, Stops, group_now, make_room, stop_of};
 use crate::places::find_record;
 use crate::standing::{Group, Groups};
-use crate::trails::{Stop, Stops, Trails, group_now, make_room, stop_of};
 use cpg_cred::Refusal;
-use cpg_entry::{Call, Entry, Name, Op, SharedEntry};
+use cpg_entry::{Call, Entry, Name, Op};
 use cpg_record::{ConnId, Record};
 use std::alloc::Global;
 
@@ -29,48 +27,29 @@ fn latest_name<'a>(records: &'a [Record], places: &[u32]) -> Option<&'a Name> {
     past.group.as_ref()
 }
 
-/// The entry, a join to that name.
-fn join_of(alloc: Global, entry: &Entry, name: &Name) -> Result<SharedEntry, Refusal>
-    requires { (entry.now).op ≡ Act (Join name.now) }
-    ensures ok { IfOk result (λ joining. joining ≡ entry.now) }
-{
-    let op = Op::Act(Call::Join(name.copy(alloc)?));
-    match SharedEntry::new(alloc, Entry { op, ..*entry }) {
-        Ok(joining) => Ok(joining),
-        Err(refused) => Err(refused.refusal),
-    }
-}
-
-/// The join again, with the bytes of its name in common with the latest record of the group, where that has the same
-/// name: so the name of a group with many joins is kept once.
+/// The name as the latest record of the group has it, so that the name of a group with many joins is kept once.
 #[inline(never)]
-fn with_kept_name(
-    alloc: Global,
-    records: &[Record],
-    places: &[u32],
-    entry: &Entry,
-    name: &Name,
-) -> Option<SharedEntry>
-    requires { (entry.now).op ≡ Act (Join name.now) }
-    ensures { IfSome result (λ joining. joining ≡ entry.now) }
+fn kept_name(alloc: Global, records: &[Record], places: &[u32], name: &Name) -> Option<Name>
+    ensures { IfSome result (λ kept. kept ≡ name.now) }
 {
     let kept = latest_name(records, places)?;
-    if !kept.equals(name) {
-        return None;
+    if kept.equals(name) {
+        kept.copy(alloc).ok()
+    } else {
+        None
     }
-    join_of(alloc, entry, kept).ok()
 }
 
-/// The same for an entry, if it is a join.
+/// A join has its name in common with the latest record of the group from then on, where that has one.
 #[inline(always)]
-fn share_joined(alloc: Global, records: &[Record], places: &[u32], entry: &mut SharedEntry)
+fn share_joined(alloc: Global, records: &[Record], places: &[u32], entry: &mut Entry)
     ensures { entry.new ≡ entry.old }
 {
-    let Op::Act(Call::Join(name)) = &entry.get().op else {
+    let Op::Act(Call::Join(name)) = &entry.op else {
         return;
     };
-    if let Some(joining) = with_kept_name(alloc, records, places, entry.get(), name) {
-        *entry = joining;
+    if let Some(kept) = kept_name(alloc, records, places, name) {
+        entry.op = Op::Act(Call::Join(kept));
     }
 }
 
@@ -109,19 +88,19 @@ fn enter_apart(
     alloc: Global,
     groups: &mut Groups,
     records: &[Record],
-    trail: &[Stop],
+    log: &[Stop],
     place: u32,
     next: &mut Record,
 ) -> Result<(), Refusal>
     requires entry { CanEnter groups.old records.now place next.old }
-    requires trail { IsTrail records.now (conn_of next.old.entry) trail.now }
+    requires log { IsConnectionLog records.now (conn_of next.old.entry) log.now }
     ensures ok { OnOk result (next.new ≡ record_of records.now next.old.entry) }
     ensures past { OnOk result ((g : List ℕ) → kept_group groups.new g ≡ group_past g (kept_group groups.old g) (place, record_of records.now next.old.entry)) }
     ensures same { OnErr result ((g : List ℕ) → kept_group groups.new g ≡ kept_group groups.old g) }
     ensures err { OnErr result (next.new.entry ≡ next.old.entry) }
     ensures memory { IsOkUnless result Refusal.Memory }
 {
-    judging::judge_draft(alloc, records, groups, trail, next)?;
+    judging::judge_draft(alloc, records, groups, log, next)?;
     groups.take_in(place, next)
 }
 
@@ -132,20 +111,20 @@ fn enter_groups(
     alloc: Global,
     groups: &mut Groups,
     records: &[Record],
-    trail: &[Stop],
+    log: &[Stop],
     place: u32,
     next: &mut Record,
 ) -> Result<(), Refusal>
     requires entry { CanEnter groups.old records.now place next.old }
-    requires trail { IsTrail records.now (conn_of next.old.entry) trail.now }
+    requires log { IsConnectionLog records.now (conn_of next.old.entry) log.now }
     ensures ok { OnOk result (next.new ≡ record_of records.now next.old.entry) }
     ensures past { OnOk result ((g : List ℕ) → kept_group groups.new g ≡ group_past g (kept_group groups.old g) (place, record_of records.now next.old.entry)) }
     ensures same { OnErr result ((g : List ℕ) → kept_group groups.new g ≡ kept_group groups.old g) }
     ensures err { OnErr result (next.new.entry ≡ next.old.entry) }
     ensures memory { IsOkUnless result Refusal.Memory }
 {
-    let joined = group_now(records, trail);
-    match judging::find_entry_group(records, joined, next.entry()) {
+    let joined = group_now(records, log);
+    match judging::find_entry_group(records, joined, &next.entry) {
         None => judging::judge_draft_in(alloc, records, &groups.none, joined, next),
         Some(name) => match groups.index_of(name.as_slice()) {
             Some(index) => {
@@ -153,16 +132,16 @@ fn enter_groups(
                 let (_, group) = groups.kept.pair_mut(index);
                 enter_group(alloc, group, records, joined, place, next)
             }
-            None => enter_apart(alloc, groups, records, trail, place, next),
+            None => enter_apart(alloc, groups, records, log, place, next),
         },
     }
 }
 
-/// Judges the entry of a draft in place, puts its stop at the end of its connection's trail, and brings the
-/// groups past it. The trail grows first, and then the groups, so that a refusal changes neither.
+/// Judges the entry of a draft in place, puts its stop at the end of its connection's log, and brings the
+/// groups past it. The log grows first, and then the groups, so that a refusal changes neither.
 #[inline(always)]
-fn enter_trail(
-    trail: &mut Stops,
+fn enter_log(
+    log: &mut Stops,
     groups: &mut Groups,
     records: &[Record],
     place: u32,
@@ -170,60 +149,60 @@ fn enter_trail(
 ) -> Result<(), Refusal>
     requires entry { CanEnter groups.old records.now place next.old }
     requires place { place ≡ length records.now + 1 }
-    requires trail { IsTrail records.now (conn_of next.old.entry) trail.old.items }
+    requires log { IsConnectionLog records.now (conn_of next.old.entry) log.old.items }
     ensures ok { OnOk result (next.new ≡ record_of records.now next.old.entry) }
     ensures past { OnOk result ((g : List ℕ) → kept_group groups.new g ≡ group_past g (kept_group groups.old g) (place, record_of records.now next.old.entry)) }
     ensures same { OnErr result ((g : List ℕ) → kept_group groups.new g ≡ kept_group groups.old g) }
-    ensures longer { OnOk result (IsTrail (records.now ++ record_of records.now next.old.entry ∷ []) (conn_of next.old.entry) trail.new.items) }
-    ensures kept { OnErr result (trail.new.items ≡ trail.old.items) }
+    ensures longer { OnOk result (IsConnectionLog (records.now ++ record_of records.now next.old.entry ∷ []) (conn_of next.old.entry) log.new.items) }
+    ensures kept { OnErr result (log.new.items ≡ log.old.items) }
     ensures err { OnErr result (next.new.entry ≡ next.old.entry) }
     ensures memory { IsOkUnless result Refusal.Memory }
 {
-    make_room(trail)?;
-    let alloc = *trail.allocator();
-    let stops = trail.as_slice();
+    make_room(log)?;
+    let alloc = *log.allocator();
+    let stops = log.as_slice();
     enter_groups(alloc, groups, records, stops, place, next)?;
     let stop = stop_of(records, stops, place, next);
-    trail.push_reserved(stop);
+    log.push_reserved(stop);
     Ok(())
 }
 
-/// Judges the first entry of its connection in place, keeps a trail of it, and brings the groups past it. The
-/// map of trails makes room first, so that a refusal changes no trail, no group and no entry. It stands apart,
+/// Judges the first entry of its connection in place, keeps a log of it, and brings the groups past it. The
+/// map of logs makes room first, so that a refusal changes no log, no group and no entry. It stands apart,
 /// so that what the entries after it cost stays small.
 #[inline(never)]
 fn enter_first(
-    trails: &mut Trails,
+    logs: &mut ConnectionLogs,
     groups: &mut Groups,
     records: &[Record],
     place: u32,
     next: &mut Record,
 ) -> Result<(), Refusal>
-    requires absent { lookup (is_conn (conn_of next.old.entry)) trails.old.kept.entries ≡ None }
+    requires absent { lookup (is_conn (conn_of next.old.entry)) logs.old.kept.entries ≡ None }
     requires entry { CanEnter groups.old records.now place next.old }
     requires place { place ≡ length records.now + 1 }
-    requires trails { AreTrails trails.old.kept.entries records.now }
+    requires logs { AreConnectionLogs logs.old.kept.entries records.now }
     ensures ok { OnOk result (next.new ≡ record_of records.now next.old.entry) }
     ensures past { OnOk result ((g : List ℕ) → kept_group groups.new g ≡ group_past g (kept_group groups.old g) (place, record_of records.now next.old.entry)) }
     ensures same { OnErr result ((g : List ℕ) → kept_group groups.new g ≡ kept_group groups.old g) }
-    ensures longer { OnOk result (AreTrails trails.new.kept.entries (records.now ++ record_of records.now next.old.entry ∷ [])) }
-    ensures kept { OnErr result (AreTrails trails.new.kept.entries records.now) }
+    ensures longer { OnOk result (AreConnectionLogs logs.new.kept.entries (records.now ++ record_of records.now next.old.entry ∷ [])) }
+    ensures kept { OnErr result (AreConnectionLogs logs.new.kept.entries records.now) }
     ensures err { OnErr result (next.new.entry ≡ next.old.entry) }
     ensures memory { IsOkUnless result Refusal.Memory }
 {
-    trails.kept.reserve(1)?;
-    let mut trail = Stops::new(*trails.kept.allocator());
-    enter_trail(&mut trail, groups, records, place, next)?;
-    trails.last = trails.kept.len();
-    trails.kept.insert(ConnId::of(next.entry()), trail)?;
+    logs.kept.reserve(1)?;
+    let mut log = Stops::new(*logs.kept.allocator());
+    enter_log(&mut log, groups, records, place, next)?;
+    logs.last = logs.kept.len();
+    logs.kept.insert(ConnId::of(&next.entry), log)?;
     Ok(())
 }
 
-/// Judges the entry of a draft in place, as the one at the next place, and brings its trail and the groups
-/// past it. A refusal changes no trail, no group and no entry.
+/// Judges the entry of a draft in place, as the one at the next place, and brings its log and the groups
+/// past it. A refusal changes no log, no group and no entry.
 #[inline(always)]
 pub(crate) fn enter(
-    trails: &mut Trails,
+    logs: &mut ConnectionLogs,
     groups: &mut Groups,
     records: &[Record],
     place: u32,
@@ -231,21 +210,21 @@ pub(crate) fn enter(
 ) -> Result<(), Refusal>
     requires entry { CanEnter groups.old records.now place next.old }
     requires place { place ≡ length records.now + 1 }
-    requires trails { AreTrails trails.old.kept.entries records.now }
+    requires logs { AreConnectionLogs logs.old.kept.entries records.now }
     ensures ok { OnOk result (next.new ≡ record_of records.now next.old.entry) }
     ensures past { OnOk result ((g : List ℕ) → kept_group groups.new g ≡ group_past g (kept_group groups.old g) (place, record_of records.now next.old.entry)) }
     ensures same { OnErr result ((g : List ℕ) → kept_group groups.new g ≡ kept_group groups.old g) }
-    ensures longer { OnOk result (AreTrails trails.new.kept.entries (records.now ++ record_of records.now next.old.entry ∷ [])) }
-    ensures kept { OnErr result (AreTrails trails.new.kept.entries records.now) }
+    ensures longer { OnOk result (AreConnectionLogs logs.new.kept.entries (records.now ++ record_of records.now next.old.entry ∷ [])) }
+    ensures kept { OnErr result (AreConnectionLogs logs.new.kept.entries records.now) }
     ensures err { OnErr result (next.new.entry ≡ next.old.entry) }
     ensures memory { IsOkUnless result Refusal.Memory }
 {
-    match trails.index_of(&ConnId::of(next.entry())) {
+    match logs.index_of(&ConnId::of(&next.entry)) {
         Some(index) => {
-            trails.last = index;
-            let (_, trail) = trails.kept.pair_mut(index);
-            enter_trail(trail, groups, records, place, next)
+            logs.last = index;
+            let (_, log) = logs.kept.pair_mut(index);
+            enter_log(log, groups, records, place, next)
         }
-        None => enter_first(trails, groups, records, place, next),
+        None => enter_first(logs, groups, records, place, next),
     }
 }

@@ -7,12 +7,12 @@ ghost use Rattle.cpg_record.specs.Judging.{AreJudged};
 ghost use Rattle.cpg_record.specs.Membership.{group_of};
 ghost use Rattle.cpg_record.specs.Places.{records_before};
 ghost use Rattle.cpg_group.specs.Standing.{AreStanding};
-ghost use Rattle.cpg_group.specs.Trails.{group_at};
+ghost use Rattle.cpg_group.specs.ConnectionLogs.{group_at};
 
+use crate::logs::find_joined;
 use crate::nexts::{Hint, Next};
 use crate::standing::Groups;
 use crate::telling;
-use crate::trails::find_joined;
 use cpg_cred::Refusal;
 use cpg_record::{ConnId, Event, Record};
 use std::alloc::Global;
@@ -68,7 +68,7 @@ impl<'a> Heard<'a> {
             records,
             groups,
             past,
-            own: conn.is(&ConnId::of(past.entry())),
+            own: conn.is(&ConnId::of(&past.entry)),
             told: telling::has_news(records, next.place, past, &conn, earlier),
             conn,
             place: next.place,

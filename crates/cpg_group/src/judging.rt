@@ -1,18 +1,19 @@
-//! The judgement of one entry over the records before it, by the groups and the trail that they come to.
+//! The judgement of one entry over the records before it, by the groups and the log that they come to.
 
-ghost use Rattle.std.specs.Prelude.{◌≡◌, ◌≢◌, ◌++◌, ◌∷◌, [], None, OnOk, OnErr, IfOk, IfErr, IsOkUnless};
+ghost use Rattle.std.specs.Prelude.{◌≡◌, ◌≢◌, ◌++◌, ◌∷◌, [], None, OnOk, OnErr, IfOk, IsOkUnless};
 ghost use Rattle.std.specs.Option.{option_copied};
+ghost use Rattle.cpg_entry.specs.declared.calls.Op.TheVariants.{Gone};
 ghost use Rattle.cpg_record.specs.Connections.{conn_of};
 ghost use Rattle.cpg_record.specs.Judging.{entry_group, record_of};
 ghost use Rattle.cpg_record.specs.Membership.{group_of, members_in};
 ghost use Rattle.cpg_record.specs.Verdicts.{edit_decision, join_verdict, leave_verdict, send_verdict, insert_verdict, remove_verdict, verdict};
 ghost use Rattle.cpg_group.specs.Standing.{standing, standing_for, AreStanding};
-ghost use Rattle.cpg_group.specs.Trails.{IsTrail};
+ghost use Rattle.cpg_group.specs.ConnectionLogs.{IsConnectionLog};
 
+use crate::logs::{Stop, group_now};
 use crate::standing::{Group, Groups};
-use crate::trails::{Stop, group_now};
-use cpg_cred::{By, Refusal, Refused};
-use cpg_entry::{Call, Entry, Name, Op, SharedEntry};
+use cpg_cred::{By, Refusal};
+use cpg_entry::{Call, Entry, Name, Op};
 use cpg_record::{MOST_MEMBERS, Members, Reason, Record, Verdict};
 use cpg_rules::{Decision, MOST_RULES, Right, Table};
 use std::alloc::Global;
@@ -185,7 +186,7 @@ fn copy_name(alloc: Global, group: Option<&Name>) -> Result<Option<Name>, Refusa
 }
 
 /// A record of the entry that is not judged yet.
-pub(crate) fn draft_of(alloc: Global, entry: SharedEntry) -> Record
+pub(crate) fn draft_of(alloc: Global, entry: Entry) -> Record
     ensures entry { result.entry ≡ entry }
     ensures members { result.members ≡ [] }
 {
@@ -214,8 +215,8 @@ pub(crate) fn judge_draft_in(
     ensures memory { IsOkUnless result Refusal.Memory }
     ensures some { OnErr result (entry_group records.now next.old.entry next.old.entry.op ≢ None) }
 {
-    next.verdict = judge_entry(records, standing, joined, next.entry());
-    let group = copy_name(alloc, find_entry_group(records, joined, next.entry()))?;
+    next.verdict = judge_entry(records, standing, joined, &next.entry);
+    let group = copy_name(alloc, find_entry_group(records, joined, &next.entry))?;
     next.group = group;
     let members = collect_members_with(alloc, records, standing, next)?;
     next.members = members;
@@ -227,43 +228,37 @@ pub(crate) fn judge_draft(
     alloc: Global,
     records: &[Record],
     groups: &Groups,
-    trail: &[Stop],
+    log: &[Stop],
     next: &mut Record,
 ) -> Result<(), Refusal>
     requires draft { next.old.members ≡ [] }
     requires groups { AreStanding groups.now records.now }
-    requires trail { IsTrail records.now (conn_of next.old.entry) trail.now }
+    requires log { IsConnectionLog records.now (conn_of next.old.entry) log.now }
     ensures ok { OnOk result (next.new ≡ record_of records.now next.old.entry) }
     ensures err { OnErr result (next.new.entry ≡ next.old.entry) }
     ensures memory { IsOkUnless result Refusal.Memory }
     ensures some { OnErr result (entry_group records.now next.old.entry next.old.entry.op ≢ None) }
 {
-    let joined = group_now(records, trail);
-    let standing = groups.of_name(find_entry_group(records, joined, next.entry()));
+    let joined = group_now(records, log);
+    let standing = groups.of_name(find_entry_group(records, joined, &next.entry));
     judge_draft_in(alloc, records, standing, joined, next)
 }
 
-/// The record of an entry over the records before it, with the entry moved into it. A refusal gives the
-/// entry back.
+/// The record of a copy of the entry over the records before it.
 pub(crate) fn judge(
     alloc: Global,
     records: &[Record],
     groups: &Groups,
-    trail: &[Stop],
-    entry: SharedEntry,
-) -> Result<Record, Refused<SharedEntry>>
+    log: &[Stop],
+    entry: &Entry,
+) -> Result<Record, Refusal>
     requires groups { AreStanding groups.now records.now }
-    requires trail { IsTrail records.now (conn_of entry) trail.now }
-    ensures ok { IfOk result (λ next. next ≡ record_of records.now entry) }
-    ensures err { IfErr result (λ refused. refused ≡ record { refusal = Refusal.Memory; back = entry }) }
-    ensures some { OnErr result (entry_group records.now entry entry.op ≢ None) }
+    requires log { IsConnectionLog records.now (conn_of entry.now) log.now }
+    ensures ok { IfOk result (λ next. next ≡ record_of records.now entry.now) }
+    ensures memory { IsOkUnless result Refusal.Memory }
+    ensures gone { OnErr result (entry.now.op ≡ Gone → group_of records.now (conn_of entry.now) ≢ None) }
 {
-    let mut next = draft_of(alloc, entry);
-    match judge_draft(alloc, records, groups, trail, &mut next) {
-        Ok(()) => Ok(next),
-        Err(refusal) => Err(Refused {
-            refusal,
-            back: next.entry,
-        }),
-    }
+    let mut next = draft_of(alloc, entry.copy(alloc)?);
+    judge_draft(alloc, records, groups, log, &mut next)?;
+    Ok(next)
 }

@@ -9,24 +9,23 @@ mod entering;
 mod heard;
 mod judging;
 mod listing;
+mod logs;
 mod nexts;
 mod places;
 mod policies;
 mod standing;
 mod telling;
 mod told;
-mod trails;
 mod verifying;
 
-pub use cpg_entry::SharedEntry;
 pub use cpg_record::{
     Cause, ConnId, Event, Events, MOST_MEMBERS, MOST_PLACES, Member, Members, Move, Moves, Reason,
     Record, Records, Verdict,
 };
 pub use heard::Heard;
 pub use listing::{Names, Processes};
+pub use logs::ConnectionLog;
 pub use nexts::Hint;
 pub use policies::Policy;
 pub use told::count_upto;
-pub use trails::Trail;
 pub use verifying::verify;

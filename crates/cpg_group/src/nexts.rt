@@ -8,20 +8,20 @@ ghost use Rattle.cpg_record.specs.Membership.{group_of};
 ghost use Rattle.cpg_record.specs.Nexts.{reaches, IsNextTold, TellsNoMore};
 ghost use Rattle.cpg_record.specs.Places.{records_before, sooner, IsNextOf};
 ghost use Rattle.cpg_group.specs.Standing.{AreStanding};
-ghost use Rattle.cpg_group.specs.Trails.{group_at, IsTrail};
+ghost use Rattle.cpg_group.specs.ConnectionLogs.{group_at, IsConnectionLog};
 
+use crate::logs::{Stop, count_own, find_joined, join_past, own_at};
 use crate::places::next_in;
 use crate::standing::Groups;
-use crate::trails::{Stop, count_own, find_joined, join_past, own_at};
 use cpg_entry::Name;
 use cpg_record::{ConnId, Record};
 
-/// Where a search for the next place ended: at which index the connection's trail and its group are kept, and how
+/// Where a search for the next place ended: at which index the connection's log and its group are kept, and how
 /// many places of each were passed. It is a hint for the search from there on, which looks there first; of the
 /// connection it says nothing, and a wrong one costs time alone.
 #[derive(Debug, Clone, Copy, PartialEq, Eq, Default)]
 pub struct Hint {
-    pub(crate) trail: usize,
+    pub(crate) log: usize,
     pub(crate) own: usize,
     pub(crate) group: usize,
     pub(crate) heard: usize,
@@ -81,29 +81,29 @@ fn next_heard(
     }
 }
 
-/// The next place above `after` that tells the connection of the trail anything, sought first where the hint says.
+/// The next place above `after` that tells the connection of the log anything, sought first where the hint says.
 #[inline(always)]
 pub(crate) fn find_next(
     records: &[Record],
     groups: &Groups,
-    trail: &[Stop],
+    log: &[Stop],
     conn: &ConnId,
     after: usize,
     hint: Hint,
 ) -> Option<Next>
     requires groups { AreStanding groups.now records.now }
-    requires trail { IsTrail records.now conn.now trail.now }
+    requires log { IsConnectionLog records.now conn.now log.now }
     ensures told { MatchOption result (TellsNoMore records.now after conn.now) (λ next. IsNextTold records.now after conn.now next.place) }
     ensures join { IfSome result (λ next. group_at records.now next.join ≡ group_of (records_before records.now next.place) conn.now) }
 {
-    let passed = count_own(trail, after, hint.own);
-    let join = join_past(trail, passed);
+    let passed = count_own(log, after, hint.own);
+    let join = join_past(log, passed);
     let hint = Hint {
         own: passed,
         ..hint
     };
     let (heard, hint) = next_heard(records, groups, find_joined(records, join), after, hint);
-    match sooner_of(own_at(trail, passed), heard) {
+    match sooner_of(own_at(log, passed), heard) {
         None => None,
         Some(place) => Some(Next { place, join, hint }),
     }

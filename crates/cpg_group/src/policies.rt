@@ -1,10 +1,12 @@
 //! The judged entries, and what they come to.
 
 ghost use Rattle.std.specs.Prelude.{◌≡◌, ◌≢◌, ◌<◌, ◌≤◌, ◌++◌, ◌∷◌, [], None, length, OnOk, OnErr, IfOk, IfErr, IfSome, MatchOption, IsOkUnless};
-ghost use Rattle.cpg_record.specs.Connections.{conns_of};
+ghost use Rattle.cpg_entry.specs.declared.calls.Op.TheVariants.{Gone};
+ghost use Rattle.cpg_record.specs.Connections.{conn_of, conns_of};
 ghost use Rattle.cpg_record.specs.Events.{events};
-ghost use Rattle.cpg_record.specs.Judging.{entry_group, judged, most_places, record_of, IsNext};
+ghost use Rattle.cpg_record.specs.Judging.{judged, most_places, record_of, IsNext};
 ghost use Rattle.cpg_record.specs.Listings.{AnswersListing, AreGroups, listing};
+ghost use Rattle.cpg_record.specs.Membership.{group_of};
 ghost use Rattle.cpg_record.specs.Nexts.{acts_in, IsNextTold, TellsNoMore};
 ghost use Rattle.cpg_record.specs.Places.{places_of};
 ghost use Rattle.cpg_record.specs.RuleTables.{rules_of};
@@ -12,12 +14,12 @@ ghost use Rattle.cpg_group.specs.Telling.{told};
 
 use crate::heard::Heard;
 use crate::listing::{self, Names, Processes};
+use crate::logs::{ConnectionLog, ConnectionLogs};
 use crate::nexts::Hint;
 use crate::standing::Groups;
-use crate::trails::{Trail, Trails};
 use crate::{entering, judging, nexts, telling, told};
 use cpg_cred::{Refusal, Refused};
-use cpg_entry::{Entry, Name, SharedEntry, reserve_ahead};
+use cpg_entry::{Entry, Name, reserve_ahead};
 use cpg_record::{ConnId, Event, Events, Record};
 use cpg_rules::{Asker, Table};
 use std::alloc::Global;
@@ -29,7 +31,7 @@ use std::marker::Model;
 pub struct Policy {
     records: Vec<Record>,
     groups: Groups,
-    trails: Trails,
+    logs: ConnectionLogs,
 }
 
 impl fmt::Debug for Policy {
@@ -43,13 +45,13 @@ impl Model for Policy {
     ghost use Rattle.cpg_entry.specs.declared.entries.Entry.{Entry};
     ghost use Rattle.cpg_record.specs.Judging.{entries_of, AreRecords};
     ghost use Rattle.cpg_group.specs.Standing.{AreStanding};
-    ghost use Rattle.cpg_group.specs.Trails.{AreTrails};
+    ghost use Rattle.cpg_group.specs.ConnectionLogs.{AreConnectionLogs};
 
     ghost Value = { List Entry };
 
     ghost view = { λ policy. entries_of policy.records.items };
 
-    ghost invariant = { λ policy. AreRecords policy.records.items × AreStanding policy.groups policy.records.items × AreTrails policy.trails.kept.entries policy.records.items };
+    ghost invariant = { λ policy. AreRecords policy.records.items × AreStanding policy.groups policy.records.items × AreConnectionLogs policy.logs.kept.entries policy.records.items };
 }
 
 impl Policy {
@@ -60,7 +62,7 @@ impl Policy {
         Policy {
             records: Vec::new(alloc),
             groups: Groups::new(alloc),
-            trails: Trails::new(alloc),
+            logs: ConnectionLogs::new(alloc),
         }
     }
 
@@ -69,30 +71,15 @@ impl Policy {
         requires { length self.now < most_places }
         ensures ok { IfOk result (λ next. next ≡ record_of (judged self.now) entry.now) }
         ensures memory { IsOkUnless result Refusal.Memory }
-    {
-        let entry = SharedEntry::copy_of(*self.records.allocator(), entry)?;
-        match self.judge_owned(entry) {
-            Ok(next) => Ok(next),
-            Err(refused) => Err(refused.refusal),
-        }
-    }
 
-    /// The record that the entry would have as the next one, with the entry moved into it. A refusal gives
-    /// the entry back.
-    #[inline(always)]
-    pub fn judge_owned(&self, entry: SharedEntry) -> Result<Record, Refused<SharedEntry>>
-        requires { length self.now < most_places }
-        ensures ok { IfOk result (λ next. next ≡ record_of (judged self.now) entry) }
-        ensures err { IfErr result (λ refused. refused ≡ record { refusal = Refusal.Memory; back = entry }) }
-
-        // An entry without a group takes no memory.
-        ensures grouped { OnErr result (entry_group (judged self.now) entry entry.op ≢ None) }
+        // The end of a connection that is in no group takes no memory.
+        ensures gone { OnErr result (entry.now.op ≡ Gone → group_of (judged self.now) (conn_of entry.now) ≢ None) }
     {
         judging::judge(
             *self.records.allocator(),
             self.records.as_slice(),
             &self.groups,
-            self.trails.of(&ConnId::of(entry.get())),
+            self.logs.of(&ConnId::of(entry)),
             entry,
         )
     }
@@ -114,7 +101,7 @@ impl Policy {
         }
         let place = self.records.len() as u32 + 1;
         let records = self.records.as_slice();
-        match self.trails.take_in(&mut self.groups, records, place, &next) {
+        match self.logs.take_in(&mut self.groups, records, place, &next) {
             Ok(()) => {
                 self.records.push_reserved(next);
                 Ok(())
@@ -128,7 +115,7 @@ impl Policy {
 
     /// Judges the entry and puts it last, with its record. A refusal changes nothing and gives the entry back.
     #[inline(always)]
-    pub fn enter(&mut self, entry: SharedEntry) -> Result<(), Refused<SharedEntry>>
+    pub fn enter(&mut self, entry: Entry) -> Result<(), Refused<Entry>>
         requires { length self.old < most_places }
         ensures ok { OnOk result (self.new ≡ self.old ++ entry ∷ []) }
         ensures unchanged { OnErr result (self.new ≡ self.old) }
@@ -143,13 +130,7 @@ impl Policy {
         let mut past = judging::draft_of(*self.records.allocator(), entry);
         let place = self.records.len() as u32 + 1;
         let records = self.records.as_slice();
-        match entering::enter(
-            &mut self.trails,
-            &mut self.groups,
-            records,
-            place,
-            &mut past,
-        ) {
+        match entering::enter(&mut self.logs, &mut self.groups, records, place, &mut past) {
             Ok(()) => {
                 self.records.push_reserved(past);
                 Ok(())
@@ -187,7 +168,7 @@ impl Policy {
     pub fn connections(&self) -> &[ConnId]
         ensures { result.now ≡ conns_of self.now }
     {
-        self.trails.conns()
+        self.logs.conns()
     }
 
     /// The node and the pid of each member of a group, in the order of their joins, where the asker may
@@ -239,7 +220,7 @@ impl Policy {
             *self.records.allocator(),
             self.records.as_slice(),
             &self.groups,
-            self.trails.of(&conn),
+            self.logs.of(&conn),
             place,
             &conn,
         )
@@ -250,7 +231,7 @@ impl Policy {
         requires { (1 ≤ place) × (place ≤ length self.now) }
         ensures { result ≡ length (events (judged self.now) place conn) }
     {
-        telling::count_events(self.records.as_slice(), self.trails.of(&conn), place, &conn)
+        telling::count_events(self.records.as_slice(), self.logs.of(&conn), place, &conn)
     }
 
     /// The least judged place above `after` that tells the connection anything, if there is one, looked up once
@@ -262,9 +243,9 @@ impl Policy {
         ensures value { IfSome result (λ heard. heard ≡ record { records = judged self.now; conn = conn; place = heard.place }) }
     {
         let records = self.records.as_slice();
-        let (trail, at) = self.trails.of_near(&conn, hint.trail);
-        let hint = Hint { trail: at, ..hint };
-        match nexts::find_next(records, &self.groups, trail, &conn, after as usize, hint) {
+        let (log, at) = self.logs.of_near(&conn, hint.log);
+        let hint = Hint { log: at, ..hint };
+        match nexts::find_next(records, &self.groups, log, &conn, after as usize, hint) {
             None => None,
             Some(next) => Some(Heard::of(records, &self.groups, conn, next)),
         }
@@ -276,9 +257,9 @@ impl Policy {
         ensures { MatchOption result (TellsNoMore (judged self.now) after conn) (IsNextTold (judged self.now) after conn) }
     {
         let records = self.records.as_slice();
-        let trail = self.trails.of(&conn);
+        let log = self.logs.of(&conn);
         let hint = Hint::default();
-        match nexts::find_next(records, &self.groups, trail, &conn, after as usize, hint) {
+        match nexts::find_next(records, &self.groups, log, &conn, after as usize, hint) {
             None => None,
             Some(next) => Some(next.place),
         }
@@ -299,11 +280,11 @@ impl Policy {
         )
     }
 
-    /// The trail of the connection, looked up once for all that is asked of it. Takes no memory.
-    pub fn trail(&self, conn: ConnId) -> Trail<'_>
+    /// The log of the connection, looked up once for all that is asked of it. Takes no memory.
+    pub fn log(&self, conn: ConnId) -> ConnectionLog<'_>
         ensures { result ≡ record { records = judged self.now; conn = conn } }
     {
-        Trail::of(self.records.as_slice(), conn, self.trails.of(&conn))
+        ConnectionLog::of(self.records.as_slice(), conn, self.logs.of(&conn))
     }
 
     /// The ascending places of the allowed entries of the group. Takes no memory.

@@ -15,8 +15,8 @@ ghost use Rattle.cpg_group.specs.Standing.{kept_for, kept_group, changed, group_
 use crate::listing::shows_group;
 use cpg_cred::{NameHasher, Refusal};
 use cpg_entry::{Call, Entry, Name, Op};
+use cpg_members::MemberIndex;
 use cpg_record::{Members, Record};
-use cpg_roster::Roster;
 use cpg_rules::{Asker, Table};
 use indexmap::IndexMap;
 use std::alloc::Global;
@@ -34,7 +34,9 @@ fn edit(table: &mut Table, place: u32, op: &Op) -> Result<(), Refusal>
     ensures memory { IsOkUnless result Refusal.Memory }
 {
     match op {
-        Op::Act(Call::Insert(_, index, rule)) => table.insert(usize::from(*index), place, *rule),
+        Op::Act(Call::Insert(_, index, rule)) => {
+            table.insert(usize::from(*index), place, *rule.get())
+        }
         Op::Act(Call::Remove(_, id)) => {
             let _ = table.remove(*id);
             Ok(())
@@ -48,7 +50,7 @@ fn edit(table: &mut Table, place: u32, op: &Op) -> Result<(), Refusal>
 #[derive(Debug, Drop)]
 pub(crate) struct Group {
     table: Table,
-    roster: Roster,
+    member_index: MemberIndex,
     places: Vec<u32>,
 }
 
@@ -57,7 +59,7 @@ impl Model for Group {
 
     ghost Value = { GroupValue };
 
-    ghost view = { λ group. record { table = group.table; members = group.roster; places = group.places.items } };
+    ghost view = { λ group. record { table = group.table; members = group.member_index; places = group.places.items } };
 }
 
 impl Group {
@@ -67,7 +69,7 @@ impl Group {
     {
         Group {
             table: Table::new(alloc),
-            roster: Roster::new(alloc),
+            member_index: MemberIndex::new(alloc),
             places: Vec::new(alloc),
         }
     }
@@ -80,7 +82,7 @@ impl Group {
         let places = Vec::with_capacity(alloc, FIRST_PLACES)?;
         Ok(Group {
             table: Table::new(alloc),
-            roster: Roster::new(alloc),
+            member_index: MemberIndex::new(alloc),
             places,
         })
     }
@@ -96,14 +98,14 @@ impl Group {
     pub(crate) fn members(&self) -> &Members
         ensures { result.now ≡ self.now.members }
     {
-        self.roster.members()
+        self.member_index.members()
     }
 
     /// Whether the entry's process is a member.
     pub(crate) fn has_process(&self, entry: &Entry) -> bool
         ensures { result ≡ has_process entry.now self.now.members }
     {
-        self.roster.has_process(entry)
+        self.member_index.has_process(entry)
     }
 
     /// The places of the allowed entries that are of it.
@@ -121,11 +123,11 @@ impl Group {
         ensures memory { IsOkUnless result Refusal.Memory }
     {
         self.places.reserve(1)?;
-        match &past.entry().op {
+        match &past.entry.op {
             Op::Act(Call::Insert(_, _, _)) | Op::Act(Call::Remove(_, _)) => {
-                edit(&mut self.table, place, &past.entry().op)?
+                edit(&mut self.table, place, &past.entry.op)?
             }
-            _ => self.roster.take_in(*self.places.allocator(), past)?,
+            _ => self.member_index.take_in(*self.places.allocator(), past)?,
         }
         self.places.push_reserved(place);
         Ok(())

@@ -10,12 +10,12 @@ ghost use Rattle.cpg_record.specs.Places.{records_before};
 ghost use Rattle.cpg_record.specs.Steps.{group_after};
 ghost use Rattle.cpg_group.specs.Standing.{AreStanding};
 ghost use Rattle.cpg_group.specs.Telling.{hears};
-ghost use Rattle.cpg_group.specs.Trails.{IsTrail};
+ghost use Rattle.cpg_group.specs.ConnectionLogs.{IsConnectionLog};
 
+use crate::logs::{Stop, find_group};
 use crate::places::find_members;
 use crate::standing::Groups;
 use crate::told::event_of;
-use crate::trails::{Stop, find_group};
 use cpg_cred::Refusal;
 use cpg_entry::{Call, Name, Op};
 use cpg_record::{Cause, ConnId, Event, Events, Moves, Record};
@@ -35,10 +35,10 @@ fn has_name(group: Option<&Name>, name: &[u8]) -> bool
 fn pass_group<'a>(past: &'a Record, conn: &ConnId, before: Option<&'a Name>) -> Option<&'a Name>
     ensures { option_copied result ≡ group_after past.now conn.now (option_copied before.entry) }
 {
-    if !past.verdict.is_allowed() || !conn.is(&ConnId::of(past.entry())) {
+    if !past.verdict.is_allowed() || !conn.is(&ConnId::of(&past.entry)) {
         return before;
     }
-    match &past.entry().op {
+    match &past.entry.op {
         Op::Act(Call::Join(name)) => match before {
             Some(group) => Some(group),
             None => Some(name),
@@ -76,7 +76,7 @@ fn is_told(
     requires { option_copied earlier ≡ group_of (records_before records.now place) conn.now }
     ensures { result ≡ hears (records_before records.now place) past.now conn.now group.now past.now.entry.op }
 {
-    match &past.entry().op {
+    match &past.entry.op {
         Op::Act(Call::Join(_)) | Op::Act(Call::Leave) | Op::Gone => {
             is_told_changes(records, place, past, conn, earlier, group)
         }
@@ -105,7 +105,7 @@ pub(crate) fn collect_left(
     let places = groups.of(name).places();
     match find_members(records, places, name, place as usize - 1) {
         None => Ok(Moves::new(alloc)),
-        Some(members) => Moves::of_conn(alloc, &ConnId::of(past.entry()), cause, members),
+        Some(members) => Moves::of_conn(alloc, &ConnId::of(&past.entry), cause, members),
     }
 }
 
@@ -159,35 +159,35 @@ pub(crate) fn tell_news(
     }
 }
 
-/// How many events the place has for the connection of the trail.
+/// How many events the place has for the connection of the log.
 #[tactic(auto, using(crate::proofs::Passed::record_at_index, crate::proofs::Hearing::events_counted))]
-pub(crate) fn count_events(records: &[Record], trail: &[Stop], place: u32, conn: &ConnId) -> usize
+pub(crate) fn count_events(records: &[Record], log: &[Stop], place: u32, conn: &ConnId) -> usize
     requires place { (1 ≤ place) × (place ≤ length records.now) }
-    requires trail { IsTrail records.now conn.now trail.now }
+    requires log { IsConnectionLog records.now conn.now log.now }
     ensures { result ≡ length (events records.now place conn.now) }
 {
     let index = place as usize - 1;
     let past = &records[index];
-    let earlier = find_group(records, trail, index);
-    let own = conn.is(&ConnId::of(past.entry()));
+    let earlier = find_group(records, log, index);
+    let own = conn.is(&ConnId::of(&past.entry));
     let told = has_news(records, place, past, conn, earlier);
     usize::from(own) + usize::from(told)
 }
 
-/// The events of a place for the connection of the trail.
+/// The events of a place for the connection of the log.
 #[tactic(auto, using(crate::proofs::Passed::record_at_index, crate::proofs::Hearing::tells_answer, crate::proofs::Hearing::tells_news, crate::proofs::Hearing::is_news))]
 pub(crate) fn collect_events(
     alloc: Global,
     records: &[Record],
     groups: &Groups,
-    trail: &[Stop],
+    log: &[Stop],
     place: u32,
     conn: &ConnId,
 ) -> Result<Events, Refusal>
     requires place { (1 ≤ place) × (place ≤ length records.now) }
     requires judged { AreJudged records.now }
     requires groups { AreStanding groups.now records.now }
-    requires trail { IsTrail records.now conn.now trail.now }
+    requires log { IsConnectionLog records.now conn.now log.now }
     ensures ok { IfOk result (λ list. list ≡ events records.now place conn.now) }
     ensures memory { IsOkUnless result Refusal.Memory }
     ensures told { OnErr result (events records.now place conn.now ≢ []) }
@@ -195,13 +195,13 @@ pub(crate) fn collect_events(
     let index = place as usize - 1;
     let past = &records[index];
     let mut list = Events::new(alloc);
-    if conn.is(&ConnId::of(past.entry())) {
+    if conn.is(&ConnId::of(&past.entry)) {
         list.push(Event::Verdict {
             place,
             verdict: past.verdict,
         })?;
     }
-    let earlier = find_group(records, trail, index);
+    let earlier = find_group(records, log, index);
     let told = has_news(records, place, past, conn, earlier);
     if let Some(event) = tell_news(alloc, records, groups, place, past, conn, told)? {
         list.push(event)?;

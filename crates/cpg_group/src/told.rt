@@ -54,7 +54,7 @@ fn joined_event(alloc: Global, place: u32, past: &Record, group: &Name) -> Resul
     ensures ok { IfOk result (λ event. event ≡ Event.Change place group.now past.now.members [] (record { member = member_of past.now.entry; cause = Cause.Join } ∷ [])) }
     ensures memory { IsOkUnless result Refusal.Memory }
 {
-    let joined = Moves::join_of(alloc, Member::of(past.entry()))?;
+    let joined = Moves::join_of(alloc, Member::of(&past.entry))?;
     change_of(alloc, place, past, group, Moves::new(alloc), joined)
 }
 
@@ -95,7 +95,7 @@ pub(crate) fn event_of(
     ensures ok { IfOk result (λ event. event ≡ told_by place (records_before records.now place) past.now group.now past.now.entry.op) }
     ensures memory { IsOkUnless result Refusal.Memory }
 {
-    match &past.entry().op {
+    match &past.entry.op {
         Op::Act(Call::Join(_)) => joined_event(alloc, place, past, group),
         Op::Act(Call::Leave) => {
             left_event(alloc, records, groups, place, past, group, Cause::Leave)
@@ -104,8 +104,8 @@ pub(crate) fn event_of(
         Op::Act(Call::Send(message)) => Ok(Event::Message {
             place,
             group: group.copy(alloc)?,
-            node: past.entry().node,
-            pid: past.entry().pid,
+            node: past.entry.node,
+            pid: past.entry.pid,
             message: message.copy(alloc)?,
         }),
         Op::Act(Call::Insert(_, _, _)) | Op::Act(Call::Remove(_, _)) => Ok(Event::RulesChanged {

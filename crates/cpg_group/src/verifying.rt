@@ -16,7 +16,7 @@ fn confirm(policy: &mut Policy, past: &Record) -> Result<bool, Refusal>
     ensures taken { IfOk result (λ same. OnTrue same (policy.new ≡ policy.old ++ past.now.entry ∷ [])) }
     ensures memory { IsOkUnless result Refusal.Memory }
 {
-    let judgement = policy.judge(past.entry())?;
+    let judgement = policy.judge(&past.entry)?;
     if !past.equals(&judgement) {
         return Ok(false);
     }

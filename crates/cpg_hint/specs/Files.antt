@@ -12,14 +12,14 @@ use Rattle.cpg_hint.specs.Places.{place_in}
 use Rattle.cpg_hint.specs.Told.{line_at}
 
 -- what is wanted of the name of a user, or of a group
-abbrev pub name_wanted : Bool → List ℕ
-name_wanted true = codes "VALUE: a number, or a NAME that the file of --names or --passwd has"
-name_wanted false = codes "VALUE: a number, or a NAME that the file of --names or --group has"
+abbrev pub name_expected : Bool → List ℕ
+name_expected true = codes "VALUE: a number, or a NAME that the file of --names or --passwd has"
+name_expected false = codes "VALUE: a number, or a NAME that the file of --names or --group has"
 
 -- what is wanted in a line of a conf file: as in one of a conf part, but for what stands around it
 abbrev pub conf_phrase : Refusal → List ℕ → List ℕ
 conf_phrase refusal.Unclosed line = codes "a line } further on: this section is not closed before the file ends"
-conf_phrase (refusal.UnknownName number) line = name_wanted (is_uid (colon_of line) line)
+conf_phrase (refusal.UnknownName number) line = name_expected (is_uid (colon_of line) line)
 conf_phrase refused line = flaw_phrase refused line
 
 -- a line of accounts from its number on, which two fields stand before

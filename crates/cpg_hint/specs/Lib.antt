@@ -8,4 +8,4 @@ pub mod Places
 pub mod Reasons
 pub mod Steps
 pub mod Told
-pub mod Wants
+pub mod Patterns

@@ -10,12 +10,12 @@ use Rattle.cpg_conf.specs.Names.{next_number}
 use Rattle.cpg_accept.specs.Parts.{is_head}
 use Rattle.cpg_hint.specs.declared.parts.Turn.{Turn}
 use Rattle.cpg_hint.specs.declared.parts.Turn.TheVariants as turn
-use Rattle.cpg_hint.specs.declared.wants.Want.TheVariants as want
-use Rattle.cpg_hint.specs.declared.words.Unfit.{Unfit}
+use Rattle.cpg_hint.specs.declared.patterns.Expected.TheVariants as expected
+use Rattle.cpg_hint.specs.declared.words.Mismatch.{Mismatch}
 use Rattle.cpg_hint.specs.Marks.{marked}
 use Rattle.cpg_hint.specs.Places.{place_in}
 use Rattle.cpg_hint.specs.Reasons.{why_no_naming}
-use Rattle.cpg_hint.specs.Told.{line_at, told_unfit}
+use Rattle.cpg_hint.specs.Told.{line_at, told_mismatch}
 
 -- a part: the number in the script of the line that begins it, whether it is one of names, and the lines after that line
 pub record Begun : Type 0 where
@@ -104,13 +104,13 @@ flaw_phrase (refusal.UnknownName number) line = name_phrase (is_uid (colon_of li
 flaw_phrase _ line = codes "a line NAME {, KEY: VALUE, or }"
 
 -- the word of a line of a names part that does not fit
-abbrev pub or_whole : Option Unfit → Unfit
-or_whole None = record { index = 0; want = want.Table }
-or_whole (Some unfit) = unfit
+abbrev pub or_whole : Option Mismatch → Mismatch
+or_whole None = record { index = 0; expected = expected.Table }
+or_whole (Some mismatch) = mismatch
 
 -- what is told of a line of a names part, or of a conf part
 abbrev pub flaw_text : Bool → Refusal → ℕ → List ℕ → List ℕ
-flaw_text true refused number line = told_unfit 0 number line (or_whole (why_no_naming (words_of (trimmed line))))
+flaw_text true refused number line = told_mismatch 0 number line (or_whole (why_no_naming (words_of (trimmed line))))
 flaw_text false refused number line = marked number line (place_in line (flaw_end refused (trimmed line))) (flaw_phrase refused (trimmed line))
 
 -- what is told of a line of a part, where the part has it

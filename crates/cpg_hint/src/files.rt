@@ -4,7 +4,7 @@
 
 ghost use Rattle.std.specs.Prelude.{◌≡◌, ◌++◌, OnOk, IfOk, IsOkUnless, option_map};
 ghost use Rattle.cpg_text.specs.Lines.{lines_of};
-ghost use Rattle.cpg_hint.specs.Files.{account_end, conf_phrase, file_flaw, file_flaw_at, file_hint, from_number, group_phrase, marked_end, name_wanted, user_phrase};
+ghost use Rattle.cpg_hint.specs.Files.{account_end, conf_phrase, file_flaw, file_flaw_at, file_hint, from_number, group_phrase, marked_end, name_expected, user_phrase};
 
 use crate::marks::put_marked;
 use crate::parts::{flaw_end, flaw_line, flaw_phrase, is_uid, put_flaw_text};
@@ -125,14 +125,14 @@ fn conf_phrase(refusal: Refusal, line: &[u8]) -> &'static str
         Refusal::Unclosed => {
             "a line } further on: this section is not closed before the file ends"
         }
-        Refusal::UnknownName(_) => name_wanted(is_uid(line)),
+        Refusal::UnknownName(_) => name_expected(is_uid(line)),
         _ => flaw_phrase(refusal, line),
     }
 }
 
 /// What is wanted of a name.
-fn name_wanted(user: bool) -> &'static str
-    ensures { result.now ≡ name_wanted user }
+fn name_expected(user: bool) -> &'static str
+    ensures { result.now ≡ name_expected user }
 {
     if user {
         "VALUE: a number, or a NAME that the file of --names or --passwd has"

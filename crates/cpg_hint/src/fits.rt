@@ -8,39 +8,42 @@ ghost use Rattle.cpg_print.specs.Rules.{effect_of, right_of, who_of, conditions_
 ghost use Rattle.cpg_print.specs.Steps.{sends_few};
 ghost use Rattle.cpg_text.specs.Words.{cut_at};
 ghost use Rattle.cpg_text.specs.Numbers.{number_in};
-ghost use Rattle.cpg_hint.specs.Wants.{fits, is_table, node_in};
+ghost use Rattle.cpg_hint.specs.Patterns.{fits, is_table, node_in};
 
-use crate::wants::{Want, call_wants, op_wants, run_wants, step_wants};
+use crate::patterns::{Expected, call_pattern, op_pattern, run_pattern, step_pattern};
 use cpg_cred::MOST_NODES;
 use cpg_entry::{MOST_CONNECTIONS, MOST_MESSAGE_BYTES, accepts_name};
 use cpg_text::{cut, is, message_length, read_number, read_u32, strip_name};
 
 /// Whether the word is of that kind, where there are so many nodes.
-pub fn fits(nodes: u8, want: Want, word: &[u8]) -> bool
-    ensures { result ≡ fits nodes want word.now }
+pub fn fits(nodes: u8, expected: Expected, word: &[u8]) -> bool
+    ensures { result ≡ fits nodes expected word.now }
 {
-    match want {
-        Want::Op => op_wants(word).is_some(),
-        Want::Call => call_wants(word).is_some(),
-        Want::StepCommand => step_wants(word).is_some(),
-        Want::RunCommand => run_wants(word).is_some(),
-        Want::Caller => is_caller(word),
-        Want::Node => is_node(nodes, word),
-        Want::Conn => is_within(1, u32::from(MOST_CONNECTIONS), word),
-        Want::Pid | Want::Uid | Want::Gid | Want::Id | Want::Session | Want::Number => {
-            is_within(0, u32::MAX, word)
-        }
-        Want::Frame => read_number(0, u64::MAX, word).is_some(),
-        Want::Position => is_within(0, 255, word),
-        Want::Effect => is(word, b"allow".as_slice()) || is(word, b"deny".as_slice()),
-        Want::Right => is_right(word),
-        Want::Who => is_who(word),
-        Want::Name => accepts_name(word),
-        Want::Message => sends_few(word),
-        Want::Text => message_length(word).is_some(),
-        Want::Group | Want::Named => true,
-        Want::Table => is(word, b"user".as_slice()) || is(word, b"group".as_slice()),
-        Want::Room | Want::Head | Want::Nothing => false,
+    match expected {
+        Expected::Op => op_pattern(word).is_some(),
+        Expected::Call => call_pattern(word).is_some(),
+        Expected::StepCommand => step_pattern(word).is_some(),
+        Expected::RunCommand => run_pattern(word).is_some(),
+        Expected::Caller => is_caller(word),
+        Expected::Node => is_node(nodes, word),
+        Expected::Conn => is_within(1, u32::from(MOST_CONNECTIONS), word),
+        Expected::Pid
+        | Expected::Uid
+        | Expected::Gid
+        | Expected::Id
+        | Expected::Session
+        | Expected::Number => { is_within(0, u32::MAX, word) }
+        Expected::Frame => read_number(0, u64::MAX, word).is_some(),
+        Expected::Position => is_within(0, 255, word),
+        Expected::Effect => is(word, b"allow".as_slice()) || is(word, b"deny".as_slice()),
+        Expected::Right => is_right(word),
+        Expected::Who => is_who(word),
+        Expected::Name => accepts_name(word),
+        Expected::Message => sends_few(word),
+        Expected::Text => message_length(word).is_some(),
+        Expected::Group | Expected::Named => true,
+        Expected::Table => is(word, b"user".as_slice()) || is(word, b"group".as_slice()),
+        Expected::Room | Expected::Head | Expected::Nothing => false,
     }
 }
 

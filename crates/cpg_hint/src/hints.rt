@@ -4,21 +4,26 @@
 
 ghost use Rattle.std.specs.Prelude.{◌≡◌, ◌++◌, OnOk, IfOk, IsOkUnless};
 ghost use Rattle.cpg_text.specs.Lines.{lines_of};
-ghost use Rattle.cpg_hint.specs.Hints.{command_hint, has_head, hint_text, or_room, unfit_in, whole_hint};
+ghost use Rattle.cpg_hint.specs.Hints.{command_hint, has_head, hint_text, or_room, mismatch_in, whole_hint};
 ghost use Rattle.cpg_hint.specs.Told.{line_at};
 
-use crate::kinds::Kind;
+use crate::kinds::ScriptKind;
 use crate::parts::{is_head, put_part};
-use crate::told::{line_at, put_unfit};
-use crate::wants::Want;
-use crate::words::{Unfit, first_unfit};
+use crate::patterns::Expected;
+use crate::told::{line_at, put_mismatch};
+use crate::words::{Mismatch, first_mismatch};
 use cpg_cred::Refusal;
 use cpg_text::{Fault, Lines, trim};
 use std::alloc::Global;
 
 /// What a person needs to mend a script of that kind, beside the line of its fault: the line of the script, a mark
 /// under the first word that does not fit, and what was wanted there. Nothing is told of faults that no line has.
-pub fn hint_of(alloc: Global, kind: Kind, script: &[u8], fault: &Fault) -> Result<Vec<u8>, Refusal>
+pub fn hint_of(
+    alloc: Global,
+    kind: ScriptKind,
+    script: &[u8],
+    fault: &Fault,
+) -> Result<Vec<u8>, Refusal>
     ensures ok { IfOk result (λ text. text.items ≡ hint_text kind script.now fault.now) }
     ensures memory { IsOkUnless result Refusal.Memory }
 {
@@ -34,7 +39,7 @@ pub fn hint_of(alloc: Global, kind: Kind, script: &[u8], fault: &Fault) -> Resul
 fn put_whole(
     alloc: Global,
     text: &mut Vec<u8>,
-    kind: Kind,
+    kind: ScriptKind,
     script: &[u8],
     refusal: Refusal,
 ) -> Result<(), Refusal>
@@ -51,7 +56,7 @@ fn put_whole(
 fn put_command(
     alloc: Global,
     text: &mut Vec<u8>,
-    kind: Kind,
+    kind: ScriptKind,
     script: &[u8],
     number: u32,
 ) -> Result<(), Refusal>
@@ -61,31 +66,31 @@ fn put_command(
     match line_at(number, Lines::of(script)) {
         None => Ok(()),
         Some(line) => {
-            let unfit = unfit_in(kind, has_head(number, script), line);
-            put_unfit(alloc, text, kind.nodes(), u64::from(number), line, unfit)
+            let mismatch = mismatch_in(kind, has_head(number, script), line);
+            put_mismatch(alloc, text, kind.nodes(), u64::from(number), line, mismatch)
         }
     }
 }
 
 /// What is wrong with a bad line, in a part of the script or before the first.
-fn unfit_in(kind: Kind, in_part: bool, line: &[u8]) -> Unfit
-    ensures { result ≡ unfit_in kind in_part line.now }
+fn mismatch_in(kind: ScriptKind, in_part: bool, line: &[u8]) -> Mismatch
+    ensures { result ≡ mismatch_in kind in_part line.now }
 {
     match (kind, in_part) {
-        (Kind::Accept, false) => Unfit {
+        (ScriptKind::Accept, false) => Mismatch {
             index: 0,
-            want: Want::Head,
+            expected: Expected::Head,
         },
-        _ => or_room(first_unfit(kind.nodes(), kind.wants(), trim(line))),
+        _ => or_room(first_mismatch(kind.nodes(), kind.pattern(), trim(line))),
     }
 }
 
-fn or_room(unfit: Option<Unfit>) -> Unfit
-    ensures { result ≡ or_room unfit }
+fn or_room(mismatch: Option<Mismatch>) -> Mismatch
+    ensures { result ≡ or_room mismatch }
 {
-    unfit.unwrap_or(Unfit {
+    mismatch.unwrap_or(Mismatch {
         index: 0,
-        want: Want::Room,
+        expected: Expected::Room,
     })
 }
 

@@ -1,13 +1,13 @@
 //! Kinds of script, and what each wants of a line.
 
 ghost use Rattle.std.specs.Prelude.{◌≡◌};
-ghost use Rattle.cpg_hint.specs.Hints.{nodes_of, wants_of};
+ghost use Rattle.cpg_hint.specs.Hints.{nodes_of, pattern_of};
 
-use crate::wants::Want;
+use crate::patterns::Expected;
 
 /// A kind of script.
 #[derive(Debug, Clone, Copy)]
-pub enum Kind {
+pub enum ScriptKind {
     /// Entries that are judged.
     Judge,
     /// Names, conf texts and asks.
@@ -18,26 +18,32 @@ pub enum Kind {
     Cluster(u8),
 }
 
-impl Kind {
+impl ScriptKind {
     /// How many nodes there are, where that matters.
     pub fn nodes(self) -> u8
         ensures { result ≡ nodes_of self }
     {
         match self {
-            Kind::Step(nodes) | Kind::Cluster(nodes) => nodes,
-            Kind::Judge | Kind::Accept => 0,
+            ScriptKind::Step(nodes) | ScriptKind::Cluster(nodes) => nodes,
+            ScriptKind::Judge | ScriptKind::Accept => 0,
         }
     }
 
     /// What is wanted of a line.
-    pub fn wants(self) -> &'static [Want]
-        ensures { result.now ≡ wants_of self }
+    pub fn pattern(self) -> &'static [Expected]
+        ensures { result.now ≡ pattern_of self }
     {
         match self {
-            Kind::Judge => &[Want::Caller, Want::Pid, Want::Uid, Want::Gid, Want::Op],
-            Kind::Accept => &[Want::Uid, Want::Gid],
-            Kind::Step(_) => &[Want::StepCommand],
-            Kind::Cluster(_) => &[Want::RunCommand],
+            ScriptKind::Judge => &[
+                Expected::Caller,
+                Expected::Pid,
+                Expected::Uid,
+                Expected::Gid,
+                Expected::Op,
+            ],
+            ScriptKind::Accept => &[Expected::Uid, Expected::Gid],
+            ScriptKind::Step(_) => &[Expected::StepCommand],
+            ScriptKind::Cluster(_) => &[Expected::RunCommand],
         }
     }
 }

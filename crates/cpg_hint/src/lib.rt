@@ -12,18 +12,18 @@ mod kinds;
 mod laws;
 mod marks;
 mod parts;
+mod patterns;
 mod phrases;
 mod places;
 mod told;
-mod wants;
 mod words;
 
 pub use accepts::accept_hint;
 pub use files::file_hint;
 pub use hints::hint_of;
-pub use kinds::Kind;
+pub use kinds::ScriptKind;
 pub use laws::{
     marks_the_word, no_ask_has_a_reason, no_entry_has_a_reason, no_naming_has_a_reason,
 };
-pub use wants::Want;
-pub use words::Unfit;
+pub use patterns::Expected;
+pub use words::Mismatch;

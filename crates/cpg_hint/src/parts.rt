@@ -12,10 +12,10 @@ ghost use Rattle.cpg_hint.specs.Steps.{begun_seen};
 ghost use Rattle.cpg_hint.specs.Told.{line_at};
 
 use crate::marks::put_marked;
+use crate::patterns::Expected;
 use crate::places::place_in;
-use crate::told::{line_at, put_unfit};
-use crate::wants::Want;
-use crate::words::{Unfit, first_unfit};
+use crate::told::{line_at, put_mismatch};
+use crate::words::{Mismatch, first_mismatch};
 use cpg_cred::Refusal;
 use cpg_text::{Lines, is, is_ignored, trim};
 use std::alloc::Global;
@@ -95,7 +95,7 @@ pub fn put_flaw_text(
     ensures memory { IsOkUnless result Refusal.Memory }
 {
     if names {
-        put_unfit(alloc, text, 0, number, line, unfit_naming(trim(line)))
+        put_mismatch(alloc, text, 0, number, line, mismatch_naming(trim(line)))
     } else {
         let place = place_in(line, flaw_end(refusal, trim(line)));
         let phrase = flaw_phrase(refusal, trim(line));
@@ -104,13 +104,17 @@ pub fn put_flaw_text(
 }
 
 /// The word of a line of a names part that does not fit.
-fn unfit_naming(line: &[u8]) -> Unfit
+fn mismatch_naming(line: &[u8]) -> Mismatch
     ensures { result ≡ or_whole (why_no_naming (words_of line.now)) }
 {
-    let unfit = first_unfit(0, &[Want::Table, Want::Named, Want::Number], line);
-    unfit.unwrap_or(Unfit {
+    let mismatch = first_mismatch(
+        0,
+        &[Expected::Table, Expected::Named, Expected::Number],
+        line,
+    );
+    mismatch.unwrap_or(Mismatch {
         index: 0,
-        want: Want::Table,
+        expected: Expected::Table,
     })
 }
 

@@ -3,25 +3,25 @@
 //! Proved: each phrase is that of the definition `want_text`.
 
 ghost use Rattle.std.specs.Prelude.{◌≡◌, ◌++◌, ◌≢◌, OnOk, IsOkUnless};
-ghost use Rattle.cpg_hint.specs.Phrases.{want_text};
+ghost use Rattle.cpg_hint.specs.Phrases.{expected_text};
 
-use crate::wants::Want;
+use crate::patterns::Expected;
 use cpg_cred::Refusal;
 use cpg_text::{push_number, put};
 
 /// Puts the phrase of a want at the text's end, where there are so many nodes.
-pub fn put_want(text: &mut Vec<u8>, nodes: u8, want: Want) -> Result<(), Refusal>
-    ensures ok { OnOk result (text.new.items ≡ text.old.items ++ want_text nodes want) }
+pub fn put_expected(text: &mut Vec<u8>, nodes: u8, expected: Expected) -> Result<(), Refusal>
+    ensures ok { OnOk result (text.new.items ≡ text.old.items ++ expected_text nodes expected) }
     ensures memory { IsOkUnless result Refusal.Memory }
 {
-    match want {
-        Want::Node => put_node(text, u64::from(nodes)),
-        _ => put(text, phrase_of(want)),
+    match expected {
+        Expected::Node => put_node(text, u64::from(nodes)),
+        _ => put(text, phrase_of(expected)),
     }
 }
 
 fn put_node(text: &mut Vec<u8>, nodes: u64) -> Result<(), Refusal>
-    ensures ok { OnOk result (text.new.items ≡ text.old.items ++ want_text nodes Want.Node) }
+    ensures ok { OnOk result (text.new.items ≡ text.old.items ++ expected_text nodes Expected.Node) }
     ensures memory { IsOkUnless result Refusal.Memory }
 {
     put(text, "NODE: a number from 1 to ")?;
@@ -29,42 +29,43 @@ fn put_node(text: &mut Vec<u8>, nodes: u64) -> Result<(), Refusal>
 }
 
 /// The phrase of a want that is the same for all rings.
-fn phrase_of(want: Want) -> &'static str
-    ensures { want ≢ Want.Node → result.now ≡ want_text 0 want }
+fn phrase_of(expected: Expected) -> &'static str
+    ensures { expected ≢ Expected.Node → result.now ≡ expected_text 0 expected }
 {
-    match want {
-        Want::Node => "",
-        Want::Op =>
+    match expected {
+        Expected::Node => "",
+        Expected::Op =>
             "CALL: join GROUP, leave, send TEXT, insert GROUP POS EFFECT RIGHT WHO, remove GROUP ID, or gone",
-        Want::Call =>
+        Expected::Call =>
             "CALL: join GROUP, leave, send TEXT, insert GROUP POS EFFECT RIGHT WHO, or remove GROUP ID",
-        Want::StepCommand =>
+        Expected::StepCommand =>
             "COMMAND: connect, call, disconnect, frame, timer, deliver, take, list, groups, show, audit, rules or safe",
-        Want::RunCommand => "COMMAND: connect, call, wait, list, groups, audit, close or safe",
-        Want::Caller => "NODE.CONN: a node from 1 to 8, a dot, and a connection from 1 to 65535",
-        Want::Conn => "CONN: a number from 1 to 65535",
-        Want::Pid => "PID: a number from 0 to 4294967295",
-        Want::Uid => "UID: a number from 0 to 4294967295",
-        Want::Gid => "GID: a number from 0 to 4294967295",
-        Want::Id => "ID: a number from 0 to 4294967295",
-        Want::Session => "S: a number from 0 to 4294967295",
-        Want::Number => "N: a number from 0 to 4294967295",
-        Want::Frame => "K: a number from 0 to 18446744073709551615",
-        Want::Position => "POS: a number from 0 to 255",
-        Want::Effect => "EFFECT: allow or deny",
-        Want::Right => "RIGHT: join, send, list or edit",
-        Want::Who =>
+        Expected::RunCommand => "COMMAND: connect, call, wait, list, groups, audit, close or safe",
+        Expected::Caller =>
+            "NODE.CONN: a node from 1 to 8, a dot, and a connection from 1 to 65535",
+        Expected::Conn => "CONN: a number from 1 to 65535",
+        Expected::Pid => "PID: a number from 0 to 4294967295",
+        Expected::Uid => "UID: a number from 0 to 4294967295",
+        Expected::Gid => "GID: a number from 0 to 4294967295",
+        Expected::Id => "ID: a number from 0 to 4294967295",
+        Expected::Session => "S: a number from 0 to 4294967295",
+        Expected::Number => "N: a number from 0 to 4294967295",
+        Expected::Frame => "K: a number from 0 to 18446744073709551615",
+        Expected::Position => "POS: a number from 0 to 255",
+        Expected::Effect => "EFFECT: allow or deny",
+        Expected::Right => "RIGHT: join, send, list or edit",
+        Expected::Who =>
             "WHO: any, or uid:N, gid:N, node:N, in this order, joined by +, each at most once, and node 1 to 8",
-        Want::Name => "GROUP: a name of 1 to 128 printing ASCII characters",
-        Want::Message =>
+        Expected::Name => "GROUP: a name of 1 to 128 printing ASCII characters",
+        Expected::Message =>
             "TEXT: a message of at most 8192 bytes, % and two hexadecimal digits for any byte, - for the empty one",
-        Want::Text =>
+        Expected::Text =>
             "TEXT: a message, % and two hexadecimal digits for any byte, - for the empty one",
-        Want::Group => "GROUP: a name",
-        Want::Named => "NAME: a name",
-        Want::Table => "user NAME N, or group NAME N",
-        Want::Room => "nothing: a script has at most 1048576 entries",
-        Want::Head => "a line %names, %conf or %ask, which begins a part",
-        Want::Nothing => "nothing: the line ends before this word",
+        Expected::Group => "GROUP: a name",
+        Expected::Named => "NAME: a name",
+        Expected::Table => "user NAME N, or group NAME N",
+        Expected::Room => "nothing: a script has at most 1048576 entries",
+        Expected::Head => "a line %names, %conf or %ask, which begins a part",
+        Expected::Nothing => "nothing: the line ends before this word",
     }
 }

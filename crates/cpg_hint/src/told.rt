@@ -4,12 +4,12 @@
 
 ghost use Rattle.std.specs.Prelude.{◌≡◌, ◌++◌, OnOk, IsOkUnless, option_map};
 ghost use Rattle.cpg_text.specs.Lines.{lines_left};
-ghost use Rattle.cpg_hint.specs.Told.{line_at, told_unfit};
+ghost use Rattle.cpg_hint.specs.Told.{line_at, told_mismatch};
 
 use crate::marks::put_marked;
-use crate::phrases::put_want;
+use crate::phrases::put_expected;
 use crate::places::{from_word_at, place_in};
-use crate::words::Unfit;
+use crate::words::Mismatch;
 use cpg_cred::Refusal;
 use cpg_text::{Lines, trim};
 use std::alloc::Global;
@@ -30,19 +30,19 @@ pub fn line_at(number: u32, lines: Lines<'_>) -> Option<&[u8]>
 
 /// Puts the line of that number with a mark under the word that does not fit, and what was wanted there, where there
 /// are so many nodes.
-pub fn put_unfit(
+pub fn put_mismatch(
     alloc: Global,
     text: &mut Vec<u8>,
     nodes: u8,
     number: u64,
     line: &[u8],
-    unfit: Unfit,
+    mismatch: Mismatch,
 ) -> Result<(), Refusal>
-    ensures ok { OnOk result (text.new.items ≡ text.old.items ++ told_unfit nodes number line.now unfit) }
+    ensures ok { OnOk result (text.new.items ≡ text.old.items ++ told_mismatch nodes number line.now mismatch) }
     ensures memory { IsOkUnless result Refusal.Memory }
 {
     let mut phrase = Vec::new(alloc);
-    put_want(&mut phrase, nodes, unfit.want)?;
-    let place = place_in(line, from_word_at(unfit.index, trim(line)));
+    put_expected(&mut phrase, nodes, mismatch.expected)?;
+    let place = place_in(line, from_word_at(mismatch.index, trim(line)));
     put_marked(alloc, text, number, line, place, phrase.as_slice())
 }

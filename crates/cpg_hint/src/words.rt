@@ -4,72 +4,79 @@
 
 ghost use Rattle.std.specs.Prelude.{◌≡◌, option_map};
 ghost use Rattle.cpg_text.specs.Lines.{words_of};
-ghost use Rattle.cpg_hint.specs.Wants.{first_unfit, reached, unmet, wants_after, wants_at};
+ghost use Rattle.cpg_hint.specs.Patterns.{first_mismatch, reached, unmet, pattern_after, pattern_at};
 
 use crate::fits::fits;
-use crate::wants::{Want, call_wants, op_wants, run_wants, step_wants};
+use crate::patterns::{Expected, call_pattern, op_pattern, run_pattern, step_pattern};
 use cpg_text::Words;
 
 /// A word that does not fit: its place among the words of its line, from 0, and what was wanted there.
 #[derive(Debug, Clone, Copy, PartialEq, Eq)]
-pub struct Unfit {
+pub struct Mismatch {
     pub index: usize,
-    pub want: Want,
+    pub expected: Expected,
 }
 
 /// The first word of a line that is not what is wanted, where there are so many nodes.
 #[tactic(auto, using(crate::proofs::Counts::words_few))]
-pub fn first_unfit(nodes: u8, wants: &'static [Want], line: &[u8]) -> Option<Unfit>
-    ensures { result ≡ first_unfit nodes 0 wants.now (words_of line.now) }
+pub fn first_mismatch(nodes: u8, pattern: &'static [Expected], line: &[u8]) -> Option<Mismatch>
+    ensures { result ≡ first_mismatch nodes 0 pattern.now (words_of line.now) }
 {
-    let mut wants = wants;
+    let mut pattern = pattern;
     let mut index = 0;
     for word in Words::of(line) {
-        match wants_at(nodes, wants, word) {
-            Ok(later) => wants = later,
-            Err(want) => return Some(Unfit { index, want }),
+        match pattern_at(nodes, pattern, word) {
+            Ok(later) => pattern = later,
+            Err(expected) => return Some(Mismatch { index, expected }),
         }
         index += 1;
     }
-    unmet(index, wants)
+    unmet(index, pattern)
 }
 
 /// What is wanted after the word, or what it does not fit.
-fn wants_at(nodes: u8, wants: &'static [Want], word: &[u8]) -> Result<&'static [Want], Want>
-    ensures { reached result ≡ wants_at nodes wants.now word.now }
+fn pattern_at(
+    nodes: u8,
+    pattern: &'static [Expected],
+    word: &[u8],
+) -> Result<&'static [Expected], Expected>
+    ensures { reached result ≡ pattern_at nodes pattern.now word.now }
 {
-    match wants {
-        [] => Err(Want::Nothing),
-        [want, later @ ..] => wants_after(nodes, *want, word, later).ok_or(*want),
+    match pattern {
+        [] => Err(Expected::Nothing),
+        [expected, later @ ..] => pattern_after(nodes, *expected, word, later).ok_or(*expected),
     }
 }
 
 /// What is wanted where no word is left.
-fn unmet(index: usize, wants: &[Want]) -> Option<Unfit>
-    ensures { result ≡ unmet index wants.now }
+fn unmet(index: usize, pattern: &[Expected]) -> Option<Mismatch>
+    ensures { result ≡ unmet index pattern.now }
 {
-    match wants {
+    match pattern {
         [] => None,
-        [want, ..] => Some(Unfit { index, want: *want }),
+        [expected, ..] => Some(Mismatch {
+            index,
+            expected: *expected,
+        }),
     }
 }
 
 /// What is wanted after the word, if it fits.
-fn wants_after(
+fn pattern_after(
     nodes: u8,
-    want: Want,
+    expected: Expected,
     word: &[u8],
-    later: &'static [Want],
-) -> Option<&'static [Want]>
-    ensures { option_map (λ wants. wants.now) result ≡ wants_after nodes want word.now later.now }
+    later: &'static [Expected],
+) -> Option<&'static [Expected]>
+    ensures { option_map (λ pattern. pattern.now) result ≡ pattern_after nodes expected word.now later.now }
 {
-    match want {
-        Want::Op => op_wants(word),
-        Want::Call => call_wants(word),
-        Want::StepCommand => step_wants(word),
-        Want::RunCommand => run_wants(word),
+    match expected {
+        Expected::Op => op_pattern(word),
+        Expected::Call => call_pattern(word),
+        Expected::StepCommand => step_pattern(word),
+        Expected::RunCommand => run_pattern(word),
         _ => {
-            if fits(nodes, want, word) {
+            if fits(nodes, expected, word) {
                 Some(later)
             } else {
                 None

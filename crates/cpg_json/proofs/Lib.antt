@@ -1,6 +1,5 @@
 pub mod Back
 pub mod Between
-pub mod Doing
 pub mod Escaping
 pub mod Fields
 pub mod Heads
@@ -9,4 +8,3 @@ pub mod Listing
 pub mod Put
 pub mod Texted
 pub mod Told
-pub mod Whole

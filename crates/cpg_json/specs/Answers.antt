@@ -27,46 +27,25 @@ use Rattle.cpg_step.specs.declared.commands.Look.TheVariants.{Show, Audit, Rules
 use Rattle.cpg_json.specs.Calls.{by_fields, call_name, carried_fields, group_field, rule_fields}
 use Rattle.cpg_json.specs.Events.{event_fields}
 use Rattle.cpg_json.specs.Objects.{array, field, head_of, kind, line, maybe, number, word}
+use Rattle.cpg_cred.specs.Shown as shown
 use Rattle.cpg_json.specs.Records.{caller_fields, counted_json, process_array}
 use Rattle.cpg_json.specs.Strings.{json_string}
 
--- the number and the name of a refusal
-abbrev pub numbered : ℕ → List ℕ → List (List ℕ)
-numbered value name = number (codes "number") value ∷ field (codes "refusal") (word name) ∷ []
+-- what a refusal carries
+abbrev pub refusal_carries : Refusal → List (List ℕ)
+refusal_carries (refusal.Behind reached) = number (codes "place") reached ∷ []
+refusal_carries (refusal.Denied by) = by_fields by
+refusal_carries (refusal.BadLine n) = number (codes "line") n ∷ []
+refusal_carries (refusal.Unopened n) = number (codes "line") n ∷ []
+refusal_carries (refusal.BadItem n) = number (codes "line") n ∷ []
+refusal_carries (refusal.BadValue n) = number (codes "line") n ∷ []
+refusal_carries (refusal.UnknownName n) = number (codes "line") n ∷ []
+refusal_carries (refusal.BadCommand n) = number (codes "line") n ∷ []
+refusal_carries _ = []
 
--- a refusal, and what it carries
+-- a refusal: its number, its name, and what it carries
 abbrev pub refusal_fields : Refusal → List (List ℕ)
-refusal_fields refusal.Memory = numbered 1 (codes "Memory")
-refusal_fields refusal.Access = numbered 2 (codes "Access")
-refusal_fields refusal.NoConnection = numbered 3 (codes "NoConnection")
-refusal_fields refusal.BadName = numbered 4 (codes "BadName")
-refusal_fields refusal.TooLong = numbered 5 (codes "TooLong")
-refusal_fields refusal.QueueFull = numbered 6 (codes "QueueFull")
-refusal_fields refusal.ConnectionsFull = numbered 7 (codes "ConnectionsFull")
-refusal_fields refusal.Foreign = numbered 8 (codes "Foreign")
-refusal_fields refusal.NotMine = numbered 9 (codes "NotMine")
-refusal_fields refusal.Stale = numbered 10 (codes "Stale")
-refusal_fields refusal.Implausible = numbered 11 (codes "Implausible")
-refusal_fields refusal.Held = numbered 12 (codes "Held")
-refusal_fields refusal.FarAhead = numbered 13 (codes "FarAhead")
-refusal_fields refusal.Malformed = numbered 14 (codes "Malformed")
-refusal_fields refusal.RingEnd = numbered 15 (codes "RingEnd")
-refusal_fields refusal.NoFrame = numbered 16 (codes "NoFrame")
-refusal_fields refusal.Differs = numbered 17 (codes "Differs")
-refusal_fields refusal.BoardFull = numbered 18 (codes "BoardFull")
-refusal_fields (refusal.Behind reached) = numbered 19 (codes "Behind") ++ number (codes "place") reached ∷ []
-refusal_fields refusal.Stopped = numbered 20 (codes "Stopped")
-refusal_fields (refusal.Denied by) = numbered 21 (codes "Denied") ++ by_fields by
-refusal_fields (refusal.BadLine n) = numbered 31 (codes "BadLine") ++ number (codes "line") n ∷ []
-refusal_fields (refusal.Unopened n) = numbered 32 (codes "Unopened") ++ number (codes "line") n ∷ []
-refusal_fields refusal.Unclosed = numbered 33 (codes "Unclosed")
-refusal_fields (refusal.BadItem n) = numbered 34 (codes "BadItem") ++ number (codes "line") n ∷ []
-refusal_fields (refusal.BadValue n) = numbered 35 (codes "BadValue") ++ number (codes "line") n ∷ []
-refusal_fields (refusal.UnknownName n) = numbered 36 (codes "UnknownName") ++ number (codes "line") n ∷ []
-refusal_fields refusal.Range = numbered 37 (codes "Range")
-refusal_fields (refusal.BadCommand n) = numbered 41 (codes "BadCommand") ++ number (codes "line") n ∷ []
-refusal_fields refusal.Read = numbered 42 (codes "Read")
-refusal_fields refusal.Write = numbered 43 (codes "Write")
+refusal_fields why = number (codes "number") (shown.number why) ∷ field (codes "refusal") (word (shown.name why)) ∷ refusal_carries why
 
 -- a refusal alone
 abbrev pub refused_json : List ℕ → Refusal → List ℕ

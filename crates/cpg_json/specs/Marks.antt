@@ -1,17 +1,9 @@
 -- what stands at the head of an object: the number of the script's line that it answers, and what is asked for beside it
-use Rattle.std.specs.Prelude.{ℕ, ◌+◌, ◌-◌, List, [], ◌∷◌, ◌++◌, length, map, codes, decimal, slice_index, Option, Some, None}
+use Rattle.std.specs.Prelude.{ℕ, ◌+◌, ◌-◌, List, [], ◌∷◌, ◌++◌, map, codes, decimal, Option, Some, None}
 use Rattle.std.specs.List.{range_with_len}
-use Rattle.cpg_world_laws.specs.declared.events.WorldEvent.{WorldEvent}
-use Rattle.cpg_world_laws.specs.declared.events.WorldEvent.TheVariants as event
-use Rattle.cpg_world_laws.specs.Worlds.{WorldValue}
-use Rattle.cpg_step.specs.declared.commands.Command.{Command}
-use Rattle.cpg_step.specs.declared.commands.Command.TheVariants.{Act, Look}
-use Rattle.cpg_step.specs.declared.commands.Look.{Look as LookValue}
-use Rattle.cpg_step.specs.declared.commands.Look.TheVariants as look
-use Rattle.cpg_step.specs.Running.{after}
 use Rattle.cpg_json.specs.Objects.{array, field, more, number, word}
 use Rattle.cpg_json.specs.declared.marks.Marks.{Marks}
-use Rattle.cpg_json.specs.declared.marks.Marks.TheVariants.{Line, Echo, Numbers}
+use Rattle.cpg_json.specs.declared.marks.Marks.TheVariants.{Echo, Numbers}
 
 -- ---- lines
 
@@ -24,43 +16,11 @@ line_fields (Some n) = number (codes "line") n ∷ []
 abbrev pub line_head : ℕ → List ℕ
 line_head n = more (line_fields (Some n))
 
--- ---- what a command is of
-
--- a node, and a connection of it
-abbrev pub node_word : ℕ → List ℕ
-node_word node = codes "n" ++ decimal node
-
-abbrev pub conn_word : ℕ → ℕ → List ℕ
-conn_word node conn = decimal node ++ codes "." ++ decimal conn
-
--- what an event is of: the connection that it names, or else the node
-abbrev pub event_word : WorldEvent → List ℕ
-event_word (event.Connect node pid cred) = node_word node
-event_word (event.Submit node conn call) = conn_word node conn
-event_word (event.Disconnect node conn) = conn_word node conn
-event_word (event.Frame node number) = node_word node
-event_word (event.Timer node) = node_word node
-event_word (event.Deliver node) = node_word node
-event_word (event.Take node conn) = conn_word node conn
-event_word (event.List node conn group) = conn_word node conn
-event_word (event.Groups node conn) = conn_word node conn
-
--- what a look is of: the node, and of a frame nothing
-abbrev pub look_word : LookValue → List ℕ
-look_word (look.Show number) = codes "-"
-look_word (look.Audit node) = node_word node
-look_word (look.Rules node group) = node_word node
-look_word (look.Safe node) = node_word node
-
-abbrev pub command_word : Command → List ℕ
-command_word (Act e) = event_word e
-command_word (Look l) = look_word l
+-- ---- heads
 
 -- the number of a line and what its command is of, as `step --echo` has them before a line
 abbrev pub echo_words : ℕ → List ℕ → List ℕ
 echo_words n of = decimal n ++ codes " " ++ of
-
--- ---- heads
 
 -- the numbers of the frames that were sent after so many, up to so many
 abbrev pub frames_between : ℕ → ℕ → List ℕ
@@ -70,17 +30,12 @@ frames_between before last = range_with_len (before + 1) (last - before)
 abbrev pub numbers_field : ℕ → ℕ → List ℕ
 numbers_field before last = field (codes "numbers") (array (map decimal (frames_between before last)))
 
--- what stands at the head of an answer to that line, whose command is of that; so many frames were sent before it, and so many after it
-abbrev pub mark_fields : Marks → ℕ → List ℕ → ℕ → ℕ → List (List ℕ)
-mark_fields Line n of before last = number (codes "line") n ∷ []
-mark_fields Echo n of before last = number (codes "line") n ∷ field (codes "echo") (word (echo_words n of)) ∷ []
-mark_fields Numbers n of before last = number (codes "line") n ∷ numbers_field before last ∷ []
+-- what stands at the head of an answer to that line, whose command is of that
+abbrev pub mark_fields : Marks → ℕ → List ℕ → List (List ℕ)
+mark_fields Echo n of = number (codes "line") n ∷ field (codes "echo") (word (echo_words n of)) ∷ []
+mark_fields _ n of = number (codes "line") n ∷ []
 
--- the head of a command's answers by its index and the world that it meets
-abbrev pub Heads : Type 0
-Heads = ℕ → WorldValue → Command → List ℕ
-
--- the same with those marks, where the lines of commands have those numbers
-abbrev pub heads_of : Marks → List ℕ → Heads
-heads_of marks numbers index w command =
-    more (mark_fields marks (slice_index numbers index) (command_word command) (length w.sent) (length (after w (command ∷ [])).sent))
+-- and then, where so many frames were sent before the command and so many after it
+abbrev pub sent_fields : Marks → ℕ → ℕ → List (List ℕ)
+sent_fields Numbers before last = numbers_field before last ∷ []
+sent_fields _ before last = []

@@ -1,21 +1,15 @@
 -- steps of the writing functions, which no contract of a public function cites
-use Rattle.std.specs.Prelude.{ℕ, ◌≡◌, ◌≤◌, ◌⊎◌, ◌+◌, ◌-◌, List, [], ◌∷◌, length, map, Option, Some, None}
-use Rattle.std.specs.List.{concat, flat_map, range_with_len, slice_get}
+use Rattle.std.specs.Prelude.{ℕ, ◌≡◌, ◌≤◌, ◌+◌, ◌-◌, List, [], length, map, Option, Some, None}
+use Rattle.std.specs.List.{flat_map, range_with_len, slice_get}
 use Rattle.cpg_rules.specs.declared.rules.Rule.{Rule}
 use Rattle.cpg_record.specs.declared.connections.ConnId.{ConnId}
 use Rattle.cpg_record.specs.declared.records.Record.{Record}
 use Rattle.cpg_record.specs.Events.{events}
 use Rattle.cpg_record.specs.Judging.{judged}
-use Rattle.cpg_world_laws.specs.Replies.{Answer, AreReplies}
-use Rattle.cpg_world_laws.specs.Worlds.{WorldValue}
-use Rattle.cpg_step.specs.declared.commands.Command.{Command}
-use Rattle.cpg_step.specs.Running.{after, events_in}
 use Rattle.cpg_json.specs.Answers.{rule_json}
 use Rattle.cpg_json.specs.Events.{event_json}
-use Rattle.cpg_json.specs.Marks.{Heads}
 use Rattle.cpg_json.specs.Objects.{joined}
 use Rattle.cpg_json.specs.Records.{member_array}
-use Rattle.cpg_json.specs.Stepping.{step_json_lines}
 use Rattle.cpg_json.specs.Tails.{front_of, AreTails}
 use Rattle.cpg_json.specs.declared.records.KeptMembers.{KeptMembers}
 use Rattle.cpg_json.specs.declared.stretches.Inbox.{Inbox}
@@ -39,17 +33,6 @@ ArePlaces records places = (index place : ℕ) → slice_get places index ≡ So
 -- the front is the connection's, and the tails are those of all judged places
 abbrev pub IsInbox : Inbox → Type 0
 IsInbox inbox = AreTails inbox.tails.now (judged inbox.policy.now) (length (judged inbox.policy.now)) × (inbox.front.now ≡ front_of inbox.conn.now)
-
--- The command is done, and this is the text of its lines.
-pub record IsDone (heads : Heads) (index : ℕ) (w : WorldValue) (command : Command) (text : List ℕ) (world : WorldValue) : Type 0 where
-  pub answers : List Answer
-  pub replies : AreReplies w (events_in (command ∷ [])) answers
-  pub world_after : world ≡ after w (command ∷ [])
-  pub said : text ≡ concat (step_json_lines heads index w (command ∷ []) answers)
-
--- the command is not done, or it is
-abbrev pub MayBeDone : WorldValue → Command → WorldValue → Type 0
-MayBeDone w command world = (world ≡ w) ⊎ (world ≡ after w (command ∷ []))
 
 -- the line of a rule, if there is one
 abbrev pub rule_json_of : List ℕ → Option (ℕ × Rule) → List ℕ

@@ -2,8 +2,7 @@
 
 ghost use Rattle.std.specs.Prelude.{◌≡◌, ◌++◌, ◌∷◌, [], codes, map, OnOk, IsOkUnless, Some};
 ghost use Rattle.std.specs.Option.{option_copied};
-ghost use Rattle.cpg_json.specs.Answers.{accept_json, answer_json, numbered, refusal_fields, refused_json, reply_json, rule_count_json, rule_json, safe_json, took_json, via_name};
-ghost use Rattle.cpg_json.specs.Calls.{by_fields};
+ghost use Rattle.cpg_json.specs.Answers.{accept_json, answer_json, refusal_carries, refusal_fields, refused_json, reply_json, rule_count_json, rule_json, safe_json, took_json, via_name};
 ghost use Rattle.cpg_json.specs.Objects.{after_comma, array, field, head_of, joined, line as object_line, more, number};
 ghost use Rattle.cpg_json.specs.Records.{process_array};
 ghost use Rattle.cpg_json.specs.Strings.{json_string};
@@ -13,42 +12,29 @@ use crate::events::put_event_fields;
 use crate::objects::{put_end, put_head, put_kind, put_maybe, put_name, put_number, put_word};
 use crate::records::put_process;
 use crate::strings::put_string;
-use cpg_cred::{By, NodeId, Refusal, Via};
+use cpg_cred::{NodeId, Refusal, Via};
 use cpg_entry::Name;
 use cpg_record::Event;
 use cpg_rules::Rule;
 use cpg_text::put;
 use cpg_world::Reply;
 
-fn put_numbered(line: &mut Vec<u8>, value: u64, name: &str) -> Result<(), Refusal>
-    ensures ok { OnOk result (line.new.items ≡ line.old.items ++ more (numbered value name.now)) }
+/// Puts what a refusal carries at the line's end.
+fn put_carried(line: &mut Vec<u8>, refusal: Refusal) -> Result<(), Refusal>
+    ensures ok { OnOk result (line.new.items ≡ line.old.items ++ more (refusal_carries refusal)) }
     ensures memory { IsOkUnless result Refusal.Memory }
 {
-    put_number(line, "number", value)?;
-    put_word(line, "refusal", name)
-}
-
-/// Puts the number and the name of a refusal, and a number that it carries, at the line's end.
-fn put_refusal_at(
-    line: &mut Vec<u8>,
-    value: u64,
-    name: &str,
-    carried: &str,
-    at: u32,
-) -> Result<(), Refusal>
-    ensures ok { OnOk result (line.new.items ≡ line.old.items ++ more (numbered value name.now ++ number carried.now at ∷ [])) }
-    ensures memory { IsOkUnless result Refusal.Memory }
-{
-    put_numbered(line, value, name)?;
-    put_number(line, carried, u64::from(at))
-}
-
-fn put_denied(line: &mut Vec<u8>, by: By) -> Result<(), Refusal>
-    ensures ok { OnOk result (line.new.items ≡ line.old.items ++ more (refusal_fields (Refusal.Denied by))) }
-    ensures memory { IsOkUnless result Refusal.Memory }
-{
-    put_numbered(line, 21, "Denied")?;
-    put_by(line, by)
+    match refusal {
+        Refusal::Behind(reached) => put_number(line, "place", u64::from(reached)),
+        Refusal::Denied(by) => put_by(line, by),
+        Refusal::BadLine(number)
+        | Refusal::Unopened(number)
+        | Refusal::BadItem(number)
+        | Refusal::BadValue(number)
+        | Refusal::UnknownName(number)
+        | Refusal::BadCommand(number) => put_number(line, "line", u64::from(number)),
+        _ => Ok(()),
+    }
 }
 
 /// Puts a refusal, and what it carries, at the line's end.
@@ -56,39 +42,9 @@ pub fn put_refusal(line: &mut Vec<u8>, refusal: Refusal) -> Result<(), Refusal>
     ensures ok { OnOk result (line.new.items ≡ line.old.items ++ more (refusal_fields refusal)) }
     ensures memory { IsOkUnless result Refusal.Memory }
 {
-    match refusal {
-        Refusal::Memory => put_numbered(line, 1, "Memory"),
-        Refusal::Access => put_numbered(line, 2, "Access"),
-        Refusal::NoConnection => put_numbered(line, 3, "NoConnection"),
-        Refusal::BadName => put_numbered(line, 4, "BadName"),
-        Refusal::TooLong => put_numbered(line, 5, "TooLong"),
-        Refusal::QueueFull => put_numbered(line, 6, "QueueFull"),
-        Refusal::ConnectionsFull => put_numbered(line, 7, "ConnectionsFull"),
-        Refusal::Foreign => put_numbered(line, 8, "Foreign"),
-        Refusal::NotMine => put_numbered(line, 9, "NotMine"),
-        Refusal::Stale => put_numbered(line, 10, "Stale"),
-        Refusal::Implausible => put_numbered(line, 11, "Implausible"),
-        Refusal::Held => put_numbered(line, 12, "Held"),
-        Refusal::FarAhead => put_numbered(line, 13, "FarAhead"),
-        Refusal::Malformed => put_numbered(line, 14, "Malformed"),
-        Refusal::RingEnd => put_numbered(line, 15, "RingEnd"),
-        Refusal::NoFrame => put_numbered(line, 16, "NoFrame"),
-        Refusal::Differs => put_numbered(line, 17, "Differs"),
-        Refusal::BoardFull => put_numbered(line, 18, "BoardFull"),
-        Refusal::Behind(reached) => put_refusal_at(line, 19, "Behind", "place", reached),
-        Refusal::Stopped => put_numbered(line, 20, "Stopped"),
-        Refusal::Denied(by) => put_denied(line, by),
-        Refusal::BadLine(number) => put_refusal_at(line, 31, "BadLine", "line", number),
-        Refusal::Unopened(number) => put_refusal_at(line, 32, "Unopened", "line", number),
-        Refusal::Unclosed => put_numbered(line, 33, "Unclosed"),
-        Refusal::BadItem(number) => put_refusal_at(line, 34, "BadItem", "line", number),
-        Refusal::BadValue(number) => put_refusal_at(line, 35, "BadValue", "line", number),
-        Refusal::UnknownName(number) => put_refusal_at(line, 36, "UnknownName", "line", number),
-        Refusal::Range => put_numbered(line, 37, "Range"),
-        Refusal::BadCommand(number) => put_refusal_at(line, 41, "BadCommand", "line", number),
-        Refusal::Read => put_numbered(line, 42, "Read"),
-        Refusal::Write => put_numbered(line, 43, "Write"),
-    }
+    put_number(line, "number", u64::from(refusal.number()))?;
+    put_word(line, "refusal", refusal.name())?;
+    put_carried(line, refusal)
 }
 
 /// Puts the line of a refusal at the lines' end.

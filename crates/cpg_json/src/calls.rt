@@ -160,7 +160,7 @@ pub(crate) fn put_carried(line: &mut Vec<u8>, op: &Op) -> Result<(), Refusal>
         Op::Act(Call::Send(message)) => put_message(line, message.as_slice()),
         Op::Act(Call::Insert(_, index, rule)) => {
             put_number(line, "index", u64::from(*index))?;
-            put_rule(line, *rule)
+            put_rule(line, *rule.get())
         }
         Op::Act(Call::Remove(_, id)) => put_number(line, "id", u64::from(*id)),
         _ => Ok(()),

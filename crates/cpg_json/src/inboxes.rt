@@ -74,7 +74,7 @@ fn put_place(
     ensures memory { IsOkUnless result Refusal.Memory }
 {
     let past = &policy.records()[place as usize - 1];
-    let own = conn.is(&ConnId::of(past.entry()));
+    let own = conn.is(&ConnId::of(&past.entry));
     let heard = policy.count_at(place, *conn) > usize::from(own);
     put_own(lines, own, front, place, past.verdict)?;
     put_heard(lines, heard, front, tails.at(place))
@@ -135,11 +135,11 @@ fn write_events<W: Write>(
     requires { IsInbox inbox.now }
     ensures { Gathers result (W.contents writer.old) lines.old.items (W.contents writer.new) lines.new.items (map (event_json inbox.now.conn.now) (events.inbox (judged inbox.now.policy.now) inbox.now.conn.now)) }
 {
-    let trail = inbox.policy.trail(*inbox.conn);
+    let log = inbox.policy.log(*inbox.conn);
     let mut count = 0;
     let mut after = 0;
-    while let Some(place) = trail.own(count) {
-        let group = trail.group_past(count);
+    while let Some(place) = log.own(count) {
+        let group = log.group_past(count);
         match write_upto(writer, lines, inbox, group, after, place) {
             Ok(()) => {}
             Err(refusal) => return Err(refusal),
@@ -147,7 +147,7 @@ fn write_events<W: Write>(
         count += 1;
         after = place;
     }
-    let group = trail.group_past(count);
+    let group = log.group_past(count);
     write_between(
         writer,
         lines,

@@ -4,7 +4,6 @@
 //! `specs/`, byte for byte, where the reader and the writer tell their bytes; but for reasons, which plain code words.
 #![tactic(auto)]
 
-mod acting;
 mod admitting;
 mod answers;
 mod calls;
@@ -17,8 +16,8 @@ mod looking;
 mod marks;
 mod objects;
 mod records;
-mod running;
 pub mod sessions;
+mod stepping;
 mod stretches;
 mod strings;
 mod tails;
@@ -28,5 +27,5 @@ pub use admitting::{AdmittedAsJson, print_json, print_json_echo};
 pub use cpg_text::Fault;
 pub use judging::{JudgedAsJson, JudgedObjects};
 pub use laws::{strings_are_printable, strings_read_back, texts_are_printable};
-pub use marks::{Marks, number_at, put_event_word, put_look_word};
-pub use running::step_json;
+pub use marks::{Marks, number_at};
+pub use stepping::{SteppedAsJson, SteppedObjects};

@@ -3,14 +3,14 @@
 //! Proved: what is put is the definition in `specs/Marks.antt`.
 
 ghost use Rattle.std.specs.Prelude.{◌≡◌, ◌≤◌, ◌++◌, codes, map, decimal, slice_index, OnOk, IsOkUnless};
-ghost use Rattle.cpg_json.specs.Marks.{command_word, conn_word, echo_words, event_word, frames_between, line_fields, look_word, mark_fields, node_word, numbers_field};
+ghost use Rattle.cpg_step.specs.Targets.{command_target, target_word};
+ghost use Rattle.cpg_json.specs.Marks.{echo_words, frames_between, line_fields, mark_fields, numbers_field, sent_fields};
 ghost use Rattle.cpg_json.specs.Objects.{after_comma, field, joined, more, word};
 
 use crate::objects::{put_name, put_number};
-use cpg_cred::{NodeId, Refusal};
-use cpg_step::{Command, Look};
+use cpg_cred::Refusal;
+use cpg_step::{Command, command_target, put_target};
 use cpg_text::{push_number, put};
-use cpg_world::WorldEvent;
 
 /// What stands in the objects of `step` behind their kind.
 #[derive(Debug, Clone, Copy)]
@@ -21,13 +21,6 @@ pub enum Marks {
     Echo,
     /// That number, and the numbers of the frames that the command sent.
     Numbers,
-}
-
-/// The marks of a script's answers, and the numbers of the lines of its commands.
-#[derive(Debug, Clone, Copy)]
-pub(crate) struct Heading<'a> {
-    pub(crate) marks: Marks,
-    pub(crate) numbers: &'a [u32],
 }
 
 /// Puts the number of a line, where there is one, at the head's end.
@@ -51,23 +44,36 @@ pub fn number_at(numbers: &[u32], index: usize) -> u32
     }
 }
 
-/// Puts the marks of a command's answers at the head's end: so many frames were sent before it, and so many after it.
+/// Puts the marks of the answers to a command at the head's end, whose line has that number.
 pub(crate) fn put_marks(
     head: &mut Vec<u8>,
-    heading: &Heading<'_>,
-    index: usize,
+    marks: Marks,
+    number: u32,
     command: &Command,
+) -> Result<(), Refusal>
+    ensures ok { OnOk result (head.new.items ≡ head.old.items ++ more (mark_fields marks number (target_word (command_target command.now)))) }
+    ensures memory { IsOkUnless result Refusal.Memory }
+{
+    put_number(head, "line", u64::from(number))?;
+    match marks {
+        Marks::Line | Marks::Numbers => Ok(()),
+        Marks::Echo => put_echo(head, number, command),
+    }
+}
+
+/// Puts the numbers of the frames that the command sent, where they are asked for: so many were sent before it, and so
+/// many after it.
+pub(crate) fn put_sent(
+    head: &mut Vec<u8>,
+    marks: Marks,
     before: usize,
     last: usize,
 ) -> Result<(), Refusal>
-    ensures ok { OnOk result (head.new.items ≡ head.old.items ++ more (mark_fields heading.now.marks (slice_index heading.now.numbers.now index) (command_word command.now) before last)) }
+    ensures ok { OnOk result (head.new.items ≡ head.old.items ++ more (sent_fields marks before last)) }
     ensures memory { IsOkUnless result Refusal.Memory }
 {
-    let number = number_at(heading.numbers, index);
-    put_number(head, "line", u64::from(number))?;
-    match heading.marks {
-        Marks::Line => Ok(()),
-        Marks::Echo => put_echo(head, number, command),
+    match marks {
+        Marks::Line | Marks::Echo => Ok(()),
         Marks::Numbers => put_numbers(head, before, last),
     }
 }
@@ -75,74 +81,15 @@ pub(crate) fn put_marks(
 /// Puts the number of a line and what its command is of at the head's end, as a field.
 #[tactic(auto, unfolding(crate::specs::Objects::after_comma, crate::specs::Objects::field, crate::specs::Objects::word))]
 fn put_echo(head: &mut Vec<u8>, number: u32, command: &Command) -> Result<(), Refusal>
-    ensures ok { OnOk result (head.new.items ≡ head.old.items ++ after_comma (field (codes "echo") (word (echo_words number (command_word command.now))))) }
+    ensures ok { OnOk result (head.new.items ≡ head.old.items ++ after_comma (field (codes "echo") (word (echo_words number (target_word (command_target command.now)))))) }
     ensures memory { IsOkUnless result Refusal.Memory }
 {
     put_name(head, "echo")?;
     put(head, "\"")?;
     push_number(head, u64::from(number))?;
     put(head, " ")?;
-    put_command_word(head, command)?;
+    put_target(head, command_target(command))?;
     put(head, "\"")
-}
-
-/// Puts what a command is of.
-fn put_command_word(words: &mut Vec<u8>, command: &Command) -> Result<(), Refusal>
-    ensures ok { OnOk result (words.new.items ≡ words.old.items ++ command_word command.now) }
-    ensures memory { IsOkUnless result Refusal.Memory }
-{
-    match command {
-        Command::Act(event) => put_event_word(words, event),
-        Command::Look(look) => put_look_word(words, look),
-    }
-}
-
-/// Puts what an event is of.
-pub fn put_event_word(words: &mut Vec<u8>, event: &WorldEvent) -> Result<(), Refusal>
-    ensures ok { OnOk result (words.new.items ≡ words.old.items ++ event_word event.now) }
-    ensures memory { IsOkUnless result Refusal.Memory }
-{
-    match event {
-        WorldEvent::Connect(node, _, _) => put_node(words, *node),
-        WorldEvent::Submit(node, conn, _) => put_conn(words, *node, *conn),
-        WorldEvent::Disconnect(node, conn) => put_conn(words, *node, *conn),
-        WorldEvent::Frame(node, _) => put_node(words, *node),
-        WorldEvent::Timer(node) => put_node(words, *node),
-        WorldEvent::Deliver(node) => put_node(words, *node),
-        WorldEvent::Take(node, conn) => put_conn(words, *node, *conn),
-        WorldEvent::List(node, conn, _) => put_conn(words, *node, *conn),
-        WorldEvent::Groups(node, conn) => put_conn(words, *node, *conn),
-    }
-}
-
-/// Puts what a look is of.
-pub fn put_look_word(words: &mut Vec<u8>, look: &Look) -> Result<(), Refusal>
-    ensures ok { OnOk result (words.new.items ≡ words.old.items ++ look_word look.now) }
-    ensures memory { IsOkUnless result Refusal.Memory }
-{
-    match look {
-        Look::Show(_) => put(words, "-"),
-        Look::Audit(node) => put_node(words, *node),
-        Look::Rules(node, _) => put_node(words, *node),
-        Look::Safe(node) => put_node(words, *node),
-    }
-}
-
-fn put_node(words: &mut Vec<u8>, node: NodeId) -> Result<(), Refusal>
-    ensures ok { OnOk result (words.new.items ≡ words.old.items ++ node_word node) }
-    ensures memory { IsOkUnless result Refusal.Memory }
-{
-    put(words, "n")?;
-    push_number(words, u64::from(node.get()))
-}
-
-fn put_conn(words: &mut Vec<u8>, node: NodeId, conn: u16) -> Result<(), Refusal>
-    ensures ok { OnOk result (words.new.items ≡ words.old.items ++ conn_word node conn) }
-    ensures memory { IsOkUnless result Refusal.Memory }
-{
-    push_number(words, u64::from(node.get()))?;
-    put(words, ".")?;
-    push_number(words, u64::from(conn))
 }
 
 /// Puts the numbers of the frames that were sent after so many, up to so many, at the head's end, as a field.

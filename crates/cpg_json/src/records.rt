@@ -220,7 +220,7 @@ pub fn put_record(line: &mut Vec<u8>, head: &[u8], place: u32, past: &Record) ->
     ensures memory { IsOkUnless result Refusal.Memory }
 {
     put_head(line, "record", head)?;
-    put_asked(line, place, past.entry())?;
+    put_asked(line, place, &past.entry)?;
     put_outcome(line, past)?;
     put_end(line)
 }
@@ -249,7 +249,7 @@ pub(crate) fn put_record_kept(
     ensures memory { IsOkUnless result Refusal.Memory }
 {
     put_numbered(line, "record", number)?;
-    put_asked(line, place, past.entry())?;
+    put_asked(line, place, &past.entry)?;
     put_outcome_kept(line, past, kept)?;
     put_end(line)
 }

@@ -98,7 +98,7 @@ fn put_made_by(line: &mut Vec<u8>, cited: &Cited, place: u32, entry: &Entry) -> 
 fn put_judged(line: &mut Vec<u8>, cited: &Cited, place: u32, past: &Record) -> Result<(), Refusal>
     ensures { IsOkUnless result Refusal.Memory }
 {
-    put_made_by(line, cited, place, past.entry())?;
+    put_made_by(line, cited, place, &past.entry)?;
     put_verdict(line, past.verdict)
 }
 
@@ -116,7 +116,7 @@ fn put_entry_at(
     };
     put(line, "{\"place\":")?;
     push_number(line, u64::from(place))?;
-    put_made_by(line, cited, place, past.entry())?;
+    put_made_by(line, cited, place, &past.entry)?;
     if with_verdict {
         put_verdict(line, past.verdict)?;
     }
@@ -181,7 +181,7 @@ fn put_facts(
 ) -> Result<(), Refusal>
     ensures { IsOkUnless result Refusal.Memory }
 {
-    let own = ConnId::of(past.entry());
+    let own = ConnId::of(&past.entry);
     match decided {
         Decided::Root | Decided::Free => Ok(()),
         Decided::Rule(ruled) => put_ruled(line, past, ruled),
@@ -258,7 +258,7 @@ fn put_past_end(line: &mut Vec<u8>, past: &Record, rules: usize) -> Result<(), R
     ensures { IsOkUnless result Refusal.Memory }
 {
     put_group_in(line, past.group.as_ref())?;
-    if let Op::Act(Call::Insert(_, index, _)) = &past.entry().op {
+    if let Op::Act(Call::Insert(_, index, _)) = &past.entry.op {
         put_number(line, "index", u64::from(*index))?;
     }
     put_number(line, "rules", rules as u64)
@@ -269,7 +269,7 @@ fn put_absent(line: &mut Vec<u8>, past: &Record) -> Result<(), Refusal>
     ensures { IsOkUnless result Refusal.Memory }
 {
     put_group_in(line, past.group.as_ref())?;
-    if let Op::Act(Call::Remove(_, id)) = &past.entry().op {
+    if let Op::Act(Call::Remove(_, id)) = &past.entry.op {
         put_number(line, "id", u64::from(*id))?;
     }
     Ok(())

@@ -17,7 +17,7 @@ ghost use Rattle.cpg_judge.specs.Texts.{hears_own, lines_at, lines_between, told
 
 use crate::texts::{Text, Texts};
 use cpg_entry::{Call, Name, Op};
-use cpg_group::{Policy, Trail, count_upto};
+use cpg_group::{ConnectionLog, Policy, count_upto};
 use cpg_record::{ConnId, Record};
 use std::marker::Model;
 
@@ -130,7 +130,7 @@ impl<'a> Told<'a> {
 pub(crate) struct Inbox<'a> {
     policy: &'a Policy,
     texts: &'a Texts,
-    trail: Trail<'a>,
+    log: ConnectionLog<'a>,
 }
 
 impl<'a> Model for Inbox<'a> {
@@ -141,9 +141,9 @@ impl<'a> Model for Inbox<'a> {
 
     ghost Value = { InboxValue };
 
-    ghost view = { λ inbox. record { entries = inbox.policy.now; conn = inbox.trail.conn } };
+    ghost view = { λ inbox. record { entries = inbox.policy.now; conn = inbox.log.conn } };
 
-    ghost invariant = { λ inbox. (inbox.trail.records ≡ judged inbox.policy.now) × AreTexts inbox.texts.now (judged inbox.policy.now) (length (judged inbox.policy.now)) };
+    ghost invariant = { λ inbox. (inbox.log.records ≡ judged inbox.policy.now) × AreTexts inbox.texts.now (judged inbox.policy.now) (length (judged inbox.policy.now)) };
 }
 
 impl<'a> Inbox<'a> {
@@ -155,7 +155,7 @@ impl<'a> Inbox<'a> {
         Inbox {
             policy,
             texts,
-            trail: policy.trail(conn),
+            log: policy.log(conn),
         }
     }
 
@@ -163,7 +163,7 @@ impl<'a> Inbox<'a> {
     pub(crate) fn own(&self, index: usize) -> Option<u32>
         ensures { result ≡ slice_get (places_of (is_made_by self.now.conn) (judged self.now.entries)) index }
     {
-        self.trail.own(index)
+        self.log.own(index)
     }
 
     /// How many places there are.
@@ -185,7 +185,7 @@ impl<'a> Inbox<'a> {
     fn group_after(&self, last: u32) -> Option<&'a Name>
         ensures { option_copied result ≡ group_of (take last (judged self.now.entries)) self.now.conn }
     {
-        self.trail.group_after(last)
+        self.log.group_after(last)
     }
 
     /// What the group of that name tells, with the places up to that one passed.
@@ -236,7 +236,7 @@ impl<'a> Inbox<'a> {
         requires place { place ≤ length (judged self.now.entries) }
         ensures { IsHeard (judged self.now.entries) self.now.conn place result }
     {
-        match self.trail.group_past(count) {
+        match self.log.group_past(count) {
             None => None,
             Some(group) => Some(self.told_of(before, group, place)),
         }
@@ -272,7 +272,7 @@ impl<'a> Inbox<'a> {
         requires { 1 ≤ place }
         ensures { result ≡ (is_allowed past.now.verdict && hears_own (group_of (records_before (judged self.now.entries) place) self.now.conn) group.now past.now.entry.op) }
     {
-        past.verdict.is_allowed() && self.hears(place, group, &past.entry().op)
+        past.verdict.is_allowed() && self.hears(place, group, &past.entry.op)
     }
 
     /// What a place of the group of that name tells it, from what is looked up after the place where it is of

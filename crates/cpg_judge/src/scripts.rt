@@ -9,35 +9,57 @@ ghost use Rattle.cpg_text.specs.Items.{items_with};
 ghost use Rattle.cpg_judge.specs.Scripts.{entry_in, entries_of_script};
 
 use cpg_cred::Refusal;
-use cpg_entry::{Entry, MOST_PLACES, SharedEntry};
+use cpg_entry::{Entry, MOST_PLACES, Name};
 use cpg_group::Policy;
-use cpg_print::entry_in_line;
+use cpg_print::{GivesNames, entry_with_names};
 use cpg_text::{Lines, MOST_BYTES, is_ignored, trim};
 use std::alloc::Global;
 
-/// The entry of a trimmed line that follows so many entries, if there is room for one. That it is none is told
+/// The names of the groups that entries of a policy are of.
+#[derive(Debug, Clone, Copy)]
+struct NamesOf<'a> {
+    policy: &'a Policy,
+}
+
+impl NamesOf<'_> {
+    /// The name of those bytes that an entry of the group has. Takes no memory.
+    fn kept(&self, bytes: &[u8]) -> Option<&Name>
+        ensures { IfSome result (λ name. name.now ≡ bytes.now) }
+    {
+        let place = *self.policy.places_in(bytes).first()? as usize;
+        let past = self.policy.records().get(place.checked_sub(1)?)?;
+        past.group.as_ref().filter(|name| name.is(bytes))
+    }
+}
+
+impl GivesNames for NamesOf<'_> {
+    fn name(&self, alloc: Global, bytes: &[u8]) -> Result<Name, Refusal> {
+        match self.kept(bytes) {
+            Some(name) => name.copy(alloc),
+            None => Name::from_slice(alloc, bytes),
+        }
+    }
+}
+
+/// The entry of a trimmed line that follows the entries of the policy, if there is room for one. That it is none is told
 /// whatever memory there is.
-fn read_entry(alloc: Global, before: usize, line: &[u8]) -> Result<Option<Entry>, Refusal>
-    ensures entry { IfOk result (λ found. found ≡ entry_in before line.now) }
-    ensures few { IfOk result (λ found. IfSome found (λ entry. before < most_places)) }
-    ensures memory { IsOkUnlessMemoryFor result (entry_in before line.now) }
+fn read_entry(alloc: Global, policy: &Policy, line: &[u8]) -> Result<Option<Entry>, Refusal>
+    ensures entry { IfOk result (λ found. found ≡ entry_in (length policy.now) line.now) }
+    ensures few { IfOk result (λ found. IfSome found (λ entry. length policy.now < most_places)) }
+    ensures memory { IsOkUnlessMemoryFor result (entry_in (length policy.now) line.now) }
 {
-    if before >= MOST_PLACES as usize {
+    if policy.len() >= MOST_PLACES as usize {
         return Ok(None);
     }
-    entry_in_line(alloc, line)
+    entry_with_names(alloc, &NamesOf { policy }, line)
 }
 
 /// Judges the entry, and puts it last.
-fn enter(alloc: Global, policy: &mut Policy, entry: Entry) -> Result<(), Refusal>
+fn enter(policy: &mut Policy, entry: Entry) -> Result<(), Refusal>
     requires { length policy.old < most_places }
     ensures ok { OnOk result (policy.new ≡ policy.old ++ entry ∷ []) }
     ensures memory { IsOkUnless result Refusal.Memory }
 {
-    let entry = match SharedEntry::new(alloc, entry) {
-        Ok(entry) => entry,
-        Err(refused) => return Err(refused.refusal),
-    };
     match policy.enter(entry) {
         Ok(()) => Ok(()),
         Err(refused) => Err(refused.refusal),
@@ -55,25 +77,20 @@ fn judge_line(alloc: Global, policy: &mut Policy, number: u32, line: &[u8]) -> R
     if is_ignored(line) {
         return Ok(());
     }
-    let found = read_entry(alloc, policy.len(), line)?;
-    enter_found(alloc, policy, number, found)
+    let found = read_entry(alloc, policy, line)?;
+    enter_found(policy, number, found)
 }
 
 /// Judges what a line of that number says, and puts it last. A line that says nothing is `BadCommand`, whatever
 /// memory there is.
-fn enter_found(
-    alloc: Global,
-    policy: &mut Policy,
-    number: u32,
-    found: Option<Entry>,
-) -> Result<(), Refusal>
+fn enter_found(policy: &mut Policy, number: u32, found: Option<Entry>) -> Result<(), Refusal>
     requires { IfSome found (λ entry. length policy.old < most_places) }
     ensures ok { OnOk result (IfSome found (λ entry. policy.new ≡ policy.old ++ entry ∷ [])) }
     ensures err { MatchOption found (result ≡ Err (Refusal.BadCommand number)) (λ entry. IsOkUnless result Refusal.Memory) }
 {
     match found {
         None => Err(Refusal::BadCommand(number)),
-        Some(entry) => enter(alloc, policy, entry),
+        Some(entry) => enter(policy, entry),
     }
 }
 

@@ -44,7 +44,7 @@ fn join_of(past: &Record) -> Move
     ensures { result ≡ record { member = member_of past.now.entry; cause = Cause.Join } }
 {
     Move {
-        member: Member::of(past.entry()),
+        member: Member::of(&past.entry),
         cause: Cause::Join,
     }
 }
@@ -66,17 +66,10 @@ fn put_told(
     ensures ok { OnOk result (line.new.items ≡ line.old.items ++ told_text (judged policy.now) place) }
     ensures memory { IsOkUnless result Refusal.Memory }
 {
-    match &past.entry().op {
+    match &past.entry.op {
         Op::Act(Call::Send(message)) => {
-            let node = past.entry().node;
-            put_message_line(
-                line,
-                place,
-                group,
-                node,
-                past.entry().pid,
-                message.as_slice(),
-            )
+            let node = past.entry.node;
+            put_message_line(line, place, group, node, past.entry.pid, message.as_slice())
         }
         Op::Act(Call::Join(_)) => {
             put_change_with(line, place, group, members, &[], &[join_of(past)])
@@ -180,7 +173,7 @@ impl Text {
         ensures ok { OnOk result (self.new ≡ with_place past.now (told_text (judged policy.now) place) self.old) }
         ensures memory { IsOkUnless result Refusal.Memory }
     {
-        if past.entry().op.is_move() {
+        if past.entry.op.is_move() {
             self.show(past.members.as_slice())?;
         }
         put_told(

@@ -9,7 +9,7 @@ ghost use Rattle.cpg_node.specs.Cursors.{IsCursor};
 use crate::cursors::Cursor;
 use crate::inboxes::{event_of, seek};
 use cpg_cred::{Refusal, Refused};
-use cpg_entry::SharedEntry;
+use cpg_entry::Entry;
 use cpg_group::{Event, Policy, Record};
 use cpg_record::ConnId;
 use std::alloc::Global;
@@ -73,7 +73,7 @@ impl Judged {
     }
 
     /// Judges the entry and puts it last. A refusal changes nothing and gives the entry back.
-    pub fn enter(&mut self, entry: SharedEntry) -> Result<(), Refused<SharedEntry>>
+    pub fn enter(&mut self, entry: Entry) -> Result<(), Refused<Entry>>
         requires { length self.old < most_places }
         ensures ok { OnOk result (self.new ≡ self.old ++ entry ∷ []) }
         ensures unchanged { OnErr result (self.new ≡ self.old) }

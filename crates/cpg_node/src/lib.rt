@@ -10,7 +10,6 @@ mod connections;
 mod cursors;
 mod inboxes;
 mod judged;
-mod keepers;
 mod names;
 mod nodes;
 mod remains;

@@ -20,15 +20,12 @@ ghost use Rattle.cpg_node.specs.Answers.{CanBeSpelled, IsNodeMade, IsFrameAnswer
 use crate::clients::{open_client, put_client};
 use crate::connections::{Client, Connection};
 use crate::judged::Judged;
-use crate::keepers::Kept;
 use crate::names::call_refusal;
 use crate::remains::Remains;
 use crate::ringing::{hear_packet, hear_token, pass_token};
 use bytes::Bytes;
 use cpg_cred::{AcceptList, Cred, NodeId, Refusal, Refused};
-use cpg_entry::{
-    Call, Entry, Frame, Keeper, MOST_CONNECTIONS, Op, SharedEntry, Shelf, Token, token_fits,
-};
+use cpg_entry::{Call, Entry, Frame, MOST_CONNECTIONS, Op, Shelf, Token, token_fits};
 use cpg_group::{ConnId, Event, Names, Processes, Record};
 use cpg_ring::{Ring, Settings};
 use cpg_rules::{Asker, Table};
@@ -317,7 +314,7 @@ impl Node {
         let Some(entry) = self.ring.next_place() else {
             return Ok(None);
         };
-        let entry = SharedEntry::copy_of(self.alloc, entry)?;
+        let entry = entry.copy(self.alloc)?;
         match self.judged.enter(entry) {
             Ok(()) => {
                 self.ring.advance();
@@ -328,15 +325,12 @@ impl Node {
     }
 
     /// Takes the first delivered entries that its ring has of its own from the shelf, where they lie for all nodes of
-    /// the ring, and in common with the records: who asks the node sees no difference.
+    /// the ring: who asks the node sees no difference.
     #[inline(always)]
     pub fn share(&mut self, shelf: &Shelf)
         ensures { self.new ≡ self.old }
     {
-        let kept = Kept {
-            records: self.judged.policy().records(),
-        };
-        self.ring.share(shelf, &kept);
+        self.ring.share(shelf);
     }
 
     /// The next item of the connection's inbox, if there is one.

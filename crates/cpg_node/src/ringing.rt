@@ -9,28 +9,46 @@ ghost use Rattle.cpg_ring.specs.Rings.{refusal_of, data_refusal_of, full_refusal
 ghost use Rattle.cpg_node.specs.Answers.{spelled, CanBeSpelled};
 ghost use Rattle.cpg_node.specs.Kept.{IsSound, IsKeptBy};
 
-use bytes::Bytes;
+use bytes::{Bytes, BytesMut};
 use cpg_cred::Refusal;
 use cpg_entry::{Packet, Token};
 use cpg_ring::{Ring, Visit};
-use cpg_wire::{encode_data, encode_token};
+use cpg_wire::{data_room, encode_data_in, encode_token_in, token_room};
 use std::alloc::Global;
 
+/// How many bytes the frames of a visit take at most.
+fn room_for(visit: &Visit) -> usize
+    requires packets { All IsPacket visit.now.packets }
+    requires token { IsToken visit.now.token }
+{
+    let mut room = token_room(&visit.token);
+    for packet in visit.packets.as_slice() {
+        room = room.saturating_add(data_room(packet));
+    }
+    room
+}
+
 /// The spellings of the packets, in a list with room for the token's.
-fn spell_packets(alloc: Global, packets: &[Packet]) -> Result<Vec<Bytes>, Refusal>
-    requires { All IsPacket packets.now }
+fn spell_packets(
+    alloc: Global,
+    room: &mut BytesMut,
+    packets: &[Packet],
+) -> Result<Vec<Bytes>, Refusal>
+    requires empty { room.old.items ≡ [] }
+    requires packets { All IsPacket packets.now }
     ensures ok { IfOk result (λ list. list.items ≡ spelled (map frames.Packet packets.now)) }
+    ensures empty { OnOk result (room.new.items ≡ []) }
     ensures range { OnOk result (All CanBeSpelled (map frames.Packet packets.now)) }
     ensures memory { IsOkUnless result Refusal.Memory }
 {
     let mut list = Vec::with_capacity(alloc, packets.len().saturating_add(1))?;
     for packet in packets {
-        list.push(encode_data(alloc, packet)?)?;
+        list.push(encode_data_in(room, packet)?)?;
     }
     Ok(list)
 }
 
-/// The spellings of a visit's packets, then of its token.
+/// The spellings of a visit's packets, then of its token, in one piece of memory.
 fn spell_visit(alloc: Global, visit: &Visit) -> Result<Vec<Bytes>, Refusal>
     requires packets { All IsPacket visit.now.packets }
     requires token { IsToken visit.now.token }
@@ -38,8 +56,9 @@ fn spell_visit(alloc: Global, visit: &Visit) -> Result<Vec<Bytes>, Refusal>
     ensures range { OnOk result (All CanBeSpelled (map frames.Packet visit.now.packets ++ frames.Token visit.now.token ∷ [])) }
     ensures memory { IsOkUnless result Refusal.Memory }
 {
-    let mut list = spell_packets(alloc, visit.packets.as_slice())?;
-    list.push(encode_token(alloc, &visit.token)?)?;
+    let mut room = BytesMut::with_capacity(alloc, room_for(visit))?;
+    let mut list = spell_packets(alloc, &mut room, visit.packets.as_slice())?;
+    list.push(encode_token_in(&mut room, &visit.token)?)?;
     Ok(list)
 }
 

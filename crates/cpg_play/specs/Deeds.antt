@@ -8,7 +8,7 @@ use Rattle.cpg_cluster.specs.Running.{IsDone}
 use Rattle.cpg_cluster.specs.declared.commands.Ask.TheVariants.{Wait}
 use Rattle.cpg_cluster.specs.declared.commands.Command.{Command}
 use Rattle.cpg_cluster.specs.declared.commands.Command.TheVariants.{Ask}
-use Rattle.cpg_cluster.specs.declared.forms.Shown.TheVariants.{Plain}
+use Rattle.cpg_cluster.specs.declared.forms.TextForm.TheVariants.{Plain}
 use Rattle.cpg_play.specs.declared.deeds.Deed.{Deed}
 use Rattle.cpg_play.specs.declared.deeds.Deed.TheVariants as deed
 

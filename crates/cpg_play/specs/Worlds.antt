@@ -4,6 +4,7 @@ use Rattle.cpg_cred.specs.Listed.{Listed}
 use Rattle.cpg_ring.specs.declared.settings.Settings.{Settings}
 use Rattle.cpg_text.specs.Lines.{words_of}
 use Rattle.cpg_step.specs.Commands.{command_of}
+use Rattle.cpg_step.specs.Running.{stepped_text}
 use Rattle.cpg_step.specs.Steps.{IsDone}
 use Rattle.cpg_world_laws.specs.Worlds.{new_world}
 use Rattle.cpg_play.specs.declared.worlds.OverWorld.{OverWorld}
@@ -12,7 +13,7 @@ use Rattle.cpg_play.specs.Walking.{Does, IsScriptPlayed}
 -- its command, if it says one, is done, and prints that
 abbrev pub does_in_world : Does OverWorld
 does_in_world old line said text new =
-    MatchOption (command_of (length old.world.nodes) (words_of line)) (said ≡ false) (λ command. (said ≡ true) × IsDone old.world command text new.world)
+    MatchOption (command_of (length old.world.nodes) (words_of line)) (said ≡ false) (λ command. (said ≡ true) × IsDone stepped_text 0 old.world command text new.world)
 
 -- The script was played over a new world of those settings and that list, which is there.
 abbrev pub IsPlayedOverWorld : Settings → Option Listed → List ℕ → Option (List ℕ) → Option (List ℕ) → Bool → Type 0

@@ -15,7 +15,7 @@ use crate::switches::Switches;
 use crate::walks::Plays;
 use cpg_cluster::shell::HELP;
 use cpg_cluster::{
-    Ask, Command, Manner, Numbered, PLAIN, Patience, PutsAnswer, Reply, Sessions, Shown,
+    Ask, Command, Numbered, PLAIN, PutsAnswer, Reply, RunOptions, Sessions, TextForm, WaitLimit,
     answer_with_memory, do_command, put_answer,
 };
 use cpg_cred::Refusal;
@@ -43,7 +43,7 @@ pub struct OverCluster<'a, H, B: HistoryName, G> {
     rt: &'a H,
     running: &'a Running<B, G>,
     switches: &'a Switches,
-    patience: Patience,
+    wait_limit: WaitLimit,
     sessions: Sessions<B>,
     names: Names,
     typed: bool,
@@ -67,7 +67,7 @@ impl<'a, H, B: HistoryName, G> OverCluster<'a, H, B, G> {
         alloc: Global,
         running: &'a Running<B, G>,
         switches: &'a Switches,
-        patience: Patience,
+        wait_limit: WaitLimit,
         typed: bool,
     ) -> OverCluster<'a, H, B, G>
         ensures { result ≡ record { nodes = running.now.nodes; sessions = no_sessions } }
@@ -76,7 +76,7 @@ impl<'a, H, B: HistoryName, G> OverCluster<'a, H, B, G> {
             rt,
             running,
             switches,
-            patience,
+            wait_limit,
             sessions: Sessions::none(alloc),
             names: Names::none(alloc),
             typed,
@@ -84,14 +84,14 @@ impl<'a, H, B: HistoryName, G> OverCluster<'a, H, B, G> {
     }
 }
 
-/// Does a command with that patience, and puts what is printed of its answer.
+/// Does a command with that wait limit, and puts what is printed of its answer.
 fn command<B: HistoryName, G, H: Wait + Clock>(
     rt: &H,
     alloc: Global,
     text: &mut Vec<u8>,
     running: &Running<B, G>,
     sessions: &mut Sessions<B>,
-    patience: Patience,
+    wait_limit: WaitLimit,
     command: Command,
 ) -> Result<(), Refusal>
     requires command { IsWithin running.now.nodes command }
@@ -101,12 +101,12 @@ fn command<B: HistoryName, G, H: Wait + Clock>(
     ensures within { AreWithin running.now.nodes sessions.new.slots }
     ensures memory { IsOkUnless result Refusal.Memory }
 {
-    let manner = Manner {
-        patience,
-        form: Shown::Plain,
+    let options = RunOptions {
+        wait_limit,
+        form: TextForm::Plain,
     };
     let line = Numbered { number: 0, command };
-    do_command(rt, alloc, text, running, sessions, &manner, &line)
+    do_command(rt, alloc, text, running, sessions, &options, &line)
 }
 
 /// The number of a session that was just given; 0 where none was.
@@ -135,8 +135,15 @@ fn connect<B: HistoryName, G, H: Wait + Clock>(
     ensures memory { IsOkUnless result Refusal.Memory }
 {
     let line = Numbered { number: 0, command };
-    let answer = answer_with_memory(rt, alloc, running, PLAIN.patience, sessions, &line.command)?;
-    Shown::Plain.put(alloc, text, running.board(), &line, &answer)?;
+    let answer = answer_with_memory(
+        rt,
+        alloc,
+        running,
+        PLAIN.wait_limit,
+        sessions,
+        &line.command,
+    )?;
+    TextForm::Plain.put(alloc, text, running.board(), &line, &answer)?;
     Ok(number_of(&answer))
 }
 
@@ -155,8 +162,8 @@ fn drain<B: HistoryName, G, H: Wait + Clock>(
 {
     let command = Command::Ask(number, Ask::Wait);
     for _ in 0..u64::MAX {
-        let patience = Patience::Millis(0);
-        let answer = answer_with_memory(rt, alloc, running, patience, sessions, &command)?;
+        let wait_limit = WaitLimit::Millis(0);
+        let answer = answer_with_memory(rt, alloc, running, wait_limit, sessions, &command)?;
         if matches!(&answer, Ok(Reply::Nothing(_))) {
             break;
         }
@@ -180,7 +187,7 @@ impl<H: Wait + Clock, B: HistoryName, G> OverCluster<'_, H, B, G> {
         let (rt, running, sessions) = (self.rt, self.running, &mut self.sessions);
         match deed {
             Deed::Command(asked) => {
-                command(rt, alloc, text, running, sessions, self.patience, asked)
+                command(rt, alloc, text, running, sessions, self.wait_limit, asked)
             }
             Deed::Named(asked, name) => {
                 let number = connect(rt, alloc, text, running, sessions, asked)?;
@@ -188,8 +195,8 @@ impl<H: Wait + Clock, B: HistoryName, G> OverCluster<'_, H, B, G> {
             }
             Deed::Wait(number, millis) => {
                 let asked = Command::Ask(number, Ask::Wait);
-                let patience = Patience::Millis(millis);
-                command(rt, alloc, text, running, sessions, patience, asked)
+                let wait_limit = WaitLimit::Millis(millis);
+                command(rt, alloc, text, running, sessions, wait_limit, asked)
             }
             Deed::Drain(number) => drain(rt, alloc, text, running, sessions, number),
             Deed::Turn(switch) => {

@@ -17,21 +17,18 @@ use crate::clusters::OverCluster;
 use crate::switches::{Switched, Switches};
 use crate::walks::{play_lines, play_script};
 use crate::worlds::OverWorld;
-use cpg_board::Board;
-use cpg_cluster::Patience;
+use cpg_cluster::WaitLimit;
 use cpg_console::{
-    Chances, Ended, Failure, KeepsEnds, Piped, failure_after, hand_on, new_board, read_list,
+    Chances, Ended, Failure, Grounds, Host, KeepsEnds, Piped, failure_after, found, hand_on,
     stop_kept, tell, world_by,
 };
-use cpg_cred::{AcceptList, Refusal};
+use cpg_cred::Refusal;
 use cpg_daemon::{Cluster, HistoryName};
-use cpg_ring::{Settings, are_settings};
+use cpg_ring::Settings;
 use std::alloc::{AllocError, Global};
 use std::io::{BufWriter, Read, Write};
 use std::marker::Brand;
-use std::sync::{Arc, Wait};
-use std::thread::Threads;
-use std::time::Clock;
+use std::sync::Arc;
 
 /// What a script that checks itself is played over.
 #[derive(Debug, Clone, Copy)]
@@ -46,7 +43,7 @@ pub enum Stage {
 #[derive(Debug, Clone, Copy)]
 pub struct Live {
     /// How long a wait without a time of its own looks.
-    pub patience: Patience,
+    pub wait_limit: WaitLimit,
     /// What becomes of frames between nodes that are not cut.
     pub chances: Chances,
     /// Whether lines are typed, each answered at once.
@@ -80,7 +77,7 @@ impl Played {
 /// A wrong word comes first, then settings out of their ranges, then the faults of the script. Why it ended early is told
 /// as `perform` tells it.
 #[tactic(auto, using(crate::proofs::Flushing::word_played, crate::proofs::Flushing::kept_played, crate::proofs::Flushing::all_played))]
-pub fn perform_play<H, R, W, E, K>(
+pub fn perform_play<H: Host + 'static, R: Read, W: Write + Drop, E: Write, K: KeepsEnds>(
     rt: H,
     alloc: Global,
     stage: &Stage,
@@ -91,12 +88,6 @@ pub fn perform_play<H, R, W, E, K>(
     errors: &mut E,
     keeper: &mut K,
 ) -> Played
-where
-    H: Threads + Wait + Clock + Copy + Send + 'static,
-    R: Read,
-    W: Write + Drop,
-    E: Write,
-    K: KeepsEnds,
     ensures word { (result.ended.failure ≡ Some Failure.BadWord) ↔ (list_of_words (map (λ word. word.now) words.now) ≡ None) }
     ensures flushed { IsTrue result.ended.flushed → writer_buffer writer.new ≡ [] }
     ensures played { result.ended.failure ≡ None → IfSome (R.remaining reader.old) (λ script.
@@ -132,7 +123,7 @@ fn parted(played: Result<bool, Failure>) -> (bool, Result<(), Failure>)
 }
 
 /// Plays the script, and says whether all was printed as wanted.
-fn play<H, R, W, E, K>(
+fn play<H: Host + 'static, R: Read, W: Write, E: Write, K: KeepsEnds>(
     rt: H,
     alloc: Global,
     stage: &Stage,
@@ -143,12 +134,6 @@ fn play<H, R, W, E, K>(
     errors: &mut E,
     keeper: &mut K,
 ) -> Result<bool, Failure>
-where
-    H: Threads + Wait + Clock + Copy + Send + 'static,
-    R: Read,
-    W: Write,
-    E: Write,
-    K: KeepsEnds,
     ensures word { (result ≡ Err Failure.BadWord) ↔ (list_of_words (map (λ word. word.now) words.now) ≡ None) }
     ensures played { IfOk result (λ wanted. IfSome (R.remaining reader.old) (λ script.
         IsPlayedOn stage.now settings (list_of_words (map (λ word. word.now) words.now)) script (W.contents writer.old) (W.contents writer.new) wanted)) }
@@ -156,11 +141,10 @@ where
 {
     match stage {
         Stage::World => play_over_world(alloc, settings, words, reader, writer, errors),
-        Stage::Cluster(live) => match read_list(alloc, words) {
-            Err(refusal) => Err(Failure::from(refusal)),
-            Ok(None) => Err(Failure::BadWord),
-            Ok(Some(list)) => play_listed(
-                rt, alloc, live, settings, list, reader, writer, errors, keeper,
+        Stage::Cluster(live) => match found(alloc, settings, words, keeper.is_asked()) {
+            Err(failure) => Err(failure),
+            Ok(grounds) => play_on::<Brand, H, R, W, E, K>(
+                rt, alloc, live, settings, grounds, reader, writer, errors, keeper,
             ),
         },
     }
@@ -191,38 +175,6 @@ fn play_over_world<R: Read, W: Write, E: Write>(
     }
 }
 
-/// Plays the script over a new cluster of those settings and that list. The board is made here, and named.
-fn play_listed<H, R, W, E, K>(
-    rt: H,
-    alloc: Global,
-    live: &Live,
-    settings: Settings,
-    list: AcceptList,
-    reader: &mut R,
-    writer: &mut W,
-    errors: &mut E,
-    keeper: &mut K,
-) -> Result<bool, Failure>
-where
-    H: Threads + Wait + Clock + Copy + Send + 'static,
-    R: Read,
-    W: Write,
-    E: Write,
-    K: KeepsEnds,
-    ensures word { result ≢ Err Failure.BadWord }
-    ensures kept { OnOk result (WasKept K.keeps (new_world settings list) keeper.old keeper.new) }
-{
-    if !are_settings(&settings) {
-        return Err(Failure::from(Refusal::Range));
-    }
-    match new_board(alloc, settings, keeper.is_asked()) {
-        Err(_) => Err(Failure::from(Refusal::Memory)),
-        Ok(board) => play_on::<Brand, H, R, W, E, K>(
-            rt, alloc, live, settings, board, &list, reader, writer, errors, keeper,
-        ),
-    }
-}
-
 /// Switches, and what shares them.
 fn shared_switches(
     alloc: Global,
@@ -232,14 +184,13 @@ fn shared_switches(
     Ok((switches, shared))
 }
 
-/// Plays the script over a new cluster on that board.
-fn play_on<B, H, R, W, E, K>(
+/// Plays the script over a new cluster on those grounds.
+fn play_on<B, H: Host + 'static, R: Read, W: Write, E: Write, K: KeepsEnds>(
     rt: H,
     alloc: Global,
     live: &Live,
     settings: Settings,
-    board: Board,
-    list: &AcceptList,
+    grounds: Grounds,
     reader: &mut R,
     writer: &mut W,
     errors: &mut E,
@@ -247,12 +198,7 @@ fn play_on<B, H, R, W, E, K>(
 ) -> Result<bool, Failure>
 where
     B: HistoryName + Send + Sync + 'static,
-    H: Threads + Wait + Clock + Copy + Send + 'static,
-    R: Read,
-    W: Write,
-    E: Write,
-    K: KeepsEnds,
-    requires name { (board.cells ≡ B.cells) × (board.table ≡ B.table) × (new_world settings list.now ≡ B.start) }
+    requires name { (grounds.board.cells ≡ B.cells) × (grounds.board.table ≡ B.table) × (new_world settings grounds.list ≡ B.start) }
     ensures word { result ≢ Err Failure.BadWord }
     ensures kept { OnOk result (WasKept K.keeps B.start keeper.old keeper.new) }
 {
@@ -260,7 +206,8 @@ where
         return Err(Failure::from(Refusal::Memory));
     };
     let gate = Switched::new(shared, live.chances);
-    match Cluster::<B, Switched<Chances>>::start(rt, alloc, settings, board, list, gate) {
+    let Grounds { board, list } = grounds;
+    match Cluster::<B, Switched<Chances>>::start(rt, alloc, settings, board, &list, gate) {
         Err(_) => Err(Failure::from(Refusal::Memory)),
         Ok(cluster) => play_over(
             rt, alloc, live, &switches, cluster, reader, writer, errors, keeper,
@@ -269,7 +216,7 @@ where
 }
 
 /// Plays the script over the cluster, and stops it.
-fn play_over<B, H, R, W, E, K>(
+fn play_over<B, H: Host, R: Read, W: Write, E: Write, K: KeepsEnds>(
     rt: H,
     alloc: Global,
     live: &Live,
@@ -282,11 +229,6 @@ fn play_over<B, H, R, W, E, K>(
 ) -> Result<bool, Failure>
 where
     B: HistoryName + Send + Sync + 'static,
-    H: Threads + Wait + Clock + Copy,
-    R: Read,
-    W: Write,
-    E: Write,
-    K: KeepsEnds,
     ensures word { result ≢ Err Failure.BadWord }
     ensures kept { WasKept K.keeps B.start keeper.old keeper.new }
 {
@@ -296,7 +238,7 @@ where
             alloc,
             &cluster,
             switches,
-            live.patience,
+            live.wait_limit,
             live.typed,
         );
         if live.typed {

@@ -4,7 +4,7 @@
 
 use crate::walks::Plays;
 use cpg_cred::Refusal;
-use cpg_step::{command_in_line, do_command};
+use cpg_step::{SteppedAsText, command_in_line, do_command};
 use cpg_world::World;
 use std::alloc::Global;
 
@@ -32,7 +32,7 @@ impl Plays for OverWorld {
         match command_in_line(alloc, self.world.nodes(), line)? {
             None => Ok(false),
             Some(command) => {
-                do_command(alloc, text, &mut self.world, command)?;
+                do_command(alloc, text, &mut SteppedAsText, 0, &mut self.world, command)?;
                 Ok(true)
             }
         }

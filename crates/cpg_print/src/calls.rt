@@ -9,10 +9,11 @@ ghost use Rattle.cpg_print.specs.Steps.{keeps_limits, sends_few};
 ghost use Rattle.cpg_print.specs.Words.{texts};
 ghost use Rattle.cpg_text.specs.Percent.{message_of};
 
+use crate::naming::NewNames;
 use crate::plain_calls::{make_call, plain_call};
 use crate::rules::{put_rule, read_rule};
 use cpg_cred::Refusal;
-use cpg_entry::{Call, MOST_MESSAGE_BYTES, Message, Name, Op, accepts_name};
+use cpg_entry::{Call, MOST_MESSAGE_BYTES, Message, Name, Op, SharedRule, accepts_name};
 use cpg_rules::Rule;
 use cpg_text::{
     is, message_length, plain_message, push_message, push_number, put, put_bytes, read_message,
@@ -56,7 +57,7 @@ pub fn put_call(line: &mut Vec<u8>, call: &Call) -> Result<(), Refusal>
             put(line, " ")?;
             push_number(line, u64::from(*index))?;
             put(line, " ")?;
-            put_rule(line, *rule)
+            put_rule(line, *rule.get())
         }
         Call::Remove(group, id) => {
             put(line, " remove ")?;
@@ -126,7 +127,7 @@ pub fn read_call_in(alloc: Global, text: &[u8]) -> Result<Option<Call>, Refusal>
     ensures memory { IsOkUnlessMemoryFor result (call_of (words_of text.now)) }
 {
     if let Some((verb, argument)) = plain_call(text) {
-        return Ok(Some(make_call(alloc, verb, argument)?));
+        return Ok(Some(make_call(alloc, &NewNames, verb, argument)?));
     }
     let words = take_words::<WORDS>(text);
     read_call(alloc, words.as_slice())
@@ -180,7 +181,12 @@ fn read_text(alloc: Global, text: &[u8]) -> Result<Option<Message>, Refusal>
 {
     match plain_message(text) {
         Some(bytes) => Ok(Some(Message::from_slice(alloc, bytes)?)),
-        None => Ok(read_message(alloc, text)?.map(|bytes| Message::from_vec(bytes))),
+        None => {
+            let Some(bytes) = read_message(alloc, text)? else {
+                return Ok(None);
+            };
+            Ok(Some(Message::from_vec(bytes)?))
+        }
     }
 }
 
@@ -211,6 +217,7 @@ fn insert_at(
     match (position, rule) {
         (Some(index), Some(rule)) => {
             let group = Name::from_slice(alloc, group)?;
+            let rule = SharedRule::new(alloc, rule)?;
             Ok(Some(Call::Insert(group, index as u8, rule)))
         }
         _ => Ok(None),

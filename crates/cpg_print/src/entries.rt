@@ -10,6 +10,7 @@ ghost use Rattle.cpg_print.specs.Steps.{call_by, within_limits};
 ghost use Rattle.cpg_print.specs.Words.{texts};
 
 use crate::calls::{WORDS, is_enterable, keeps_limits, put_op, read_op};
+use crate::naming::{GivesNames, NewNames};
 use crate::plain_calls::{Verb, is_call_within, make_call, plain_call};
 use cpg_cred::{Cred, MOST_NODES, NodeId, Refusal};
 use cpg_entry::{Entry, MOST_CONNECTIONS, Op};
@@ -134,11 +135,16 @@ fn conn_in_limits(node: u32, conn: u32) -> Option<ConnId>
 /// The entry of that caller whose op the text says.
 #[inline(always)]
 #[tactic(auto, using(crate::proofs::Somes::mapped))]
-fn read_entry_by(alloc: Global, caller: Caller, text: &[u8]) -> Result<Option<Entry>, Refusal>
+fn read_entry_by<N: GivesNames>(
+    alloc: Global,
+    names: &N,
+    caller: Caller,
+    text: &[u8],
+) -> Result<Option<Entry>, Refusal>
     ensures ok { IfOk result (λ found. found ≡ option_map (λ op. entry_by caller op) (enterable_op (words_of text.now))) }
     ensures memory { IsOkUnlessMemoryFor result (option_map (λ op. entry_by caller op) (enterable_op (words_of text.now))) }
 {
-    match read_enterable_in(alloc, text)? {
+    match read_enterable_in(alloc, names, text)? {
         None => Ok(None),
         Some(op) => Ok(Some(entry_by(caller, op))),
     }
@@ -146,26 +152,35 @@ fn read_entry_by(alloc: Global, caller: Caller, text: &[u8]) -> Result<Option<En
 
 /// The op that a text says, within its limits. A plain join or send, as most ops are, is read where it stands.
 #[inline(always)]
-fn read_enterable_in(alloc: Global, text: &[u8]) -> Result<Option<Op>, Refusal>
+fn read_enterable_in<N: GivesNames>(
+    alloc: Global,
+    names: &N,
+    text: &[u8],
+) -> Result<Option<Op>, Refusal>
     ensures ok { IfOk result (λ found. found ≡ enterable_op (words_of text.now)) }
     ensures memory { IsOkUnlessMemoryFor result (enterable_op (words_of text.now)) }
 {
     match plain_call(text) {
-        Some((verb, argument)) => call_within(alloc, verb, argument),
+        Some((verb, argument)) => call_within(alloc, names, verb, argument),
         None => read_enterable_words(alloc, text),
     }
 }
 
 /// The call of that verb and argument, if it is within the limits of calls.
 #[inline(always)]
-fn call_within(alloc: Global, verb: Verb, argument: &[u8]) -> Result<Option<Op>, Refusal>
+fn call_within<N: GivesNames>(
+    alloc: Global,
+    names: &N,
+    verb: Verb,
+    argument: &[u8],
+) -> Result<Option<Op>, Refusal>
     ensures ok { IfOk result (λ found. found ≡ within_limits (Act (call_by verb argument.now))) }
     ensures memory { IsOkUnlessMemoryFor result (within_limits (Act (call_by verb argument.now))) }
 {
     if !is_call_within(verb, argument) {
         return Ok(None);
     }
-    let call = make_call(alloc, verb, argument)?;
+    let call = make_call(alloc, names, verb, argument)?;
     Ok(Some(Op::Act(call)))
 }
 
@@ -247,8 +262,21 @@ pub fn entry_in_line(alloc: Global, line: &[u8]) -> Result<Option<Entry>, Refusa
     ensures ok { IfOk result (λ found. found ≡ entry_of (words_of line.now)) }
     ensures memory { IsOkUnlessMemoryFor result (entry_of (words_of line.now)) }
 {
+    entry_with_names(alloc, &NewNames, line)
+}
+
+/// The same, where the name of a plain join is one that `names` gives.
+#[inline(always)]
+pub fn entry_with_names<N: GivesNames>(
+    alloc: Global,
+    names: &N,
+    line: &[u8],
+) -> Result<Option<Entry>, Refusal>
+    ensures ok { IfOk result (λ found. found ≡ entry_of (words_of line.now)) }
+    ensures memory { IsOkUnlessMemoryFor result (entry_of (words_of line.now)) }
+{
     match take_caller(line) {
         None => Ok(None),
-        Some((caller, text)) => read_entry_by(alloc, caller, text),
+        Some((caller, text)) => read_entry_by(alloc, names, caller, text),
     }
 }

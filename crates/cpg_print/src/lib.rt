@@ -10,6 +10,7 @@ mod calls;
 mod entries;
 mod events;
 mod laws;
+mod naming;
 mod plain_calls;
 mod records;
 mod rules;
@@ -19,12 +20,13 @@ pub use answers::{
     put_groups_line, put_members_line, put_refused_line, put_safe_line, put_took_line,
 };
 pub use calls::{put_call, read_call, read_call_in};
-pub use entries::{entry_in_line, put_conn, put_entry};
+pub use entries::{entry_in_line, entry_with_names, put_conn, put_entry};
 pub use events::{
     put_change_line, put_change_with, put_event, put_inbox, put_message_line, put_rules_line,
     put_verdict_line,
 };
 pub use laws::{calls_read_back, entries_read_back, rules_read_back, whos_read_back};
+pub use naming::{GivesNames, NewNames};
 pub use records::{put_audit, put_audit_with, put_count, put_members};
 pub use rules::{node_number, put_rule};
 pub use verdicts::put_verdict;

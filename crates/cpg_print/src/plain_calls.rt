@@ -8,8 +8,9 @@ ghost use Rattle.cpg_text.specs.Lines.{words_of};
 ghost use Rattle.cpg_print.specs.Calls.{call_of, is_within_limits};
 ghost use Rattle.cpg_print.specs.Steps.{call_by, verb_word};
 
+use crate::naming::GivesNames;
 use cpg_cred::Refusal;
-use cpg_entry::{Call, MOST_MESSAGE_BYTES, Message, Name, accepts_name};
+use cpg_entry::{Call, MOST_MESSAGE_BYTES, Message, accepts_name};
 use cpg_text::is_plain_word;
 use std::alloc::Global;
 
@@ -57,14 +58,19 @@ pub(crate) fn is_call_within(verb: Verb, argument: &[u8]) -> bool
     }
 }
 
-/// The call of that verb and argument.
+/// The call of that verb and argument, with a name that `names` gives.
 #[inline(always)]
-pub(crate) fn make_call(alloc: Global, verb: Verb, argument: &[u8]) -> Result<Call, Refusal>
+pub(crate) fn make_call<N: GivesNames>(
+    alloc: Global,
+    names: &N,
+    verb: Verb,
+    argument: &[u8],
+) -> Result<Call, Refusal>
     ensures ok { IfOk result (λ call. call ≡ call_by verb argument.now) }
     ensures memory { IsOkUnless result Refusal.Memory }
 {
     Ok(match verb {
         Verb::Send => Call::Send(Message::from_slice(alloc, argument)?),
-        Verb::Join => Call::Join(Name::from_slice(alloc, argument)?),
+        Verb::Join => Call::Join(names.name(alloc, argument)?),
     })
 }

@@ -19,7 +19,7 @@ pub fn put_audit(line: &mut Vec<u8>, place: u32, past: &Record) -> Result<(), Re
     ensures ok { OnOk result (line.new.items ≡ line.old.items ++ audit_line place past.now) }
     ensures memory { IsOkUnless result Refusal.Memory }
 {
-    put_asked(line, place, past.entry())?;
+    put_asked(line, place, &past.entry)?;
     put_outcome(line, past)?;
     put_byte(line, b'\n')
 }
@@ -71,7 +71,7 @@ pub fn put_audit_with(
     ensures ok { OnOk result (line.new.items ≡ line.old.items ++ audit_line place past.now) }
     ensures memory { IsOkUnless result Refusal.Memory }
 {
-    put_asked(line, place, past.entry())?;
+    put_asked(line, place, &past.entry)?;
     put_verdict(line, past.verdict)?;
     put_group_with(line, past, members)?;
     put_byte(line, b'\n')

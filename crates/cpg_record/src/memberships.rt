@@ -153,16 +153,16 @@ impl Members {
         if !past.verdict.is_allowed() {
             return Ok(());
         }
-        match &past.entry().op {
+        match &past.entry.op {
             Op::Act(Call::Join(name)) => {
                 if name.is(group) {
-                    let list = with_member(self.alloc, self.as_slice(), Member::of(past.entry()))?;
+                    let list = with_member(self.alloc, self.as_slice(), Member::of(&past.entry))?;
                     self.list = Some(list);
                 }
                 Ok(())
             }
             Op::Act(Call::Leave) | Op::Gone => {
-                let list = without_conn(self.alloc, self.as_slice(), &ConnId::of(past.entry()))?;
+                let list = without_conn(self.alloc, self.as_slice(), &ConnId::of(&past.entry))?;
                 self.list = Some(list);
                 Ok(())
             }
@@ -187,7 +187,10 @@ fn without_conn(alloc: Global, members: &[Member], conn: &ConnId) -> Result<Arc<
     ensures ok { IfOk result (λ list. (arc_value list).items ≡ without conn.now members.now) }
     ensures memory { IsOkUnless result Refusal.Memory }
 {
-    let mut list = Vec::from_slice(alloc, members)?;
-    list.retain(|member| !member.conn_id().is(conn));
-    Ok(Arc::new(alloc, Kept::from_vec(list))?)
+    let list: Kept = members
+        .iter()
+        .copied()
+        .filter(|member| !member.conn_id().is(conn))
+        .collect(alloc)?;
+    Ok(Arc::new(alloc, list)?)
 }

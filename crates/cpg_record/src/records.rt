@@ -5,15 +5,14 @@ ghost use Rattle.std.specs.Prelude.{◌≡◌, ◌↔◌, ◌++◌, ◌∷◌, [
 use crate::memberships::Members;
 use crate::verdicts::Verdict;
 use cpg_cred::Refusal;
-use cpg_entry::{Entry, Name, SharedEntry};
+use cpg_entry::{Entry, Name};
 use std::alloc::{AllocFailed, Global};
 use std::marker::Model;
 
 /// An entry, its group, what it was answered, and the members of its group after it.
 #[derive(Debug, Drop)]
 pub struct Record {
-    /// The entry, which `entry()` lends.
-    pub entry: SharedEntry,
+    pub entry: Entry,
     /// The group that the entry names, else the one that its connection was in.
     pub group: Option<Name>,
     pub verdict: Verdict,
@@ -33,29 +32,12 @@ fn equal_groups(a: &Option<Name>, b: &Option<Name>) -> bool
 }
 
 impl Record {
-    /// The entry.
-    pub fn entry(&self) -> &Entry
-        ensures { result.now ≡ self.now.entry }
-    {
-        self.entry.get()
-    }
-
-    /// Takes the entry of another record of the same one in place of its own, so that the two have it in common.
-    pub fn share_entry(&mut self, other: &Record)
-        requires { (self.old).entry ≡ (other.now).entry }
-        ensures { self.new ≡ self.old }
-    {
-        if let Ok(entry) = other.entry.share() {
-            self.entry = entry;
-        }
-    }
-
     /// The same record.
     pub fn copy(&self, alloc: Global) -> Result<Record, Refusal>
         ensures ok { IfOk result (λ copy. copy ≡ self.now) }
         ensures memory { IsOkUnless result Refusal.Memory }
     {
-        let entry = self.entry.share()?;
+        let entry = self.entry.copy(alloc)?;
         let group = match &self.group {
             Some(group) => Some(group.copy(alloc)?),
             None => None,

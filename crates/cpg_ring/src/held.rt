@@ -14,7 +14,7 @@ ghost use Rattle.cpg_ring.specs.Laws.{AllHeld, NoneAbove};
 ghost use Rattle.cpg_ring.specs.Kept.{in_slot, kept_at};
 
 use crate::settings::{Settings, WINDOW};
-use cpg_entry::{Entry, Keeper, Ledger, MOST_PLACES, Packet, Refusal, Shelf};
+use cpg_entry::{Entry, Ledger, MOST_PLACES, Packet, Refusal, Shelf};
 use std::alloc::Global;
 use std::marker::Model;
 
@@ -178,11 +178,11 @@ impl Held {
     /// Takes the first delivered entries that it has of its own from the shelf, where they lie for all that delivered
     /// the same.
     #[tactic(auto, using(crate::proofs::Slots::roomier_kept))]
-    pub fn share<K: Keeper>(&mut self, shelf: &Shelf, keeper: &K)
+    pub fn share(&mut self, shelf: &Shelf)
         ensures places { self.new.places ≡ self.old.places }
         ensures delivered { self.new.delivered ≡ self.old.delivered }
     {
-        self.done.share(shelf, keeper);
+        self.done.share(shelf);
     }
 
     /// What was delivered; what is held above it is freed.

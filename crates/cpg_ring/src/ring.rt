@@ -22,7 +22,7 @@ use crate::settings::{MOST_WAITING, Settings, WINDOW};
 use crate::waiting::Waiting;
 use cpg_cred::{MOST_NODES, Refused};
 use cpg_entry::{
-    Entry, Keeper, Ledger, MOST_HOPS, MOST_PLACES, NodeId, Packet, Places, Refusal, Shelf, Token,
+    Entry, Ledger, MOST_HOPS, MOST_PLACES, NodeId, Packet, Places, Refusal, Shelf, Token,
 };
 use std::alloc::Global;
 use std::marker::Model;
@@ -153,11 +153,13 @@ impl Ring {
     }
 
     /// Takes the first delivered entries that it has of its own from the shelf, where they lie for all that delivered
-    /// the same: who asks the ring sees no difference.
-    pub fn share<K: Keeper>(&mut self, shelf: &Shelf, keeper: &K)
+    /// the same: who asks the ring sees no difference. A ring of one node shares nothing.
+    pub fn share(&mut self, shelf: &Shelf)
         ensures { self.new ≡ self.old }
     {
-        self.held.share(shelf, keeper);
+        if self.settings.nodes > 1 {
+            self.held.share(shelf);
+        }
     }
 
     /// What it delivered, for who frees it piece by piece; all else of it is freed.

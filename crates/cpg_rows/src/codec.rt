@@ -3,7 +3,7 @@
 use crate::player::{Plays, Row};
 use crate::printing::put_frame;
 use crate::spelling::put_spelled;
-use crate::words::{NO_COMMAND, put_hex, put_number_line};
+use crate::words::{NO_COMMAND, are_same_packets, put_hex, put_number_line};
 use bytes::Bytes;
 use cpg_cred::Refusal;
 use cpg_entry::Frame;
@@ -73,10 +73,19 @@ fn put_encoded(alloc: Global, line: &mut Vec<u8>, bytes: &[u8]) -> Result<(), Re
     put
 }
 
+/// Whether the frames are the same.
+fn are_same(one: &Frame, other: &Frame) -> bool {
+    match (one, other) {
+        (Frame::Packet(a), Frame::Packet(b)) => are_same_packets(a, b),
+        (Frame::Token(a), Frame::Token(b)) => *a == *b,
+        _ => false,
+    }
+}
+
 /// Whether the bytes spell that frame.
 fn spell(alloc: Global, bytes: &[u8], frame: &Frame) -> Result<bool, Refusal> {
     let other = decode(alloc, bytes)?;
-    let alike = other == *frame;
+    let alike = are_same(&other, frame);
     drop(other);
     Ok(alike)
 }

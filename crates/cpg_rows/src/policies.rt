@@ -9,7 +9,7 @@ use crate::words::{
     put_whether, three, two,
 };
 use cpg_cred::{By, Refusal, Refused};
-use cpg_entry::{Entry, Name, Packet, SharedEntry};
+use cpg_entry::{Entry, Name, Packet};
 use cpg_group::{MOST_PLACES, Policy, verify};
 use cpg_print::{put_event, put_groups_line, put_members, put_members_line};
 use cpg_record::{ConnId, Events, Members, Reason, Record, Records, Verdict};
@@ -54,11 +54,11 @@ pub fn judge_line(alloc: Global, policy: &mut Policy, text: &[u8]) -> Result<(),
 }
 
 /// What is answered to an entry, which comes back as it was.
-fn entered(answer: Result<(), Refused<SharedEntry>>, handed: &Entry) -> Result<(), Refusal> {
+fn entered(answer: Result<(), Refused<Entry>>, handed: &Entry) -> Result<(), Refusal> {
     match answer {
         Ok(()) => Ok(()),
         Err(refused) => {
-            let is_same = refused.back.get().equals(handed);
+            let is_same = refused.back.equals(handed);
             let refusal = refused.into_refusal();
             Err(if is_same { refusal } else { Refusal::Differs })
         }
@@ -70,7 +70,7 @@ fn enter(alloc: Global, policy: &mut Policy, entry: &Entry) -> Result<(), Refusa
     if policy.len() >= MOST_PLACES as usize {
         return Err(NO_COMMAND);
     }
-    entered(policy.enter(SharedEntry::copy_of(alloc, entry)?), entry)
+    entered(policy.enter(entry.copy(alloc)?), entry)
 }
 
 fn enter_line(alloc: Global, policy: &mut Policy, text: &[u8]) -> Result<(), Refusal> {
@@ -294,7 +294,7 @@ fn put_packets(alloc: Global, line: &mut Vec<u8>, records: &[Record]) -> Result<
         let packet = Packet {
             ring: 1,
             place,
-            entry: record.entry().copy(alloc)?,
+            entry: record.entry.copy(alloc)?,
         };
         put_packet(alloc, line, packet)?;
     }

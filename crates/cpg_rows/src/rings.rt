@@ -6,7 +6,9 @@ ghost use Rattle.cpg_entry.specs.Ranges.{IsFrame};
 use crate::player::{Plays, Row};
 use crate::printing::{put_packet, put_token};
 use crate::spelling::put_spelled;
-use crate::words::{NO_COMMAND, entry, first, is_word, node, put_number_line, settings};
+use crate::words::{
+    NO_COMMAND, are_same_packets, entry, first, is_word, node, put_number_line, settings,
+};
 use cpg_cred::{Refusal, Refused};
 use cpg_entry::{Entry, Frame, Packet};
 use cpg_print::put_entry;
@@ -37,7 +39,7 @@ fn held(answer: Result<(), Refused<Packet>>, handed: &Packet) -> Result<(), Refu
     match answer {
         Ok(()) => Ok(()),
         Err(refused) => {
-            let is_same = refused.back == *handed;
+            let is_same = are_same_packets(&refused.back, handed);
             let refusal = refused.into_refusal();
             Err(if is_same { refusal } else { Refusal::Differs })
         }

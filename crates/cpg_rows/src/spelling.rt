@@ -141,7 +141,7 @@ fn put_call(bytes: &mut Vec<u8>, call: &Call) -> Result<(), Refusal> {
         Call::Insert(name, position, rule) => {
             put_name(bytes, 4, name)?;
             put_byte(bytes, *position)?;
-            put_rule(bytes, rule)
+            put_rule(bytes, rule.get())
         }
         Call::Remove(name, id) => {
             put_name(bytes, 5, name)?;

@@ -4,7 +4,7 @@ use crate::tables::put_rules_of;
 use crate::words::{NO_COMMAND, number};
 use cpg_cred::Refusal;
 use cpg_entry::{Call, Entry, Name, Op};
-use cpg_group::{MOST_PLACES, Policy, Trail};
+use cpg_group::{ConnectionLog, MOST_PLACES, Policy};
 use cpg_print::{put_audit, put_conn, put_members, put_verdict};
 use cpg_record::{ConnId, Member, Record};
 use cpg_text::{push_number, put, put_bytes, take_word};
@@ -103,9 +103,9 @@ fn put_each_group(line: &mut Vec<u8>, policy: &Policy) -> Result<(), Refusal> {
 }
 
 /// Puts the own places of a connection, each behind a space.
-fn put_trail(line: &mut Vec<u8>, trail: &Trail<'_>, most: usize) -> Result<(), Refusal> {
+fn put_log(line: &mut Vec<u8>, log: &ConnectionLog<'_>, most: usize) -> Result<(), Refusal> {
     for number in 0..most {
-        match trail.own(number) {
+        match log.own(number) {
             Some(place) => put_places(line, &[place])?,
             None => break,
         }
@@ -123,14 +123,14 @@ fn bytes_of(name: Option<&Name>) -> &[u8] {
 
 /// Puts a connection's own places and the group that it is in.
 fn put_connection(line: &mut Vec<u8>, policy: &Policy, conn: &ConnId) -> Result<(), Refusal> {
-    let trail = policy.trail(*conn);
+    let log = policy.log(*conn);
     let last = u32::try_from(policy.len()).unwrap_or(0);
     put(line, "connection ")?;
     put_conn(line, conn)?;
     put(line, " places")?;
-    put_trail(line, &trail, policy.len())?;
+    put_log(line, &log, policy.len())?;
     put(line, " group ")?;
-    put_bytes(line, bytes_of(trail.group_after(last)))?;
+    put_bytes(line, bytes_of(log.group_after(last)))?;
     put(line, "\n")
 }
 
@@ -150,7 +150,7 @@ pub fn put_policy(line: &mut Vec<u8>, policy: &Policy) -> Result<(), Refusal> {
 
 /// A join of the group by the member's process, with a connection of its own.
 fn join_by(alloc: Global, record: &Record, name: &Name) -> Result<Entry, Refusal> {
-    let entry = record.entry();
+    let entry = &record.entry;
     Ok(Entry {
         node: entry.node,
         conn: u16::MAX,
@@ -180,7 +180,7 @@ fn put_process(
     name: &Name,
 ) -> Result<(), Refusal> {
     put(line, "process ")?;
-    put_members(line, &[Member::of(record.entry())])?;
+    put_members(line, &[Member::of(&record.entry)])?;
     put(line, " ")?;
     let entry = join_by(alloc, record, name)?;
     let put_it = put_judged(line, policy, &entry);

@@ -3,7 +3,7 @@
 ghost use Rattle.std.specs.Prelude.{◌≤◌, IfOk};
 
 use cpg_cred::{AcceptList, Cred, NodeId, Refusal};
-use cpg_entry::{Call, Entry};
+use cpg_entry::{Call, Entry, Packet};
 use cpg_print::{entry_in_line, read_call};
 use cpg_record::ConnId;
 use cpg_ring::Settings;
@@ -15,6 +15,11 @@ use std::alloc::Global;
 
 /// Why a row is no command.
 pub const NO_COMMAND: Refusal = Refusal::BadCommand(0);
+
+/// Whether the packets are the same.
+pub fn are_same_packets(one: &Packet, other: &Packet) -> bool {
+    one.ring == other.ring && one.place == other.place && one.entry.equals(&other.entry)
+}
 
 /// The first word, and what follows it.
 pub fn first(text: &[u8]) -> Result<(&[u8], &[u8]), Refusal> {
@@ -102,7 +107,7 @@ pub fn rule(alloc: Global, text: &[u8]) -> Result<Rule, Refusal> {
     let words = [b"insert".as_slice(), b"g", b"0", effect, right, who];
     let call = read_call(alloc, words.as_slice())?;
     match &call {
-        Some(Call::Insert(_, _, rule)) => Ok(*rule),
+        Some(Call::Insert(_, _, rule)) => Ok(*rule.get()),
         _ => Err(NO_COMMAND),
     }
 }

@@ -5,6 +5,7 @@ use Rattle.std.specs.List.{AllByRecursion, filter, slice_get}
 use Rattle.std.proofs.lemmas.List.{map-append, take_more}
 use Rattle.std.proofs.lemmas.Option.{none-some, same_Some}
 use Rattle.cpg_cred.specs.declared.credentials.Cred.{Cred}
+use Rattle.cpg_cred.specs.Listed.{Listed}
 use Rattle.cpg_rules.specs.declared.rules.Rule.{Rule}
 use Rattle.cpg_rules.specs.Tables.{Rules}
 use Rattle.cpg_entry.specs.declared.calls.Call.{Call}
@@ -25,25 +26,28 @@ use Rattle.cpg_node.specs.Nodes.{NodeValue, conn_id, entry_by, if_open, open_cli
 use Rattle.cpg_node.specs.Calls.{connected, disconnected, ended_by, submitted, with_entry}
 use Rattle.cpg_ask.proofs.Mapped.{length_mapped}
 use Rattle.cpg_serve.specs.Renewing.{Root, Seat, TableOf, all_inserts, bare, held_by, inserts, root_entry, seat_entry}
-use Rattle.cpg_serve.specs.Settling.{HasTurned, IsAlike, IsLone, IsStill}
-use Rattle.cpg_serve.specs.Carrying.{ConnectsBy, HasEntered, HasNumber, HasParted, HasPut, HaveConnected, HaveJoined, IsBegun, IsRoot, anew, living, number_at, numbered, renumbered, table_of}
+use Rattle.cpg_serve.specs.Settling.{HasTurned, IsAlike, IsBrisk, IsLone, IsStill}
+use Rattle.cpg_serve.specs.Carrying.{ConnectsBy, HasEntered, HasNumber, HasParted, HasPut, HaveConnected, HaveJoined, IsBegun, IsLetIn, IsRoot, anew, living, number_at, numbered, renumbered, table_of}
 use Rattle.cpg_serve.proofs.Settled.{lone_entry}
 use Rattle.cpg_serve.proofs.Turns.{alike_same, alike_then}
 
 -- ---- an entry is made, and the ring turns
 
-begun_more : (x w y : NodeValue) (es : List Entry) (e : Entry) (t : Token) → IsStill x → IsLone w.ring t es → w.ring.state.waiting ≡ x.ring.state.waiting ++ e ∷ [] → HasTurned w y → IsStill y → IsBegun y (es ++ e ∷ [])
-begun_more x w y es e t before lone waits turned still =
+begun_more : (x w y : NodeValue) (es : List Entry) (e : Entry) (t : Token) → IsStill x → t.hop ≤ length es → IsLone w.ring t es → w.ring.state.waiting ≡ x.ring.state.waiting ++ e ∷ [] → HasTurned w y → IsStill y → IsBrisk w.ring y.ring → IsBegun y (es ++ e ∷ [])
+begun_more x w y es e t before hop lone waits turned still brisk =
     let s = turned.lone t es lone in
     let same : s.more ≡ es ++ e ∷ [] =
     sym (append-nil s.more) ∙ ap (λ l. s.more ++ l) (sym still.0) ∙ s.same ∙ ap (λ l. es ++ l) (waits ∙ ap (λ l. l ++ e ∷ []) before.0) in
-    record { still = still; token = s.token; lone = subst (IsLone y.ring s.token) same s.is }
+    let one : length w.ring.state.waiting ≡ 1 = ap (λ (l : List Entry). length l) (waits ∙ ap (λ l. l ++ e ∷ []) before.0) in
+    let count : length (es ++ e ∷ []) ≡ length es + 1 = length-append es (e ∷ []) in
+    let turns = brisk.turns t s.token es s.more lone s.is in
+    record { still = still; token = s.token; hop = omega (arith, one, count, turns, hop); lone = subst (IsLone y.ring s.token) same s.is }
 
-waits_last : (x : NodeValue) (conn : ℕ) (op : Op) (c : Client) (o : Option Client) → o ≡ Some c → (with_entry x conn op o).ring.state.waiting ≡ x.ring.state.waiting ++ entry_by x conn c op ∷ []
+pub waits_last : (x : NodeValue) (conn : ℕ) (op : Op) (c : Client) (o : Option Client) → o ≡ Some c → (with_entry x conn op o).ring.state.waiting ≡ x.ring.state.waiting ++ entry_by x conn c op ∷ []
 waits_last x conn op c None e = absurd (none-some c e)
 waits_last x conn op c (Some d) e = ap (λ (k : Client). x.ring.state.waiting ++ entry_by x conn k op ∷ []) (same_Some d c e)
 
-entry_alike : (x : NodeValue) (conn : ℕ) (op : Op) (o : Option Client) → IsAlike x (with_entry x conn op o)
+pub entry_alike : (x : NodeValue) (conn : ℕ) (op : Op) (o : Option Client) → IsAlike x (with_entry x conn op o)
 entry_alike x conn op None = alike_same x
 entry_alike x conn op (Some c) = record { settings = refl; number = refl; list = refl }
 
@@ -51,25 +55,25 @@ entry_clients : (x : NodeValue) (conn : ℕ) (op : Op) (o : Option Client) → (
 entry_clients x conn op None = refl
 entry_clients x conn op (Some c) = refl
 
-pub entered : (x w y : NodeValue) (conn : ℕ) (call : Call) → w ≡ submitted x conn call → HasTurned w y → IsStill y → HasEntered conn (Act call) x y
-entered x w y conn call is turned still = record {
+pub entered : (x w y : NodeValue) (conn : ℕ) (call : Call) → w ≡ submitted x conn call → HasTurned w y → IsStill y → IsBrisk w.ring y.ring → HasEntered conn (Act call) x y
+entered x w y conn call is turned still brisk = record {
   alike = alike_then x w y (subst (IsAlike x) (sym is) (entry_alike x conn (Act call) (open_client x conn))) turned.alike;
   clients = turned.clients ∙ ap (λ (z : NodeValue). z.clients) is ∙ entry_clients x conn (Act call) (open_client x conn);
-  begun = λ es c there b. begun_more x w y es (entry_by x conn c (Act call)) b.token b.still
+  begun = λ es c there b. begun_more x w y es (entry_by x conn c (Act call)) b.token b.still b.hop
       (subst (λ (z : NodeValue). IsLone z.ring b.token es) (sym is) (lone_entry x conn (Act call) (open_client x conn) b.token es b.lone))
-      (ap (λ (z : NodeValue). z.ring.state.waiting) is ∙ waits_last x conn (Act call) c (open_client x conn) there) turned still;
+      (ap (λ (z : NodeValue). z.ring.state.waiting) is ∙ waits_last x conn (Act call) c (open_client x conn) there) turned still brisk;
 }
 
-parted_by : (x : NodeValue) (conn : ℕ) (c : Client) → open_client x conn ≡ Some c → disconnected x conn ≡ ended_by x conn (Some c)
+pub parted_by : (x : NodeValue) (conn : ℕ) (c : Client) → open_client x conn ≡ Some c → disconnected x conn ≡ ended_by x conn (Some c)
 parted_by x conn c e = ap (ended_by x conn) e
 
-pub parted : (x w y : NodeValue) (conn : ℕ) → w ≡ disconnected x conn → HasTurned w y → IsStill y → HasParted conn x y
-parted x w y conn is turned still = record {
+pub parted : (x w y : NodeValue) (conn : ℕ) → w ≡ disconnected x conn → HasTurned w y → IsStill y → IsBrisk w.ring y.ring → HasParted conn x y
+parted x w y conn is turned still brisk = record {
   alike = alike_then x w y (subst (IsAlike x) (sym is) (ended_alike (open_client x conn))) turned.alike;
   clients = λ c there. turned.clients ∙ ap (λ (z : NodeValue). z.clients) (is ∙ parted_by x conn c there);
-  begun = λ es c there b. begun_more x w y es (entry_by x conn c Gone) b.token b.still
+  begun = λ es c there b. begun_more x w y es (entry_by x conn c Gone) b.token b.still b.hop
       (subst (λ (z : NodeValue). IsLone z.ring b.token es) (sym (is ∙ parted_by x conn c there)) (lone_entry x conn Gone (Some c) b.token es b.lone))
-      (ap (λ (z : NodeValue). z.ring.state.waiting) (is ∙ parted_by x conn c there)) turned still;
+      (ap (λ (z : NodeValue). z.ring.state.waiting) (is ∙ parted_by x conn c there)) turned still brisk;
 }
   where
     ended_alike : (o : Option Client) → IsAlike x (ended_by x conn o)
@@ -111,15 +115,22 @@ numbered_push n (k ∷ cs) c = by_end k.ended (numbered_push n cs c) (numbered_p
     by_end false e f = ap (λ (l : List ℕ). suc n ∷ l) (f ∙ ap (λ m. numbered (suc n) cs ++ last_number c m ∷ []) (omega arith))
 
 pub connected_none : (x : NodeValue) → HaveConnected [] [] x x
-connected_none x = record { ring = refl; list = refl; given = refl; alive = sym (append-nil (map anew x.clients)) }
+connected_none x = record { ring = refl; list = refl; given = refl; alive = sym (append-nil (map anew x.clients)); let_in = tt }
+
+one_more_in : (list : Listed) (cs : List Client) (c : Client) → AllByRecursion (IsLetIn list) cs → IsLetIn list c → AllByRecursion (IsLetIn list) (cs ++ c ∷ [])
+one_more_in list [] c h k = (k, tt)
+one_more_in list (d ∷ cs) c h k = (h.0, one_more_in list cs c h.1 k)
+
+pub connected_count : (cs : List Client) (numbers : List ℕ) (x y : NodeValue) → HaveConnected cs numbers x y → length y.clients ≡ length x.clients + length (living cs)
+connected_count cs numbers x y h = sym (length_mapped anew y.clients) ∙ ap (λ (l : List Client). length l) h.alive ∙ length-append (map anew x.clients) (map anew (living cs))
+    ∙ ap (λ n. n + length (map anew (living cs))) (length_mapped anew x.clients) ∙ ap (λ n. length x.clients + n) (length_mapped anew (living cs))
 
 -- one client more
 connected_by : (cs : List Client) (c : Client) (numbers : List ℕ) (number : ℕ) (x y z : NodeValue) → HaveConnected cs numbers x y → ConnectsBy (if c.ended then None else Some c) number y z → HaveConnected (cs ++ c ∷ []) (numbers ++ number ∷ []) x z
 connected_by cs c numbers number x y z h k = by_end c.ended refl k
   where
     count : length y.clients ≡ length x.clients + length (living cs)
-    count = sym (length_mapped anew y.clients) ∙ ap (λ (l : List Client). length l) h.alive ∙ length-append (map anew x.clients) (map anew (living cs))
-        ∙ ap (λ n. n + length (map anew (living cs))) (length_mapped anew x.clients) ∙ ap (λ n. length x.clients + n) (length_mapped anew (living cs))
+    count = connected_count cs numbers x y h
 
     by_end : (b : Bool) → c.ended ≡ b → ConnectsBy (if b then None else Some c) number y z → HaveConnected (cs ++ c ∷ []) (numbers ++ number ∷ []) x z
     by_end true e k = record {
@@ -128,6 +139,7 @@ connected_by cs c numbers number x y z h k = by_end c.ended refl k
       given = ap (λ l. l ++ number ∷ []) h.given ∙ ap (λ n. numbered (length x.clients) cs ++ n ∷ []) (k.0 ∙ ap (λ (b : Bool). if b then 0 else suc (length x.clients + length (living cs))) (sym e)) ∙ sym (numbered_push (length x.clients) cs c);
       alive = ap (λ (w : NodeValue). map anew w.clients) k.1 ∙ h.alive
           ∙ ap (λ (l : List Client). map anew x.clients ++ map anew l) (sym (living_push cs c ∙ ap (λ (b : Bool). living cs ++ (if b then [] else c ∷ [])) e ∙ append-nil (living cs)));
+      let_in = subst (AllByRecursion (IsLetIn x.list)) (sym (living_push cs c ∙ ap (λ (b : Bool). living cs ++ (if b then [] else c ∷ [])) e ∙ append-nil (living cs))) h.let_in;
     }
     by_end false e k = record {
       ring = ap (λ (w : NodeValue). w.ring) k.1 ∙ h.ring;
@@ -138,6 +150,8 @@ connected_by cs c numbers number x y z h k = by_end c.ended refl k
           ∙ append_assoc (map anew x.clients) (map anew (living cs)) (anew new ∷ [])
           ∙ ap (λ (l : List Client). map anew x.clients ++ l) (ap (λ (k : Client). map anew (living cs) ++ k ∷ []) same ∙ sym (map-append anew (living cs) (c ∷ [])))
           ∙ ap (λ (l : List Client). map anew x.clients ++ map anew l) (sym (living_push cs c ∙ ap (λ (b : Bool). living cs ++ (if b then [] else c ∷ [])) e));
+      let_in = subst (AllByRecursion (IsLetIn x.list)) (sym (living_push cs c ∙ ap (λ (b : Bool). living cs ++ (if b then [] else c ∷ [])) e))
+          (one_more_in x.list (living cs) c h.let_in (subst (λ (l : Listed). IsLetIn l c) h.list k.2));
     }
       where
         new : Client
@@ -196,7 +210,7 @@ joined_one numbers m x y c there pid node h =
     join_by : ℕ → ℕ → Cred → Entry
     join_by n p r = record { node = n; conn = number_at numbers m.member.conn; pid = p; cred = r; op = Act (Join m.group) }
 
-connection_is : (x : NodeValue) (n : ℕ) (k : Connection) (o : Option Client) → Some k ≡ option_map (λ (c : Client). record { id = conn_id x n; pid = c.pid; cred = c.cred; taken = c.taken }) o → (c : Client) × (o ≡ Some c) × (c.pid ≡ k.pid) × (x.ring.node ≡ k.id.node)
+pub connection_is : (x : NodeValue) (n : ℕ) (k : Connection) (o : Option Client) → Some k ≡ option_map (λ (c : Client). record { id = conn_id x n; pid = c.pid; cred = c.cred; taken = c.taken }) o → (c : Client) × (o ≡ Some c) × (c.pid ≡ k.pid) × (x.ring.node ≡ k.id.node)
 connection_is x n k None e = absurd (none-some k (sym e))
 connection_is x n k (Some c) e =
     let same : k ≡ record { id = conn_id x n; pid = c.pid; cred = c.cred; taken = c.taken } = same_Some k (record { id = conn_id x n; pid = c.pid; cred = c.cred; taken = c.taken }) e in

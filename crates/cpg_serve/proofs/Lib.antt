@@ -27,3 +27,5 @@ pub mod Drained
 pub mod Whole
 pub mod Moved
 pub mod Over
+pub mod Refused
+pub mod Unbegun

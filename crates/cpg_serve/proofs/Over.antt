@@ -36,7 +36,7 @@ at_place n (k ∷ cs) (d0 ∷ ds) (suc i) c d e f = by_end k.ended (at_place n c
     by_end false h l = record { place = suc l.place; number = omega (arith, l.number); client = l.client; desk = ap (λ (ks : List DeskValue). slice_get ks (suc l.place)) (kept_first n (numbered (suc n) cs) d0 ds) ∙ l.desk }
 
 -- an open client is open where it is as that one, but for what it took
-open_anew : (o : Option Client) (c : Client) → c.ended ≡ false → option_map anew o ≡ Some (anew c) → option_map anew (if_open o) ≡ Some (anew c)
+pub open_anew : (o : Option Client) (c : Client) → c.ended ≡ false → option_map anew o ≡ Some (anew c) → option_map anew (if_open o) ≡ Some (anew c)
 open_anew None c alive e = absurd (none-some (anew c) e)
 open_anew (Some k) c alive e =
     let same : anew k ≡ anew c = same_Some (anew k) (anew c) e in

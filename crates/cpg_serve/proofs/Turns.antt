@@ -19,7 +19,7 @@ use Rattle.cpg_ask.specs.declared.greetings.Greeting.{Greeting}
 use Rattle.cpg_serve.specs.Telling.{DeskValue}
 use Rattle.cpg_serve.specs.Serving.{ServedValue, served_of}
 use Rattle.cpg_serve.specs.Runs.{Did, Frames, Delivers, Tells, Run, Goes, IsFramed}
-use Rattle.cpg_serve.specs.Settling.{IsLone, TurnedTo, StaysLone, InTurns, IsBrisk, IsOwnMove, MovesTo, NodeMovesTo, WhyMoving, IsUsedUp, HasDelivered, IsAlike, IsTurn, HasTurned}
+use Rattle.cpg_serve.specs.Settling.{IsLone, TurnedTo, StaysLone, InTurns, IsBrisk, IsOwnMove, MovesTo, NodeMovesTo, WhyMoving, WhyStuck, HasDelivered, IsAlike, IsTurn, HasTurned}
 use Rattle.cpg_serve.proofs.Lone.{delivered_by, burst_of, burst_most, burst_full, short_take, split_at, left_at, lone_visit, lone_refused, lone_delivered, all_delivered}
 
 -- ---- runs of own moves, one after another
@@ -199,7 +199,7 @@ brisk_turn x y z h stays brisk none some less =
 -- ---- why it does not go on
 
 -- a turn that places nothing: the places are used up
-turn_ends : (y : RingNode) (v : Token) (placed : List Entry) → IsLone y v placed → next_entry y.state ≡ None → 0 < length y.state.waiting → length y.state.waiting ≤ length (visited y v).state.waiting → WhyMoving (visited y v) refusal.RingEnd
+turn_ends : (y : RingNode) (v : Token) (placed : List Entry) → IsLone y v placed → next_entry y.state ≡ None → 0 < length y.state.waiting → length y.state.waiting ≤ length (visited y v).state.waiting → WhyStuck y (visited y v) refusal.RingEnd
 turn_ends y v placed h none some stuck =
     let b : ℕ = burst_of y v in
     let most = burst_most y v in
@@ -211,23 +211,42 @@ turn_ends y v placed h none some stuck =
     no_places : (y : RingNode) (v : Token) → y.state.delivered ≡ v.seq → 0 < length y.state.waiting → burst_of y v ≡ 0 → y.settings.places ≤ v.seq + length (take (burst_of y v) y.state.waiting)
     no_places y v all some nothing = omega (arith, all, some, nothing)
 
-pub stuck_is : (y z : RingNode) (v : Token) (placed : List Entry) → IsLone y v placed → IsTurn y z → next_entry y.state ≡ None → 0 < length y.state.waiting → length y.state.waiting ≤ length z.state.waiting → WhyMoving z refusal.RingEnd
+pub stuck_is : (y z : RingNode) (v : Token) (placed : List Entry) → IsLone y v placed → IsTurn y z → next_entry y.state ≡ None → 0 < length y.state.waiting → length y.state.waiting ≤ length z.state.waiting → WhyStuck y z refusal.RingEnd
 stuck_is y z v placed h turn none some stuck =
     let e : v ≡ turn.0 = same_Some v turn.0 (sym h.last ∙ turn.1) in
     let is : IsLone y turn.0 placed = subst (λ (w : Token). IsLone y w placed) e h in
-    subst (λ (w : RingNode). WhyMoving w refusal.RingEnd) (sym turn.2)
+    subst (λ (w : RingNode). WhyStuck y w refusal.RingEnd) (sym turn.2)
     (turn_ends y turn.0 placed is none some (subst (λ (w : RingNode). length y.state.waiting ≤ length w.state.waiting) turn.2 stuck))
 
 -- the turn is refused
-pub refused_is : (x y : NodeValue) (o : Option Token) (why : Refusal) (t : Token) (placed : List Entry) → x.ring.state.last_token ≡ o → IsTurnAnswer x o (Err why) y → IsLone x.ring t placed → 0 < length x.ring.state.waiting → WhyMoving y.ring why
+pub refused_is : (x y : NodeValue) (o : Option Token) (why : Refusal) (t : Token) (placed : List Entry) → x.ring.state.last_token ≡ o → IsTurnAnswer x o (Err why) y → IsLone x.ring t placed → 0 < length x.ring.state.waiting → WhyStuck x.ring y.ring why
 refused_is x y None why t placed last h is some = absurd (none-some t (sym last ∙ is.last))
 refused_is x y (Some v) why t placed last h is some =
     let e : t ≡ v = same_Some t v (sym is.last ∙ last) in
-    subst (λ (z : NodeValue). WhyMoving z.ring why) (sym h.1) (⊎_elim
+    subst (λ (z : NodeValue). WhyStuck x.ring z.ring why) (sym h.1) (⊎_elim
     (λ (m : why ≡ refusal.Memory). inl m)
     (λ (r : frame_refusal x (frames.Token v) ≡ Some why).
-    let k = lone_refused x.ring t placed why is (ap (refusal_of x.ring) e ∙ r) in inr (k.0, some, (t, is.last, inr k.1)))
+    let k = lone_refused x.ring t placed why is (ap (refusal_of x.ring) e ∙ r) in inr (k.0, some, (t, is.last, inr (k.1, refl))))
     h.0)
+
+-- a turn after brisk ones
+pub moving_by : (x y z : RingNode) (why : Refusal) → IsBrisk x y → WhyStuck y z why → WhyMoving x z why
+moving_by x y z why brisk h = ⊎_elim
+    (λ (m : why ≡ refusal.Memory). inl m)
+    (λ (k : (why ≡ refusal.RingEnd) × (0 < length z.state.waiting) × ((t : Token) × (z.state.last_token ≡ Some t) × ((z.settings.places ≤ t.seq) ⊎ ((z.settings.hops ≤ t.hop) × (z ≡ y))))).
+    inr (
+      k.0,
+      k.1,
+      (
+        k.2.0,
+        k.2.1,
+        ⊎_elim
+            (λ (p : z.settings.places ≤ k.2.0.seq). inl p)
+            (λ (q : (z.settings.hops ≤ k.2.0.hop) × (z ≡ y)). inr (q.0, subst (IsBrisk x) (sym q.1) brisk))
+            k.2.2,
+      ),
+    ))
+    h
 
 -- ---- one turn of the node
 

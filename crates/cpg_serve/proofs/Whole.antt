@@ -26,7 +26,7 @@ use Rattle.cpg_ask.proofs.Mapped.{length_mapped}
 use Rattle.cpg_serve.specs.Coming.{rest_of}
 use Rattle.cpg_serve.specs.Renewing.{Root, Seat, all_inserts, held_by, renewal, seat_entry}
 use Rattle.cpg_serve.specs.Settling.{IsAlike, IsLone, IsStill}
-use Rattle.cpg_serve.specs.Carrying.{HasNumber, HasParted, HasPut, HasPutAll, HaveConnected, HaveGiven, HaveJoined, IsBegun, IsFirst, IsNext, IsRoot, KeepsAll, anew, living, next_entries, numbered, own_client, renumbered, rest_for, root_end, table_of, tables_in}
+use Rattle.cpg_serve.specs.Carrying.{AreLetIn, AreOfOne, HasNumber, HasParted, HasPut, HasPutAll, HaveConnected, HaveGiven, HaveJoined, IsBegun, IsFirst, IsNext, IsRoot, KeepsAll, anew, living, next_entries, numbered, own_client, renumbered, rest_for, root_end, table_of, tables_in}
 use Rattle.cpg_serve.proofs.Begun.{root_still}
 use Rattle.cpg_serve.proofs.Carried.{next_keeps_all}
 use Rattle.cpg_serve.proofs.Lone.{delivered_is, lone_new}
@@ -37,20 +37,22 @@ use Rattle.cpg_serve.proofs.Turns.{none_next}
 abbrev own_open : Client
 own_open = record { pid = 0; cred = record { uid = 0; gid = 0 }; ended = false; taken = 0 }
 
-abbrev root : Root
+abbrev pub root : Root
 root = record { node = 1; conn = 1; pid = 0 }
 
-first_begun : (s : Settings) (list : Listed) (x : NodeValue) → IsFirst s list x → IsBegun x []
+pub first_begun : (s : Settings) (list : Listed) (x : NodeValue) → IsFirst s list x → IsBegun x []
 first_begun s list x h = subst (λ (z : NodeValue). IsBegun z []) (sym h.1) (record {
   still = (refl, ap (option_map (λ (e : Entry). 1)) (get-empty nat_cmp 1));
   token = first_token s;
-  lone = lone_new s h.0;
+  hop = omega arith;
+  lone = lone_new s h.0.0;
 })
 
-begun_ring : (x y : NodeValue) (es : List Entry) → y.ring ≡ x.ring → IsBegun x es → IsBegun y es
+pub begun_ring : (x y : NodeValue) (es : List Entry) → y.ring ≡ x.ring → IsBegun x es → IsBegun y es
 begun_ring x y es is b = record {
   still = (ap (λ (r : RingNode). r.state.waiting) is ∙ b.still.0, ap (λ (r : RingNode). option_map (λ (e : Entry). suc r.state.delivered) (next_entry r.state)) is ∙ b.still.1);
   token = b.token;
+  hop = b.hop;
   lone = subst (λ (r : RingNode). IsLone r b.token es) (sym is) b.lone;
 }
 
@@ -112,7 +114,7 @@ ends_at count last most is e = ⊎_elim
     (cases_lt last MOST_CONNECTIONS)
 
 -- a ring in which the daemon's own connection is open, and those beside it
-record IsOpen (s : Settings) (list : Listed) (cs : List Client) (x : NodeValue) : Type 0 where
+pub record IsOpen (s : Settings) (list : Listed) (cs : List Client) (x : NodeValue) : Type 0 where
   pub settings : x.ring.settings ≡ s
   pub number : x.ring.node ≡ 1
   pub lets_in : x.list ≡ list
@@ -124,10 +126,10 @@ record IsClosed (s : Settings) (list : Listed) (cs : List Client) (x : NodeValue
   pub lets_in : x.list ≡ list
   pub clients : map anew x.clients ≡ own_client ∷ map anew (living cs)
 
-first_open : (s : Settings) (list : Listed) (x : NodeValue) → IsFirst s list x → IsOpen s list [] x
+pub first_open : (s : Settings) (list : Listed) (x : NodeValue) → IsFirst s list x → IsOpen s list [] x
 first_open s list x h = subst (IsOpen s list []) (sym h.1) (record { settings = refl; number = refl; lets_in = refl; clients = refl })
 
-all_open : (s : Settings) (list : Listed) (cs : List Client) (numbers : List ℕ) (x y : NodeValue) → IsOpen s list [] x → HaveConnected cs numbers x y → IsOpen s list cs y
+pub all_open : (s : Settings) (list : Listed) (cs : List Client) (numbers : List ℕ) (x y : NodeValue) → IsOpen s list [] x → HaveConnected cs numbers x y → IsOpen s list cs y
 all_open s list cs numbers x y h k = record {
   settings = ap (λ (r : RingNode). r.settings) k.ring ∙ h.settings;
   number = ap (λ (r : RingNode). r.node) k.ring ∙ h.number;
@@ -135,10 +137,10 @@ all_open s list cs numbers x y h k = record {
   clients = k.alive ∙ ap (λ (l : List Client). l ++ map anew (living cs)) h.clients;
 }
 
-all_numbered : (s : Settings) (list : Listed) (cs : List Client) (numbers : List ℕ) (x y : NodeValue) → IsOpen s list [] x → HaveConnected cs numbers x y → numbers ≡ numbered 1 cs
+pub all_numbered : (s : Settings) (list : Listed) (cs : List Client) (numbers : List ℕ) (x y : NodeValue) → IsOpen s list [] x → HaveConnected cs numbers x y → numbers ≡ numbered 1 cs
 all_numbered s list cs numbers x y h k = k.given ∙ ap (λ n. numbered n cs) (sym (length_mapped anew x.clients) ∙ ap (λ (l : List Client). length l) h.clients)
 
-open_still : (s : Settings) (list : Listed) (cs : List Client) (x y : NodeValue) → IsAlike x y → y.clients ≡ x.clients → IsOpen s list cs x → IsOpen s list cs y
+pub open_still : (s : Settings) (list : Listed) (cs : List Client) (x y : NodeValue) → IsAlike x y → y.clients ≡ x.clients → IsOpen s list cs x → IsOpen s list cs y
 open_still s list cs x y alike same h = record {
   settings = alike.settings ∙ h.settings;
   number = alike.number ∙ h.number;
@@ -146,7 +148,7 @@ open_still s list cs x y alike same h = record {
   clients = ap (λ (l : List Client). map anew l) same ∙ h.clients;
 }
 
-is_root : (s : Settings) (list : Listed) (cs : List Client) (x : NodeValue) → IsOpen s list cs x → IsRoot root x
+pub is_root : (s : Settings) (list : Listed) (cs : List Client) (x : NodeValue) → IsOpen s list cs x → IsRoot root x
 is_root s list cs x h = (sym h.number, root_open x.clients (map anew (living cs)) h.clients)
 
 ended_entry : (taken : ℕ) (es : List Entry) (x : NodeValue) → x.ring.node ≡ 1 → es ++ entry_by x 1 (record { pid = 0; cred = record { uid = 0; gid = 0 }; ended = false; taken = taken }) Gone ∷ [] ≡ es ++ root_end root ∷ []
@@ -177,10 +179,12 @@ keeps_of : (es : List Entry) (cs : List Client) (seats : List Seat) (y : NodeVal
 keeps_of es cs seats y has held b =
     subst (KeepsAll cs (judged es)) (sym (ap judged (delivered_is y.ring b.token (next_entries seats root (judged es)) b.lone (none_next y b.still.1)))) (next_keeps_all es cs root seats refl has held)
 
-next_of_parts : (s : Settings) (list : Listed) (x y : NodeValue) (numbers : List ℕ) (seats : List Seat) → numbers ≡ numbered 1 x.clients → AllByRecursion (HasNumber (numbered 1 x.clients)) (memberships (records_of x))
+next_of_parts : (s : Settings) (list : Listed) (x y : NodeValue) (numbers : List ℕ) (seats : List Seat) → AreOfOne s → AreLetIn list x.clients → numbers ≡ numbered 1 x.clients → AllByRecursion (HasNumber (numbered 1 x.clients)) (memberships (records_of x))
     → map held_by seats ≡ map (renumbered (numbered 1 x.clients)) (memberships (records_of x)) → IsClosed s list x.clients y → IsBegun y (next_entries seats root (records_of x))
     → ((conn : ℕ) → conn ≤ MOST_CONNECTIONS → rest_for y conn ≡ []) → IsNext s list numbers x y
-next_of_parts s list x y numbers seats nums has held closed begun given = record {
+next_of_parts s list x y numbers seats one in_it nums has held closed begun given = record {
+  of_one = one;
+  let_in = in_it;
   settings = closed.settings;
   lets_in = closed.lets_in;
   entries = next_entries seats root (records_of x);
@@ -213,13 +217,13 @@ next_is s list x y0 y1 y2 y4 y5 last most numbers seen first is conn same joins 
     joined : HaveJoined numbers (memberships (records_of x)) y1 y2
     joined = subst (λ (l : List ℕ). HaveJoined l (memberships (records_of x)) y1 y2) same joins
 
-    by_numbers : numbers ≡ numbered 1 x.clients → IsClosed s list x.clients y4 × IsBegun y4 (next_entries joined.seats root (records_of x)) → IsNext s list numbers x y5
-    by_numbers nums closed = next_of_parts s list x y5 numbers joined.seats nums (subst (λ (l : List ℕ). AllByRecursion (HasNumber l) (memberships (records_of x))) nums joined.numbered)
+    by_numbers : AreLetIn list x.clients → numbers ≡ numbered 1 x.clients → IsClosed s list x.clients y4 × IsBegun y4 (next_entries joined.seats root (records_of x)) → IsNext s list numbers x y5
+    by_numbers in_it nums closed = next_of_parts s list x y5 numbers joined.seats first.0 in_it nums (subst (λ (l : List ℕ). AllByRecursion (HasNumber l) (memberships (records_of x))) nums joined.numbered)
         (joined.held ∙ ap (λ (l : List ℕ). map (renumbered l) (memberships (records_of x))) nums) (closed_still s list x.clients most y4 y5 given closed.0)
         (begun_ring y4 y5 (next_entries joined.seats root (records_of x)) given.ring closed.1)
         (none_more x y5 most (given.clients ∙ closed.0.clients) (ends_at (length x.clients) last most is ends) given.given)
 
     by_connected : HaveConnected x.clients numbers y0 y1 → IsNext s list numbers x y5
-    by_connected h = by_numbers (all_numbered s list x.clients numbers y0 y1 (first_open s list y0 first) h)
+    by_connected h = by_numbers (subst (λ (l : Listed). AreLetIn l x.clients) (first_open s list y0 first).lets_in h.let_in) (all_numbered s list x.clients numbers y0 y1 (first_open s list y0 first) h)
         (tables_put s list x.clients (records_of x) joined.seats y2 y4 (open_still s list x.clients y1 y2 joined.alike joined.clients (all_open s list x.clients numbers y0 y1 (first_open s list y0 first) h)) tables
         (joined.begun [] (begun_ring y0 y1 [] h.ring (first_begun s list y0 first))))

@@ -1,9 +1,10 @@
 -- What the next ring takes over of a node: its open connections, its members and its tables.
-use Rattle.std.specs.Prelude.{◌≡◌, ◌≢◌, ◌≤◌, ℕ, suc, Bool, false, true, not, List, [], ◌∷◌, ◌++◌, map, length, Option, Some, None, option_map, ◌==◌, if◌then◌else◌}
+use Rattle.std.specs.Prelude.{◌≡◌, ◌≢◌, ◌≤◌, ℕ, suc, Bool, false, true, not, List, [], ◌∷◌, ◌++◌, map, length, is_some, Option, Some, None, option_map, ◌==◌, if◌then◌else◌}
 use Rattle.std.specs.List.{AllByRecursion, filter, fold, list_any}
 use Rattle.std.specs.Str.{bytes_eq}
 use Rattle.cpg_cred.specs.declared.credentials.Cred.{Cred}
 use Rattle.cpg_cred.specs.Listed.{Listed}
+use Rattle.cpg_cred.specs.Admission.{via_of}
 use Rattle.cpg_entry.specs.declared.ranges.TheConstants.{MOST_CONNECTIONS}
 use Rattle.cpg_ring.specs.declared.settings.Settings.{Settings}
 use Rattle.cpg_entry.specs.declared.calls.Call.TheVariants.{Insert}
@@ -13,10 +14,12 @@ use Rattle.cpg_entry.specs.declared.entries.Entry.{Entry}
 use Rattle.cpg_entry.specs.declared.frames.Token.{Token}
 use Rattle.cpg_record.specs.declared.events.Event.{Event}
 use Rattle.cpg_record.specs.declared.records.Record.{Record}
-use Rattle.cpg_record.specs.Connections.{conn_in}
+use Rattle.cpg_record.specs.declared.connections.ConnId.{ConnId}
+use Rattle.cpg_record.specs.Connections.{conn_in, conn_of, is_conn, member_of}
 use Rattle.cpg_record.specs.Judging.{judged}
 use Rattle.cpg_record.specs.Membership.{Membership, ends, is_allowed, memberships, taken}
 use Rattle.cpg_record.specs.RuleTables.{rules_of}
+use Rattle.cpg_ring.specs.States.{IsSettings}
 use Rattle.cpg_ring.specs.Worlds.{item, with_item}
 use Rattle.cpg_node.specs.declared.connections.Client.{Client}
 use Rattle.cpg_node.specs.Nodes.{NodeValue, entry_by, new_value, open_client, records_of}
@@ -46,9 +49,17 @@ number_at numbers conn = number_in (item numbers conn)
 abbrev pub renumbered : List ℕ → Membership → Membership
 renumbered numbers m = record { group = m.group; member = record { node = m.member.node; conn = number_at numbers m.member.conn; pid = m.member.pid } }
 
--- the memberships after one record more
-abbrev pub with_record : List Membership → Record → List Membership
-with_record all r = filter (λ m. not (ends (conn_in m.member) r)) all ++ taken r
+-- the membership that a join takes, unless a later record ends it
+abbrev pub joined_by : List ℕ → Entry → List Record → List Membership
+joined_by g entry later = if not (list_any (ends (conn_of entry)) later) then record { group = g; member = member_of entry } ∷ [] else []
+
+-- the membership that a record takes and that no later record ends
+abbrev pub lasting : Record → List Record → List Membership
+lasting r later = filter (λ m. not (list_any (ends (conn_in m.member)) later)) (taken r)
+
+-- the connections are those that a record ends
+abbrev pub AreEnded : List ConnId → List Record → Type 0
+AreEnded conns records = (conn : ConnId) → list_any (is_conn conn) conns ≡ list_any (ends conn) records
 
 -- the group whose table a record adds to, if it does
 abbrev pub inserted_into : Op → List (List ℕ)
@@ -100,10 +111,11 @@ NextKeepsAll = (entries : List Entry) (clients : List Client) (root : Root) (sea
     → map held_by seats ≡ map (renumbered (numbered 1 clients)) (memberships (judged entries))
     → KeepsAll clients (judged entries) (judged (next_entries seats root (judged entries)))
 
--- these entries have all places of a ring of one node, and are delivered; none waits
+-- these entries have all places of a ring of one node, in as many hops at most, and are delivered; none waits
 pub record IsBegun (x : NodeValue) (entries : List Entry) : Type 0 where
   pub still : IsStill x
   pub token : Token
+  pub hop : token.hop ≤ length entries
   pub lone : IsLone x.ring token entries
 
 -- a client that took nothing yet
@@ -113,6 +125,18 @@ anew c = record { pid = c.pid; cred = c.cred; ended = c.ended; taken = 0 }
 -- those that are open
 abbrev pub living : List Client → List Client
 living clients = filter (λ c. not c.ended) clients
+
+-- the settings are of a ring of one node
+abbrev pub AreOfOne : Settings → Type 0
+AreOfOne s = (s.nodes ≡ 1) × IsSettings s
+
+-- the list lets the client in
+abbrev pub IsLetIn : Listed → Client → Type 0
+IsLetIn list c = is_some (via_of list c.cred) ≡ true
+
+-- and each that is open
+abbrev pub AreLetIn : Listed → List Client → Type 0
+AreLetIn list clients = AllByRecursion (IsLetIn list) (living clients)
 
 -- the daemon's own connection, which puts the rules in and ends
 abbrev pub own_client : Client
@@ -141,10 +165,10 @@ pub record HasParted (conn : ℕ) (x y : NodeValue) : Type 0 where
   pub clients : (c : Client) → open_client x conn ≡ Some c → y.clients ≡ with_item x.clients conn (record c { ended = true })
   pub begun : (es : List Entry) (c : Client) → open_client x conn ≡ Some c → IsBegun x es → IsBegun y (es ++ entry_by x conn c Gone ∷ [])
 
--- an open connection of an old node is one of the new node, too
+-- an open connection of an old node is one of the new node, too, whose list lets it in
 abbrev pub ConnectsBy : Option Client → ℕ → NodeValue → NodeValue → Type 0
 ConnectsBy None number x y = (number ≡ 0) × (y ≡ x)
-ConnectsBy (Some c) number x y = (number ≡ suc (length x.clients)) × (y ≡ connected x c.pid c.cred)
+ConnectsBy (Some c) number x y = (number ≡ suc (length x.clients)) × (y ≡ connected x c.pid c.cred) × IsLetIn x.list c
 
 -- So are those of these clients, by these numbers.
 pub record HaveConnected (old : List Client) (numbers : List ℕ) (x y : NodeValue) : Type 0 where
@@ -152,6 +176,7 @@ pub record HaveConnected (old : List Client) (numbers : List ℕ) (x y : NodeVal
   pub list : y.list ≡ x.list
   pub given : numbers ≡ numbered (length x.clients) old
   pub alive : map anew y.clients ≡ map anew x.clients ++ map anew (living old)
+  pub let_in : AreLetIn x.list old
 
 -- Members joined again, by their new numbers.
 pub record HaveJoined (numbers : List ℕ) (all : List Membership) (x y : NodeValue) : Type 0 where
@@ -200,7 +225,7 @@ pub record HaveGiven (last : ℕ) (x y : NodeValue) : Type 0 where
 
 -- a new ring of one node, with the daemon's own connection
 abbrev pub IsFirst : Settings → Listed → NodeValue → Type 0
-IsFirst s list x = (s.nodes ≡ 1) × (x ≡ connected (new_value s 1 list) 0 (record { uid = 0; gid = 0 }))
+IsFirst s list x = AreOfOne s × (x ≡ connected (new_value s 1 list) 0 (record { uid = 0; gid = 0 }))
 
 -- ---- the next ring
 
@@ -208,8 +233,10 @@ IsFirst s list x = (s.nodes ≡ 1) × (x ≡ connected (new_value s 1 list) 0 (r
 -- their connections, and the same rules in the same order; the open connections, behind the daemon's own, each of which
 -- took all that the ring tells it so far. It is a ring of one node, in which nothing waits.
 pub record IsNext (s : Settings) (list : Listed) (numbers : List ℕ) (x y : NodeValue) : Type 0 where
+  pub of_one : AreOfOne s
   pub settings : y.ring.settings ≡ s
   pub lets_in : y.list ≡ list
+  pub let_in : AreLetIn list x.clients
   pub entries : List Entry
   pub begun : IsBegun y entries
   pub keeps : KeepsAll x.clients (records_of x) (records_of y)

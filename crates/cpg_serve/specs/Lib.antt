@@ -14,3 +14,4 @@ pub mod Orders
 pub mod Meeting
 pub mod Settling
 pub mod Carrying
+pub mod Refusals

@@ -81,13 +81,17 @@ NodeMovesTo x y = (greeting : Greeting) (desks : List DeskValue) → MovesTo (se
 abbrev pub ToldAll : ServedValue → ℕ → Type 0
 ToldAll x conn = (d : DeskValue) → item x.desks conn ≡ Some d → left_of conn (at_of x.node d) ≡ []
 
--- the ring's places are used up, or its hops
-abbrev pub IsUsedUp : RingNode → Token → Type 0
-IsUsedUp x t = (x.settings.places ≤ t.seq) ⊎ (x.settings.hops ≤ t.hop)
+-- the ring's places are used up, or its hops, where each turn since then placed as many entries as it may
+abbrev pub IsUsedUp : RingNode → RingNode → Token → Type 0
+IsUsedUp x y t = (y.settings.places ≤ t.seq) ⊎ ((y.settings.hops ≤ t.hop) × IsBrisk x y)
 
 -- why a ring of one node does not come to rest: there was no memory; or entries wait, and its places or hops are used up
-abbrev pub WhyMoving : RingNode → Refusal → Type 0
-WhyMoving x why = (why ≡ Memory) ⊎ ((why ≡ RingEnd) × (0 < length x.state.waiting) × ((t : Token) × (x.state.last_token ≡ Some t) × IsUsedUp x t))
+abbrev pub WhyMoving : RingNode → RingNode → Refusal → Type 0
+WhyMoving x y why = (why ≡ Memory) ⊎ ((why ≡ RingEnd) × (0 < length y.state.waiting) × ((t : Token) × (y.state.last_token ≡ Some t) × IsUsedUp x y t))
+
+-- why a turn of it places nothing: the same, where the last hop leaves the node as it was
+abbrev pub WhyStuck : RingNode → RingNode → Refusal → Type 0
+WhyStuck x y why = (why ≡ Memory) ⊎ ((why ≡ RingEnd) × (0 < length y.state.waiting) × ((t : Token) × (y.state.last_token ≡ Some t) × ((y.settings.places ≤ t.seq) ⊎ ((y.settings.hops ≤ t.hop) × (y ≡ x)))))
 
 -- the same node of a ring of the same settings, with the same list
 pub record IsAlike (x y : NodeValue) : Type 0 where

@@ -11,7 +11,7 @@ ghost use Rattle.cpg_node.specs.Calls.{submit_refusal};
 use crate::desks::{Desk, Owed};
 use cpg_ask::{AskCode, AskView, Denial, RuleWords, WantView, code_name, status_of_refusal};
 use cpg_cred::Refusal;
-use cpg_entry::{Call, Message};
+use cpg_entry::{Call, Message, SharedRule};
 use cpg_node::Node;
 use std::alloc::Global;
 
@@ -45,7 +45,10 @@ fn insert_asked(alloc: Global, rule: &RuleWords, name: &[u8]) -> Result<Option<C
     };
     Ok(match rule.meant() {
         None => None,
-        Some((index, rule)) => Some(Call::Insert(group, index, rule)),
+        Some((index, rule)) => {
+            let rule = SharedRule::new(alloc, rule)?;
+            Some(Call::Insert(group, index, rule))
+        }
     })
 }
 

@@ -1,6 +1,6 @@
 //! Clients' desks go over to the next ring.
 
-ghost use Rattle.std.specs.Prelude.{◌≡◌, ◌≤◌, ◌<◌, ◌+◌, ◌++◌, ◌∷◌, [], length, map, vec_capacity, vec_len, ◌==◌, if◌then◌else◌, OnOk, OnErr};
+ghost use Rattle.std.specs.Prelude.{◌≡◌, ◌≤◌, ◌<◌, ◌+◌, ◌++◌, ◌∷◌, [], length, map, vec_capacity, vec_len, ◌==◌, if◌then◌else◌, OnOk, OnErr, IsOkUnless};
 ghost use Rattle.cpg_entry.specs.declared.ranges.TheConstants.{MOST_CONNECTIONS};
 ghost use Rattle.cpg_serve.specs.Telling.{new_desk};
 ghost use Rattle.cpg_serve.specs.Carrying.{greeted, kept_desks, HaveMoved};
@@ -67,6 +67,7 @@ pub(crate) fn take_over(
     requires few { length desks.old.items ≤ MOST_CONNECTIONS }
     ensures ok { OnOk result (HaveMoved greeting.now numbers.now desks.old.items desks.new.items) }
     ensures err { OnErr result (desks.new.items ≡ desks.old.items) }
+    ensures memory { IsOkUnless result Refusal.Memory }
 {
     let mut moved = Vec::with_capacity(alloc, desks.len() + 1)?;
     let old = mem::replace(desks, Vec::new(alloc));

@@ -1,9 +1,13 @@
 //! The node of the next ring of a ring of one node, whole.
 
-ghost use Rattle.std.specs.Prelude.{◌≡◌, length, IfOk, OnOk, OnErr};
+ghost use Rattle.std.specs.Prelude.{◌≡◌, ◌+◌, List, suc, length, IfOk, IfErr, OnOk, OnErr};
+ghost use Rattle.cpg_cred.specs.Listed.{Listed};
+ghost use Rattle.cpg_entry.specs.declared.entries.Entry.{Entry};
 ghost use Rattle.cpg_record.specs.Membership.{memberships};
 ghost use Rattle.cpg_node.specs.Nodes.{records_of};
-ghost use Rattle.cpg_serve.specs.Carrying.{HasPutAll, HaveJoined, HaveMoved, IsFilled, IsFirst};
+ghost use Rattle.cpg_serve.specs.Renewing.{Root};
+ghost use Rattle.cpg_serve.specs.Carrying.{HasPutAll, HaveJoined, HaveMoved, IsBegun, IsFilled, IsFirst, IsRoot, tables_in};
+ghost use Rattle.cpg_serve.specs.Refusals.{rule_count, WhyNotBegun, WhyNotFirst, WhyNotJoined, WhyNotPut};
 
 use crate::carrying::{gather, gather_tables};
 use crate::desks::Desk;
@@ -22,6 +26,7 @@ pub(crate) fn first_node(
     list: &AcceptList,
 ) -> Result<Node, Refusal>
     ensures ok { IfOk result (λ node. IsFirst settings list.now node) }
+    ensures why { IfErr result (λ why. WhyNotFirst settings why) }
 {
     if settings.nodes != 1 {
         return Err(Refusal::Range);
@@ -39,6 +44,7 @@ pub(crate) fn first_node(
 /// The old node's members join their groups again, in order, by their new numbers.
 fn seat_all(alloc: Global, old: &Node, numbers: &[u16], node: &mut Node) -> Result<(), Refusal>
     ensures ok { OnOk result (HaveJoined numbers.now (memberships (records_of old.now)) node.old node.new) }
+    ensures why { (es : List Entry) → IsBegun node.old es → IfErr result (λ why. WhyNotJoined numbers.now node.old (length es) (memberships (records_of old.now)) why) }
 {
     let all = gather(alloc, old.audit())?;
     join_all(alloc, node, numbers, all.as_slice())
@@ -47,19 +53,19 @@ fn seat_all(alloc: Global, old: &Node, numbers: &[u16], node: &mut Node) -> Resu
 /// The daemon's own connection puts in all rules of the old node's tables, and ends.
 fn put_tables(alloc: Global, old: &Node, node: &mut Node) -> Result<(), Refusal>
     ensures ok { OnOk result (HasPutAll (records_of old.now) node.old node.new) }
+    ensures why { (root : Root) (es : List Entry) → root.conn ≡ 1 → IsRoot root node.old → IsBegun node.old es → IfErr result (λ why. WhyNotPut node.old.ring.settings (tables_in (records_of old.now)) (suc (length es + rule_count (records_of old.now) (tables_in (records_of old.now)))) why) }
 {
     let groups = gather_tables(alloc, old.audit())?;
     insert_groups(alloc, old, node, 1, groups.as_slice())?;
     part(node, 1)
 }
 
-/// Makes a new ring's node that of the next ring, and gives the new number of each connection of the old one. RingEnd
-/// where the ring has too few places or hops; Access where the list does not let a client in; NoConnection where a
-/// member is no open connection's process.
+/// Makes a new ring's node that of the next ring, and gives the new number of each connection of the old one.
 fn fill(alloc: Global, old: &Node, last: u16, node: &mut Node) -> Result<Vec<u16>, Refusal>
     requires { last ≡ length old.now.clients }
     ensures ok { IfOk result (λ numbers. IsFilled numbers.items old.now node.old node.new) }
     ensures count { IfOk result (λ numbers. length numbers.items ≡ length old.now.clients) }
+    ensures why { (s : Settings) (list : Listed) → IsFirst s list node.old → IfErr result (λ why. WhyNotBegun s list old.now why) }
 {
     let numbers = connect_all(alloc, old, last, node)?;
     seat_all(alloc, old, numbers.as_slice(), node)?;
@@ -79,6 +85,7 @@ pub(crate) fn swap_in(
     requires { length desks.old.items ≡ length node.old.clients }
     ensures ok { IfOk result (λ numbers. IsFilled numbers.items node.old next.old node.new × HaveMoved greeting.now numbers.items desks.old.items desks.new.items) }
     ensures err { OnErr result ((node.new ≡ node.old) × (desks.new.items ≡ desks.old.items)) }
+    ensures why { (s : Settings) (list : Listed) → IsFirst s list next.old → IfErr result (λ why. WhyNotBegun s list node.old why) }
 {
     let Ok(last) = u16::try_from(desks.len()) else {
         return Err(Refusal::ConnectionsFull);

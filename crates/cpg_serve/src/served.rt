@@ -18,6 +18,7 @@ ghost use Rattle.cpg_serve.specs.Stories.{StoryAt};
 ghost use Rattle.cpg_serve.specs.Runs.{IsFramed};
 ghost use Rattle.cpg_serve.specs.Serving.{greeting_of, served_of, AreAsMany, with_node, arrived, parted, out_of, IsServedMade, IsAway, IsHeard, IsCaughtUp, IsWritten, IsUnwritten, AreWritten};
 ghost use Rattle.cpg_serve.specs.Carrying.{ComesToNext, HaveMoved, IsNext, IsRenewed};
+ghost use Rattle.cpg_serve.specs.Refusals.{WhyNotBegun, WhyNotRenewed};
 ghost use Rattle.cpg_serve.specs.Settling.{IsBrisk, IsLone, IsStill, MovesTo, StaysLone, ToldAll, WhyMoving};
 
 use crate::desks::Desk;
@@ -216,7 +217,7 @@ impl Served {
         ensures placed { OnOk result ((t : Token) (placed : List Entry) → IsLone self.old.node.ring t placed → delivered_entries self.new.node.ring.state ≡ placed ++ self.old.node.ring.state.waiting) }
         ensures turns { OnOk result (IsBrisk self.old.node.ring self.new.node.ring) }
         ensures lone { StaysLone self.old.node.ring self.new.node.ring }
-        ensures why { (t : Token) (placed : List Entry) → IsLone self.old.node.ring t placed → IfErr result (λ why. WhyMoving self.new.node.ring why) }
+        ensures why { (t : Token) (placed : List Entry) → IsLone self.old.node.ring t placed → IfErr result (λ why. WhyMoving self.old.node.ring self.new.node.ring why) }
     {
         self.turn()?;
         self.tell_all()
@@ -224,12 +225,16 @@ impl Served {
 
     /// The next ring of a ring of one node, by these settings and that list: first this one comes to rest, as by
     /// `settle`. Gives the new number of each connection, 0 where it ended; number 1 is the daemon's own connection,
-    /// which put the rules in and ended. Range where the settings are of no ring of one node; Access where the list does
-    /// not let a client in; RingEnd where the next ring has too few places or hops. On an `Err` the next ring did not
-    /// begin, and nothing is lost or told twice.
+    /// which put the rules in and ended. On an `Err` the next ring did not begin, and nothing is lost or told twice. Range
+    /// where the settings are of no ring of one node; Access where the list does not let an open connection in;
+    /// ConnectionsFull where 65,535 are open; NoConnection where a member is no open connection's process, and BadName
+    /// where a group has no name, as it may be where the node heard what its ring did not send; RingEnd where the next
+    /// ring has too few places or hops for the members, the rules, and one more.
     pub fn renew(&mut self, settings: Settings, list: &AcceptList) -> Result<Vec<u16>, Refusal>
         ensures ok { IfOk result (λ numbers. ComesToNext settings list.now numbers.items self.old self.new) }
         ensures err { OnErr result (MovesTo self.old self.new) }
+        // In a ring of one node that heard no other's frame: why it did not come to rest, or the next one does not begin.
+        ensures why { (t : Token) (placed : List Entry) → IsLone self.old.node.ring t placed → IfErr result (λ why. WhyNotRenewed settings list.now self.old self.new why) }
     {
         self.settle()?;
         self.begin_next(settings, list)
@@ -239,6 +244,7 @@ impl Served {
     fn begin_next(&mut self, settings: Settings, list: &AcceptList) -> Result<Vec<u16>, Refusal>
         ensures ok { IfOk result (λ numbers. IsRenewed settings list.now numbers.items self.old self.new) }
         ensures err { OnErr result (self.new ≡ self.old) }
+        ensures why { IfErr result (λ why. WhyNotBegun settings list.now self.old.node why) }
     {
         let numbers = renew_at(self.alloc, &mut self.node, &mut self.desks, settings, list)?;
         self.greeting = greeting_in(settings);
@@ -251,7 +257,7 @@ impl Served {
         ensures still { OnOk result (IsStill self.new.node) }
         ensures turns { OnOk result (IsBrisk self.old.node.ring self.new.node.ring) }
         ensures lone { StaysLone self.old.node.ring self.new.node.ring }
-        ensures why { (t : Token) (placed : List Entry) → IsLone self.old.node.ring t placed → IfErr result (λ why. WhyMoving self.new.node.ring why) }
+        ensures why { (t : Token) (placed : List Entry) → IsLone self.old.node.ring t placed → IfErr result (λ why. WhyMoving self.old.node.ring self.new.node.ring why) }
     {
         turn_until_still(&mut self.node)
     }
@@ -399,6 +405,7 @@ fn renew_at(
     requires { length desks.old.items ≡ length node.old.clients }
     ensures ok { IfOk result (λ numbers. IsNext settings list.now numbers.items node.old node.new × HaveMoved (greeting_of node.new) numbers.items desks.old.items desks.new.items) }
     ensures err { OnErr result ((node.new ≡ node.old) × (desks.new.items ≡ desks.old.items)) }
+    ensures why { IfErr result (λ why. WhyNotBegun settings list.now node.old why) }
     ensures count { length desks.new.items ≡ length node.new.clients }
 {
     let mut next = first_node(alloc, settings, list)?;

@@ -5,7 +5,7 @@ ghost use Rattle.cpg_entry.specs.declared.frames.Token.{Token};
 ghost use Rattle.cpg_entry.specs.declared.entries.Entry.{Entry};
 ghost use Rattle.std.specs.Prelude.{List};
 ghost use Rattle.cpg_node.specs.Calls.{place_to_deliver};
-ghost use Rattle.cpg_serve.specs.Settling.{HasDelivered, HasTurned, IsBrisk, IsLone, IsStill, IsTurn, WhyMoving};
+ghost use Rattle.cpg_serve.specs.Settling.{HasDelivered, HasTurned, IsBrisk, IsLone, IsStill, IsTurn, WhyMoving, WhyStuck};
 
 use cpg_cred::Refusal;
 use cpg_node::Node;
@@ -28,7 +28,7 @@ fn place_some(node: &mut Node) -> Result<(), Refusal>
     ensures did { HasTurned node.old node.new }
     ensures turn { OnOk result (IsTurn node.old.ring node.new.ring) }
     ensures less { OnOk result (length node.new.ring.state.waiting < length node.old.ring.state.waiting) }
-    ensures why { (t : Token) (placed : List Entry) → IsLone node.old.ring t placed → IfErr result (λ why. WhyMoving node.new.ring why) }
+    ensures why { (t : Token) (placed : List Entry) → IsLone node.old.ring t placed → IfErr result (λ why. WhyStuck node.old.ring node.new.ring why) }
 {
     let before = node.waiting();
     if !node.turn()? {
@@ -46,7 +46,7 @@ pub(crate) fn turn_until_still(node: &mut Node) -> Result<(), Refusal>
     ensures did { HasTurned node.old node.new }
     ensures still { OnOk result (IsStill node.new) }
     ensures brisk { OnOk result (IsBrisk node.old.ring node.new.ring) }
-    ensures why { (t : Token) (placed : List Entry) → IsLone node.old.ring t placed → IfErr result (λ why. WhyMoving node.new.ring why) }
+    ensures why { (t : Token) (placed : List Entry) → IsLone node.old.ring t placed → IfErr result (λ why. WhyMoving node.old.ring node.new.ring why) }
 {
     deliver_all(node)?;
     while node.waiting() > 0 {

@@ -1,8 +1,8 @@
 -- How a node's records and its seat stay together.
-use Rattle.std.proofs.Common.{◌≡◌, ◌≢◌, ◌≤◌, ◌<◌, ◌+◌, ℕ, zero, suc, Bool, List, [], ◌∷◌, ◌++◌, length, take, refl, sym, ap, ◌∙◌, subst, Option, Some, None, slice_get, arith, option_map, is_some, if◌then◌else◌}
+use Rattle.std.proofs.Common.{◌≡◌, ◌≢◌, ◌≤◌, ◌+◌, ℕ, suc, Bool, List, [], ◌∷◌, ◌++◌, length, take, refl, sym, ap, ◌∙◌, subst, Option, Some, None, slice_get, arith, option_map, is_some, if◌then◌else◌}
 use Rattle.std.proofs.lemmas.List.{length-append, length-map, take_at, take_all}
 use Rattle.std.proofs.lemmas.List.Sums.{fold_push}
-use Rattle.std.proofs.lemmas.Option.{none-some, same_Some, slice_get_within}
+use Rattle.std.proofs.lemmas.Option.{none-some, same_Some}
 use Rattle.cpg_record.specs.declared.records.Record.{Record}
 use Rattle.cpg_record.specs.Judging.{judged, with_judgement, record_of}
 use Rattle.cpg_record.specs.Places.{record_at}
@@ -44,18 +44,6 @@ settled_at audit before after y keeps short is = ap (λ l. slice_get l (length a
 pub settled_other : (audit : List Record) (before after : SeatValue) (y wanted : Record) → Keeps audit before → length before ≤ length audit → records_of after ≡ records_of before ++ y ∷ [] → y ≢ wanted
     → IsAnother (record_at (records_of after) (suc (length audit))) wanted
 settled_other audit before after y wanted keeps short is other = (y, settled_at audit before after y keeps short is, other)
-
--- a place where a record stands on the seat is one that it knows
-pub seat_within : (seat : SeatValue) (place : ℕ) (x : Record) → record_at (records_of seat) place ≡ Some x → (1 ≤ place) × (place ≤ length seat)
-seat_within seat zero x at = absurd (none-some x at)
-seat_within seat (suc k) x at =
-    let m : length (records_of seat) ≡ length seat = length-map seat (λ (k : ℕ × Record). k.1) in
-    let within : k < length (records_of seat) = slice_get_within (records_of seat) k x at in
-    (omega arith, omega (arith, m, within))
-
--- records that stand at one place have one entry
-pub same_entry : (rs : List Record) (place : ℕ) (x y : Record) → record_at rs place ≡ Some x → record_at rs place ≡ Some y → x.entry ≡ y.entry
-same_entry rs place x y one other = ap (λ (r : Record). r.entry) (same_Some x y (sym one ∙ other))
 
 -- ---- a place more at the node
 

@@ -25,16 +25,6 @@ fn compare(board: &Board, seat: &Seat, place: u32, wanted: &Record) -> Result<()
     }
 }
 
-#[tactic(auto, using(crate::proofs::Steps::seat_within, crate::proofs::Steps::same_entry))]
-/// The record has its entry in common from then on with the same record that stands at that place.
-pub(crate) fn share_standing(board: &Board, seat: &Seat, place: u32, wanted: &mut Record)
-    requires seat { IsSeatOf board.now.cells seat.now }
-    requires place { record_at (records_of seat.now) place ≡ Some wanted.old }
-    ensures { wanted.new ≡ wanted.old }
-{
-    wanted.share_entry(board.known(seat, place));
-}
-
 #[tactic(auto, using(crate::proofs::Steps::settled, crate::proofs::Steps::settled_at, crate::proofs::Steps::settled_other))]
 /// Has the node's judgement of its next place stand on the board there, and known to the seat, unless
 /// another record stands there. Gives the place.

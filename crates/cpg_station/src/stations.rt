@@ -21,7 +21,7 @@ ghost use Rattle.cpg_station.specs.Stations.{KeepsRest, audit_of};
 mod serving;
 
 use crate::naming::BoardName;
-use crate::standing::{share_standing, stand};
+use crate::standing::stand;
 use bytes::Bytes;
 use cpg_board::{Board, Seat};
 use cpg_cred::{Cred, Refusal, Refused};
@@ -162,20 +162,17 @@ impl<B: BoardName> Station<B> {
         ensures err { IfErr result (λ why. DeliverRefuses B.cells self.old why self.new) }
         ensures seat { Begins self.old.seat self.new.seat }
     {
-        let Some(mut judgement) = self.node.judge_next()? else {
+        let Some(judgement) = self.node.judge_next()? else {
             return Ok(None);
         };
         match stand(board, &mut self.seat, &self.node, &judgement) {
-            Ok(place) => {
-                share_standing(board, &self.seat, place, &mut judgement);
-                match self.node.commit(judgement) {
-                    Ok(()) => {
-                        self.node.share(board.shelf());
-                        Ok(Some(place))
-                    }
-                    Err(_) => Err(Refusal::Memory),
+            Ok(place) => match self.node.commit(judgement) {
+                Ok(()) => {
+                    self.node.share(board.shelf());
+                    Ok(Some(place))
                 }
-            }
+                Err(_) => Err(Refusal::Memory),
+            },
             Err(Refusal::Differs) => {
                 self.halted = true;
                 Err(Refusal::Differs)

@@ -1,10 +1,11 @@
 -- commands done, one after the other
-use Rattle.std.proofs.Common.{◌≡◌, ℕ, Bool, true, false, IsTrue, ◌↔◌, Result, Ok, Err, OnOk, OnErr, inr, List, [], ◌∷◌, ◌++◌, length, Option, refl, sym, ap, subst, ◌∙◌, append_assoc, append-nil}
+use Rattle.std.proofs.Common.{◌≡◌, ℕ, ◌+◌, Bool, true, false, IsTrue, ◌↔◌, Result, Ok, Err, OnOk, OnErr, inr, List, [], ◌∷◌, ◌++◌, length, Option, refl, sym, ap, subst, ◌∙◌, append_assoc, append-nil, arith}
 use Rattle.std.specs.List.{concat}
 use Rattle.std.specs.Io.KnownBytes.{Appends}
 use Rattle.std.proofs.KnownBytes.{Appends-trans, Appends-nil}
 use Rattle.std.proofs.lemmas.List.Folds.{concat-append}
 use Rattle.cpg_cred.specs.declared.refusals.Refusal.{Refusal}
+use Rattle.cpg_cred.specs.declared.refusals.Refusal.TheVariants as refusal
 use Rattle.cpg_cred.specs.declared.refusals.Refusal.TheVariants.{Memory}
 use Rattle.cpg_text.specs.Streams.{AppendsFront}
 use Rattle.cpg_world_laws.specs.declared.events.WorldEvent.{WorldEvent}
@@ -16,17 +17,22 @@ use Rattle.cpg_world.proofs.Running.{as_many_after}
 use Rattle.cpg_step.specs.declared.commands.Look.{Look as LookValue}
 use Rattle.cpg_step.specs.declared.commands.Command.{Command}
 use Rattle.cpg_step.specs.declared.commands.Command.TheVariants.{Act, Look}
-use Rattle.cpg_step.specs.Lines.{answer_line, look_lines}
-use Rattle.cpg_step.specs.Running.{events_in, after, lines_of, AreDone, IsWrittenInPart, LeavesOf, IsStopped}
+use Rattle.cpg_step.specs.Running.{after, answer_by, events_in, lines_of, look_by, AreDone, Form, IsStopped, IsWrittenInPart, LeavesIn, LeavesOf}
 use Rattle.cpg_step.specs.Steps.{IsDone, MayBeDone}
 
+-- what follows where a call went well
+pub where_ok : {P Q : Type 0} (result : Result (Unit {0}) Refusal) → (P → Q) → OnOk result P → OnOk result Q
+where_ok (Ok done) f h = f h
+where_ok (Err why) f h = h
+
 -- an event that was answered
-pub act_done : (w : WorldValue) (e : WorldEvent) (a : Answer) (text : List ℕ) (v : WorldValue) → IsReply w e a → v ≡ happens w e → text ≡ answer_line a → IsDone w (Act e) text v
-act_done w e a text v replied happened said = record {
+pub act_done : (form : Form) (index : ℕ) (w : WorldValue) (e : WorldEvent) (a : Answer) (text : List ℕ) (v : WorldValue)
+    → IsReply w e a → v ≡ happens w e → text ≡ answer_by form index w e a → IsDone form index w (Act e) text v
+act_done form index w e a text v replied happened said = record {
   answers = a ∷ [];
   replies = (replied, tt);
   world_after = happened;
-  said = said ∙ sym (append-nil (answer_line a));
+  said = said ∙ sym (append-nil (answer_by form index w e a));
 }
 
 -- true is not false
@@ -38,12 +44,13 @@ stepped : (w : WorldValue) (e : WorldEvent) (a : Answer) (told : Bool) (v : Worl
 stepped w e a told v step is none = step.happened (λ memory. differ (sym (is.1 memory) ∙ none))
 
 -- Where its line was put it is done.
-pub step_done : (w : WorldValue) (e : WorldEvent) (a : Answer) (told : Bool) (v : WorldValue) (put : Result (Unit {0}) Refusal) (before text : List ℕ) → IsStep w e a v → (IsTrue told ↔ (a ≡ Err Memory)) → told ≡ false
-    → before ≡ [] → OnOk put (text ≡ before ++ answer_line a) → OnOk put (IsDone w (Act e) text v)
-step_done w e a told v (Ok done) before text step is none empty said =
+pub step_done : (form : Form) (index : ℕ) (w : WorldValue) (e : WorldEvent) (a : Answer) (told : Bool) (v : WorldValue) (put : Result (Unit {0}) Refusal) (before text : List ℕ)
+    → IsStep w e a v → (IsTrue told ↔ (a ≡ Err Memory)) → told ≡ false
+    → before ≡ [] → OnOk put (v ≡ happens w e → text ≡ before ++ answer_by form index w e a) → OnOk put (IsDone form index w (Act e) text v)
+step_done form index w e a told v (Ok done) before text step is none empty said =
     let met = stepped w e a told v step is none in
-    act_done w e a text v met.0 met.1 (said ∙ ap (λ front. front ++ answer_line a) empty)
-step_done w e a told v (Err refused) before text step is none empty said = tt
+    act_done form index w e a text v met.0 met.1 (said met.1 ∙ ap (λ front. front ++ answer_by form index w e a) empty)
+step_done form index w e a told v (Err refused) before text step is none empty said = tt
 
 -- Whether or not, it happened.
 pub step_happened : (w : WorldValue) (e : WorldEvent) (a : Answer) (told : Bool) (v : WorldValue) → IsStep w e a v → (IsTrue told ↔ (a ≡ Err Memory)) → told ≡ false → (put : Result (Unit {0}) Refusal) → OnErr put (MayBeDone w (Act e) v)
@@ -51,17 +58,18 @@ step_happened w e a told v step is none (Ok done) = tt
 step_happened w e a told v step is none (Err refused) = inr (stepped w e a told v step is none).1
 
 -- a look
-pub look_done : (w : WorldValue) (l : LookValue) (text : List ℕ) → text ≡ concat (look_lines w l) → IsDone w (Look l) text w
-look_done w l text said = record {
+pub look_done : (form : Form) (index : ℕ) (w : WorldValue) (l : LookValue) (text : List ℕ) → text ≡ concat (look_by form index w l) → IsDone form index w (Look l) text w
+look_done form index w l text said = record {
   answers = [];
   replies = tt;
   world_after = refl;
-  said = said ∙ ap concat (sym (append-nil (look_lines w l)));
+  said = said ∙ ap concat (sym (append-nil (look_by form index w l)));
 }
 
 -- the text of a command that is done is written
-pub written_whole : (w v : WorldValue) (c : Command) (text : List ℕ) (a b : Option (List ℕ)) → IsDone w c text v → Appends a b text → AreDone w (c ∷ []) a b v
-written_whole w v c text a b d h = record {
+pub written_whole : (form : Form) (index : ℕ) (w v : WorldValue) (c : Command) (text : List ℕ) (a b : Option (List ℕ)) → IsDone form index w c text v → Appends a b text
+    → AreDone form index w (c ∷ []) a b v
+written_whole form index w v c text a b d h = record {
   answers = d.answers;
   replies = d.replies;
   world_after = d.world_after;
@@ -69,8 +77,9 @@ written_whole w v c text a b d h = record {
 }
 
 -- a front of it is
-pub written_in_part : (w v : WorldValue) (c : Command) (text : List ℕ) (a b : Option (List ℕ)) → IsDone w c text v → AppendsFront a b text → IsWrittenInPart w c a b v
-written_in_part w v c text a b d h = record {
+pub written_in_part : (form : Form) (index : ℕ) (w v : WorldValue) (c : Command) (text : List ℕ) (a b : Option (List ℕ)) → IsDone form index w c text v → AppendsFront a b text
+    → IsWrittenInPart form index w c a b v
+written_in_part form index w v c text a b d h = record {
   answers = d.answers;
   replies = d.replies;
   world_after = d.world_after;
@@ -90,36 +99,47 @@ replies_parted w [] fs (a ∷ answers) more all later = absurd all
 replies_parted w (e ∷ es) fs [] more all later = absurd all
 replies_parted w (e ∷ es) fs (a ∷ answers) more all later = (all.0, replies_parted (happens w e) es fs answers more all.1 later)
 
--- the lines of commands after commands
-lines_parted : (w : WorldValue) (before more : List Command) (answers others : List Answer) → AreReplies w (events_in before) answers
-    → lines_of w (before ++ more) (answers ++ others) ≡ lines_of w before answers ++ lines_of (after w before) more others
-lines_parted w [] more [] others all = refl
-lines_parted w [] more (a ∷ answers) others all = absurd all
-lines_parted w (Look l ∷ before) more answers others all =
-    ap (λ lines. look_lines w l ++ lines) (lines_parted w before more answers others all) ∙ sym (append_assoc (look_lines w l) (lines_of w before answers) (lines_of (after w before) more others))
-lines_parted w (Act e ∷ before) more [] others all = absurd all
-lines_parted w (Act e ∷ before) more (a ∷ answers) others all = ap (λ lines. answer_line a ∷ lines) (lines_parted (happens w e) before more answers others all.1)
+-- the lines of commands after commands, which begin at a later index
+lines_parted : (form : Form) (index : ℕ) (w : WorldValue) (before more : List Command) (answers others : List Answer) → AreReplies w (events_in before) answers
+    → lines_of form index w (before ++ more) (answers ++ others)
+    ≡ lines_of form index w before answers ++ lines_of form (index + length before) (after w before) more others
+lines_parted form index w [] more [] others all = ap (λ n. lines_of form n w more others) (omega arith)
+lines_parted form index w [] more (a ∷ answers) others all = absurd all
+lines_parted form index w (Look l ∷ before) more answers others all =
+    let on : index + 1 + length before ≡ index + length (Look l ∷ before) = omega arith in
+    ap (λ lines. look_by form index w l ++ lines) (lines_parted form (index + 1) w before more answers others all)
+    ∙ sym (append_assoc (look_by form index w l) (lines_of form (index + 1) w before answers) (lines_of form (index + 1 + length before) (after w before) more others))
+    ∙ ap (λ n. lines_of form index w (Look l ∷ before) answers ++ lines_of form n (after w before) more others) on
+lines_parted form index w (Act e ∷ before) more [] others all = absurd all
+lines_parted form index w (Act e ∷ before) more (a ∷ answers) others all =
+    let on : index + 1 + length before ≡ index + length (Act e ∷ before) = omega arith in
+    ap (λ lines. answer_by form index w e a ∷ lines) (lines_parted form (index + 1) (happens w e) before more answers others all.1)
+    ∙ ap (λ n. lines_of form index w (Act e ∷ before) (a ∷ answers) ++ lines_of form n (after w (Act e ∷ before)) more others) on
 
 -- no command
-pub none_done : (w : WorldValue) (a : Option (List ℕ)) → AreDone w [] a a w
-none_done w a = record { answers = []; replies = tt; world_after = refl; written = Appends-nil a }
+pub none_done : (form : Form) (w : WorldValue) (a : Option (List ℕ)) → AreDone form 0 w [] a a w
+none_done form w a = record { answers = []; replies = tt; world_after = refl; written = Appends-nil a }
 
 -- commands after commands
-pub done_more : (w v u : WorldValue) (before more : List Command) (a b d : Option (List ℕ)) → AreDone w before a b v → AreDone v more b d u → AreDone w (before ++ more) a d u
-done_more w v u before more a b d first second = record {
+pub done_more : (form : Form) (index : ℕ) (w v u : WorldValue) (before more : List Command) (a b d : Option (List ℕ)) → AreDone form index w before a b v
+    → AreDone form (index + length before) v more b d u → AreDone form index w (before ++ more) a d u
+done_more form index w v u before more a b d first second = record {
   answers = first.answers ++ second.answers;
   replies = subst (λ es. AreReplies w es (first.answers ++ second.answers)) (sym (events_parted before more)) (replies_parted w (events_in before) (events_in more) first.answers second.answers first.replies (subst (λ x. AreReplies x (events_in more) second.answers) first.world_after second.replies));
   world_after = second.world_after ∙ (ap (λ x. runs x (events_in more)) first.world_after ∙ (sym (runs_on w (events_in before) (events_in more)) ∙ ap (runs w) (sym (events_parted before more))));
-  written = subst (Appends a d) (sym texts) (Appends-trans a b d (concat (lines_of w before first.answers)) (concat (lines_of v more second.answers)) first.written second.written);
+  written = subst (Appends a d) (sym texts) (Appends-trans a b d (concat (lines_of form index w before first.answers)) (concat (lines_of form last v more second.answers)) first.written second.written);
 }
   where
-    texts : concat (lines_of w (before ++ more) (first.answers ++ second.answers)) ≡ concat (lines_of w before first.answers) ++ concat (lines_of v more second.answers)
-    texts = ap concat (lines_parted w before more first.answers second.answers first.replies) ∙ (concat-append (lines_of w before first.answers) (lines_of (after w before) more second.answers) ∙ ap (λ x. concat (lines_of w before first.answers) ++ concat (lines_of x more second.answers)) (sym first.world_after))
+    last : ℕ
+    last = index + length before
+
+    texts : concat (lines_of form index w (before ++ more) (first.answers ++ second.answers)) ≡ concat (lines_of form index w before first.answers) ++ concat (lines_of form last v more second.answers)
+    texts = ap concat (lines_parted form index w before more first.answers second.answers first.replies) ∙ (concat-append (lines_of form index w before first.answers) (lines_of form last (after w before) more second.answers) ∙ ap (λ x. concat (lines_of form index w before first.answers) ++ concat (lines_of form last x more second.answers)) (sym first.world_after))
 
 -- the command after those that are done met a refusal
-pub stopped_after : (refused : Refusal) (w v u : WorldValue) (before : List Command) (c : Command) (later : List Command) (a b d : Option (List ℕ))
-    → AreDone w before a b v → LeavesOf refused v c b d u → (commands : List Command) → commands ≡ before ++ c ∷ later → IsStopped refused w commands a d u
-stopped_after refused w v u before c later a b d first left commands whole = record {
+pub stopped_after : (refused : Refusal) (form : Form) (w v u : WorldValue) (before : List Command) (c : Command) (later : List Command) (a b d : Option (List ℕ))
+    → AreDone form 0 w before a b v → LeavesOf refused form (length before) v c b d u → (commands : List Command) → commands ≡ before ++ c ∷ later → IsStopped refused form w commands a d u
+stopped_after refused form w v u before c later a b d first left commands whole = record {
   before = before;
   met = c;
   later = later;
@@ -130,6 +150,13 @@ stopped_after refused w v u before c later a b d first left commands whole = rec
   left = left;
 }
 
+-- what such a command leaves
+pub stopped_leaves : (refused : Refusal) (form : Form) (w world : WorldValue) (commands : List Command) (a b : Option (List ℕ)) → IsStopped refused form w commands a b world
+    → LeavesIn form (Ok commands) refused w a b world
+stopped_leaves refusal.Memory form w world commands a b stopped = inr stopped
+stopped_leaves refusal.Write form w world commands a b stopped = stopped
+stopped_leaves _ form w world commands a b stopped = absurd stopped.left
+
 -- commands leave as many nodes
-pub as_many_done : (w v : WorldValue) (commands : List Command) (a b : Option (List ℕ)) → AreDone w commands a b v → length v.nodes ≡ length w.nodes
-as_many_done w v commands a b d = ap (λ (x : WorldValue). length x.nodes) d.world_after ∙ as_many_after w (events_in commands)
+pub as_many_done : (form : Form) (index : ℕ) (w v : WorldValue) (commands : List Command) (a b : Option (List ℕ)) → AreDone form index w commands a b v → length v.nodes ≡ length w.nodes
+as_many_done form index w v commands a b d = ap (λ (x : WorldValue). length x.nodes) d.world_after ∙ as_many_after w (events_in commands)

@@ -1,6 +1,8 @@
 pub mod Beginnings
 pub mod Doing
+pub mod Gathered
 pub mod LastNumbers
 pub mod Lengths
 pub mod Listing
-pub mod NumberedRuns
+pub mod NumberedLines
+pub mod Whole

@@ -1,9 +1,10 @@
 pub mod Commands
+pub mod Gathering
 pub mod Lines
-pub mod NumberedLines
 pub mod NumberedSteps
 pub mod Numbers
 pub mod Plain
 pub mod Running
 pub mod Scripts
 pub mod Steps
+pub mod Targets

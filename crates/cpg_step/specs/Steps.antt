@@ -11,14 +11,14 @@ use Rattle.cpg_world_laws.specs.Replies.{Answer, AreReplies}
 use Rattle.cpg_step.specs.declared.commands.Command.{Command}
 use Rattle.cpg_step.specs.Commands.{in_ring}
 use Rattle.cpg_step.specs.Lines.{rule_line}
-use Rattle.cpg_step.specs.Running.{after, events_in, lines_of}
+use Rattle.cpg_step.specs.Running.{after, events_in, lines_of, Form}
 
 -- The command is done, and this is the text of its lines.
-pub record IsDone (w : WorldValue) (command : Command) (text : List ℕ) (world : WorldValue) : Type 0 where
+pub record IsDone (form : Form) (index : ℕ) (w : WorldValue) (command : Command) (text : List ℕ) (world : WorldValue) : Type 0 where
   pub answers : List Answer
   pub replies : AreReplies w (events_in (command ∷ [])) answers
   pub world_after : world ≡ after w (command ∷ [])
-  pub said : text ≡ concat (lines_of w (command ∷ []) answers)
+  pub said : text ≡ concat (lines_of form index w (command ∷ []) answers)
 
 -- the command is not done, or it is
 abbrev pub MayBeDone : WorldValue → Command → WorldValue → Type 0

@@ -54,7 +54,7 @@ pub fn carried(
         Op::Act(Call::Join(group)) => (Some(group), None, None, None),
         Op::Act(Call::Send(message)) => (None, Some(message), None, None),
         Op::Act(Call::Insert(group, position, rule)) => {
-            (Some(group), None, Some((*position, rule)), None)
+            (Some(group), None, Some((*position, rule.get())), None)
         }
         Op::Act(Call::Remove(group, id)) => (Some(group), None, None, Some(*id)),
         Op::Act(Call::Leave) | Op::Gone => (None, None, None, None),

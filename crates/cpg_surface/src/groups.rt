@@ -6,7 +6,7 @@ ghost use Rattle.cpg_record.specs.Judging.{most_places, IsNext};
 use cpg_cred::{By, NodeId, Refusal, Refused};
 use cpg_group::{
     ConnId, Event, Events, Member, Members, Names, Policy, Processes, Reason, Record, Records,
-    SharedEntry, Verdict, verify,
+    Verdict, verify,
 };
 use cpg_rules::{Asker, Table};
 use cpg_wire::{Entry, Name};
@@ -66,23 +66,13 @@ pub fn are_judged(alloc: Global, records: &[Record]) -> Result<bool, Refusal> {
     verify(alloc, records)
 }
 
-/// A record has its entry in common with others.
-pub fn record(
-    entry: SharedEntry,
-    group: Option<Name>,
-    verdict: Verdict,
-    members: Members,
-) -> Record {
+pub fn record(entry: Entry, group: Option<Name>, verdict: Verdict, members: Members) -> Record {
     Record {
         entry,
         group,
         verdict,
         members,
     }
-}
-
-pub fn share(alloc: Global, entry: Entry) -> Result<SharedEntry, Refused<Entry>> {
-    SharedEntry::new(alloc, entry)
 }
 
 pub fn entry_of(record: &Record) -> &Entry {

@@ -4,7 +4,7 @@ ghost use Rattle.cpg_board.specs.Seats.{IsSeatOf};
 
 use cpg_board::{Board, Record, Seat, Settled};
 use cpg_cred::{Cred, NodeId, Refusal};
-use cpg_entry::{Call, Entry, Name, Op, SharedEntry};
+use cpg_entry::{Call, Entry, Name, Op};
 use cpg_record::{Member, Members, Reason, Verdict};
 use std::alloc::Global;
 use std::cmp::Ordering;
@@ -24,7 +24,7 @@ fn record_of(alloc: Global, pid: u32) -> Result<Record, Refusal> {
     let group = Name::from_slice(alloc, b"db")?;
     let member = Member { node, conn: 1, pid };
     Ok(Record {
-        entry: SharedEntry::copy_of(alloc, &entry)?,
+        entry,
         group: Some(group),
         verdict: Verdict::Denied(Reason::Closed),
         members: Members::from_slice(alloc, &[member])?,

@@ -68,7 +68,7 @@ fn is_group(group: &Option<Name>, name: Option<&[u8]>) -> bool {
 fn record_agrees(records: &[Record]) -> bool {
     match records.split_last() {
         Some((past, before)) => {
-            let group = entry_group(past.entry(), group_in(before, &ConnId::of(past.entry())));
+            let group = entry_group(&past.entry, group_in(before, &ConnId::of(&past.entry)));
             is_group(&past.group, group)
                 && are_members(past.members.as_slice(), records, group.unwrap_or(&[]))
         }
@@ -300,7 +300,7 @@ fn next_with(later: Option<u32>, place: u32, upto: &[Record], conn: &ConnId) -> 
 
 /// Whether the connection is in the group after the place that the plain program finds.
 fn group_after_agrees(policy: &Policy, place: u32, conn: &ConnId) -> bool {
-    match policy.trail(*conn).group_after(place) {
+    match policy.log(*conn).group_after(place) {
         Some(name) => { group_in(upto(policy.records(), place), conn) == Some(name.as_slice()) }
         None => group_in(upto(policy.records(), place), conn).is_none(),
     }
@@ -393,8 +393,8 @@ struct Counts {
 /// The count to which the record adds.
 fn count_of<'a>(counts: &'a mut Counts, past: &Record, before: &[Record]) -> &'a mut u32 {
     let allowed = past.verdict.is_allowed();
-    match &past.entry().op {
-        Op::Act(Call::Join(_)) if allowed && is_over(before, &ConnId::of(past.entry())) => {
+    match &past.entry.op {
+        Op::Act(Call::Join(_)) if allowed && is_over(before, &ConnId::of(&past.entry)) => {
             &mut counts.rejoins
         }
         Op::Act(Call::Leave) if allowed => &mut counts.leaves,
@@ -403,7 +403,7 @@ fn count_of<'a>(counts: &'a mut Counts, past: &Record, before: &[Record]) -> &'a
             &mut counts.denied
         }
         Op::Act(Call::Insert(_, _, _) | Call::Remove(_, _))
-            if allowed && past.entry().cred.uid != 0 => { &mut counts.edits }
+            if allowed && past.entry.cred.uid != 0 => { &mut counts.edits }
         _ => &mut counts.others,
     }
 }

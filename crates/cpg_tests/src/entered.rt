@@ -3,7 +3,7 @@
 
 use crate::drawing::{conn_by, drawn};
 use crate::entering::{are_equal, enter};
-use cpg_entry::{MOST_PLACES, Name, SharedEntry};
+use cpg_entry::{Entry, MOST_PLACES, Name};
 use cpg_group::{ConnId, Policy};
 use std::alloc::Global;
 
@@ -17,22 +17,19 @@ const ENTRIES: u32 = 90;
 const CONNS: u32 = 10;
 
 /// Judges the entry and puts it last by one call, and says whether that was done.
-fn enters(policy: &mut Policy, entry: SharedEntry) -> bool {
+fn enters(policy: &mut Policy, entry: Entry) -> bool {
     policy.len() < MOST_PLACES as usize && policy.enter(entry).is_ok()
 }
 
 /// Puts the entry last in both, in the one by two calls and in the other by one.
-fn both_enter(one: &mut Policy, other: &mut Policy, entry: SharedEntry) -> bool {
-    enter(one, entry.get()).is_ok() && enters(other, entry)
+fn both_enter(one: &mut Policy, other: &mut Policy, entry: Entry) -> bool {
+    enter(one, &entry).is_ok() && enters(other, entry)
 }
 
 /// Does so with the entry of the turn.
 fn turn_enters(alloc: Global, one: &mut Policy, other: &mut Policy, seed: u32, turn: u32) -> bool {
     match drawn(alloc, seed, turn) {
-        Ok(entry) => match SharedEntry::new(alloc, entry) {
-            Ok(entry) => both_enter(one, other, entry),
-            Err(_) => false,
-        },
+        Ok(entry) => both_enter(one, other, entry),
         Err(_) => false,
     }
 }
@@ -65,7 +62,7 @@ fn lends_connections(policy: &Policy) -> bool {
     let conns = policy.connections();
     let mut seen = 0usize;
     for past in policy.records() {
-        let conn = ConnId::of(past.entry());
+        let conn = ConnId::of(&past.entry);
         if !is_among(conns, seen, &conn) {
             if !is_at(conns, seen, &conn) {
                 return false;
@@ -85,36 +82,36 @@ fn are_same(one: Option<&Name>, other: Option<&Name>) -> bool {
     }
 }
 
-/// Whether the trail lends the connection's own places by number, and after each the group that a search finds.
-fn trail_agrees(policy: &Policy, conn: &ConnId) -> bool {
-    let trail = policy.trail(*conn);
+/// Whether the log lends the connection's own places by number, and after each the group that a search finds.
+fn log_agrees(policy: &Policy, conn: &ConnId) -> bool {
+    let log = policy.log(*conn);
     let mut place = 0u32;
     let mut count = 0usize;
     for past in policy.records() {
         place = place.wrapping_add(1);
-        if ConnId::of(past.entry()) == *conn {
-            if trail.own(count) != Some(place) {
+        if ConnId::of(&past.entry) == *conn {
+            if log.own(count) != Some(place) {
                 return false;
             }
             count = count.wrapping_add(1);
         }
-        if !are_same(trail.group_past(count), trail.group_after(place)) {
+        if !are_same(log.group_past(count), log.group_after(place)) {
             return false;
         }
     }
-    trail.own(count).is_none()
+    log.own(count).is_none()
 }
 
 /// Whether that is so of the connection of that number.
 fn number_agrees(policy: &Policy, number: u32) -> bool {
     match conn_by(number) {
-        Ok(conn) => trail_agrees(policy, &conn),
+        Ok(conn) => log_agrees(policy, &conn),
         Err(_) => false,
     }
 }
 
 /// Whether that is so of each connection.
-fn trails_agree(policy: &Policy) -> bool {
+fn logs_agree(policy: &Policy) -> bool {
     for number in 0..CONNS {
         if !number_agrees(policy, number) {
             return false;
@@ -125,7 +122,7 @@ fn trails_agree(policy: &Policy) -> bool {
 
 /// Whether the new policies agree.
 fn pair_agrees(alloc: Global, one: &mut Policy, other: &mut Policy, seed: u32) -> bool {
-    turns_enter(alloc, one, other, seed) && lends_connections(other) && trails_agree(other)
+    turns_enter(alloc, one, other, seed) && lends_connections(other) && logs_agree(other)
 }
 
 /// Whether policies of the seed agree.

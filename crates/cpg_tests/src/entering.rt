@@ -1,6 +1,6 @@
 //! Calls in short words, and their way into a policy.
 
-use cpg_entry::{Call, Cred, Entry, Message, Name, NodeId, Op, Refusal};
+use cpg_entry::{Call, Cred, Entry, Message, Name, NodeId, Op, Refusal, SharedRule};
 use cpg_group::{ConnId, Events, MOST_PLACES, Members, Policy, Record, Records, Verdict};
 use cpg_rules::Rule;
 use std::alloc::Global;
@@ -31,7 +31,9 @@ fn op(alloc: Global, ask: &Ask) -> Result<Op, Refusal> {
         Ask::Join(group) => Call::Join(name(alloc, group)?),
         Ask::Leave => Call::Leave,
         Ask::Send => Call::Send(Message::from_slice(alloc, b"hi")?),
-        Ask::Insert(group, index, rule) => Call::Insert(name(alloc, group)?, *index, *rule),
+        Ask::Insert(group, index, rule) => {
+            Call::Insert(name(alloc, group)?, *index, SharedRule::new(alloc, *rule)?)
+        }
         Ask::Remove(group, id) => Call::Remove(name(alloc, group)?, *id),
         Ask::Gone => return Ok(Op::Gone),
     }))

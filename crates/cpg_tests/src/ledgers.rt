@@ -1,6 +1,6 @@
 //! What ledgers of delivered entries have in common, and that nobody who reads them sees it.
 
-use cpg_entry::{BLOCK, Call, Cred, Entry, Ledger, Message, NoKeeper, NodeId, Op, Refusal, Shelf};
+use cpg_entry::{BLOCK, Call, Cred, Entry, Ledger, Message, NodeId, Op, Refusal, Shelf};
 use std::alloc::Global;
 
 /// A leave by connection 1 of node 1, of that process.
@@ -19,7 +19,7 @@ fn put(ledger: &mut Ledger, shelf: &Shelf, entry: Entry) -> Result<(), Refusal> 
     ledger.reserve(1)?;
     if ledger.len() < 1000 {
         ledger.push_reserved(entry);
-        ledger.share(shelf, &NoKeeper);
+        ledger.share(shelf);
     }
     Ok(())
 }

@@ -9,8 +9,8 @@ use std::alloc::{AllocError, Global};
 /// An allowed leave or end of the connection.
 fn ends(past: &Record, conn: &ConnId) -> bool {
     past.verdict.is_allowed()
-        && ConnId::of(past.entry()) == *conn
-        && matches!(&past.entry().op, Op::Act(Call::Leave) | Op::Gone)
+        && ConnId::of(&past.entry) == *conn
+        && matches!(&past.entry.op, Op::Act(Call::Leave) | Op::Gone)
 }
 
 /// Whether one of the records is an allowed leave or end of the connection.
@@ -25,7 +25,7 @@ pub fn is_over(records: &[Record], conn: &ConnId) -> bool {
 
 /// An allowed join of the group.
 fn joins(past: &Record, group: &[u8]) -> bool {
-    match &past.entry().op {
+    match &past.entry.op {
         Op::Act(Call::Join(name)) => past.verdict.is_allowed() && name.is(group),
         _ => false,
     }
@@ -33,7 +33,7 @@ fn joins(past: &Record, group: &[u8]) -> bool {
 
 /// Whether the record takes a seat in the group that none of the later ones ends.
 fn sits(past: &Record, later: &[Record], group: &[u8]) -> bool {
-    joins(past, group) && !is_over(later, &ConnId::of(past.entry()))
+    joins(past, group) && !is_over(later, &ConnId::of(&past.entry))
 }
 
 /// The member of the group before whom so many stand in it.
@@ -42,7 +42,7 @@ pub fn member_at(records: &[Record], group: &[u8], index: usize) -> Option<Membe
     for (i, past) in records.iter().enumerate() {
         if sits(past, &records[i..], group) {
             if left == 0 {
-                return Some(Member::of(past.entry()));
+                return Some(Member::of(&past.entry));
             }
             left -= 1;
         }
@@ -53,8 +53,8 @@ pub fn member_at(records: &[Record], group: &[u8], index: usize) -> Option<Membe
 /// The member that the connection is of the group, if it is one.
 pub fn member_in(records: &[Record], group: &[u8], conn: &ConnId) -> Option<Member> {
     for (i, past) in records.iter().enumerate() {
-        if ConnId::of(past.entry()) == *conn && sits(past, &records[i..], group) {
-            return Some(Member::of(past.entry()));
+        if ConnId::of(&past.entry) == *conn && sits(past, &records[i..], group) {
+            return Some(Member::of(&past.entry));
         }
     }
     None
@@ -93,10 +93,10 @@ fn take_in(
     past: &Record,
     group: &[u8],
 ) -> Result<(), AllocError> {
-    match &past.entry().op {
+    match &past.entry.op {
         Op::Act(Call::Insert(name, index, rule)) if name.is(group) => {
             let index = usize::from(*index).min(rules.len());
-            rules.insert(index, (place, *rule))?;
+            rules.insert(index, (place, *rule.get()))?;
         }
         Op::Act(Call::Remove(name, id)) if name.is(group) => {
             rules.retain(|kept| kept.0 != *id);
@@ -181,8 +181,8 @@ fn verdict_on_leave(is_member: bool) -> Verdict {
 /// Whether the entry's process is a member of the group.
 fn is_twice(records: &[Record], group: &[u8], entry: &Entry) -> bool {
     for (i, past) in records.iter().enumerate() {
-        if past.entry().node == entry.node
-            && past.entry().pid == entry.pid
+        if past.entry.node == entry.node
+            && past.entry.pid == entry.pid
             && sits(past, &records[i..], group)
         {
             return true;

@@ -20,7 +20,7 @@ fn is_join(op: &Op) -> bool {
 /// Whether the record, which acts in the group, tells the connection so: one that was in the group before,
 /// or the joiner.
 fn is_heard(past: &Record, before: &[Record], group: &[u8], conn: &ConnId) -> bool {
-    is_in(before, group, conn) || (is_join(&past.entry().op) && ConnId::of(past.entry()) == *conn)
+    is_in(before, group, conn) || (is_join(&past.entry.op) && ConnId::of(&past.entry) == *conn)
 }
 
 /// Whether the record tells the connection more than the verdict.
@@ -33,7 +33,7 @@ pub fn hears(past: &Record, before: &[Record], conn: &ConnId) -> bool {
 
 /// Whether the connection made the record's entry.
 pub fn is_own(past: &Record, conn: &ConnId) -> bool {
-    ConnId::of(past.entry()) == *conn
+    ConnId::of(&past.entry) == *conn
 }
 
 /// Whether the event is the verdict on the record at the place.
@@ -46,7 +46,7 @@ pub fn is_answer(event: &Event, place: u32, past: &Record) -> bool {
 
 /// The member that the record takes out of the group.
 fn leaver(past: &Record, before: &[Record], group: &[u8]) -> Option<Member> {
-    member_in(before, group, &ConnId::of(past.entry()))
+    member_in(before, group, &ConnId::of(&past.entry))
 }
 
 /// Whether the moves are that of the member alone, with the cause.
@@ -65,9 +65,9 @@ fn are_moves(
     left: &[Move],
     joined: &[Move],
 ) -> bool {
-    match &past.entry().op {
+    match &past.entry.op {
         Op::Act(Call::Join(_)) => {
-            left.is_empty() && are_just(joined, Some(Member::of(past.entry())), Cause::Join)
+            left.is_empty() && are_just(joined, Some(Member::of(&past.entry)), Cause::Join)
         }
         Op::Act(Call::Leave) => {
             joined.is_empty() && are_just(left, leaver(past, before, group), Cause::Leave)
@@ -79,9 +79,9 @@ fn are_moves(
 
 /// Whether the record sends that message from that process.
 fn sends(past: &Record, node: NodeId, pid: u32, message: &Message) -> bool {
-    match &past.entry().op {
+    match &past.entry.op {
         Op::Act(Call::Send(sent)) => {
-            past.entry().node == node && past.entry().pid == pid && sent.equals(message)
+            past.entry.node == node && past.entry.pid == pid && sent.equals(message)
         }
         _ => false,
     }
@@ -90,7 +90,7 @@ fn sends(past: &Record, node: NodeId, pid: u32, message: &Message) -> bool {
 /// Whether the record edits a table.
 fn edits(past: &Record) -> bool {
     matches!(
-        &past.entry().op,
+        &past.entry.op,
         Op::Act(Call::Insert(_, _, _) | Call::Remove(_, _))
     )
 }

@@ -6,7 +6,7 @@ ghost use Rattle.cpg_entry.specs.Ranges.{IsEntry};
 use bytes::Bytes;
 use cpg_board::Board;
 use cpg_cred::{AcceptList, Cred, NodeId, Refusal};
-use cpg_entry::{Call, Entry, Ledger, NoKeeper, Op, Packet, Shelf};
+use cpg_entry::{Call, Entry, Ledger, Op, Packet, Shelf};
 use cpg_node::{Node, Settings};
 use cpg_station::{BoardName, Station};
 use cpg_wire::encode_data;
@@ -104,7 +104,7 @@ fn holds_others(alloc: Global, shelf: &Shelf) -> Result<bool, Refusal> {
         let entry = leave(41)?;
         if ledger.len() < COUNT as usize {
             ledger.push_reserved(entry);
-            ledger.share(shelf, &NoKeeper);
+            ledger.share(shelf);
         }
     }
     Ok(ledger.in_blocks() == 0)
@@ -141,42 +141,5 @@ fn a_station_lays_down_what_it_delivered(rt: HostRuntime) -> Result<(), Fail> {
 fn an_empty_shelf_holds_no_others(rt: HostRuntime) -> Result<(), Fail> {
     let board = Board::new(rt.alloc(), COUNT)?;
     assert!(rt; holds_others(rt.alloc(), board.shelf()) == Ok(false));
-    Ok(())
-}
-
-/// How many have the entry of the station's record of that index in common; 0 where there is no such record.
-fn owners_at<B: BoardName>(station: &Station<B>, index: usize) -> usize {
-    match station.audit().get(index) {
-        Some(record) => record.entry.owners(),
-        None => 0,
-    }
-}
-
-/// Whether another station of the board delivers all places, too, and keeps each entry once then: the board and the records of
-/// both have the last one in common, and the shelf the first one, too.
-fn keeps_beside<B: BoardName>(
-    alloc: Global,
-    board: &Board,
-    station: &Station<B>,
-) -> Result<bool, Refusal>
-    requires { board.now.cells ≡ B.cells }
-{
-    let other = delivered::<B>(alloc, board, 2)?;
-    let last = COUNT as usize - 1;
-    Ok(owners_at(station, 0) == 4 && owners_at(&other, last) == 3)
-}
-
-/// Whether two stations of the board do so.
-fn keep_once<B: BoardName>(alloc: Global, board: &Board) -> Result<bool, Refusal>
-    requires { board.now.cells ≡ B.cells }
-{
-    let station = delivered::<B>(alloc, board, 1)?;
-    keeps_beside(alloc, board, &station)
-}
-
-#[test]
-fn stations_keep_each_entry_once(rt: HostRuntime) -> Result<(), Fail> {
-    let board = Board::new(rt.alloc(), COUNT)?;
-    assert!(rt; keep_once::<Brand>(rt.alloc(), &board) == Ok(true));
     Ok(())
 }

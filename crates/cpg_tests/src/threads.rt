@@ -129,7 +129,7 @@ fn seen_by_three<B: HistoryName + Send + Sync, R: Threads + Wait + Clock + Sync>
 
 /// Whether the record is of the removal of that rule.
 fn is_removal(past: &Record, id: u32) -> bool {
-    match &past.entry().op {
+    match &past.entry.op {
         Op::Act(Call::Remove(group, rule)) => *rule == id && group.as_slice() == b"db".as_slice(),
         _ => false,
     }
@@ -139,7 +139,7 @@ fn is_removal(past: &Record, id: u32) -> bool {
 fn are_in_order(records: &[Record], number: u8) -> bool {
     let mut next = 1u32;
     for past in records {
-        if past.entry().node.get() == number {
+        if past.entry.node.get() == number {
             if !is_removal(past, next) {
                 return false;
             }

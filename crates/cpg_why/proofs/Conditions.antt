@@ -6,15 +6,15 @@ use Rattle.std.proofs.lemmas.Option.{same_Some}
 use Rattle.cpg_rules.specs.declared.rules.Asker.{Asker}
 use Rattle.cpg_rules.specs.declared.rules.Who.{Who}
 use Rattle.cpg_rules.specs.Decision.{agrees, matches}
-use Rattle.cpg_why.specs.declared.unmet.Kind.{Kind}
-use Rattle.cpg_why.specs.declared.unmet.Kind.TheVariants.{Uid, Gid, Node}
+use Rattle.cpg_why.specs.declared.unmet.Subject.{Subject}
+use Rattle.cpg_why.specs.declared.unmet.Subject.TheVariants.{Uid, Gid, Node}
 use Rattle.cpg_why.specs.declared.unmet.Unmet.{Unmet}
 use Rattle.cpg_why.specs.Laws.{IsUnmet, TellsTheUnmet, TellsWhereNotMatched}
 use Rattle.cpg_why.specs.Unmet.{first_of_two, had_by, lacking, unmet, wanted_by}
 
 -- ---- where one is told
 
-agrees_lacking : (kind : Kind) (has : ℕ) (condition : Option ℕ) → agrees condition has ≡ not (is_some (lacking kind has condition))
+agrees_lacking : (kind : Subject) (has : ℕ) (condition : Option ℕ) → agrees condition has ≡ not (is_some (lacking kind has condition))
 agrees_lacking kind has None = refl
 agrees_lacking kind has (Some wanted) = by_case (has == wanted) refl
   where
@@ -55,13 +55,13 @@ differ : (a b : ℕ) → a == b ≡ false → a ≢ b
 differ a b h = grind (arith, nat_tests)
 
 -- a condition of one kind that does not hold
-record Lacks (kind : Kind) (has : ℕ) (condition : Option ℕ) (found : Unmet) : Type 0 where
+record Lacks (kind : Subject) (has : ℕ) (condition : Option ℕ) (found : Unmet) : Type 0 where
   of_kind : found.kind ≡ kind
   wants : condition ≡ Some found.wanted
   had : has ≡ found.has
   differs : found.has ≢ found.wanted
 
-lacks : (kind : Kind) (has : ℕ) (condition : Option ℕ) (found : Unmet) → lacking kind has condition ≡ Some found → Lacks kind has condition found
+lacks : (kind : Subject) (has : ℕ) (condition : Option ℕ) (found : Unmet) → lacking kind has condition ≡ Some found → Lacks kind has condition found
 lacks kind has None found is = absurd (cc)
 lacks kind has (Some wanted) found is = by_case (has == wanted) refl is
   where
@@ -78,10 +78,10 @@ lacks kind has (Some wanted) found is = by_case (has == wanted) refl is
           differs = λ h. differ has wanted test (had ∙ h ∙ sym wants);
         }
 
-as_unmet : (who : Who) (asker : Asker) (kind : Kind) (found : Unmet) → Lacks kind (had_by kind asker) (wanted_by kind who) found → IsUnmet who asker found
+as_unmet : (who : Who) (asker : Asker) (kind : Subject) (found : Unmet) → Lacks kind (had_by kind asker) (wanted_by kind who) found → IsUnmet who asker found
 as_unmet who asker kind found l = record {
-  wanted = ap (λ (k : Kind). wanted_by k who) l.of_kind ∙ l.wants;
-  had = ap (λ (k : Kind). had_by k asker) l.of_kind ∙ l.had;
+  wanted = ap (λ (k : Subject). wanted_by k who) l.of_kind ∙ l.wants;
+  had = ap (λ (k : Subject). had_by k asker) l.of_kind ∙ l.had;
   differs = l.differs;
 }
 

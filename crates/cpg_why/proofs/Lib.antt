@@ -12,7 +12,6 @@ pub mod Heard
 pub mod Left
 pub mod Moved
 pub mod Naming
-pub mod Numbered
 pub mod Pieces
 pub mod Removal
 pub mod Seated

@@ -1,5 +1,5 @@
 -- what is asked of a script, and what is written
-use Rattle.std.specs.Prelude.{ℕ, ◌≡◌, ◌≤◌, ◌-◌, ⊤, Bool, false, IsTrue, List, length, map, slice_get, Option, Some, None, IfSome, Result, Ok, Err}
+use Rattle.std.specs.Prelude.{ℕ, ◌≡◌, ◌≤◌, ◌-◌, ⊤, Bool, false, IsTrue, List, length, slice_get, Option, Some, None, IfSome, Result, Ok, Err}
 use Rattle.std.specs.List.{list_any}
 use Rattle.std.specs.Io.KnownBytes.{Keeps}
 use Rattle.cpg_cred.specs.declared.refusals.Refusal.{Refusal}
@@ -10,8 +10,8 @@ use Rattle.cpg_record.specs.declared.records.Record.{Record}
 use Rattle.cpg_record.specs.Connections.{conns_of, is_conn}
 use Rattle.cpg_record.specs.Events.{inbox}
 use Rattle.cpg_record.specs.Judging.{judged}
-use Rattle.cpg_text.specs.Commands.{commands_of}
 use Rattle.cpg_text.specs.Reading.{FailsAs}
+pub use Rattle.cpg_cluster.specs.Scripts.{numbers_of}
 use Rattle.cpg_why.specs.declared.asking.Asked.{Asked}
 use Rattle.cpg_why.specs.declared.asking.Asked.TheVariants.{Place, Denials, Connection, Told, To, ToProcess}
 use Rattle.cpg_why.specs.declared.asking.Missing as absent
@@ -22,10 +22,6 @@ use Rattle.cpg_why.specs.declared.findings.Finding.{Finding}
 use Rattle.cpg_why.specs.Findings.{findings_of, records_told}
 use Rattle.cpg_why.specs.Forms.{Form, IsText, Writes, WritesFront}
 use Rattle.cpg_why.specs.Processes.{has_process}
-
--- the numbers of the lines of a script's entries
-abbrev pub numbers_of : List ℕ → List ℕ
-numbers_of script = map (λ line. line.0) (commands_of script)
 
 -- the number of the line of the entry at a place, of the numbers of the entries' lines; entries that stand in no script have no lines
 abbrev pub line_at : List ℕ → ℕ → Option ℕ

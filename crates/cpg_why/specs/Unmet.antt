@@ -2,24 +2,24 @@
 use Rattle.std.specs.Prelude.{ℕ, ◌==◌, Option, Some, None, if◌then◌else◌}
 use Rattle.cpg_rules.specs.declared.rules.Asker.{Asker}
 use Rattle.cpg_rules.specs.declared.rules.Who.{Who}
-use Rattle.cpg_why.specs.declared.unmet.Kind.{Kind}
-use Rattle.cpg_why.specs.declared.unmet.Kind.TheVariants.{Uid, Gid, Node}
+use Rattle.cpg_why.specs.declared.unmet.Subject.{Subject}
+use Rattle.cpg_why.specs.declared.unmet.Subject.TheVariants.{Uid, Gid, Node}
 use Rattle.cpg_why.specs.declared.unmet.Unmet.{Unmet}
 
 -- the condition of a rule that is of that kind, if the rule has one
-abbrev pub wanted_by : Kind → Who → Option ℕ
+abbrev pub wanted_by : Subject → Who → Option ℕ
 wanted_by Uid who = who.uid
 wanted_by Gid who = who.gid
 wanted_by Node who = who.node
 
 -- what an asker has of that kind
-abbrev pub had_by : Kind → Asker → ℕ
+abbrev pub had_by : Subject → Asker → ℕ
 had_by Uid asker = asker.cred.uid
 had_by Gid asker = asker.cred.gid
 had_by Node asker = asker.node
 
 -- a condition of that kind that is there and does not hold of the number
-abbrev pub lacking : Kind → ℕ → Option ℕ → Option Unmet
+abbrev pub lacking : Subject → ℕ → Option ℕ → Option Unmet
 lacking kind has None = None
 lacking kind has (Some wanted) = if has == wanted then None else Some (record { kind = kind; has = has; wanted = wanted })
 

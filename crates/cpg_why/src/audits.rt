@@ -42,7 +42,7 @@ fn copy_entries(alloc: Global, records: &[Record]) -> Result<Vec<Entry>, Refusal
 {
     let mut entries = Vec::new(alloc);
     for past in records {
-        entries.push(past.entry().copy(alloc)?)?;
+        entries.push(past.entry.copy(alloc)?)?;
     }
     Ok(entries)
 }

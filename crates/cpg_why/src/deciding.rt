@@ -113,7 +113,7 @@ fn decide_by_table(
     ensures ok { IfOk result (λ decided. decided ≡ decided_by_table (judged policy.now) past.now.entry right table.now) }
     ensures memory { IsOkUnless result Refusal.Memory }
 {
-    let asker = past.entry().asker();
+    let asker = past.entry.asker();
     let index = find_first(table, right, &asker);
     let passed = find_passed(alloc, table, right, &asker, index)?;
     match table.get(index) {
@@ -165,7 +165,7 @@ fn decide_by_right(alloc: Global, policy: &Policy, past: &Record) -> Result<Deci
     ensures ok { IfOk result (λ decided. decided ≡ decided_by_right (judged policy.now) past.now.entry (right_needed past.now.entry.op) past.now.group) }
     ensures memory { IsOkUnless result Refusal.Memory }
 {
-    match (find_right(&past.entry().op), &past.group) {
+    match (find_right(&past.entry.op), &past.group) {
         (Some(right), Some(group)) => decide_in(alloc, policy, past, right, group.as_slice()),
         _ => Ok(Decided::Free),
     }
@@ -183,7 +183,7 @@ fn find_member(past: &Record) -> Option<Member>
     ensures { result ≡ find (λ member. (member.node == past.now.entry.node) && (member.pid == past.now.entry.pid)) past.now.members }
 {
     for member in past.members.as_slice() {
-        if is_process_of(member, past.entry()) {
+        if is_process_of(member, &past.entry) {
             return Some(*member);
         }
     }
@@ -195,7 +195,7 @@ fn find_holder(past: &Record) -> ConnId
     ensures { result ≡ holder past.now }
 {
     match find_member(past) {
-        None => ConnId::of(past.entry()),
+        None => ConnId::of(&past.entry),
         Some(member) => member.conn_id(),
     }
 }
@@ -206,7 +206,7 @@ pub(crate) fn find_subject(past: &Record) -> ConnId
 {
     match past.verdict {
         Verdict::Denied(Reason::Twice) => find_holder(past),
-        _ => ConnId::of(past.entry()),
+        _ => ConnId::of(&past.entry),
     }
 }
 

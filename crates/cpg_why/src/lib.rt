@@ -29,6 +29,7 @@ mod without;
 
 pub use asking::{Asked, Missing, WhyFault};
 pub use audits::{why_of_entries, why_of_records};
+pub use cpg_cluster::read_numbers;
 pub use cpg_text::Fault;
 pub use deciding::explain;
 pub use findings::{Decided, Finding, Findings, Passed, PassedRule, Ruled, Stand, Unruled};
@@ -37,8 +38,8 @@ pub use laws::{
     named_decides, passed_do_not_match, removal_tells_what_decides, tells_verdicts_without,
     told_by_standing,
 };
-pub use numbers::{line_of, read_numbers};
+pub use numbers::line_of;
 pub use standings::{Standing, is_told};
 pub use telling::{find, why_script};
 pub use text::AsText;
-pub use unmet::{Kind, Unmet};
+pub use unmet::{Subject, Unmet};

@@ -37,7 +37,7 @@ impl Moves {
         ensures ok { OnOk result ((conn : ConnId) → kept_move self.new.kept.entries conn ≡ moved conn (kept_move self.old.kept.entries conn) (place, past.now)) }
         ensures memory { IsOkUnless result Refusal.Memory }
     {
-        let entry = past.entry();
+        let entry = &past.entry;
         if past.verdict.is_allowed() && entry.op.is_move() {
             self.kept.insert(ConnId::of(entry), place)?;
         }

@@ -20,7 +20,7 @@ fn pid_at(records: &[Record], place: Option<u32>) -> Option<u32>
 {
     match find_record(records, place?) {
         None => None,
-        Some(past) => Some(past.entry().pid),
+        Some(past) => Some(past.entry.pid),
     }
 }
 
@@ -38,7 +38,7 @@ fn is_pid(pid: u32, own: Option<u32>) -> bool
 fn is_of(policy: &Policy, pid: u32, conn: &ConnId) -> bool
     ensures { result ≡ is_of (judged policy.now) pid conn.now }
 {
-    let first = policy.trail(*conn).own(0);
+    let first = policy.log(*conn).own(0);
     is_pid(pid, pid_at(policy.records(), first))
 }
 

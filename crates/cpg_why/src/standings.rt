@@ -84,7 +84,7 @@ fn group_before(policy: &Policy, conn: ConnId, place: u32) -> Option<&Name>
     requires { 1 ≤ place }
     ensures { option_copied result ≡ group_of (records_before (judged policy.now) place) conn }
 {
-    policy.trail(conn).group_after(place - 1)
+    policy.log(conn).group_after(place - 1)
 }
 
 /// How the connection stands to the entry of a record that comes at that place.
@@ -92,7 +92,7 @@ fn find_standing(policy: &Policy, conn: ConnId, place: u32, past: &Record) -> St
     requires { 1 ≤ place }
     ensures { result ≡ standing (records_before (judged policy.now) place) past.now conn }
 {
-    if conn.is(&ConnId::of(past.entry())) {
+    if conn.is(&ConnId::of(&past.entry)) {
         Standing::Maker
     } else if past.verdict.is_allowed() {
         standing_in(past.group.as_ref(), group_before(policy, conn, place))
@@ -111,14 +111,14 @@ fn is_join(op: &Op) -> bool
 fn moves(conn: &ConnId, past: &Record) -> bool
     ensures { result ≡ moves conn.now past.now }
 {
-    past.verdict.is_allowed() && past.entry().op.is_move() && ConnId::of(past.entry()).is(conn)
+    past.verdict.is_allowed() && past.entry.op.is_move() && ConnId::of(&past.entry).is(conn)
 }
 
 /// Whether the record is a denied join of the connection.
 fn tries(conn: &ConnId, past: &Record) -> bool
     ensures { result ≡ tries conn.now past.now }
 {
-    !past.verdict.is_allowed() && is_join(&past.entry().op) && conn.is(&ConnId::of(past.entry()))
+    !past.verdict.is_allowed() && is_join(&past.entry.op) && conn.is(&ConnId::of(&past.entry))
 }
 
 /// The place of the connection's last move, and that of its last denied join since, after one record more.

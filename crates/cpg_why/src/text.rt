@@ -65,7 +65,7 @@ fn put_why(text: &mut Vec<u8>, cited: &Cited, place: u32, decided: &Decided) -> 
 fn put_judged(text: &mut Vec<u8>, cited: &Cited, place: u32, past: &Record) -> Result<(), Refusal>
     ensures { IsOkUnless result Refusal.Memory }
 {
-    put_cited(text, cited, place, past.entry())?;
+    put_cited(text, cited, place, &past.entry)?;
     put(text, "\nverdict: ")?;
     put_verdict(text, past.verdict)?;
     put_byte(text, b'\n')
@@ -90,7 +90,7 @@ fn put_cited_at(text: &mut Vec<u8>, cited: &Cited, place: u32) -> Result<(), Ref
     ensures { IsOkUnless result Refusal.Memory }
 {
     if let Some(past) = cited.record(place) {
-        put_cited(text, cited, place, past.entry())?;
+        put_cited(text, cited, place, &past.entry)?;
     }
     put_byte(text, b'\n')
 }
@@ -102,7 +102,7 @@ fn put_made(text: &mut Vec<u8>, cited: &Cited, place: u32) -> Result<(), Refusal
     let Some(past) = cited.record(place) else {
         return Ok(());
     };
-    put_cited(text, cited, place, past.entry())?;
+    put_cited(text, cited, place, &past.entry)?;
     put(text, " -> ")?;
     put_verdict(text, past.verdict)?;
     put_byte(text, b'\n')
@@ -121,7 +121,7 @@ fn put_decided(
     put(text, decided.name())?;
     match decided {
         Decided::Root => put(text, ": user 0 edits every table\n"),
-        Decided::Free => put_free(text, &past.entry().op),
+        Decided::Free => put_free(text, &past.entry.op),
         Decided::Rule(ruled) => put_ruled(text, cited, past, ruled),
         Decided::Default(unruled) => put_unruled(text, past, unruled),
         Decided::Closed { since } => put_state(text, cited, past, " is in no group", *since),
@@ -253,7 +253,7 @@ fn put_state(
     ensures { IsOkUnless result Refusal.Memory }
 {
     put(text, ": ")?;
-    put_conn(text, &ConnId::of(past.entry()))?;
+    put_conn(text, &ConnId::of(&past.entry))?;
     put(text, state)?;
     put_since(text, cited, since)
 }
@@ -282,9 +282,9 @@ fn put_twice(
     ensures { IsOkUnless result Refusal.Memory }
 {
     put(text, ": ")?;
-    push_number(text, u64::from(past.entry().node.get()))?;
+    push_number(text, u64::from(past.entry.node.get()))?;
     put_byte(text, b'/')?;
-    push_number(text, u64::from(past.entry().pid))?;
+    push_number(text, u64::from(past.entry.pid))?;
     put(text, " is a member by ")?;
     put_conn(text, by)?;
     put_since(text, cited, since)
@@ -311,7 +311,7 @@ fn put_past_end(text: &mut Vec<u8>, past: &Record, rules: usize) -> Result<(), R
     ensures { IsOkUnless result Refusal.Memory }
 {
     put(text, ": index ")?;
-    if let Op::Act(Call::Insert(_, index, _)) = &past.entry().op {
+    if let Op::Act(Call::Insert(_, index, _)) = &past.entry.op {
         push_number(text, u64::from(*index))?;
     }
     put_counted(
@@ -329,7 +329,7 @@ fn put_absent(text: &mut Vec<u8>, past: &Record) -> Result<(), Refusal>
     put(text, ": ")?;
     put_group(text, past.group.as_ref())?;
     put(text, " has no rule ")?;
-    if let Op::Act(Call::Remove(_, id)) = &past.entry().op {
+    if let Op::Act(Call::Remove(_, id)) = &past.entry.op {
         push_number(text, u64::from(*id))?;
     }
     put_byte(text, b'\n')

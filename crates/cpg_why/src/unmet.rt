@@ -10,7 +10,7 @@ use cpg_rules::{Asker, Right, Rule, Who};
 
 /// What a condition of a rule is on.
 #[derive(Debug, Clone, Copy, PartialEq, Eq)]
-pub enum Kind {
+pub enum Subject {
     /// The user of the asker.
     Uid,
     /// The group of users of the asker.
@@ -19,13 +19,13 @@ pub enum Kind {
     Node,
 }
 
-impl Kind {
+impl Subject {
     /// Its name.
     pub fn name(self) -> &'static str {
         match self {
-            Kind::Uid => "uid",
-            Kind::Gid => "gid",
-            Kind::Node => "node",
+            Subject::Uid => "uid",
+            Subject::Gid => "gid",
+            Subject::Node => "node",
         }
     }
 }
@@ -33,7 +33,7 @@ impl Kind {
 /// A condition that an asker does not meet: it has one number and another is wanted.
 #[derive(Debug, Clone, Copy, PartialEq, Eq)]
 pub struct Unmet {
-    pub kind: Kind,
+    pub kind: Subject,
     /// What the asker has.
     pub has: u32,
     /// What the condition wants.
@@ -41,7 +41,7 @@ pub struct Unmet {
 }
 
 /// The condition of that kind, where it is there and does not hold of the number.
-fn find_lacking(kind: Kind, has: u32, condition: Option<u32>) -> Option<Unmet>
+fn find_lacking(kind: Subject, has: u32, condition: Option<u32>) -> Option<Unmet>
     ensures { result ≡ lacking kind has condition }
 {
     match condition {
@@ -61,12 +61,12 @@ fn find_lacking(kind: Kind, has: u32, condition: Option<u32>) -> Option<Unmet>
 pub fn find_unmet(who: &Who, asker: &Asker) -> Option<Unmet>
     ensures { result ≡ unmet who.now asker.now }
 {
-    match find_lacking(Kind::Uid, asker.cred.uid, who.uid) {
+    match find_lacking(Subject::Uid, asker.cred.uid, who.uid) {
         Some(found) => Some(found),
-        None => match find_lacking(Kind::Gid, asker.cred.gid, who.gid) {
+        None => match find_lacking(Subject::Gid, asker.cred.gid, who.gid) {
             Some(found) => Some(found),
             None => find_lacking(
-                Kind::Node,
+                Subject::Node,
                 u32::from(asker.node.get()),
                 node_number(who.node),
             ),

@@ -27,7 +27,7 @@ fn find_made(
     let Some(past) = find_record(records, place) else {
         return Ok(());
     };
-    if ConnId::of(past.entry()).is(conn) {
+    if ConnId::of(&past.entry).is(conn) {
         list.push(Finding::Made { place })?;
     }
     Ok(())

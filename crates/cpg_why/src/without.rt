@@ -22,10 +22,7 @@ use std::alloc::Global;
 fn is_in_some(policy: &Policy, conn: ConnId) -> bool
     ensures { result ≡ is_some (group_of (judged policy.now) conn) }
 {
-    policy
-        .trail(conn)
-        .group_after(policy.len() as u32)
-        .is_some()
+    policy.log(conn).group_after(policy.len() as u32).is_some()
 }
 
 /// What the states say of the join of a record, which the right allows by that. An allowed join met no state that
@@ -34,7 +31,7 @@ fn judge_states(policy: &Policy, past: &Record, by: By) -> Verdict
     requires { past.now ≡ record_of (judged policy.now) past.now.entry }
     ensures { (g : List ℕ) → past.now.entry.op ≡ op.Act (call.Join g) → result ≡ join_states (judged policy.now) past.now.entry g by }
 {
-    let entry = past.entry();
+    let entry = &past.entry;
     if past.verdict.is_allowed() {
         Verdict::Allowed(by)
     } else if is_in_some(policy, ConnId::of(entry)) {
@@ -53,7 +50,7 @@ fn judge_join(policy: &Policy, table: &Table, past: &Record) -> Verdict
     requires { past.now ≡ record_of (judged policy.now) past.now.entry }
     ensures { (g : List ℕ) → past.now.entry.op ≡ op.Act (call.Join g) → result ≡ join_under table.now (judged policy.now) past.now.entry g }
 {
-    match table.decide(Right::Join, past.entry().asker()) {
+    match table.decide(Right::Join, past.entry.asker()) {
         Decision::Denied(by) => Verdict::Denied(Reason::of(by)),
         Decision::Allowed(by) => judge_states(policy, past, by),
     }
@@ -132,7 +129,7 @@ fn judge_under(policy: &Policy, table: &Table, past: &Record) -> Verdict
     requires { past.now ≡ record_of (judged policy.now) past.now.entry }
     ensures { result ≡ verdict_under table.now (judged policy.now) past.now.entry past.now.entry.op }
 {
-    let entry = past.entry();
+    let entry = &past.entry;
     match &entry.op {
         Op::Act(Call::Join(_)) => judge_join(policy, table, past),
         Op::Act(Call::Leave) => judge_leave(&past.group),

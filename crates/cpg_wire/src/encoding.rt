@@ -3,7 +3,7 @@
 //! Each function puts one part at the end of the output. Proved: what is put is the definition of
 //! `specs/Spelling.antt` that the function names.
 
-ghost use Rattle.std.specs.Prelude.{◌≡◌, ◌≤◌, ◌++◌, ◌∷◌, length, OnOk, IfOk, IsOkUnless};
+ghost use Rattle.std.specs.Prelude.{◌≡◌, ◌≤◌, ◌++◌, ◌∷◌, [], length, OnOk, IfOk, IsOkUnless};
 ghost use Rattle.cpg_entry.specs.declared.frames.Frame.TheVariants as frames;
 ghost use Rattle.cpg_wire.specs.declared.codes.Version.TheVariants.{Two};
 ghost use Rattle.byteorder.specs.Endian.{big_bytes};
@@ -13,8 +13,7 @@ ghost use Rattle.cpg_wire.specs.Versions.{given, conditions};
 ghost use Rattle.cpg_wire.specs.Spelling.{name_bytes, message_bytes, condition_bytes, who_bytes, rule_bytes, call_bytes, op_bytes, sender_bytes, cred_bytes, packet_bytes, owner_code, extent_bytes, places_bytes, wants_bytes, token_bytes, spelling, SpellsIn};
 
 use crate::codes::{Kind, MARK, OpCode, Subject, Version, effect_byte, right_byte};
-use byteorder::{BigEndian, WriteBytesExt};
-use bytes::{BufMut, Bytes};
+use bytes::{BufMut, Bytes, BytesMut};
 use cpg_entry::{
     Call, Cred, Entry, MOST_MESSAGE_BYTES, MOST_NAME_BYTES, MOST_REQUESTS, NodeId, Op, Packet,
     Refusal, Rule, Token, Who, packet_fits, token_fits,
@@ -27,17 +26,44 @@ const DATA_ROOM: usize = 47;
 /// How many bytes a token's frame takes beside its places.
 const TOKEN_ROOM: usize = 25;
 
+/// How many bytes a packet's frame takes at most.
+pub fn data_room(packet: &Packet) -> usize
+    requires { IsPacket packet.now }
+{
+    DATA_ROOM + text_len(&packet.entry.op)
+}
+
+/// How many bytes a token's frame takes at most.
+pub fn token_room(token: &Token) -> usize
+    requires { IsToken token.now }
+{
+    TOKEN_ROOM + 4 * token.rtr.as_slice().len()
+}
+
 /// The spelling of version 2 of a packet that keeps the rules of a frame.
 pub fn encode_data(alloc: Global, packet: &Packet) -> Result<Bytes, Refusal>
     requires { IsPacket packet.now }
     ensures ok { IfOk result (λ bytes. SpellsIn Two bytes (frames.Packet packet.now)) }
     ensures memory { IsOkUnless result Refusal.Memory }
 {
+    encode_data_in(
+        &mut BytesMut::with_capacity(alloc, data_room(packet))?,
+        packet,
+    )
+}
+
+/// The same, in the room of a buffer, which frames that are spelled there have in common.
+pub fn encode_data_in(room: &mut BytesMut, packet: &Packet) -> Result<Bytes, Refusal>
+    requires empty { room.old.items ≡ [] }
+    requires packet { IsPacket packet.now }
+    ensures ok { IfOk result (λ bytes. SpellsIn Two bytes (frames.Packet packet.now)) }
+    ensures empty { OnOk result (room.new.items ≡ []) }
+    ensures memory { IsOkUnless result Refusal.Memory }
+{
     packet_fits(packet);
-    let mut out = Vec::with_capacity(alloc, DATA_ROOM + text_len(&packet.entry.op))?;
-    put_head(&mut out, Kind::Data, packet.ring)?;
-    put_packet(&mut out, packet)?;
-    Ok(Bytes::from_vec(out)?)
+    put_head(room, Kind::Data, packet.ring)?;
+    put_packet(room, packet)?;
+    Ok(room.freeze_to(room.len())?)
 }
 
 /// The spelling of version 2 of a token that keeps the rules of a frame.
@@ -46,11 +72,24 @@ pub fn encode_token(alloc: Global, token: &Token) -> Result<Bytes, Refusal>
     ensures ok { IfOk result (λ bytes. SpellsIn Two bytes (frames.Token token.now)) }
     ensures memory { IsOkUnless result Refusal.Memory }
 {
+    encode_token_in(
+        &mut BytesMut::with_capacity(alloc, token_room(token))?,
+        token,
+    )
+}
+
+/// The same, in the room of a buffer, which frames that are spelled there have in common.
+pub fn encode_token_in(room: &mut BytesMut, token: &Token) -> Result<Bytes, Refusal>
+    requires empty { room.old.items ≡ [] }
+    requires token { IsToken token.now }
+    ensures ok { IfOk result (λ bytes. SpellsIn Two bytes (frames.Token token.now)) }
+    ensures empty { OnOk result (room.new.items ≡ []) }
+    ensures memory { IsOkUnless result Refusal.Memory }
+{
     token_fits(token);
-    let mut out = Vec::with_capacity(alloc, TOKEN_ROOM + 4 * token.rtr.as_slice().len())?;
-    put_head(&mut out, Kind::Token, token.ring)?;
-    put_token(&mut out, token)?;
-    Ok(Bytes::from_vec(out)?)
+    put_head(room, Kind::Token, token.ring)?;
+    put_token(room, token)?;
+    Ok(room.freeze_to(room.len())?)
 }
 
 /// How many bytes the name or the message of an op has.
@@ -68,27 +107,27 @@ fn text_len(op: &Op) -> usize
 }
 
 /// Two bytes, the highest first.
-fn put_u16(out: &mut Vec<u8>, number: u16) -> Result<(), AllocError>
+fn put_u16(out: &mut BytesMut, number: u16) -> Result<(), AllocError>
     ensures { OnOk result (out.new.items ≡ out.old.items ++ big_bytes 2 number) }
 {
-    out.write_u16::<BigEndian>(number).map_err(|_| AllocError)
+    out.put_u16(number)
 }
 
 /// Four bytes, the highest first.
-fn put_u32(out: &mut Vec<u8>, number: u32) -> Result<(), AllocError>
+fn put_u32(out: &mut BytesMut, number: u32) -> Result<(), AllocError>
     ensures { OnOk result (out.new.items ≡ out.old.items ++ big_bytes 4 number) }
 {
-    out.write_u32::<BigEndian>(number).map_err(|_| AllocError)
+    out.put_u32(number)
 }
 
 /// Eight bytes, the highest first.
-fn put_u64(out: &mut Vec<u8>, number: u64) -> Result<(), AllocError>
+fn put_u64(out: &mut BytesMut, number: u64) -> Result<(), AllocError>
     ensures { OnOk result (out.new.items ≡ out.old.items ++ big_bytes 8 number) }
 {
-    out.write_u64::<BigEndian>(number).map_err(|_| AllocError)
+    out.put_u64(number)
 }
 
-fn put_head(out: &mut Vec<u8>, kind: Kind, ring: u32) -> Result<(), AllocError>
+fn put_head(out: &mut BytesMut, kind: Kind, ring: u32) -> Result<(), AllocError>
     ensures { OnOk result (out.new.items ≡ out.old.items ++ (MARK ∷ version_code Two ∷ kind_code kind ∷ big_bytes 4 ring)) }
 {
     out.put_u8(MARK)?;
@@ -97,7 +136,7 @@ fn put_head(out: &mut Vec<u8>, kind: Kind, ring: u32) -> Result<(), AllocError>
     put_u32(out, ring)
 }
 
-fn put_packet(out: &mut Vec<u8>, packet: &Packet) -> Result<(), AllocError>
+fn put_packet(out: &mut BytesMut, packet: &Packet) -> Result<(), AllocError>
     requires { IsOp packet.now.entry.op }
     ensures { OnOk result (out.new.items ≡ out.old.items ++ packet_bytes Two packet.now) }
 {
@@ -107,7 +146,7 @@ fn put_packet(out: &mut Vec<u8>, packet: &Packet) -> Result<(), AllocError>
     put_op(out, &packet.entry.op)
 }
 
-fn put_sender(out: &mut Vec<u8>, entry: &Entry) -> Result<(), AllocError>
+fn put_sender(out: &mut BytesMut, entry: &Entry) -> Result<(), AllocError>
     ensures { OnOk result (out.new.items ≡ out.old.items ++ sender_bytes entry.now) }
 {
     out.put_u8(entry.node.get())?;
@@ -115,14 +154,14 @@ fn put_sender(out: &mut Vec<u8>, entry: &Entry) -> Result<(), AllocError>
     put_u32(out, entry.pid)
 }
 
-fn put_cred(out: &mut Vec<u8>, cred: &Cred) -> Result<(), AllocError>
+fn put_cred(out: &mut BytesMut, cred: &Cred) -> Result<(), AllocError>
     ensures { OnOk result (out.new.items ≡ out.old.items ++ cred_bytes cred.now) }
 {
     put_u32(out, cred.uid)?;
     put_u32(out, cred.gid)
 }
 
-fn put_op(out: &mut Vec<u8>, op: &Op) -> Result<(), AllocError>
+fn put_op(out: &mut BytesMut, op: &Op) -> Result<(), AllocError>
     requires { IsOp op.now }
     ensures { OnOk result (out.new.items ≡ out.old.items ++ op_bytes Two op.now) }
 {
@@ -132,7 +171,7 @@ fn put_op(out: &mut Vec<u8>, op: &Op) -> Result<(), AllocError>
     }
 }
 
-fn put_call(out: &mut Vec<u8>, call: &Call) -> Result<(), AllocError>
+fn put_call(out: &mut BytesMut, call: &Call) -> Result<(), AllocError>
     requires { IsCall call.now }
     ensures { OnOk result (out.new.items ≡ out.old.items ++ call_bytes Two call.now) }
 {
@@ -150,7 +189,7 @@ fn put_call(out: &mut Vec<u8>, call: &Call) -> Result<(), AllocError>
             out.put_u8(OpCode::Insert.byte())?;
             put_name(out, name.as_slice())?;
             out.put_u8(*position)?;
-            put_rule(out, rule)
+            put_rule(out, rule.get())
         }
         Call::Remove(name, id) => {
             out.put_u8(OpCode::Remove.byte())?;
@@ -160,7 +199,7 @@ fn put_call(out: &mut Vec<u8>, call: &Call) -> Result<(), AllocError>
     }
 }
 
-fn put_name(out: &mut Vec<u8>, name: &[u8]) -> Result<(), AllocError>
+fn put_name(out: &mut BytesMut, name: &[u8]) -> Result<(), AllocError>
     requires { length name.now ≤ MOST_NAME_BYTES }
     ensures { OnOk result (out.new.items ≡ out.old.items ++ name_bytes name.now) }
 {
@@ -168,7 +207,7 @@ fn put_name(out: &mut Vec<u8>, name: &[u8]) -> Result<(), AllocError>
     out.put_slice(name)
 }
 
-fn put_message(out: &mut Vec<u8>, message: &[u8]) -> Result<(), AllocError>
+fn put_message(out: &mut BytesMut, message: &[u8]) -> Result<(), AllocError>
     requires { length message.now ≤ MOST_MESSAGE_BYTES }
     ensures { OnOk result (out.new.items ≡ out.old.items ++ message_bytes message.now) }
 {
@@ -176,7 +215,7 @@ fn put_message(out: &mut Vec<u8>, message: &[u8]) -> Result<(), AllocError>
     out.put_slice(message)
 }
 
-fn put_rule(out: &mut Vec<u8>, rule: &Rule) -> Result<(), AllocError>
+fn put_rule(out: &mut BytesMut, rule: &Rule) -> Result<(), AllocError>
     ensures { OnOk result (out.new.items ≡ out.old.items ++ rule_bytes Two rule.now) }
 {
     out.put_u8(effect_byte(rule.effect))?;
@@ -184,7 +223,7 @@ fn put_rule(out: &mut Vec<u8>, rule: &Rule) -> Result<(), AllocError>
     put_who(out, &rule.who)
 }
 
-fn put_who(out: &mut Vec<u8>, who: &Who) -> Result<(), AllocError>
+fn put_who(out: &mut BytesMut, who: &Who) -> Result<(), AllocError>
     ensures { OnOk result (out.new.items ≡ out.old.items ++ who_bytes Two who.now) }
 {
     let node = number_of(who.node);
@@ -210,7 +249,7 @@ fn number_of(node: Option<NodeId>) -> Option<u32>
     node.map(|node| u32::from(node.get()))
 }
 
-fn put_condition(out: &mut Vec<u8>, subject: Subject, value: Option<u32>) -> Result<(), AllocError>
+fn put_condition(out: &mut BytesMut, subject: Subject, value: Option<u32>) -> Result<(), AllocError>
     ensures { OnOk result (out.new.items ≡ out.old.items ++ condition_bytes subject value) }
 {
     match value {
@@ -222,7 +261,7 @@ fn put_condition(out: &mut Vec<u8>, subject: Subject, value: Option<u32>) -> Res
     }
 }
 
-fn put_token(out: &mut Vec<u8>, token: &Token) -> Result<(), AllocError>
+fn put_token(out: &mut BytesMut, token: &Token) -> Result<(), AllocError>
     requires { length token.now.rtr ≤ MOST_REQUESTS }
     ensures { OnOk result (out.new.items ≡ out.old.items ++ token_bytes token.now) }
 {
@@ -231,14 +270,14 @@ fn put_token(out: &mut Vec<u8>, token: &Token) -> Result<(), AllocError>
     put_wants(out, token)
 }
 
-fn put_extent(out: &mut Vec<u8>, token: &Token) -> Result<(), AllocError>
+fn put_extent(out: &mut BytesMut, token: &Token) -> Result<(), AllocError>
     ensures { OnOk result (out.new.items ≡ out.old.items ++ extent_bytes token.now) }
 {
     put_u32(out, token.seq)?;
     put_u32(out, token.aru)
 }
 
-fn put_wants(out: &mut Vec<u8>, token: &Token) -> Result<(), AllocError>
+fn put_wants(out: &mut BytesMut, token: &Token) -> Result<(), AllocError>
     requires { length token.now.rtr ≤ MOST_REQUESTS }
     ensures { OnOk result (out.new.items ≡ out.old.items ++ wants_bytes token.now) }
 {
@@ -255,7 +294,7 @@ fn owner_byte(node: Option<NodeId>) -> u8
     }
 }
 
-fn put_places(out: &mut Vec<u8>, places: &[u32]) -> Result<(), AllocError>
+fn put_places(out: &mut BytesMut, places: &[u32]) -> Result<(), AllocError>
     requires { length places.now ≤ MOST_REQUESTS }
     ensures { OnOk result (out.new.items ≡ out.old.items ++ places_bytes places.now) }
 {

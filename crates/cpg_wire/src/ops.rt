@@ -12,7 +12,7 @@ use crate::fields::{read_message, read_name};
 use crate::input::Input;
 use crate::rules::read_rule;
 use bytes::Bytes;
-use cpg_entry::{Call, Message, Name, Op, Refusal, Rule};
+use cpg_entry::{Call, Message, Name, Op, Refusal, Rule, SharedRule};
 use std::alloc::Global;
 
 /// An op whose name or message stands in the frame.
@@ -81,7 +81,8 @@ impl<'a> OpView<'a> {
             }
             OpView::Insert(name, position, rule) => {
                 let name = Name::from_slice(alloc, name)?;
-                Ok(Op::Act(Call::Insert(name, *position, *rule)))
+                let rule = SharedRule::new(alloc, *rule)?;
+                Ok(Op::Act(Call::Insert(name, *position, rule)))
             }
             OpView::Remove(name, id) => {
                 Ok(Op::Act(Call::Remove(Name::from_slice(alloc, name)?, *id)))

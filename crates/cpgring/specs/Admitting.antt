@@ -1,8 +1,8 @@
--- the files, the words and the manner of `cpgring admit`
+-- the files, the words and the options of `cpgring admit`
 use Rattle.std.specs.Prelude.{ℕ, ◌≡◌, Bool, true, false, List, codes, map, option_map}
 use Rattle.clap.specs.declared.parser.matches.Found.{Found}
 use Rattle.clap.specs.Words.{first_value, matched_of}
-use Rattle.cpg_console.specs.declared.admitting.AdmitManner.{AdmitManner}
+use Rattle.cpg_console.specs.declared.admitting.AdmitOptions.{AdmitOptions}
 use Rattle.cpgring.specs.Asking.{texts_of, IsFormGiven, IsUnused, IsUsed}
 use Rattle.cpgring.specs.declared.admitting.Files.{Files}
 
@@ -22,7 +22,7 @@ abbrev pub IsFlagGiven : Found → List ℕ → Bool → Type 0
 IsFlagGiven found name flag = (IsUsed found name → flag ≡ true) × (IsUnused found name → flag ≡ false)
 
 -- it is answered in the form that is asked for, with what was asked before each answer and with hints where options say so
-pub record IsAdmitMannerGiven (found : Found) (manner : AdmitManner) : Type 0 where
-  pub form : IsFormGiven found manner.form
-  pub echo : IsFlagGiven found (codes "echo") manner.echo
-  pub hints : IsFlagGiven found (codes "verbose") manner.hints
+pub record AreAdmitOptionsGiven (found : Found) (options : AdmitOptions) : Type 0 where
+  pub form : IsFormGiven found options.form
+  pub echo : IsFlagGiven found (codes "echo") options.echo
+  pub hints : IsFlagGiven found (codes "verbose") options.hints

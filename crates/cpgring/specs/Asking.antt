@@ -11,14 +11,14 @@ use Rattle.cpg_ring.specs.declared.settings.Settings.{Settings}
 use Rattle.cpg_console.specs.declared.auditing.Inquiry.{Inquiry}
 use Rattle.cpg_console.specs.declared.chances.Chances.{Chances}
 use Rattle.cpg_console.specs.declared.runs.Run.{Run}
-use Rattle.cpg_cluster.specs.declared.forms.Manner.{Manner}
-use Rattle.cpg_cluster.specs.declared.forms.Patience.{Patience}
-use Rattle.cpg_cluster.specs.declared.forms.Patience.TheVariants.{Looks, Millis}
-use Rattle.cpg_cluster.specs.declared.forms.Shown.{Shown}
-use Rattle.cpg_cluster.specs.declared.forms.Shown.TheVariants.{Plain, Echoed}
+use Rattle.cpg_cluster.specs.declared.forms.RunOptions.{RunOptions}
+use Rattle.cpg_cluster.specs.declared.forms.WaitLimit.{WaitLimit}
+use Rattle.cpg_cluster.specs.declared.forms.WaitLimit.TheVariants.{Looks, Millis}
+use Rattle.cpg_cluster.specs.declared.forms.TextForm.{TextForm}
+use Rattle.cpg_cluster.specs.declared.forms.TextForm.TheVariants.{Plain, Echoed}
 use Rattle.cpg_cluster.specs.declared.noting.Known.{Known}
-use Rattle.cpg_console.specs.declared.speaking.Spoken.{Spoken}
-use Rattle.cpg_console.specs.declared.speaking.Spoken.TheVariants as spoken
+use Rattle.cpg_console.specs.declared.output_form.OutputForm.{OutputForm}
+use Rattle.cpg_console.specs.declared.output_form.OutputForm.TheVariants as output_form
 use Rattle.cpgring.specs.declared.asking.Asked.{Asked}
 use Rattle.cpgring.specs.declared.asking.AskedShell.{AskedShell}
 use Rattle.cpgring.specs.Filtering.{is_filtered, rows_given, IsFilterGiven}
@@ -50,7 +50,7 @@ name_of (StepWhy form asked settings words) = codes "step"
 name_of (Draw picture settings words) = codes "draw"
 name_of (Number settings words) = codes "step"
 name_of (Echo settings words) = codes "step"
-name_of (Cluster manner chances settings words) = codes "run"
+name_of (Cluster options chances settings words) = codes "run"
 name_of (ClusterWhy inquiry settings words) = codes "run"
 
 -- the number is what the option's text writes, in ten digits
@@ -172,42 +172,42 @@ question_asked to None = None
 question_asked to (Some word) = question_named to word
 
 -- how long a wait looks: so many milliseconds, where they are given
-abbrev pub patience_given : Option (List ℕ) → Option Patience
-patience_given None = Some Looks
-patience_given (Some word) = option_map Millis (number_in 0 4294967295 word)
+abbrev pub wait_limit_given : Option (List ℕ) → Option WaitLimit
+wait_limit_given None = Some Looks
+wait_limit_given (Some word) = option_map Millis (number_in 0 4294967295 word)
 
 -- the line and the session stand before each line where the option asks for it
-abbrev pub IsShownGiven : Found → Shown → Type 0
+abbrev pub IsShownGiven : Found → TextForm → Type 0
 IsShownGiven found shown = (IsUsed found (codes "echo") → shown ≡ Echoed) × (IsUnused found (codes "echo") → shown ≡ Plain)
 
 -- the answers are text that is shown so
-abbrev pub IsTextGiven : Found → Spoken → Type 0
-IsTextGiven found (spoken.Text shown) = IsShownGiven found shown
+abbrev pub IsTextGiven : Found → OutputForm → Type 0
+IsTextGiven found (output_form.Text shown) = IsShownGiven found shown
 IsTextGiven found _ = ⊥
 
 -- and with what is known where no event came
-abbrev pub IsNotedGiven : Found → Known → Spoken → Type 0
-IsNotedGiven found known (spoken.Noted noted) = (noted.known ≡ known) × IsShownGiven found noted.shown
+abbrev pub IsNotedGiven : Found → Known → OutputForm → Type 0
+IsNotedGiven found known (output_form.Noted noted) = (noted.known ≡ known) × IsShownGiven found noted.shown
 IsNotedGiven found known _ = ⊥
 
 -- the answers of a cluster are objects of JSON where an option asks for it, and else text; with what is known where one asks for that
-pub record IsSpokenGiven (found : Found) (known : Known) (form : Spoken) : Type 0 where
-  pub json : IsUsed found (codes "json") → form ≡ spoken.Json
+pub record IsOutputFormGiven (found : Found) (known : Known) (form : OutputForm) : Type 0 where
+  pub json : IsUsed found (codes "json") → form ≡ output_form.Json
   pub noted : IsUnused found (codes "json") → IsUsed found (codes "verbose") → IsNotedGiven found known form
   pub text : IsUnused found (codes "json") → IsUnused found (codes "verbose") → IsTextGiven found form
 
 -- and a wait looks for as long as is given, over a ring of those settings
-abbrev pub IsMannerGiven : Found → Settings → Manner Spoken → Type 0
-IsMannerGiven found settings manner =
-    (patience_given (first_value found (codes "wait")) ≡ Some manner.patience)
-    × IsSpokenGiven found (record { patience = manner.patience; settings = settings }) manner.form
+abbrev pub AreRunOptionsGiven : Found → Settings → RunOptions OutputForm → Type 0
+AreRunOptionsGiven found settings options =
+    (wait_limit_given (first_value found (codes "wait")) ≡ Some options.wait_limit)
+    × IsOutputFormGiven found (record { wait_limit = options.wait_limit; settings = settings }) options.form
 
 -- what is asked once a script of sessions was run is what the word asks, in the form that the option asks for, and a wait looks for as long as
 -- is given
 pub record IsInquiryGiven (found : Found) (inquiry : Inquiry) : Type 0 where
   pub asked : question_asked (first_value found (codes "to")) (first_value found (codes "why")) ≡ Some inquiry.asked
   pub form : IsFormGiven found inquiry.form
-  pub patience : patience_given (first_value found (codes "wait")) ≡ Some inquiry.patience
+  pub wait_limit : wait_limit_given (first_value found (codes "wait")) ≡ Some inquiry.wait_limit
   pub chances : AreChancesGiven found inquiry.chances
 
 -- a run has the form, the settings and the words that were given
@@ -222,8 +222,8 @@ IsGivenBy found (StepWhy form asked settings words) =
     (question_asked (first_value found (codes "to")) (first_value found (codes "why")) ≡ Some asked) × IsFormGiven found form × AreGiven found settings (map (λ word. word.now) words.now)
 IsGivenBy found (Number settings words) = (first_value found (codes "why") ≡ None) × AreGiven found settings (map (λ word. word.now) words.now)
 IsGivenBy found (Echo settings words) = (first_value found (codes "why") ≡ None) × AreGiven found settings (map (λ word. word.now) words.now)
-IsGivenBy found (Cluster manner chances settings words) =
-    (first_value found (codes "why") ≡ None) × IsMannerGiven found settings manner × AreChancesGiven found chances
+IsGivenBy found (Cluster options chances settings words) =
+    (first_value found (codes "why") ≡ None) × AreRunOptionsGiven found settings options × AreChancesGiven found chances
     × AreGiven found settings (map (λ word. word.now) words.now)
 IsGivenBy found (ClusterWhy inquiry settings words) = IsInquiryGiven found inquiry × AreGiven found settings (map (λ word. word.now) words.now)
 
@@ -245,7 +245,7 @@ pub record IsAskedFor (found : Found) (called : List ℕ) (asked : Asked) : Type
 
 -- what `shell` is asked for is what was given; all its words let users and groups in
 pub record IsShellGiven (found : Found) (asked : AskedShell) : Type 0 where
-  pub manner : IsMannerGiven found asked.settings asked.manner
+  pub options : AreRunOptionsGiven found asked.settings asked.options
   pub chances : AreChancesGiven found asked.chances
   pub settings : AreSettingsGiven found asked.settings
   pub words : map (λ word. word.now) asked.words.now ≡ words_found found

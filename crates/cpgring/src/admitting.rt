@@ -4,12 +4,12 @@
 
 ghost use Rattle.std.specs.Prelude.{◌≡◌, map, option_map};
 ghost use Rattle.clap.specs.Words.{found_of, first_value};
-ghost use Rattle.cpgring.specs.Admitting.{words_asked, AreFilesGiven, IsAdmitMannerGiven};
+ghost use Rattle.cpgring.specs.Admitting.{words_asked, AreFilesGiven, AreAdmitOptionsGiven};
 
 use crate::asking::{form_of, is_verbose};
 use crate::options::{ASKS, CONF, ECHO, GROUP, NAMES, PASSWD};
 use clap::ArgMatches;
-use cpg_console::AdmitManner;
+use cpg_console::AdmitOptions;
 
 /// The paths of the files, as they were given.
 #[derive(Clone, Copy)]
@@ -40,10 +40,10 @@ pub fn asks_of<'a>(given: &'a ArgMatches<'_>) -> &'a [&'a str]
 }
 
 /// How it is answered.
-pub fn admit_manner_of(given: &ArgMatches<'_>) -> AdmitManner
-    ensures { IsAdmitMannerGiven (found_of given.now) result }
+pub fn admit_options_of(given: &ArgMatches<'_>) -> AdmitOptions
+    ensures { AreAdmitOptionsGiven (found_of given.now) result }
 {
-    AdmitManner {
+    AdmitOptions {
         form: form_of(given),
         echo: given.get_flag(ECHO),
         hints: is_verbose(given),

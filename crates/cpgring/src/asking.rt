@@ -10,7 +10,7 @@ ghost use Rattle.cpg_console.specs.Pipes.{stream_of};
 ghost use Rattle.cpg_console.specs.declared.runs.Run.TheVariants.{Why};
 ghost use Rattle.cpgring.specs.Filtering.{is_filtered, rows_given, IsBadFilter};
 ghost use Rattle.cpgring.specs.Sources.{but_input, path_of};
-ghost use Rattle.cpgring.specs.Asking.{name_of, words_found, AreChancesGiven, AreMarksGiven, AreSettingsGiven, IsAskedFor, IsFormGiven, IsInquiryGiven, IsMannerGiven, IsPictureGiven, IsShellGiven, IsShownGiven, IsSpokenGiven, patience_given, IsEntryAsked, words_before, IsStatusOf, IsUnused, IsUsed, SaysByKind, is_echoed, is_numbered};
+ghost use Rattle.cpgring.specs.Asking.{name_of, words_found, AreChancesGiven, AreMarksGiven, AreSettingsGiven, IsAskedFor, IsFormGiven, IsInquiryGiven, AreRunOptionsGiven, IsPictureGiven, IsShellGiven, IsShownGiven, IsOutputFormGiven, wait_limit_given, IsEntryAsked, words_before, IsStatusOf, IsUnused, IsUsed, SaysByKind, is_echoed, is_numbered};
 
 use crate::commands::{build_command, command_for};
 use crate::excerpts::excerpt_of;
@@ -26,8 +26,8 @@ use crate::versions::write_commit;
 use clap::error::ErrorKind;
 use clap::{ArgMatches, Command, Error};
 use cpg_console::{
-    Asked as Question, Chances, Form, Inquiry, Known, Manner, Marks, Noted, Patience, Picture,
-    Piped, Run, Shown, Spoken, Stepped, tell_fault,
+    Asked as Question, Chances, Form, Inquiry, Known, Marks, NotedForm, OutputForm, Picture, Piped,
+    Run, RunOptions, Stepped, TextForm, WaitLimit, tell_fault,
 };
 use cpg_cred::Refusal;
 use cpg_ring::Settings;
@@ -290,8 +290,8 @@ fn cluster_of<'a>(given: &'a ArgMatches<'_>) -> Option<Asked<'a>>
     let run = match given.get_str(WHY) {
         Some(_) => Run::ClusterWhy(inquiry_of(given)?, settings, words),
         None => {
-            let manner = manner_of(given, settings)?;
-            Run::Cluster(manner, chances_of(given)?, settings, words)
+            let options = run_options_of(given, settings)?;
+            Run::Cluster(options, chances_of(given)?, settings, words)
         }
     };
     Some(Asked { run, source })
@@ -304,7 +304,7 @@ fn inquiry_of(given: &ArgMatches<'_>) -> Option<Inquiry>
     Some(Inquiry {
         form: form_of(given),
         asked: read_question(given.get_str(TO), given.get_str(WHY)?.as_bytes())?,
-        patience: read_patience(given.get_str(WAIT))?,
+        wait_limit: read_wait_limit(given.get_str(WAIT))?,
         chances: chances_of(given)?,
     })
 }
@@ -313,7 +313,7 @@ fn inquiry_of(given: &ArgMatches<'_>) -> Option<Inquiry>
 /// whom it lets in.
 #[derive(Clone, Copy)]
 pub struct AskedShell<'a> {
-    pub manner: Manner<Spoken>,
+    pub options: RunOptions<OutputForm>,
     pub chances: Chances,
     pub settings: Settings,
     pub words: &'a [&'a str],
@@ -335,7 +335,7 @@ fn shell_of<'a>(given: &'a ArgMatches<'_>) -> Option<AskedShell<'a>>
 {
     let settings = settings_of(given)?;
     Some(AskedShell {
-        manner: manner_of(given, settings)?,
+        options: run_options_of(given, settings)?,
         chances: chances_of(given)?,
         settings,
         words: words_of(given),
@@ -343,50 +343,56 @@ fn shell_of<'a>(given: &'a ArgMatches<'_>) -> Option<AskedShell<'a>>
 }
 
 /// How the commands of a cluster of those settings are answered, where the options say it.
-fn manner_of(given: &ArgMatches<'_>, settings: Settings) -> Option<Manner<Spoken>>
-    ensures given { IfSome result (IsMannerGiven (found_of given.now) settings) }
-    ensures none { result ≡ None → patience_given (first_value (found_of given.now) (codes "wait")) ≡ None }
+fn run_options_of(given: &ArgMatches<'_>, settings: Settings) -> Option<RunOptions<OutputForm>>
+    ensures given { IfSome result (AreRunOptionsGiven (found_of given.now) settings) }
+    ensures none { result ≡ None → wait_limit_given (first_value (found_of given.now) (codes "wait")) ≡ None }
 {
-    let patience = read_patience(given.get_str(WAIT))?;
-    let form = spoken_of(given, Known { patience, settings });
-    Some(Manner { patience, form })
+    let wait_limit = read_wait_limit(given.get_str(WAIT))?;
+    let form = output_form_of(
+        given,
+        Known {
+            wait_limit,
+            settings,
+        },
+    );
+    Some(RunOptions { wait_limit, form })
 }
 
 /// How long a wait looks.
-pub(crate) fn read_patience(word: Option<&str>) -> Option<Patience>
-    ensures { result ≡ patience_given (option_map (λ text. text.now) word.entry) }
+pub(crate) fn read_wait_limit(word: Option<&str>) -> Option<WaitLimit>
+    ensures { result ≡ wait_limit_given (option_map (λ text. text.now) word.entry) }
 {
     match word {
-        None => Some(Patience::Looks),
+        None => Some(WaitLimit::Looks),
         Some(word) => {
             let most = read_u32(0, u32::MAX, word.as_bytes())?;
-            Some(Patience::Millis(u64::from(most)))
+            Some(WaitLimit::Millis(u64::from(most)))
         }
     }
 }
 
 /// How the answers of a cluster are shown as text.
-fn shown_of(given: &ArgMatches<'_>) -> Shown
+fn shown_of(given: &ArgMatches<'_>) -> TextForm
     ensures { IsShownGiven (found_of given.now) result }
 {
     if given.get_flag(ECHO) {
-        Shown::Echoed
+        TextForm::Echoed
     } else {
-        Shown::Plain
+        TextForm::Plain
     }
 }
 
 /// The form of the answers of a cluster that the options ask for, where that is known of a wait.
-fn spoken_of(given: &ArgMatches<'_>, known: Known) -> Spoken
-    ensures { IsSpokenGiven (found_of given.now) known result }
+fn output_form_of(given: &ArgMatches<'_>, known: Known) -> OutputForm
+    ensures { IsOutputFormGiven (found_of given.now) known result }
 {
     let shown = shown_of(given);
     if given.get_flag(JSON) {
-        Spoken::Json
+        OutputForm::Json
     } else if is_verbose(given) {
-        Spoken::Noted(Noted { shown, known })
+        OutputForm::Noted(NotedForm { shown, known })
     } else {
-        Spoken::Text(shown)
+        OutputForm::Text(shown)
     }
 }
 

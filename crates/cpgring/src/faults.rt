@@ -3,7 +3,7 @@
 //!
 //! The form is that of clap's own faults. The texts are held by examples.
 
-use crate::asking::read_patience;
+use crate::asking::read_wait_limit;
 use crate::commands::{Subcommand, build_command, command_alone};
 use crate::excerpts::rows_of;
 use crate::filtering::{kind_of, places_of};
@@ -187,7 +187,7 @@ fn wrong_rows<'a>(given: &'a ArgMatches<'_>) -> Option<Wrong<'a>> {
 
 fn wrong_wait<'a>(given: &'a ArgMatches<'_>) -> Option<Wrong<'a>> {
     let word = given.get_str(WAIT)?;
-    match read_patience(Some(word)) {
+    match read_wait_limit(Some(word)) {
         Some(_) => None,
         None => Some(Wrong {
             taken_by: "--wait <MS>",

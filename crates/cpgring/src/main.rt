@@ -21,15 +21,15 @@ mod sources;
 mod tracing;
 mod versions;
 
-use admitting::{admit_manner_of, asks_of, files_of};
+use admitting::{admit_options_of, asks_of, files_of};
 use asking::{
     AskedShell, explain, is_verbose, match_words, read_asked, read_shell, read_words, words_of,
 };
 use clap::{ArgMatches, Error};
 use completions::completion_of;
 use cpg_console::{
-    Counted, Ended, KeepsEnds, Piped, Run, Tracer, Untraced, perform, perform_admit, perform_shell,
-    perform_with_hint, write_text,
+    Counted, Ended, Host, KeepsEnds, Piped, Run, Tracer, Untraced, perform, perform_admit,
+    perform_shell, perform_with_hint, write_text,
 };
 use faults::{fault_of_ask, fault_of_completions};
 use folders::{NotLoaded, conf_paths};
@@ -44,7 +44,7 @@ use std::rt::Stderr;
 use std::sync::Wait;
 use std::thread::Threads;
 use std::time::Clock;
-use tracing::{NoTrace, end_trace, open_trace, trace_of, traced_world};
+use tracing::{end_trace, end_untraced, open_trace, trace_of, traced_world};
 use versions::said_commit;
 
 fn main(rt: HostRuntime) -> ExitCode {
@@ -83,7 +83,7 @@ fn start<H: Threads + Wait + Clock + Copy + Send + 'static>(
 }
 
 /// The exit status of the run that the command line asks for.
-fn run<H: Threads + Wait + Clock + Copy + Send + 'static>(
+fn run<H: Host + 'static>(
     rt: &HostRuntime,
     threads: H,
     matches: &ArgMatches<'_>,
@@ -120,18 +120,14 @@ fn words_with<'a>(matches: &'a ArgMatches<'_>, run: &Run<'_>) -> Option<&'a [&'a
 }
 
 /// The exit status of the run of a script, which is traced where that is asked for.
-fn run_over<H, R>(
+fn run_over<H: Host + 'static, R: Read>(
     rt: &HostRuntime,
     threads: H,
     run: &Run<'_>,
     verbose: bool,
     trace: Option<&str>,
     reader: &mut R,
-) -> Result<u8, Error>
-where
-    H: Threads + Wait + Clock + Copy + Send + 'static,
-    R: Read,
-{
+) -> Result<u8, Error> {
     let alloc = rt.alloc();
     let (Some(path), Some((settings, words))) = (trace, traced_world(run)) else {
         return Ok(run_kept(rt, threads, run, verbose, reader, &mut Untraced)?.status());
@@ -142,25 +138,19 @@ where
             let ended = run_kept(rt, threads, run, verbose, reader, &mut tracer)?;
             Ok(end_trace(alloc, &mut rt.stderr(), path, &tracer, ended.status()))
         }
-        Err(NoTrace::Memory) => Err(Error::from(AllocError)),
-        Err(NoTrace::Unwritten(why)) => Ok(tell_unread(alloc, &mut rt.stderr(), path, why)),
+        Err(why) => end_untraced(rt, path, why),
     }
 }
 
 /// The run of a script over the process's streams. What a stopped cluster leaves is the keeper's.
-fn run_kept<H, R, K>(
+fn run_kept<H: Host + 'static, R: Read, K: KeepsEnds>(
     rt: &HostRuntime,
     threads: H,
     run: &Run<'_>,
     verbose: bool,
     reader: &mut R,
     keeper: &mut K,
-) -> Result<Ended, Error>
-where
-    H: Threads + Wait + Clock + Copy + Send + 'static,
-    R: Read,
-    K: KeepsEnds,
-{
+) -> Result<Ended, Error> {
     let stream = Counted::new(rt.stdout(), progress_of(rt, run), threads);
     let mut writer = BufWriter::new(rt.alloc(), Piped::new(stream)).map_err(|_| AllocError)?;
     Ok(run_to(
@@ -176,7 +166,7 @@ where
 }
 
 /// The run of a script over these streams, with a hint behind a fault's line where that is asked for.
-fn run_to<H, R, W, E, K>(
+fn run_to<H: Host + 'static, R: Read, W: Write + Drop, E: Write, K: KeepsEnds>(
     threads: H,
     alloc: Global,
     run: &Run<'_>,
@@ -185,14 +175,7 @@ fn run_to<H, R, W, E, K>(
     writer: &mut BufWriter<Piped<W>>,
     errors: &mut E,
     keeper: &mut K,
-) -> Ended
-where
-    H: Threads + Wait + Clock + Copy + Send + 'static,
-    R: Read,
-    W: Write + Drop,
-    E: Write,
-    K: KeepsEnds,
-{
+) -> Ended {
     if verbose {
         perform_with_hint(threads, alloc, run, reader, writer, errors, keeper)
     } else {
@@ -242,7 +225,7 @@ fn admit_loaded(
     let words = asks_of(given);
     let ended = perform_admit(
         alloc,
-        &admit_manner_of(given),
+        &admit_options_of(given),
         &loaded.admission(confs.as_slice()),
         words,
         &mut Piped::new(rt.stdout()),
@@ -255,10 +238,11 @@ fn admit_loaded(
 }
 
 /// The exit status of `shell`: what is typed is answered.
-fn shell<H>(rt: &HostRuntime, threads: H, given: &ArgMatches<'_>) -> Result<u8, Error>
-where
-    H: Threads + Wait + Clock + Copy + Send + 'static,
-{
+fn shell<H: Host + 'static>(
+    rt: &HostRuntime,
+    threads: H,
+    given: &ArgMatches<'_>,
+) -> Result<u8, Error> {
     let alloc = rt.alloc();
     let asked = read_shell(alloc, given)?;
     let Some(path) = trace_of(given) else {
@@ -270,29 +254,24 @@ where
             let ended = shell_kept(rt, threads, &asked, &mut tracer)?;
             Ok(end_trace(alloc, &mut rt.stderr(), path, &tracer, ended.status()))
         }
-        Err(NoTrace::Memory) => Err(Error::from(AllocError)),
-        Err(NoTrace::Unwritten(why)) => Ok(tell_unread(alloc, &mut rt.stderr(), path, why)),
+        Err(why) => end_untraced(rt, path, why),
     }
 }
 
 /// The shell over the process's streams. What the stopped cluster leaves is the keeper's.
-fn shell_kept<H, K>(
+fn shell_kept<H: Host + 'static, K: KeepsEnds>(
     rt: &HostRuntime,
     threads: H,
     asked: &AskedShell<'_>,
     keeper: &mut K,
-) -> Result<Ended, Error>
-where
-    H: Threads + Wait + Clock + Copy + Send + 'static,
-    K: KeepsEnds,
-{
+) -> Result<Ended, Error> {
     let alloc = rt.alloc();
     greet_shell(&mut rt.stderr(), rt.stdin().is_terminal());
     let mut writer = BufWriter::new(alloc, Piped::new(rt.stdout())).map_err(|_| AllocError)?;
     Ok(perform_shell(
         threads,
         alloc,
-        &asked.manner,
+        &asked.options,
         asked.chances,
         asked.settings,
         asked.words,

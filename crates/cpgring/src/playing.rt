@@ -2,22 +2,17 @@
 //!
 //! What is played, and the exit status, is proved of `cpg_play`. That a file is opened and traces are written is tested.
 
-use crate::asking::{chances_of, read_patience, settings_of, words_of};
+use crate::asking::{chances_of, read_wait_limit, settings_of, words_of};
 use crate::faults::{fault_of, fault_of_shell};
 use crate::options::{CHECKED, WAIT};
-use crate::sources::{
-    Source, greet, greet_shell, open_file, split_words, tell_unopened, tell_unread,
-};
-use crate::tracing::{NoTrace, end_trace, open_trace, trace_of};
+use crate::sources::{Source, greet, greet_shell, open_file, split_words, tell_unopened};
+use crate::tracing::{end_trace, end_untraced, open_trace, trace_of};
 use clap::{ArgMatches, Error};
-use cpg_console::{KeepsEnds, Piped, Tracer, Untraced};
+use cpg_console::{Host, KeepsEnds, Piped, Tracer, Untraced};
 use cpg_play::{Live, Played, Stage, perform_play};
 use cpg_ring::Settings;
 use std::alloc::{AllocError, Global};
 use std::io::{BufWriter, IsTerminal, Read};
-use std::sync::Wait;
-use std::thread::Threads;
-use std::time::Clock;
 
 /// A script that checks itself: over what, with which settings, words and words that were given, where it is read from, and
 /// where its trace goes.
@@ -81,7 +76,7 @@ fn stage_of(name: &str, given: &ArgMatches<'_>) -> Option<Stage> {
         return Some(Stage::World);
     }
     Some(Stage::Cluster(Live {
-        patience: read_patience(given.get_str(WAIT))?,
+        wait_limit: read_wait_limit(given.get_str(WAIT))?,
         chances: chances_of(given)?,
         typed: name == "shell",
     }))
@@ -93,25 +88,23 @@ fn is_typed(stage: Stage) -> bool {
 }
 
 /// The exit status of a script that checks itself, which the subcommand of that name is to play.
-pub fn play<H>(
+pub fn play<H: Host + 'static>(
     rt: &HostRuntime,
     threads: H,
     name: &str,
     matches: &ArgMatches<'_>,
     given: &ArgMatches<'_>,
-) -> Result<u8, Error>
-where
-    H: Threads + Wait + Clock + Copy + Send + 'static,
-{
+) -> Result<u8, Error> {
     let asked = read_play(rt.alloc(), name, matches, given)?;
     play_asked(rt, threads, &asked)
 }
 
 /// The same of what is asked for.
-fn play_asked<H>(rt: &HostRuntime, threads: H, asked: &AskedPlay<'_>) -> Result<u8, Error>
-where
-    H: Threads + Wait + Clock + Copy + Send + 'static,
-{
+fn play_asked<H: Host + 'static>(
+    rt: &HostRuntime,
+    threads: H,
+    asked: &AskedPlay<'_>,
+) -> Result<u8, Error> {
     match asked.source {
         Source::Input => {
             let at_terminal = rt.stdin().is_terminal();
@@ -133,16 +126,12 @@ where
 }
 
 /// The same of the script that is read there, which is traced where that is asked for.
-fn play_traced<H, R>(
+fn play_traced<H: Host + 'static, R: Read>(
     rt: &HostRuntime,
     threads: H,
     asked: &AskedPlay<'_>,
     reader: &mut R,
-) -> Result<u8, Error>
-where
-    H: Threads + Wait + Clock + Copy + Send + 'static,
-    R: Read,
-{
+) -> Result<u8, Error> {
     let alloc = rt.alloc();
     let Some(path) = asked.trace else {
         return Ok(play_kept(rt, threads, asked, reader, &mut Untraced)?.status());
@@ -153,24 +142,18 @@ where
             let played = play_kept(rt, threads, asked, reader, &mut tracer)?;
             Ok(end_trace(alloc, &mut rt.stderr(), path, &tracer, played.status()))
         }
-        Err(NoTrace::Memory) => Err(Error::from(AllocError)),
-        Err(NoTrace::Unwritten(why)) => Ok(tell_unread(alloc, &mut rt.stderr(), path, why)),
+        Err(why) => end_untraced(rt, path, why),
     }
 }
 
 /// The script played over the process's streams. What a stopped cluster leaves is the keeper's.
-fn play_kept<H, R, K>(
+fn play_kept<H: Host + 'static, R: Read, K: KeepsEnds>(
     rt: &HostRuntime,
     threads: H,
     asked: &AskedPlay<'_>,
     reader: &mut R,
     keeper: &mut K,
-) -> Result<Played, Error>
-where
-    H: Threads + Wait + Clock + Copy + Send + 'static,
-    R: Read,
-    K: KeepsEnds,
-{
+) -> Result<Played, Error> {
     let mut writer = BufWriter::new(rt.alloc(), Piped::new(rt.stdout())).map_err(|_| AllocError)?;
     Ok(perform_play(
         threads,

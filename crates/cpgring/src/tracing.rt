@@ -7,7 +7,7 @@ ghost use Rattle.cpgring.specs.Tracing.{file_of};
 
 use crate::options::TRACE;
 use crate::sources::{Unread, tell_unread, why_unread};
-use clap::ArgMatches;
+use clap::{ArgMatches, Error};
 use cpg_console::{Run, Tracer, trace_heading, trace_words};
 use cpg_cred::Refusal;
 use cpg_ring::Settings;
@@ -141,6 +141,14 @@ where
     let heading = trace_heading(alloc, settings, words)?;
     let writer = BufWriter::new(alloc, written).map_err(|_| AllocError)?;
     Ok((heading, writer))
+}
+
+/// The exit status of a run that is to be traced, and there are no files for that, which is told.
+pub fn end_untraced(rt: &HostRuntime, path: &str, why: NoTrace) -> Result<u8, Error> {
+    match why {
+        NoTrace::Memory => Err(Error::from(AllocError)),
+        NoTrace::Unwritten(why) => Ok(tell_unread(rt.alloc(), &mut rt.stderr(), path, why)),
+    }
 }
 
 /// The exit status of a run that has ended with that, and was traced: where the trace is not whole, that is told, and is a

@@ -11,7 +11,7 @@ ghost use Rattle.cpg_cluster.specs.Shelled.{MayCome};
 
 use crate::acting::do_command;
 use crate::commands::Numbered;
-use crate::forms::{Manner, PutsAnswer};
+use crate::forms::{PutsAnswer, RunOptions};
 use crate::running::hand_on;
 use crate::sessions::Sessions;
 use crate::shell::help::HELP;
@@ -58,13 +58,13 @@ fn answer_typed<B: HistoryName, G, H: Wait + Clock, P: PutsAnswer>(
     alloc: Global,
     running: &Running<B, G>,
     sessions: &mut Sessions<B>,
-    manner: &Manner<P>,
+    options: &RunOptions<P>,
     number: u32,
     typed: Typed,
 ) -> Result<Answered, Refusal>
     requires typed { IsTypedWithin running.now.nodes typed }
     requires within { AreWithin running.now.nodes sessions.old.slots }
-    ensures came { IfOk result (λ done. MayCome (P.printed manner.now.form) B.start sessions.old number typed (record { printed = done.printed.items; told = done.told.items; left = sessions.new })) }
+    ensures came { IfOk result (λ done. MayCome (P.printed options.now.form) B.start sessions.old number typed (record { printed = done.printed.items; told = done.told.items; left = sessions.new })) }
     ensures within { AreWithin running.now.nodes sessions.new.slots }
     ensures memory { IsOkUnless result Refusal.Memory }
 {
@@ -76,7 +76,7 @@ fn answer_typed<B: HistoryName, G, H: Wait + Clock, P: PutsAnswer>(
         Typed::Bad => put_bad(alloc, &mut told, number)?,
         Typed::Command(command) => {
             let line = Numbered { number, command };
-            do_command(rt, alloc, &mut printed, running, sessions, manner, &line)?;
+            do_command(rt, alloc, &mut printed, running, sessions, options, &line)?;
         }
     }
     Ok(Answered { printed, told })
@@ -88,17 +88,17 @@ pub fn answer_line<B: HistoryName, G, H: Wait + Clock, P: PutsAnswer>(
     alloc: Global,
     running: &Running<B, G>,
     sessions: &mut Sessions<B>,
-    manner: &Manner<P>,
+    options: &RunOptions<P>,
     number: u32,
     line: &[u8],
 ) -> Result<Answered, Refusal>
     requires { AreWithin running.now.nodes sessions.old.slots }
-    ensures came { IfOk result (λ done. MayCome (P.printed manner.now.form) B.start sessions.old number (typed_of running.now.nodes line.now) (record { printed = done.printed.items; told = done.told.items; left = sessions.new })) }
+    ensures came { IfOk result (λ done. MayCome (P.printed options.now.form) B.start sessions.old number (typed_of running.now.nodes line.now) (record { printed = done.printed.items; told = done.told.items; left = sessions.new })) }
     ensures within { AreWithin running.now.nodes sessions.new.slots }
     ensures memory { IsOkUnless result Refusal.Memory }
 {
     let typed = read_typed(alloc, running.nodes(), line)?;
-    answer_typed(rt, alloc, running, sessions, manner, number, typed)
+    answer_typed(rt, alloc, running, sessions, options, number, typed)
 }
 
 /// Writes the text and hands it on.

@@ -5,7 +5,7 @@
 ghost use Rattle.std.specs.Prelude.{◌≡◌, [], None, OnOk, IfErr};
 ghost use Rattle.cpg_cluster.specs.Shelled.{IsShelled, IsEnded};
 
-use crate::forms::{Manner, PutsAnswer};
+use crate::forms::{PutsAnswer, RunOptions};
 use crate::sessions::Sessions;
 use crate::shell::answering::{answer_line, write_answered};
 use crate::shell::lines::read_line;
@@ -34,7 +34,7 @@ pub fn shell_lines<B, G, H, R, W, E, P>(
     writer: &mut W,
     errors: &mut E,
     running: &Running<B, G>,
-    manner: &Manner<P>,
+    options: &RunOptions<P>,
 ) -> Result<(), Fault>
 where
     B: HistoryName,
@@ -43,13 +43,13 @@ where
     W: Write,
     E: Write,
     P: PutsAnswer,
-    ensures ok { OnOk result (IsShelled (P.printed manner.now.form) B.start running.now.nodes (R.remaining reader.old)
+    ensures ok { OnOk result (IsShelled (P.printed options.now.form) B.start running.now.nodes (R.remaining reader.old)
         (W.contents writer.old) (W.contents writer.new) (E.contents errors.old) (E.contents errors.new)) }
-    ensures err { IfErr result (λ fault. IsEnded fault.refusal (P.printed manner.now.form) B.start running.now.nodes (R.remaining reader.old)
+    ensures err { IfErr result (λ fault. IsEnded fault.refusal (P.printed options.now.form) B.start running.now.nodes (R.remaining reader.old)
         (W.contents writer.old) (W.contents writer.new) (E.contents errors.old) (E.contents errors.new)) }
     ensures whole { IfErr result (λ fault. fault.part ≡ None) }
 {
-    match answer_lines(rt, alloc, reader, writer, errors, running, manner) {
+    match answer_lines(rt, alloc, reader, writer, errors, running, options) {
         Ok(()) => Ok(()),
         Err(refusal) => Err(Fault::from(refusal)),
     }
@@ -63,7 +63,7 @@ fn answer_lines<B, G, H, R, W, E, P>(
     writer: &mut W,
     errors: &mut E,
     running: &Running<B, G>,
-    manner: &Manner<P>,
+    options: &RunOptions<P>,
 ) -> Result<(), Refusal>
 where
     B: HistoryName,
@@ -72,9 +72,9 @@ where
     W: Write,
     E: Write,
     P: PutsAnswer,
-    ensures ok { OnOk result (IsShelled (P.printed manner.now.form) B.start running.now.nodes (R.remaining reader.old)
+    ensures ok { OnOk result (IsShelled (P.printed options.now.form) B.start running.now.nodes (R.remaining reader.old)
         (W.contents writer.old) (W.contents writer.new) (E.contents errors.old) (E.contents errors.new)) }
-    ensures err { IfErr result (λ refusal. IsEnded refusal (P.printed manner.now.form) B.start running.now.nodes (R.remaining reader.old)
+    ensures err { IfErr result (λ refusal. IsEnded refusal (P.printed options.now.form) B.start running.now.nodes (R.remaining reader.old)
         (W.contents writer.old) (W.contents writer.new) (E.contents errors.old) (E.contents errors.new)) }
 {
     let mut sessions = Sessions::none(alloc);
@@ -82,7 +82,7 @@ where
         let mut line = Vec::new(alloc);
         let more = read_line(reader, &mut line)?;
         let line = line.as_slice();
-        let done = answer_line(rt, alloc, running, &mut sessions, manner, number, line)?;
+        let done = answer_line(rt, alloc, running, &mut sessions, options, number, line)?;
         write_answered(writer, errors, &done)?;
         if !more {
             return Ok(());

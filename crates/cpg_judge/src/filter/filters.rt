@@ -52,7 +52,7 @@ fn keeps_verdict(only: Option<Only>, past: &Record) -> bool
     match only {
         None | Some(Only::Verdicts) => true,
         Some(Only::Denied) => !past.verdict.is_allowed(),
-        Some(only) => past.verdict.is_allowed() && is_of_kind(only, &past.entry().op),
+        Some(only) => past.verdict.is_allowed() && is_of_kind(only, &past.entry.op),
     }
 }
 
@@ -109,7 +109,7 @@ impl Filter<'_> {
         ensures { result ≡ keeps_record self.now place past.now }
     {
         self.keeps_place(place, past)
-            && self.keeps_conn(&ConnId::of(past.entry()))
+            && self.keeps_conn(&ConnId::of(&past.entry))
             && keeps_verdict(self.only, past)
     }
 }

@@ -33,7 +33,7 @@ fn read_next(
     match board.read_next(seat)? {
         None => Ok(false),
         Some(past) => {
-            entries.push(past.entry().copy(alloc)?)?;
+            entries.push(past.entry.copy(alloc)?)?;
             Ok(true)
         }
     }

@@ -17,7 +17,7 @@ use crate::forms::Tells;
 use crate::sessions::boards::why_of_board;
 use crate::sessions::forms::Unprinted;
 use cpg_board::Seat;
-use cpg_cluster::{Fault, Manner, Patience, Sessions, run_sessions};
+use cpg_cluster::{Fault, RunOptions, Sessions, WaitLimit, run_sessions};
 use cpg_daemon::{HistoryName, Running};
 use cpg_text::MOST_BYTES;
 use std::alloc::Global;
@@ -32,7 +32,7 @@ fn run_unprinted<B: HistoryName, G, H: Wait + Clock, R: Read>(
     alloc: Global,
     reader: &mut R,
     running: &Running<B, G>,
-    patience: Patience,
+    wait_limit: WaitLimit,
     sessions: &mut Sessions<B>,
 ) -> Result<(), Fault>
     requires { AreWithin running.now.nodes sessions.old.slots }
@@ -44,8 +44,8 @@ fn run_unprinted<B: HistoryName, G, H: Wait + Clock, R: Read>(
     ensures whole { IfErr result (λ fault. fault.part ≡ None) }
 {
     let mut unprinted: Vec<u8> = Vec::new(alloc);
-    let manner = Manner {
-        patience,
+    let options = RunOptions {
+        wait_limit,
         form: Unprinted,
     };
     run_sessions(
@@ -54,7 +54,7 @@ fn run_unprinted<B: HistoryName, G, H: Wait + Clock, R: Read>(
         reader,
         &mut unprinted,
         running,
-        &manner,
+        &options,
         sessions,
     )
 }
@@ -73,7 +73,7 @@ pub fn why_of_sessions<F, B, G, H, R, W>(
     reader: &mut R,
     writer: &mut W,
     running: &Running<B, G>,
-    patience: Patience,
+    wait_limit: WaitLimit,
     asked: Asked,
     sessions: &mut Sessions<B>,
     seat: &mut Seat,
@@ -97,7 +97,7 @@ where
     // Nothing is written before the text is whole, even where the reader tells no bytes.
     ensures ends { IfErr result (λ fault. EndsWhy asked fault (W.contents writer.old) (W.contents writer.new)) }
 {
-    match run_unprinted(rt, alloc, reader, running, patience, sessions) {
+    match run_unprinted(rt, alloc, reader, running, wait_limit, sessions) {
         Ok(()) => why_of_board::<F, W>(alloc, writer, running.board(), seat, asked),
         Err(fault) => Err(WhyFault::Script(fault)),
     }

@@ -17,4 +17,4 @@ returns c =
     ap (slice_get (laid c.args.blocks.now)) index
     ∙ (c.items_at-block.ensures.items (c.args.index % 256) (omega arith)
     ∙ (slice_get-get_or c.items_at-block.result.now (c.args.index % 256) c.index-block-index.result (omega arith)
-    ∙ ap Some (sym c.index-block-index.is ∙ sym c.get.ensures)))
+    ∙ ap Some (sym c.index-block-index.is)))

@@ -18,7 +18,7 @@ pub enter_group-requires-clause-can : goal.enter_group-requires-clause-can
 enter_group-requires-clause-can c allowed =
     let name = c.as_slice.result.now in
     let found = ap (found_or no_group) (found_there name c.groups-in-Some.inside.kept.entries c.args.groups.now c.groups-in-Some.view_is c.in-Some-index_of.index c.in-Some-index_of.ensures c.pair_mut-group.result.0.now c.pair_mut-group.result.1.now c.pair_mut-group.ensures.unique c.pair_mut-group.ensures.value) in
-    let called = ap Some c.as_slice.ensures ∙ c.in-Some.ensures ∙ ap (λ (entry : Entry). entry_group c.args.records.now entry entry.op) c.entry.ensures in
+    let called = ap Some c.as_slice.ensures ∙ c.in-Some.ensures in
     subst (λ (group : GroupValue). CanChange group c.args.place (record_of c.args.records.now c.args.next.now.entry)) (sym found)
     (c.requires.entry.2 name allowed ((named_group (entry_group c.args.records.now c.args.next.now.entry c.args.next.now.entry.op) name).1 (sym called)))
 
@@ -26,7 +26,7 @@ pub enter_group-requires-clause-group : goal.enter_group-requires-clause-group
 enter_group-requires-clause-group c =
     let name = c.as_slice.result.now in
     let found = ap (found_or no_group) (found_there name c.groups-in-Some.inside.kept.entries c.args.groups.now c.groups-in-Some.view_is c.in-Some-index_of.index c.in-Some-index_of.ensures c.pair_mut-group.result.0.now c.pair_mut-group.result.1.now c.pair_mut-group.ensures.unique c.pair_mut-group.ensures.value) in
-    let called = ap Some c.as_slice.ensures ∙ c.in-Some.ensures ∙ ap (λ (entry : Entry). entry_group c.args.records.now entry entry.op) c.entry.ensures in
+    let called = ap Some c.as_slice.ensures ∙ c.in-Some.ensures in
     found ∙ c.requires.entry.1 name ∙ ap (standing_for c.args.records.now) called
 
 pub returns-in-Some-index_of-clause-past : goal.returns-in-Some-index_of-clause-past
@@ -34,7 +34,7 @@ returns-in-Some-index_of-clause-past c =
     let name = c.as_slice.result.now in
     let found = found_there name c.groups-in-Some.inside.kept.entries c.args.groups.now c.groups-in-Some.view_is c.in-Some-index_of.index c.in-Some-index_of.ensures c.pair_mut-group.result.0.now c.pair_mut-group.result.1.now c.pair_mut-group.ensures.unique c.pair_mut-group.ensures.value in
     let set = set_there name c.groups-in-Some.inside.kept.entries c.args.groups.now c.groups-in-Some.view_is c.in-Some-index_of.index c.in-Some-index_of.ensures c.pair_mut-group.result.0.now c.pair_mut-group.result.1.now c.pair_mut-group.ensures.unique c.pair_mut-group.ensures.value c.enter_group.new.group in
-    let called = ap Some c.as_slice.ensures ∙ c.in-Some.ensures ∙ ap (λ (entry : Entry). entry_group c.args.records.now entry entry.op) c.entry.ensures in
+    let called = ap Some c.as_slice.ensures ∙ c.in-Some.ensures in
     on_ok c.enter_group.result
     (λ is. λ g.
     ap (λ (kept : Kept). kept_group kept g) set

@@ -20,6 +20,6 @@ returns-clause-ok c =
     (c.index-records-place.is ∙ ap (λ (l : List Record). get_or l (c.args.place - 1) c.index-records-place.result) c.records.ensures) in
     where_ok c.put_heard.result
     (λ put. place_put (judged c.args.policy.now) c.args.place c.args.conn.now c.index-records-place.result c.is-own.result c.count_at.result c.from.result c.args.front.now c.at.result.now c.args.lines.now.items c.put_own.new.lines.items c.put_heard.new.lines.items
-    there (c.is-own.ensures ∙ ap (λ (other : ConnId). is_conn c.args.conn.now other) (c.of.ensures ∙ ap conn_of c.entry.ensures)) c.count_at.ensures c.from.ensures c.requires.front (c.at.ensures (judged c.args.policy.now) c.requires.tails c.requires.place.1)
+    there (c.is-own.ensures ∙ ap (λ (other : ConnId). is_conn c.args.conn.now other) c.of.ensures) c.count_at.ensures c.from.ensures c.requires.front (c.at.ensures (judged c.args.policy.now) c.requires.tails c.requires.place.1)
     c.in_ok-put_own.ensures.ok put)
     c.put_heard.ensures.ok

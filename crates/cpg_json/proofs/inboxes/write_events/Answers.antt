@@ -6,7 +6,7 @@ use Rattle.cpg_record.specs.Judging.{judged}
 use Rattle.cpg_record.specs.Nexts.{is_made_by}
 use Rattle.cpg_record.specs.Places.{places_of, IsNextOf}
 use Rattle.cpg_record.proofs.Denials.{each_entry_is_judged}
-use Rattle.cpg_group.specs.Trails.{TrailValue}
+use Rattle.cpg_group.specs.ConnectionLogs.{ConnectionLogValue}
 use Rattle.cpg_group.proofs.Counted.{next_by_count, one_more_by_count}
 use Rattle.cpg_judge.specs.Texts.{MakesNone}
 use Rattle.cpg_judge.proofs.Behind.{gathers_none, gathers_stop, gathers_then}
@@ -15,10 +15,10 @@ use Rattle.cpg_json.specs.Steps.{lines_between}
 use Rattle.cpg_json.proofs.Between.{between_parted, inbox_parted}
 use Rattle.cpg_json.proofs.inboxes.write_events.Goals as goal
 
--- what the trail gives for an index is the own place that stands there
-own_is : (rs : List Record) (conn : ConnId) (trail : TrailValue) (count : ℕ) (own : Option ℕ) → trail ≡ record { records = rs; conn = conn } →
-    own ≡ slice_get (places_of (is_made_by trail.conn) trail.records) count → own ≡ slice_get (places_of (is_made_by conn) rs) count
-own_is rs conn trail count own are is = is ∙ ap (λ (one : TrailValue). slice_get (places_of (is_made_by one.conn) one.records) count) are
+-- what the log gives for an index is the own place that stands there
+own_is : (rs : List Record) (conn : ConnId) (log : ConnectionLogValue) (count : ℕ) (own : Option ℕ) → log ≡ record { records = rs; conn = conn } →
+    own ≡ slice_get (places_of (is_made_by log.conn) log.records) count → own ≡ slice_get (places_of (is_made_by conn) rs) count
+own_is rs conn log count own are is = is ∙ ap (λ (one : ConnectionLogValue). slice_get (places_of (is_made_by one.conn) one.records) count) are
 
 -- where so many own places come up to one, what stands after as many is the next
 there : (rs : List Record) (conn : ConnId) (after count : ℕ) (own : Option ℕ) → count ≡ length (places_of (is_made_by conn) (take after rs)) →
@@ -36,13 +36,13 @@ pub write_upto-requires-clause-next : goal.write_upto-requires-clause-next
 write_upto-requires-clause-next g c =
     let rs = judged c.args.inbox.now.policy.now in
     let conn = c.args.inbox.now.conn.now in
-    found rs conn c.loop-place.after c.loop-place.count (Some c.in-Some.place) c.loop-place.invariant.counted (own_is rs conn c.trail-trail.result c.loop-place.count (Some c.in-Some.place) c.trail-trail.ensures c.in-Some.ensures)
+    found rs conn c.loop-place.after c.loop-place.count (Some c.in-Some.place) c.loop-place.invariant.counted (own_is rs conn c.log-log.result c.loop-place.count (Some c.in-Some.place) c.log-log.ensures c.in-Some.ensures)
 
 pub returns-in-Err : goal.returns-in-Err
 returns-in-Err g c =
     let rs = judged c.args.inbox.now.policy.now in
     let conn = c.args.inbox.now.conn.now in
-    let next = own_next rs conn c.loop-place.after c.in-Some.place (found rs conn c.loop-place.after c.loop-place.count (Some c.in-Some.place) c.loop-place.invariant.counted (own_is rs conn c.trail-trail.result c.loop-place.count (Some c.in-Some.place) c.trail-trail.ensures c.in-Some.ensures)) in
+    let next = own_next rs conn c.loop-place.after c.in-Some.place (found rs conn c.loop-place.after c.loop-place.count (Some c.in-Some.place) c.loop-place.invariant.counted (own_is rs conn c.log-log.result c.loop-place.count (Some c.in-Some.place) c.log-log.ensures c.in-Some.ensures)) in
     let front = lines_between rs conn 0 c.loop-place.after in
     let some = lines_between rs conn c.loop-place.after c.in-Some.place in
     let rest = lines_between rs conn c.in-Some.place (length rs) in
@@ -54,7 +54,7 @@ pub overflow_add-count : goal.overflow_add-count
 overflow_add-count g c =
     let rs = judged c.args.inbox.now.policy.now in
     let conn = c.args.inbox.now.conn.now in
-    let own = own_is rs conn c.trail-trail.result c.loop-place.count (Some c.in-Some.place) c.trail-trail.ensures c.in-Some.ensures in
+    let own = own_is rs conn c.log-log.result c.loop-place.count (Some c.in-Some.place) c.log-log.ensures c.in-Some.ensures in
     let more = one_more_by_count (is_made_by conn) rs c.loop-place.after c.in-Some.place (there rs conn c.loop-place.after c.loop-place.count (Some c.in-Some.place) c.loop-place.invariant.counted own) in
     omega (arith, c.loop-place.invariant.counted, more, places_few (is_made_by conn) rs c.in-Some.place)
 
@@ -62,7 +62,7 @@ pub loop-place-preserved : goal.loop-place-preserved
 loop-place-preserved g c =
     let rs = judged c.args.inbox.now.policy.now in
     let conn = c.args.inbox.now.conn.now in
-    let own = own_is rs conn c.trail-trail.result c.loop-place.count (Some c.in-Some.place) c.trail-trail.ensures c.in-Some.ensures in
+    let own = own_is rs conn c.log-log.result c.loop-place.count (Some c.in-Some.place) c.log-log.ensures c.in-Some.ensures in
     let next = own_next rs conn c.loop-place.after c.in-Some.place (found rs conn c.loop-place.after c.loop-place.count (Some c.in-Some.place) c.loop-place.invariant.counted own) in
     let more = between_parted rs conn 0 c.loop-place.after c.in-Some.place (omega arith) (omega (arith, next.above)) in
     record {
@@ -75,7 +75,7 @@ pub loop-place-smaller : goal.loop-place-smaller
 loop-place-smaller g c =
     let rs = judged c.args.inbox.now.policy.now in
     let conn = c.args.inbox.now.conn.now in
-    let next = own_next rs conn c.loop-place.after c.in-Some.place (found rs conn c.loop-place.after c.loop-place.count (Some c.in-Some.place) c.loop-place.invariant.counted (own_is rs conn c.trail-trail.result c.loop-place.count (Some c.in-Some.place) c.trail-trail.ensures c.in-Some.ensures)) in
+    let next = own_next rs conn c.loop-place.after c.in-Some.place (found rs conn c.loop-place.after c.loop-place.count (Some c.in-Some.place) c.loop-place.invariant.counted (own_is rs conn c.log-log.result c.loop-place.count (Some c.in-Some.place) c.log-log.ensures c.in-Some.ensures)) in
     omega (arith, next.above, next.within)
 
 pub write_between-requires-clause-places : goal.write_between-requires-clause-places
@@ -89,7 +89,7 @@ write_between-requires-clause-none g c =
     let conn = c.args.inbox.now.conn.now in
     let all : c.len.result ≡ length rs = omega (arith, c.len.ensures.value, (each_entry_is_judged c.args.inbox.now.policy.now).0) in
     subst (MakesNone rs conn c.loop-place.after) (sym all)
-    (none_more rs conn c.loop-place.after (found rs conn c.loop-place.after c.loop-place.count None c.loop-place.invariant.counted (own_is rs conn c.trail-trail.result c.loop-place.count None c.trail-trail.ensures c.in_default.ensures)))
+    (none_more rs conn c.loop-place.after (found rs conn c.loop-place.after c.loop-place.count None c.loop-place.invariant.counted (own_is rs conn c.log-log.result c.loop-place.count None c.log-log.ensures c.in_default.ensures)))
 
 pub returns : goal.returns
 returns g c =

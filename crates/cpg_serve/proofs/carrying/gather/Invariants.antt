@@ -1,8 +1,10 @@
-use Rattle.std.proofs.Common.{◌≡◌, take}
+use Rattle.std.proofs.Common.{◌≡◌, drop, reverse}
 use Rattle.cpg_record.specs.Membership.{memberships}
+use Rattle.cpg_serve.specs.Carrying.{AreEnded}
 use Rattle.cpg_serve.proofs.carrying.gather.Given as goal
 
-abbrev pub invariant-loop-past : goal.invariant-loop-past
-invariant-loop-past l = record {
-  all : l.all.items ≡ memberships (take l.past-index l.records);
+abbrev pub invariant-loop-index : goal.invariant-loop-index
+invariant-loop-index l = record {
+  put : l.all.items ≡ reverse (memberships (drop l.index l.records));
+  known : AreEnded l.ended.keys (drop l.index l.records);
 }

@@ -4,5 +4,5 @@ use Rattle.cpg_serve.proofs.carrying.gather_tables.Given as goal
 
 abbrev pub invariant-loop-past : goal.invariant-loop-past
 invariant-loop-past l = record {
-  names : l.names.items ≡ tables_in (take l.past-index l.records);
+  names : l.names.keys ≡ tables_in (take l.past-index l.records);
 }

@@ -1,11 +1,7 @@
-use Rattle.std.proofs.Common.{◌≡◌, ◌∷◌, ◌++◌, [], false, rules, sym, ◌∙◌}
-use Rattle.cpg_serve.specs.Carrying.{is_among}
-use Rattle.cpg_serve.proofs.Gathered.{absent_name, name_put}
+use Rattle.std.proofs.Common.{◌∷◌, [], List, ℕ, ap, ◌∙◌}
+use Rattle.cpg_serve.specs.Carrying.{with_names}
+use Rattle.cpg_serve.proofs.Gathered.{name_put}
 use Rattle.cpg_serve.proofs.carrying.put_name.Goals as goal
 
-pub returns-in_ok-push-clause-ok : goal.returns-in_ok-push-clause-ok
-returns-in_ok-push-clause-ok c =
-    let absent : is_among c.args.names.now.items c.args.group.now ≡ false =
-    absent_name c.args.names.now.items c.as_slice.result.now c.args.group.now c.as_slice-2.result.now c.is_among.result c.is_among.ensures c.as_slice.ensures.value c.as_slice-2.ensures (search rules) in
-    let pushed : c.push.new.self.items ≡ c.args.names.now.items ++ c.args.group.now ∷ [] = search rules in
-    pushed ∙ sym (name_put c.args.names.now.items c.args.group.now absent)
+pub returns-clause-ok : goal.returns-clause-ok
+returns-clause-ok c = c.in_ok-insert.ensures.keys ∙ name_put c.args.names.now.keys _ ∙ ap (λ (g : List ℕ). with_names c.args.names.now.keys (g ∷ [])) c.in_ok-group.ensures.ok

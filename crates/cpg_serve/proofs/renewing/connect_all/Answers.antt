@@ -1,6 +1,7 @@
 use Rattle.std.proofs.Common.{◌≡◌, ◌+◌, ◌++◌, ◌∷◌, [], ℕ, List, take, arith, rules, subst, sym}
 use Rattle.cpg_serve.specs.Carrying.{HaveConnected}
 use Rattle.cpg_serve.proofs.Begun.{connected_more}
+use Rattle.cpg_serve.proofs.Refused.{connected_why}
 use Rattle.cpg_serve.proofs.renewing.connect_all.Goals as goal
 
 pub loop-conn-preserved : goal.loop-conn-preserved
@@ -12,3 +13,8 @@ loop-conn-preserved c =
           (omega (arith, c.loop-conn-test.true, c.requires)) c.loop-conn.invariant.connected c.in_ok-number.ensures.ok);
       within = omega (arith, c.loop-conn-test.true);
     }
+
+pub returns-in_err-number-clause-why : goal.returns-in_err-number-clause-why
+returns-in_err-number-clause-why c =
+    let why = connected_why c.args.old.now c.loop-conn.conn (c.loop-conn.conn + 1) c.loop-conn.numbers.items c.args.node.now c.loop-conn.node _ (omega arith) c.loop-conn.invariant.connected c.in_err-number.ensures.why in
+    search rules

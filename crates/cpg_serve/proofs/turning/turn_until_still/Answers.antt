@@ -1,5 +1,5 @@
 use Rattle.std.proofs.Common.{arith, rules, ◌<◌, length}
-use Rattle.cpg_serve.proofs.Turns.{brisk_same, brisk_turn, none_next, turned_delivered, turned_then}
+use Rattle.cpg_serve.proofs.Turns.{brisk_same, brisk_turn, moving_by, none_next, turned_delivered, turned_then}
 use Rattle.cpg_serve.proofs.turning.turn_until_still.Goals as goal
 
 pub returns-in_err-place_some-clause-did : goal.returns-in_err-place_some-clause-did
@@ -8,7 +8,7 @@ returns-in_err-place_some-clause-did c = turned_then c.args.node.now c.loop-node
 pub returns-in_err-place_some-clause-why : goal.returns-in_err-place_some-clause-why
 returns-in_err-place_some-clause-why c = λ t placed is.
     let s = c.loop-node.invariant.did.lone t placed is in
-    let why = c.in_err-place_some.ensures.why s.token s.more s.is in
+    let why = moving_by c.args.node.now.ring c.loop-node.node.ring c.place_some.new.node.ring _ c.loop-node.invariant.brisk (c.in_err-place_some.ensures.why s.token s.more s.is) in
     search rules
 
 pub loop-node-preserved : goal.loop-node-preserved

@@ -12,17 +12,17 @@ use Rattle.cpg_why.proofs.without.judge_states.Goals as goal
 pub returns-then-has_process : goal.returns-then-has_process
 returns-then-has_process c = λ g joins.
     states_twice (judged c.args.policy.now) c.args.past.now g c.args.by c.requires joins (sym c.is_allowed.ensures ∙ c.if-is_allowed.false)
-    (ap (λ (conn : ConnId). is_some (group_of (judged c.args.policy.now) conn)) (ap conn_of (sym c.entry-entry.ensures) ∙ sym c.of.ensures) ∙ sym c.is_in_some.ensures ∙ c.if-is_in_some.false)
-    (ap (λ (entry : Entry). has_process entry c.args.past.now.members) (sym c.entry-entry.ensures) ∙ sym c.has_process.ensures ∙ c.if-has_process.true)
+    (ap (λ (conn : ConnId). is_some (group_of (judged c.args.policy.now) conn)) (sym c.of.ensures) ∙ sym c.is_in_some.ensures ∙ c.if-is_in_some.false)
+    (sym c.has_process.ensures ∙ c.if-has_process.true)
 
 pub returns-then-len-ge-MOST_MEMBERS : goal.returns-then-len-ge-MOST_MEMBERS
 returns-then-len-ge-MOST_MEMBERS c = λ g joins.
     states_full (judged c.args.policy.now) c.args.past.now g c.args.by c.requires joins (sym c.is_allowed.ensures ∙ c.if-is_allowed.false)
-    (ap (λ (conn : ConnId). is_some (group_of (judged c.args.policy.now) conn)) (ap conn_of (sym c.entry-entry.ensures) ∙ sym c.of.ensures) ∙ sym c.is_in_some.ensures ∙ c.if-is_in_some.false)
-    (ap (λ (entry : Entry). has_process entry c.args.past.now.members) (sym c.entry-entry.ensures) ∙ sym c.has_process.ensures ∙ c.if-has_process.false) (omega (arith, c.len.ensures))
+    (ap (λ (conn : ConnId). is_some (group_of (judged c.args.policy.now) conn)) (sym c.of.ensures) ∙ sym c.is_in_some.ensures ∙ c.if-is_in_some.false)
+    (sym c.has_process.ensures ∙ c.if-has_process.false) (omega (arith, c.len.ensures))
 
 pub returns-else-len-ge-MOST_MEMBERS : goal.returns-else-len-ge-MOST_MEMBERS
 returns-else-len-ge-MOST_MEMBERS c = λ g joins.
     states_none (judged c.args.policy.now) c.args.past.now g c.args.by c.requires joins (sym c.is_allowed.ensures ∙ c.if-is_allowed.false)
-    (ap (λ (conn : ConnId). is_some (group_of (judged c.args.policy.now) conn)) (ap conn_of (sym c.entry-entry.ensures) ∙ sym c.of.ensures) ∙ sym c.is_in_some.ensures ∙ c.if-is_in_some.false)
-    (ap (λ (entry : Entry). has_process entry c.args.past.now.members) (sym c.entry-entry.ensures) ∙ sym c.has_process.ensures ∙ c.if-has_process.false) (omega (arith, c.len.ensures))
+    (ap (λ (conn : ConnId). is_some (group_of (judged c.args.policy.now) conn)) (sym c.of.ensures) ∙ sym c.is_in_some.ensures ∙ c.if-is_in_some.false)
+    (sym c.has_process.ensures ∙ c.if-has_process.false) (omega (arith, c.len.ensures))

@@ -3,7 +3,7 @@ use Rattle.std.proofs.lemmas.List.{length_push, length-map}
 use Rattle.cpg_record.specs.declared.records.Record.{Record}
 use Rattle.cpg_record.specs.Judging.{judged, record_of, entries_of, AreRecords, most_places}
 use Rattle.cpg_group.specs.Standing.{AreStanding}
-use Rattle.cpg_group.specs.Trails.{AreTrails}
+use Rattle.cpg_group.specs.ConnectionLogs.{AreConnectionLogs}
 use Rattle.cpg_group.proofs.Applying.{AreJudged-push, AreStanding-push, can_take}
 use Rattle.cpg_group.proofs.policies.Policy.apply.Goals as goal
 
@@ -27,11 +27,11 @@ invariant_of-self-in-Ok c =
     c.requires.1 ∙ ap (λ (rs : List Record). record_of rs c.args.next.entry) same in
     let few : length (c.self.inside.records.items ++ c.args.next ∷ []) ≤ most_places =
     omega (arith, length_push c.self.inside.records.items c.args.next, c.requires.0, ap length c.self.view_is, length-map c.self.inside.records.items (λ (r : Record). r.entry)) in
-    let trails : AreTrails c.take_in.new.self.kept.entries (c.self.inside.records.items ++ c.args.next ∷ []) =
-    subst (λ (rs : List Record). AreTrails c.take_in.new.self.kept.entries (rs ++ c.args.next ∷ [])) (c.as_slice-records.ensures.value ∙ c.reserve_ahead.ensures.items) c.in-Ok.ensures.longer in
-    let P : List Record → Type 0 = λ (rs : List Record). AreRecords rs × AreStanding c.take_in.new.groups rs × AreTrails c.take_in.new.self.kept.entries rs in
+    let logs : AreConnectionLogs c.take_in.new.self.kept.entries (c.self.inside.records.items ++ c.args.next ∷ []) =
+    subst (λ (rs : List Record). AreConnectionLogs c.take_in.new.self.kept.entries (rs ++ c.args.next ∷ [])) (c.as_slice-records.ensures.value ∙ c.reserve_ahead.ensures.items) c.in-Ok.ensures.longer in
+    let P : List Record → Type 0 = λ (rs : List Record). AreRecords rs × AreStanding c.take_in.new.groups rs × AreConnectionLogs c.take_in.new.self.kept.entries rs in
     subst P (sym longer) (
       (few, AreJudged-push c.self.inside.records.items c.args.next c.self.invariant.0.1 judgement),
       AreStanding-push c.self.inside.groups c.take_in.new.groups c.self.inside.records.items c.args.next (c.len.result + 1) c.self.invariant.1 c.self.invariant.0.1 here over c.in-Ok.ensures.ok,
-      trails,
+      logs,
     )

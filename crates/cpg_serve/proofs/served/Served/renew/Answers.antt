@@ -1,7 +1,11 @@
-use Rattle.std.proofs.Common.{ℕ, Vec, subst, sym}
-use Rattle.std.proofs.lemmas.Result.{IfOk-weaker, on_err_weaker}
+use Rattle.std.proofs.Common.{◌≡◌, ℕ, Vec, inr, rules, subst, sym}
+use Rattle.std.proofs.lemmas.Result.{IfErr-weaker, IfOk-weaker, on_err_weaker}
 use Rattle.cpg_serve.specs.Carrying.{ComesToNext, IsRenewed}
+use Rattle.cpg_serve.specs.Serving.{ServedValue}
 use Rattle.cpg_serve.specs.Settling.{MovesTo}
+use Rattle.cpg_serve.specs.Refusals.{WhyNotBegun, WhyNotRenewed}
+use Rattle.cpg_serve.proofs.Refused.{err_both}
+use Rattle.cpg_serve.proofs.Unbegun.{not_at_rest}
 use Rattle.cpg_serve.proofs.served.Served.renew.Goals as goal
 
 pub returns-clause-ok : goal.returns-clause-ok
@@ -12,3 +16,15 @@ returns-clause-ok c =
 
 pub returns-clause-err : goal.returns-clause-err
 returns-clause-err c = on_err_weaker c.begin_next.result (λ same. subst (MovesTo c.args.self.now) (sym same) c.settle.ensures.moves) c.begin_next.ensures.err
+
+pub returns-in_err-settle-clause-why : goal.returns-in_err-settle-clause-why
+returns-in_err-settle-clause-why c = λ t placed is.
+    let why = not_at_rest c.args.settings c.args.list.now c.args.self.now c.settle.new.self _ (c.in_err-settle.ensures.why t placed is) in
+    search rules
+
+pub returns-clause-why : goal.returns-clause-why
+returns-clause-why c = λ t placed is.
+    IfErr-weaker c.begin_next.result (λ why. (c.begin_next.new.self ≡ c.settle.new.self) × WhyNotBegun c.args.settings c.args.list.now c.settle.new.self.node why)
+    (λ why. WhyNotRenewed c.args.settings c.args.list.now c.args.self.now c.begin_next.new.self why)
+    (λ why k. subst (λ (y : ServedValue). WhyNotRenewed c.args.settings c.args.list.now c.args.self.now y why) (sym k.0) (inr ((c.in_ok-settle.ensures.still, c.in_ok-settle.ensures.told), k.1)))
+    (err_both _ _ c.begin_next.result c.begin_next.ensures.err c.begin_next.ensures.why)

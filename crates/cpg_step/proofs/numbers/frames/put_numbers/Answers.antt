@@ -1,6 +1,6 @@
 use Rattle.std.proofs.Common.{◌≡◌, ◌-◌, ◌++◌, ap, ◌∙◌, arith}
 use Rattle.cpg_step.specs.Numbers.{numbers_after}
-use Rattle.cpg_step.proofs.NumberedRuns.{numbers_more}
+use Rattle.cpg_step.proofs.NumberedLines.{numbers_more}
 use Rattle.cpg_step.proofs.numbers.frames.put_numbers.Goals as goal
 
 pub loop-index-preserved : goal.loop-index-preserved

@@ -9,6 +9,6 @@ use Rattle.cpg_why.proofs.moves.Moves.take_in.Goals as goal
 pub returns-in_ok-insert-clause-ok : goal.returns-in_ok-insert-clause-ok
 returns-in_ok-insert-clause-ok c = λ conn.
     c.in_ok-insert.ensures.updates.0 conn
-    ∙ moved_by c.args.place c.args.past.now c.of.result conn (kept_move c.args.self.now.kept.entries conn) (c.of.ensures ∙ ap conn_of c.entry-entry.ensures)
+    ∙ moved_by c.args.place c.args.past.now c.of.result conn (kept_move c.args.self.now.kept.entries conn) c.of.ensures
     (sym c.is_allowed.ensures ∙ c.if-is_allowed.true)
-    (ap (λ (entry : Entry). is_move entry.op) (sym c.entry-entry.ensures) ∙ sym c.is_move.ensures ∙ c.if-is_move.true)
+    (sym c.is_move.ensures ∙ c.if-is_move.true)
