@@ -10,7 +10,7 @@ use cpg_rules::Refusal;
 use std::alloc::Global;
 
 /// What a connection asks.
-#[derive(Debug, Drop)]
+#[derive(Debug, PartialEq, Eq, Drop)]
 pub enum Call {
     /// To become a member of the group (cpg_join(3)).
     Join(Name),
@@ -62,7 +62,7 @@ impl Call {
 }
 
 /// What an entry does: a call, or the end of its connection.
-#[derive(Debug, Drop)]
+#[derive(Debug, PartialEq, Eq, Drop)]
 pub enum Op {
     Act(Call),
     /// The connection has ended.

@@ -8,7 +8,7 @@ use cpg_rules::{Asker, Cred, NodeId, Refusal};
 use std::alloc::Global;
 
 /// What one connection asks, with who asks.
-#[derive(Debug, Drop)]
+#[derive(Debug, PartialEq, Eq, Drop)]
 pub struct Entry {
     /// The node of the connection.
     pub node: NodeId,

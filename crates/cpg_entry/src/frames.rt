@@ -8,7 +8,7 @@ use cpg_rules::{NodeId, Refusal};
 use std::alloc::Global;
 
 /// An entry at its place.
-#[derive(Debug, Drop)]
+#[derive(Debug, PartialEq, Eq, Drop)]
 pub struct Packet {
     /// The ring's number.
     pub ring: u32,
@@ -68,7 +68,7 @@ impl Token {
 }
 
 /// What one datagram carries.
-#[derive(Debug, Drop)]
+#[derive(Debug, PartialEq, Eq, Drop)]
 pub enum Frame {
     Packet(Packet),
     Token(Token),

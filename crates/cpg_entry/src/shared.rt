@@ -65,3 +65,22 @@ impl SharedRule {
         self.rule.equals(&other.rule)
     }
 }
+
+impl PartialEq for SharedRule {
+    ghost use Rattle.cpg_rules.specs.contracts.rules.RulePartialEq.TheImpl as rule_eq;
+    ghost use Rattle.cpg_rules.specs.contracts.rules.RulePartialEq.TheImpl.Laws as rule_laws;
+
+    ghost eq = { rule_eq.ghosts.eq };
+
+    ghost laws = { rule_laws.laws-law };
+
+    fn eq(&self, other: &SharedRule) -> bool {
+        *self.get() == *other.get()
+    }
+}
+
+impl Eq for SharedRule {
+    ghost use Rattle.cpg_rules.specs.contracts.rules.RuleEq.TheImpl.Laws as rule_laws;
+
+    ghost laws = { rule_laws.laws-law };
+}
