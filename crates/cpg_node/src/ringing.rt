@@ -3,6 +3,8 @@
 ghost use Rattle.std.specs.Prelude.{◌≡◌, ◌≤◌, length, ◌++◌, ◌∷◌, [], All, map, Option, None, Some, IfOk, OnErr, OnOk, IsOkUnless, option_map};
 ghost use Rattle.cpg_entry.specs.declared.frames.Frame.TheVariants as frames;
 ghost use Rattle.cpg_entry.specs.Ranges.{IsPacket, IsToken};
+ghost use Rattle.cpg_wire.specs.declared.codes.Version.TheVariants.{Two};
+ghost use Rattle.cpg_wire.specs.Spelling.{SpellsIn};
 ghost use Rattle.cpg_ring.specs.Moves.{after_entry, after_data};
 ghost use Rattle.cpg_ring.specs.Answers.{IsAnswer};
 ghost use Rattle.cpg_ring.specs.Rings.{refusal_of, data_refusal_of, full_refusal, with_state, visit_of, visited};
@@ -13,19 +15,41 @@ use bytes::{Bytes, BytesMut};
 use cpg_cred::Refusal;
 use cpg_entry::{Packet, Token};
 use cpg_ring::{Ring, Visit};
-use cpg_wire::{data_room, encode_data_in, encode_token_in, token_room};
+use cpg_wire::{data_room, encode_data, encode_data_in, encode_token_in, token_room};
 use std::alloc::Global;
 
-/// How many bytes the frames of a visit take at most.
+/// Up to this many bytes a frame shares the piece of memory of its visit. A longer one has its own, as the shared piece is
+/// filled with zeros first.
+const SHARED_ROOM: usize = 1024;
+
+/// How many bytes the frames of a visit that share a piece take at most.
 fn room_for(visit: &Visit) -> usize
     requires packets { All IsPacket visit.now.packets }
     requires token { IsToken visit.now.token }
 {
     let mut room = token_room(&visit.token);
     for packet in visit.packets.as_slice() {
-        room = room.saturating_add(data_room(packet));
+        let more = data_room(packet);
+        if more <= SHARED_ROOM {
+            room = room.saturating_add(more);
+        }
     }
     room
+}
+
+/// The spelling of the packet: of a short one in the room, which it shares, else in memory of its own.
+fn spell_packet(alloc: Global, room: &mut BytesMut, packet: &Packet) -> Result<Bytes, Refusal>
+    requires empty { room.old.items ≡ [] }
+    requires packet { IsPacket packet.now }
+    ensures ok { IfOk result (λ bytes. SpellsIn Two bytes (frames.Packet packet.now)) }
+    ensures empty { OnOk result (room.new.items ≡ []) }
+    ensures memory { IsOkUnless result Refusal.Memory }
+{
+    if data_room(packet) <= SHARED_ROOM {
+        encode_data_in(room, packet)
+    } else {
+        encode_data(alloc, packet)
+    }
 }
 
 /// The spellings of the packets, in a list with room for the token's.
@@ -43,12 +67,12 @@ fn spell_packets(
 {
     let mut list = Vec::with_capacity(alloc, packets.len().saturating_add(1))?;
     for packet in packets {
-        list.push(encode_data_in(room, packet)?)?;
+        list.push(spell_packet(alloc, room, packet)?)?;
     }
     Ok(list)
 }
 
-/// The spellings of a visit's packets, then of its token, in one piece of memory.
+/// The spellings of a visit's packets, then of its token: short ones in one piece of memory.
 fn spell_visit(alloc: Global, visit: &Visit) -> Result<Vec<Bytes>, Refusal>
     requires packets { All IsPacket visit.now.packets }
     requires token { IsToken visit.now.token }

@@ -46,10 +46,11 @@ pub fn encode_data(alloc: Global, packet: &Packet) -> Result<Bytes, Refusal>
     ensures ok { IfOk result (λ bytes. SpellsIn Two bytes (frames.Packet packet.now)) }
     ensures memory { IsOkUnless result Refusal.Memory }
 {
-    encode_data_in(
-        &mut BytesMut::with_capacity(alloc, data_room(packet))?,
-        packet,
-    )
+    packet_fits(packet);
+    let mut out = Vec::with_capacity(alloc, data_room(packet))?;
+    put_head(&mut out, Kind::Data, packet.ring)?;
+    put_packet(&mut out, packet)?;
+    Ok(Bytes::from_vec(out)?)
 }
 
 /// The same, in the room of a buffer, which frames that are spelled there have in common.
@@ -72,10 +73,11 @@ pub fn encode_token(alloc: Global, token: &Token) -> Result<Bytes, Refusal>
     ensures ok { IfOk result (λ bytes. SpellsIn Two bytes (frames.Token token.now)) }
     ensures memory { IsOkUnless result Refusal.Memory }
 {
-    encode_token_in(
-        &mut BytesMut::with_capacity(alloc, token_room(token))?,
-        token,
-    )
+    token_fits(token);
+    let mut out = Vec::with_capacity(alloc, token_room(token))?;
+    put_head(&mut out, Kind::Token, token.ring)?;
+    put_token(&mut out, token)?;
+    Ok(Bytes::from_vec(out)?)
 }
 
 /// The same, in the room of a buffer, which frames that are spelled there have in common.
@@ -107,28 +109,28 @@ fn text_len(op: &Op) -> usize
 }
 
 /// Two bytes, the highest first.
-fn put_u16(out: &mut BytesMut, number: u16) -> Result<(), AllocError>
-    ensures { OnOk result (out.new.items ≡ out.old.items ++ big_bytes 2 number) }
+fn put_u16<B: BufMut>(out: &mut B, number: u16) -> Result<(), AllocError>
+    ensures { OnOk result (B.written out.new ≡ B.written out.old ++ big_bytes 2 number) }
 {
     out.put_u16(number)
 }
 
 /// Four bytes, the highest first.
-fn put_u32(out: &mut BytesMut, number: u32) -> Result<(), AllocError>
-    ensures { OnOk result (out.new.items ≡ out.old.items ++ big_bytes 4 number) }
+fn put_u32<B: BufMut>(out: &mut B, number: u32) -> Result<(), AllocError>
+    ensures { OnOk result (B.written out.new ≡ B.written out.old ++ big_bytes 4 number) }
 {
     out.put_u32(number)
 }
 
 /// Eight bytes, the highest first.
-fn put_u64(out: &mut BytesMut, number: u64) -> Result<(), AllocError>
-    ensures { OnOk result (out.new.items ≡ out.old.items ++ big_bytes 8 number) }
+fn put_u64<B: BufMut>(out: &mut B, number: u64) -> Result<(), AllocError>
+    ensures { OnOk result (B.written out.new ≡ B.written out.old ++ big_bytes 8 number) }
 {
     out.put_u64(number)
 }
 
-fn put_head(out: &mut BytesMut, kind: Kind, ring: u32) -> Result<(), AllocError>
-    ensures { OnOk result (out.new.items ≡ out.old.items ++ (MARK ∷ version_code Two ∷ kind_code kind ∷ big_bytes 4 ring)) }
+fn put_head<B: BufMut>(out: &mut B, kind: Kind, ring: u32) -> Result<(), AllocError>
+    ensures { OnOk result (B.written out.new ≡ B.written out.old ++ (MARK ∷ version_code Two ∷ kind_code kind ∷ big_bytes 4 ring)) }
 {
     out.put_u8(MARK)?;
     out.put_u8(Version::Two.byte())?;
@@ -136,9 +138,9 @@ fn put_head(out: &mut BytesMut, kind: Kind, ring: u32) -> Result<(), AllocError>
     put_u32(out, ring)
 }
 
-fn put_packet(out: &mut BytesMut, packet: &Packet) -> Result<(), AllocError>
+fn put_packet<B: BufMut>(out: &mut B, packet: &Packet) -> Result<(), AllocError>
     requires { IsOp packet.now.entry.op }
-    ensures { OnOk result (out.new.items ≡ out.old.items ++ packet_bytes Two packet.now) }
+    ensures { OnOk result (B.written out.new ≡ B.written out.old ++ packet_bytes Two packet.now) }
 {
     put_u32(out, packet.place)?;
     put_sender(out, &packet.entry)?;
@@ -146,24 +148,24 @@ fn put_packet(out: &mut BytesMut, packet: &Packet) -> Result<(), AllocError>
     put_op(out, &packet.entry.op)
 }
 
-fn put_sender(out: &mut BytesMut, entry: &Entry) -> Result<(), AllocError>
-    ensures { OnOk result (out.new.items ≡ out.old.items ++ sender_bytes entry.now) }
+fn put_sender<B: BufMut>(out: &mut B, entry: &Entry) -> Result<(), AllocError>
+    ensures { OnOk result (B.written out.new ≡ B.written out.old ++ sender_bytes entry.now) }
 {
     out.put_u8(entry.node.get())?;
     put_u16(out, entry.conn)?;
     put_u32(out, entry.pid)
 }
 
-fn put_cred(out: &mut BytesMut, cred: &Cred) -> Result<(), AllocError>
-    ensures { OnOk result (out.new.items ≡ out.old.items ++ cred_bytes cred.now) }
+fn put_cred<B: BufMut>(out: &mut B, cred: &Cred) -> Result<(), AllocError>
+    ensures { OnOk result (B.written out.new ≡ B.written out.old ++ cred_bytes cred.now) }
 {
     put_u32(out, cred.uid)?;
     put_u32(out, cred.gid)
 }
 
-fn put_op(out: &mut BytesMut, op: &Op) -> Result<(), AllocError>
+fn put_op<B: BufMut>(out: &mut B, op: &Op) -> Result<(), AllocError>
     requires { IsOp op.now }
-    ensures { OnOk result (out.new.items ≡ out.old.items ++ op_bytes Two op.now) }
+    ensures { OnOk result (B.written out.new ≡ B.written out.old ++ op_bytes Two op.now) }
 {
     match op {
         Op::Act(call) => put_call(out, call),
@@ -171,9 +173,9 @@ fn put_op(out: &mut BytesMut, op: &Op) -> Result<(), AllocError>
     }
 }
 
-fn put_call(out: &mut BytesMut, call: &Call) -> Result<(), AllocError>
+fn put_call<B: BufMut>(out: &mut B, call: &Call) -> Result<(), AllocError>
     requires { IsCall call.now }
-    ensures { OnOk result (out.new.items ≡ out.old.items ++ call_bytes Two call.now) }
+    ensures { OnOk result (B.written out.new ≡ B.written out.old ++ call_bytes Two call.now) }
 {
     match call {
         Call::Join(name) => {
@@ -199,32 +201,32 @@ fn put_call(out: &mut BytesMut, call: &Call) -> Result<(), AllocError>
     }
 }
 
-fn put_name(out: &mut BytesMut, name: &[u8]) -> Result<(), AllocError>
+fn put_name<B: BufMut>(out: &mut B, name: &[u8]) -> Result<(), AllocError>
     requires { length name.now ≤ MOST_NAME_BYTES }
-    ensures { OnOk result (out.new.items ≡ out.old.items ++ name_bytes name.now) }
+    ensures { OnOk result (B.written out.new ≡ B.written out.old ++ name_bytes name.now) }
 {
     out.put_u8(name.len() as u8)?;
     out.put_slice(name)
 }
 
-fn put_message(out: &mut BytesMut, message: &[u8]) -> Result<(), AllocError>
+fn put_message<B: BufMut>(out: &mut B, message: &[u8]) -> Result<(), AllocError>
     requires { length message.now ≤ MOST_MESSAGE_BYTES }
-    ensures { OnOk result (out.new.items ≡ out.old.items ++ message_bytes message.now) }
+    ensures { OnOk result (B.written out.new ≡ B.written out.old ++ message_bytes message.now) }
 {
     put_u16(out, message.len() as u16)?;
     out.put_slice(message)
 }
 
-fn put_rule(out: &mut BytesMut, rule: &Rule) -> Result<(), AllocError>
-    ensures { OnOk result (out.new.items ≡ out.old.items ++ rule_bytes Two rule.now) }
+fn put_rule<B: BufMut>(out: &mut B, rule: &Rule) -> Result<(), AllocError>
+    ensures { OnOk result (B.written out.new ≡ B.written out.old ++ rule_bytes Two rule.now) }
 {
     out.put_u8(effect_byte(rule.effect))?;
     out.put_u8(right_byte(rule.right))?;
     put_who(out, &rule.who)
 }
 
-fn put_who(out: &mut BytesMut, who: &Who) -> Result<(), AllocError>
-    ensures { OnOk result (out.new.items ≡ out.old.items ++ who_bytes Two who.now) }
+fn put_who<B: BufMut>(out: &mut B, who: &Who) -> Result<(), AllocError>
+    ensures { OnOk result (B.written out.new ≡ B.written out.old ++ who_bytes Two who.now) }
 {
     let node = number_of(who.node);
     out.put_u8(given(who.uid) + given(who.gid) + given(node))?;
@@ -249,8 +251,12 @@ fn number_of(node: Option<NodeId>) -> Option<u32>
     node.map(|node| u32::from(node.get()))
 }
 
-fn put_condition(out: &mut BytesMut, subject: Subject, value: Option<u32>) -> Result<(), AllocError>
-    ensures { OnOk result (out.new.items ≡ out.old.items ++ condition_bytes subject value) }
+fn put_condition<B: BufMut>(
+    out: &mut B,
+    subject: Subject,
+    value: Option<u32>,
+) -> Result<(), AllocError>
+    ensures { OnOk result (B.written out.new ≡ B.written out.old ++ condition_bytes subject value) }
 {
     match value {
         None => Ok(()),
@@ -261,25 +267,25 @@ fn put_condition(out: &mut BytesMut, subject: Subject, value: Option<u32>) -> Re
     }
 }
 
-fn put_token(out: &mut BytesMut, token: &Token) -> Result<(), AllocError>
+fn put_token<B: BufMut>(out: &mut B, token: &Token) -> Result<(), AllocError>
     requires { length token.now.rtr ≤ MOST_REQUESTS }
-    ensures { OnOk result (out.new.items ≡ out.old.items ++ token_bytes token.now) }
+    ensures { OnOk result (B.written out.new ≡ B.written out.old ++ token_bytes token.now) }
 {
     put_u64(out, token.hop)?;
     put_extent(out, token)?;
     put_wants(out, token)
 }
 
-fn put_extent(out: &mut BytesMut, token: &Token) -> Result<(), AllocError>
-    ensures { OnOk result (out.new.items ≡ out.old.items ++ extent_bytes token.now) }
+fn put_extent<B: BufMut>(out: &mut B, token: &Token) -> Result<(), AllocError>
+    ensures { OnOk result (B.written out.new ≡ B.written out.old ++ extent_bytes token.now) }
 {
     put_u32(out, token.seq)?;
     put_u32(out, token.aru)
 }
 
-fn put_wants(out: &mut BytesMut, token: &Token) -> Result<(), AllocError>
+fn put_wants<B: BufMut>(out: &mut B, token: &Token) -> Result<(), AllocError>
     requires { length token.now.rtr ≤ MOST_REQUESTS }
-    ensures { OnOk result (out.new.items ≡ out.old.items ++ wants_bytes token.now) }
+    ensures { OnOk result (B.written out.new ≡ B.written out.old ++ wants_bytes token.now) }
 {
     out.put_u8(owner_byte(token.aru_id))?;
     put_places(out, token.rtr.as_slice())
@@ -294,9 +300,9 @@ fn owner_byte(node: Option<NodeId>) -> u8
     }
 }
 
-fn put_places(out: &mut BytesMut, places: &[u32]) -> Result<(), AllocError>
+fn put_places<B: BufMut>(out: &mut B, places: &[u32]) -> Result<(), AllocError>
     requires { length places.now ≤ MOST_REQUESTS }
-    ensures { OnOk result (out.new.items ≡ out.old.items ++ places_bytes places.now) }
+    ensures { OnOk result (B.written out.new ≡ B.written out.old ++ places_bytes places.now) }
 {
     out.put_u8(places.len() as u8)?;
     for place in places {

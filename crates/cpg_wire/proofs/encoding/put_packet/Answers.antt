@@ -6,13 +6,14 @@ use Rattle.cpg_wire.proofs.Put.{behind}
 use Rattle.cpg_wire.proofs.encoding.put_packet.Goals as goal
 
 pub returns : goal.returns
-returns c =
+returns g c =
+    let written = g.B.BufMut.written in
     let packet = c.args.packet.now in
     let op = op_bytes Two packet.entry.op in
     let cred = cred_bytes packet.entry.cred in
     let sender = sender_bytes packet.entry in
-    subst (λ (l : List ℕ). OnOk c.put_op.result (c.put_op.new.out.items ≡ l))
-    (behind c.put_sender.new.out.items cred c.put_cred.new.out.items op c.in_ok-put_cred.ensures
-    ∙ behind c.put_u32.new.out.items sender c.put_sender.new.out.items (cred ++ op) c.in_ok-put_sender.ensures
-    ∙ behind c.args.out.now.items (big_bytes 4 packet.place) c.put_u32.new.out.items (sender ++ (cred ++ op)) c.in_ok-put_u32.ensures)
+    subst (λ (l : List ℕ). OnOk c.put_op.result (written c.put_op.new.out ≡ l))
+    (behind (written c.put_sender.new.out) cred (written c.put_cred.new.out) op c.in_ok-put_cred.ensures
+    ∙ behind (written c.put_u32.new.out) sender (written c.put_sender.new.out) (cred ++ op) c.in_ok-put_sender.ensures
+    ∙ behind (written c.args.out.now) (big_bytes 4 packet.place) (written c.put_u32.new.out) (sender ++ (cred ++ op)) c.in_ok-put_u32.ensures)
     c.put_op.ensures

@@ -5,9 +5,10 @@ use Rattle.cpg_wire.proofs.Put.{behind}
 use Rattle.cpg_wire.proofs.encoding.put_token.Goals as goal
 
 pub returns : goal.returns
-returns c =
+returns g c =
+    let written = g.B.BufMut.written in
     let token = c.args.token.now in
-    subst (λ (l : List ℕ). OnOk c.put_wants.result (c.put_wants.new.out.items ≡ l))
-    (behind c.put_u64.new.out.items (extent_bytes token) c.put_extent.new.out.items (wants_bytes token) c.in_ok-put_extent.ensures
-    ∙ behind c.args.out.now.items (big_bytes 8 token.hop) c.put_u64.new.out.items (extent_bytes token ++ wants_bytes token) c.in_ok-put_u64.ensures)
+    subst (λ (l : List ℕ). OnOk c.put_wants.result (written c.put_wants.new.out ≡ l))
+    (behind (written c.put_u64.new.out) (extent_bytes token) (written c.put_extent.new.out) (wants_bytes token) c.in_ok-put_extent.ensures
+    ∙ behind (written c.args.out.now) (big_bytes 8 token.hop) (written c.put_u64.new.out) (extent_bytes token ++ wants_bytes token) c.in_ok-put_u64.ensures)
     c.put_wants.ensures
