@@ -484,12 +484,13 @@ static bool is_same(const uint8_t *found, const uint8_t *wanted, size_t len) {
     return len == 0 ? found == NULL : memcmp(found, wanted, len) == 0;
 }
 
-/* Messages of 0, 3, 16, 17 and 8,192 bytes are lent where the node has them: a record's until the end, an event's until the
- * next is taken. Those of records are looked at again after 300 places more. */
+/* Messages of 0 to 8,192 bytes are lent where the node has them: an event's until the next is taken, a short record's until the
+ * next delivery, a longer one's until the end. Those are looked at again after 300 places more. */
 static void lent(void) {
-    static const size_t sizes[] = {0, 3, 16, 17, 8192};
+    enum { SIZES = 7 };
+    static const size_t sizes[SIZES] = {0, 3, 22, 23, CPGRING_SHORT_MESSAGE, CPGRING_SHORT_MESSAGE + 1, CPGRING_MOST_MESSAGE};
     static uint8_t message[CPGRING_MOST_MESSAGE];
-    const uint8_t *at[5] = {0}, *of_event = NULL;
+    const uint8_t *at[SIZES] = {0}, *of_event = NULL;
     size_t len = 0;
     cpgring_event event;
     begin(1, 1000);
@@ -497,16 +498,16 @@ static void lent(void) {
     for (unsigned k = 0; k < sizeof message; k++) message[k] = (uint8_t)(k * 7 + 1);
     IS(cpgring_lent(&ring[1], &of_event, &len), CPGRING_NONE);
     IS(cpgring_join(&ring[1], 1, BYTES("db")), CPGRING_OK);
-    for (unsigned k = 0; k < 5; k++) IS(cpgring_send(&ring[1], 1, message, sizes[k]), CPGRING_OK);
+    for (unsigned k = 0; k < SIZES; k++) IS(cpgring_send(&ring[1], 1, message, sizes[k]), CPGRING_OK);
     IS(cpgring_turn(&ring[1]), CPGRING_OK);
-    for (uint32_t k = 1; k <= 6; k++) deliver(1, k);
+    for (uint32_t k = 1; k <= SIZES + 1; k++) deliver(1, k);
     is_verdict(1, 1, 1, CPGRING_ALLOWED, CPGRING_ON_DEFAULT, 0);
     IS(cpgring_lent(&ring[1], &of_event, &len), CPGRING_NONE);
     is_join(1, 1, 1, 1, 1, 1);
     IS(cpgring_audit_lent(&ring[1], 1, &of_event, &len), CPGRING_NONE);
     IS(cpgring_audit_lent(&ring[1], 0, &of_event, &len), CPGRING_NONE);
-    IS(cpgring_audit_lent(&ring[1], 7, &of_event, &len), CPGRING_NONE);
-    for (unsigned k = 0; k < 5; k++) {
+    IS(cpgring_audit_lent(&ring[1], SIZES + 2, &of_event, &len), CPGRING_NONE);
+    for (unsigned k = 0; k < SIZES; k++) {
         is_verdict(1, 1, k + 2, CPGRING_ALLOWED, CPGRING_ON_DEFAULT, 0);
         IS(cpgring_take(&ring[1], 1, &event), CPGRING_OK);
         IS(event.message_len, sizes[k]);
@@ -515,9 +516,9 @@ static void lent(void) {
         IS(is_same(of_event, message, len), true);
         IS(cpgring_audit_lent(&ring[1], k + 2, &at[k], &len), CPGRING_OK);
         IS(len, sizes[k]);
-        IS(is_same(at[k], message, len), true);
     }
     is_end(1, 1);
+    for (unsigned k = 0; k < SIZES; k++) IS(is_same(at[k], message, sizes[k]), true);
     IS(is_same(of_event, message, len), true);
     for (unsigned k = 0; k < 300; k++) {
         uint32_t place = 0;
@@ -525,7 +526,13 @@ static void lent(void) {
         IS(cpgring_turn(&ring[1]), CPGRING_OK);
         IS(cpgring_deliver(&ring[1], &place), CPGRING_OK);
     }
-    for (unsigned k = 0; k < 5; k++) IS(is_same(at[k], message, sizes[k]), true);
+    IS(is_same(of_event, message, len), true);
+    for (unsigned k = 0; k < SIZES; k++) {
+        if (sizes[k] > CPGRING_SHORT_MESSAGE) IS(is_same(at[k], message, sizes[k]), true);
+        IS(cpgring_audit_lent(&ring[1], k + 2, &at[k], &len), CPGRING_OK);
+        IS(len, sizes[k]);
+        IS(is_same(at[k], message, len), true);
+    }
     end(1);
 }
 

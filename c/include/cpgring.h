@@ -78,6 +78,7 @@ enum {
     CPGRING_MOST_PLACES = 1048576,
     CPGRING_MOST_GROUP = 128,    /* a group's name */
     CPGRING_MOST_MESSAGE = 8192, /* a message */
+    CPGRING_SHORT_MESSAGE = 64,  /* a message that a record may hold in itself: see cpgring_audit_lent */
     CPGRING_MOST_FRAME = 8221,   /* a frame: a message and 29 bytes */
     CPGRING_MOST_MEMBERS = 128,  /* of a group */
     CPGRING_MOST_RULES = 64      /* of a group's table */
@@ -315,8 +316,10 @@ uint32_t cpgring_notified(cpgring *handle, uint32_t place, size_t index, cpgring
 uint32_t cpgring_audit_group(cpgring *handle, uint32_t place, uint8_t *group, size_t capacity);
 uint32_t cpgring_audit_message(cpgring *handle, uint32_t place, uint8_t *message, size_t capacity);
 
-/* Lends a record's message, as cpgring_lent does an event's. The bytes stay there until cpgring_close, whatever other calls are
- * made: a record stays as long as its node. CPGRING_NONE where the record has no message. */
+/* Lends a record's message, as cpgring_lent does an event's. The bytes of a message of more than CPGRING_SHORT_MESSAGE stay
+ * there until cpgring_close, whatever other calls are made: a record stays as long as its node. Those of a shorter one may
+ * lie in the record itself, which moves when records are added: they stay until the next cpgring_deliver that answers
+ * CPGRING_OK, or cpgring_close. CPGRING_NONE where the record has no message. */
 uint32_t cpgring_audit_lent(cpgring *handle, uint32_t place, const uint8_t **message, size_t *message_len);
 
 /* Tells how many places the node delivered. */

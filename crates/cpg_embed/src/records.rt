@@ -153,7 +153,8 @@ impl Endpoint {
         }
     }
 
-    /// Lends the message of a record, which stays where it is as long as the node.
+    /// Lends the message of a record. A long one stays where it is as long as the node; one that lies in its record, until
+    /// the next delivery.
     pub fn audit_lent(&self, place: u32) -> Option<&[u8]>
         ensures { option_copied result ≡ message_at (record_at (records_of self.now.node) place) }
     {

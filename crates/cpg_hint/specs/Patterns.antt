@@ -106,7 +106,7 @@ fits nodes expected.Room word = false
 fits nodes expected.Head word = false
 fits nodes expected.Nothing word = false
 
--- what is wanted after the word, if it fits: what the call or the command that it names wants, else what was wanted
+-- what is wanted after the word, if it fits: what is wanted behind the call or the command that it names, else what was wanted
 -- behind it
 abbrev pub pattern_after : ℕ → Expected → List ℕ → List Expected → Option (List Expected)
 pattern_after nodes expected.Op word later = op_pattern word
@@ -135,7 +135,7 @@ abbrev pub first_mismatch : ℕ → ℕ → List Expected → List (List ℕ) �
 first_mismatch nodes index pattern [] = unmet index pattern
 first_mismatch nodes index pattern (word ∷ words) = or_mismatch index (pattern_at nodes pattern word) (λ later. first_mismatch nodes (index + 1) later words)
 
--- the wants that a reference leads to
+-- the patterns that a reference leads to
 abbrev pub reached : Result (Bor (List Expected)) Expected → Result (List Expected) Expected
 reached (Ok pattern) = Ok pattern.now
 reached (Err expected) = Err expected

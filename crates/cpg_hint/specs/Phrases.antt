@@ -3,7 +3,7 @@ use Rattle.std.specs.Prelude.{ℕ, List, ◌++◌, codes, decimal}
 use Rattle.cpg_hint.specs.declared.patterns.Expected.{Expected}
 use Rattle.cpg_hint.specs.declared.patterns.Expected.TheVariants as expected
 
--- the phrase of a want, where there are so many nodes
+-- the phrase of a pattern, where there are so many nodes
 abbrev pub expected_text : ℕ → Expected → List ℕ
 expected_text nodes expected.Op = codes "CALL: join GROUP, leave, send TEXT, insert GROUP POS EFFECT RIGHT WHO, remove GROUP ID, or gone"
 expected_text nodes expected.Call = codes "CALL: join GROUP, leave, send TEXT, insert GROUP POS EFFECT RIGHT WHO, or remove GROUP ID"

@@ -1,4 +1,4 @@
-//! Kinds of script, and what each wants of a line.
+//! Kinds of script, and what each expects of a line.
 
 ghost use Rattle.std.specs.Prelude.{◌≡◌};
 ghost use Rattle.cpg_hint.specs.Hints.{nodes_of, pattern_of};

@@ -1,6 +1,6 @@
-//! What a word of a line may be, and what a call or a command wants behind its name.
+//! What a word of a line may be, and which patterns the words behind a call or a command have.
 //!
-//! Proved: each list of wants is the definition in `specs/Patterns.antt` of its name.
+//! Proved: each list of patterns is the definition in `specs/Patterns.antt` of its name.
 
 ghost use Rattle.std.specs.Prelude.{◌≡◌, option_map};
 ghost use Rattle.cpg_hint.specs.Patterns.{op_pattern, call_pattern, step_pattern, run_pattern};

@@ -1,6 +1,6 @@
 //! What is wanted of a word, as it is printed.
 //!
-//! Proved: each phrase is that of the definition `want_text`.
+//! Proved: each phrase is that of its definition in `specs/Phrases.antt`.
 
 ghost use Rattle.std.specs.Prelude.{◌≡◌, ◌++◌, ◌≢◌, OnOk, IsOkUnless};
 ghost use Rattle.cpg_hint.specs.Phrases.{expected_text};
@@ -9,7 +9,7 @@ use crate::patterns::Expected;
 use cpg_cred::Refusal;
 use cpg_text::{push_number, put};
 
-/// Puts the phrase of a want at the text's end, where there are so many nodes.
+/// Puts the phrase of a pattern at the text's end, where there are so many nodes.
 pub fn put_expected(text: &mut Vec<u8>, nodes: u8, expected: Expected) -> Result<(), Refusal>
     ensures ok { OnOk result (text.new.items ≡ text.old.items ++ expected_text nodes expected) }
     ensures memory { IsOkUnless result Refusal.Memory }
@@ -28,7 +28,7 @@ fn put_node(text: &mut Vec<u8>, nodes: u64) -> Result<(), Refusal>
     push_number(text, nodes)
 }
 
-/// The phrase of a want that is the same for all rings.
+/// The phrase of a pattern that is the same for all rings.
 fn phrase_of(expected: Expected) -> &'static str
     ensures { expected ≢ Expected.Node → result.now ≡ expected_text 0 expected }
 {
