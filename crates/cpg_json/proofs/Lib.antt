@@ -4,7 +4,6 @@ pub mod Escaping
 pub mod Fields
 pub mod Heads
 pub mod Hearing
-pub mod Listing
-pub mod Put
+pub mod Items
 pub mod Texted
 pub mod Told

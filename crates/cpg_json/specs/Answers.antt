@@ -13,22 +13,17 @@ use Rattle.cpg_entry.specs.declared.frames.Frame.TheVariants as frame
 use Rattle.cpg_entry.specs.declared.frames.Packet.{Packet}
 use Rattle.cpg_entry.specs.declared.frames.Token.{Token}
 use Rattle.cpg_record.specs.declared.events.Event.{Event}
-use Rattle.cpg_record.specs.RuleTables.{rules_of}
-use Rattle.cpg_ring.specs.States.{safe_mark}
-use Rattle.cpg_ring.specs.Worlds.{item}
-use Rattle.cpg_node.specs.Nodes.{NodeValue, records_of}
 use Rattle.cpg_world_laws.specs.declared.replies.Reply.{Reply}
 use Rattle.cpg_world_laws.specs.declared.replies.Reply.TheVariants.{Connected, Admitted, Closed, Sent, Delivered, Took, Members, Groups}
 use Rattle.cpg_world_laws.specs.Replies.{Answer}
 use Rattle.cpg_world_laws.specs.Worlds.{WorldValue}
-use Rattle.cpg_step.specs.Lines.{lines_at}
+use Rattle.cpg_step.specs.Looks.{LookForm, told_by}
 use Rattle.cpg_step.specs.declared.commands.Look.{Look}
-use Rattle.cpg_step.specs.declared.commands.Look.TheVariants.{Show, Audit, Rules, Safe}
 use Rattle.cpg_json.specs.Calls.{by_fields, call_name, carried_fields, group_field, rule_fields}
 use Rattle.cpg_json.specs.Events.{event_fields}
 use Rattle.cpg_json.specs.Objects.{array, field, head_of, kind, line, maybe, number, word}
 use Rattle.cpg_cred.specs.Shown as shown
-use Rattle.cpg_json.specs.Records.{caller_fields, counted_json, process_array}
+use Rattle.cpg_json.specs.Records.{caller_fields, count_json, process_array, record_json}
 use Rattle.cpg_json.specs.Strings.{json_string}
 
 -- what a refusal carries
@@ -121,21 +116,21 @@ rule_json head rule = line (head_of (codes "rule") head ∷ number (codes "id") 
 abbrev pub rule_count_json : List ℕ → ℕ → List ℕ
 rule_count_json head count = line (head_of (codes "rules") head ∷ number (codes "rules") count ∷ [])
 
--- a table's rules, and how many there are
-abbrev pub table_json : List ℕ → List (ℕ × Rule) → List (List ℕ)
-table_json head table = map (rule_json head) table ++ rule_count_json head (length table) ∷ []
-
--- a node's records, and how many there are
-abbrev pub audit_json : List ℕ → NodeValue → List (List ℕ)
-audit_json head x = counted_json head (records_of x)
-
 -- a node's safe mark
 abbrev pub safe_json : List ℕ → ℕ → List ℕ
 safe_json head place = line (head_of (codes "safe") head ∷ number (codes "place") place ∷ [])
 
+-- what is looked at, as objects behind that head
+abbrev pub looked_json : List ℕ → LookForm
+looked_json head = record {
+  frame = show_json head;
+  past = record_json head;
+  records = count_json head;
+  rule = rule_json head;
+  rules = rule_count_json head;
+  safe = safe_json head;
+}
+
 -- what a command that only looks writes, each line behind that head
 abbrev pub look_json : List ℕ → WorldValue → Look → List (List ℕ)
-look_json head w (Show k) = show_json head (item w.sent k) ∷ []
-look_json head w (Audit n) = lines_at (audit_json head) (item w.nodes n)
-look_json head w (Rules n g) = lines_at (λ x. table_json head (rules_of (records_of x) g)) (item w.nodes n)
-look_json head w (Safe n) = lines_at (λ x. safe_json head (safe_mark x.ring.state.arus) ∷ []) (item w.nodes n)
+look_json head w look = told_by (looked_json head) w look

@@ -1,12 +1,10 @@
 -- steps of the writing functions, which no contract of a public function cites
-use Rattle.std.specs.Prelude.{ℕ, ◌≡◌, ◌≤◌, ◌+◌, ◌-◌, List, [], length, map, Option, Some, None}
+use Rattle.std.specs.Prelude.{ℕ, ◌≡◌, ◌≤◌, ◌+◌, ◌-◌, List, [], length, map, Some}
 use Rattle.std.specs.List.{flat_map, range_with_len, slice_get}
-use Rattle.cpg_rules.specs.declared.rules.Rule.{Rule}
 use Rattle.cpg_record.specs.declared.connections.ConnId.{ConnId}
 use Rattle.cpg_record.specs.declared.records.Record.{Record}
 use Rattle.cpg_record.specs.Events.{events}
 use Rattle.cpg_record.specs.Judging.{judged}
-use Rattle.cpg_json.specs.Answers.{rule_json}
 use Rattle.cpg_json.specs.Events.{event_json}
 use Rattle.cpg_json.specs.Objects.{joined}
 use Rattle.cpg_json.specs.Records.{member_array}
@@ -33,8 +31,3 @@ ArePlaces records places = (index place : ℕ) → slice_get places index ≡ So
 -- the front is the connection's, and the tails are those of all judged places
 abbrev pub IsInbox : Inbox → Type 0
 IsInbox inbox = AreTails inbox.tails.now (judged inbox.policy.now) (length (judged inbox.policy.now)) × (inbox.front.now ≡ front_of inbox.conn.now)
-
--- the line of a rule, if there is one
-abbrev pub rule_json_of : List ℕ → Option (ℕ × Rule) → List ℕ
-rule_json_of head None = []
-rule_json_of head (Some rule) = rule_json head rule

@@ -1,22 +1,18 @@
 //! What calls and commands are answered, as lines.
 
-ghost use Rattle.std.specs.Prelude.{◌≡◌, ◌++◌, ◌∷◌, [], codes, map, OnOk, IsOkUnless, Some};
+ghost use Rattle.std.specs.Prelude.{◌≡◌, ◌++◌, ◌∷◌, [], OnOk, IsOkUnless, Some};
 ghost use Rattle.std.specs.Option.{option_copied};
 ghost use Rattle.cpg_json.specs.Answers.{accept_json, answer_json, refusal_carries, refusal_fields, refused_json, reply_json, rule_count_json, rule_json, safe_json, took_json, via_name};
-ghost use Rattle.cpg_json.specs.Objects.{after_comma, array, field, head_of, joined, line as object_line, more, number};
-ghost use Rattle.cpg_json.specs.Records.{process_array};
-ghost use Rattle.cpg_json.specs.Strings.{json_string};
+ghost use Rattle.cpg_json.specs.Objects.{head_of, line as object_line, more, number};
 
+use crate::arrays::put_array;
 use crate::calls::{put_by, put_rule};
 use crate::events::put_event_fields;
-use crate::objects::{put_end, put_head, put_kind, put_maybe, put_name, put_number, put_word};
-use crate::records::put_process;
-use crate::strings::put_string;
+use crate::objects::{put_end, put_head, put_kind, put_maybe, put_number, put_word};
 use cpg_cred::{NodeId, Refusal, Via};
 use cpg_entry::Name;
 use cpg_record::Event;
 use cpg_rules::Rule;
-use cpg_text::put;
 use cpg_world::Reply;
 
 /// Puts what a refusal carries at the line's end.
@@ -141,87 +137,13 @@ fn put_took(line: &mut Vec<u8>, head: &[u8], event: Option<&Event>) -> Result<()
     }
 }
 
-/// Puts processes in brackets, as the field `members`, at the line's end.
-#[tactic(auto, unfolding(crate::specs::Objects::after_comma, crate::specs::Objects::field))]
-pub fn put_process_list(line: &mut Vec<u8>, processes: &[(NodeId, u32)]) -> Result<(), Refusal>
-    ensures ok { OnOk result (line.new.items ≡ line.old.items ++ after_comma (field (codes "members") (array (map process_array processes.now)))) }
-    ensures memory { IsOkUnless result Refusal.Memory }
-{
-    put_name(line, "members")?;
-    put(line, "[")?;
-    put_processes(line, processes)?;
-    put(line, "]")
-}
-
-fn put_processes(line: &mut Vec<u8>, processes: &[(NodeId, u32)]) -> Result<(), Refusal>
-    ensures ok { OnOk result (line.new.items ≡ line.old.items ++ joined (map process_array processes.now)) }
-    ensures memory { IsOkUnless result Refusal.Memory }
-{
-    match processes {
-        [] => Ok(()),
-        [first, others @ ..] => {
-            put_process(line, *first)?;
-            put_more_processes(line, others)
-        }
-    }
-}
-
-#[tactic(auto, unfolding(crate::specs::Objects::after_comma))]
-fn put_more_processes(line: &mut Vec<u8>, processes: &[(NodeId, u32)]) -> Result<(), Refusal>
-    ensures ok { OnOk result (line.new.items ≡ line.old.items ++ more (map process_array processes.now)) }
-    ensures memory { IsOkUnless result Refusal.Memory }
-{
-    for process in processes {
-        put(line, ",")?;
-        put_process(line, *process)?;
-    }
-    Ok(())
-}
-
 fn put_listing(line: &mut Vec<u8>, head: &[u8], processes: &[(NodeId, u32)]) -> Result<(), Refusal>
     ensures ok { OnOk result (line.new.items ≡ line.old.items ++ reply_json head.now (Reply.Members processes.now)) }
     ensures memory { IsOkUnless result Refusal.Memory }
 {
     put_head(line, "members", head)?;
-    put_process_list(line, processes)?;
+    put_array(line, "members", processes)?;
     put_end(line)
-}
-
-/// Puts names in brackets, as the field `groups`, at the line's end.
-#[tactic(auto, unfolding(crate::specs::Objects::after_comma, crate::specs::Objects::field))]
-pub fn put_groups(line: &mut Vec<u8>, names: &[Name]) -> Result<(), Refusal>
-    ensures ok { OnOk result (line.new.items ≡ line.old.items ++ after_comma (field (codes "groups") (array (map json_string names.now)))) }
-    ensures memory { IsOkUnless result Refusal.Memory }
-{
-    put_name(line, "groups")?;
-    put(line, "[")?;
-    put_names(line, names)?;
-    put(line, "]")
-}
-
-fn put_names(line: &mut Vec<u8>, names: &[Name]) -> Result<(), Refusal>
-    ensures ok { OnOk result (line.new.items ≡ line.old.items ++ joined (map json_string names.now)) }
-    ensures memory { IsOkUnless result Refusal.Memory }
-{
-    match names {
-        [] => Ok(()),
-        [first, others @ ..] => {
-            put_string(line, first.as_slice())?;
-            put_more_names(line, others)
-        }
-    }
-}
-
-#[tactic(auto, unfolding(crate::specs::Objects::after_comma))]
-fn put_more_names(line: &mut Vec<u8>, names: &[Name]) -> Result<(), Refusal>
-    ensures ok { OnOk result (line.new.items ≡ line.old.items ++ more (map json_string names.now)) }
-    ensures memory { IsOkUnless result Refusal.Memory }
-{
-    for name in names {
-        put(line, ",")?;
-        put_string(line, name.as_slice())?;
-    }
-    Ok(())
 }
 
 fn put_names_listing(line: &mut Vec<u8>, head: &[u8], names: &[Name]) -> Result<(), Refusal>
@@ -229,7 +151,7 @@ fn put_names_listing(line: &mut Vec<u8>, head: &[u8], names: &[Name]) -> Result<
     ensures memory { IsOkUnless result Refusal.Memory }
 {
     put_head(line, "groups", head)?;
-    put_groups(line, names)?;
+    put_array(line, "groups", names)?;
     put_end(line)
 }
 

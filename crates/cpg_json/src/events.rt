@@ -1,16 +1,17 @@
 //! Events as lines.
 
-ghost use Rattle.std.specs.Prelude.{◌≡◌, ◌++◌, ◌∷◌, [], codes, decimal, map, OnOk, IsOkUnless};
+ghost use Rattle.std.specs.Prelude.{◌≡◌, ◌++◌, ◌∷◌, [], codes, decimal, OnOk, IsOkUnless};
 ghost use Rattle.cpg_print.specs.Events.{cause_text};
 ghost use Rattle.cpg_json.specs.Events.{event_fields, inbox_json, move_object, moves_field, told_fields};
-ghost use Rattle.cpg_json.specs.Objects.{after_comma, field, joined, more, number};
+ghost use Rattle.cpg_json.specs.Objects.{after_comma, field, more, number};
 ghost use Rattle.cpg_json.specs.Calls.{group_field, message_fields};
 ghost use Rattle.cpg_json.specs.Records.{members_field, process_array};
 ghost use Rattle.cpg_json.specs.Tails.{front_of, tail_of};
 
+use crate::arrays::{Item, put_array};
 use crate::calls::{put_group, put_message, put_verdict};
 use crate::objects::{put_end, put_kind, put_name, put_number, put_word};
-use crate::records::{put_conn, put_members, put_process};
+use crate::records::{put_conn, put_process};
 use cpg_cred::{NodeId, Refusal};
 use cpg_record::{Cause, ConnId, Event, Member, Move, Verdict};
 use cpg_text::{push_number, put};
@@ -133,45 +134,20 @@ fn put_changes(
     ensures ok { OnOk result (line.new.items ≡ line.old.items ++ more (members_field members.now ∷ moves_field (codes "left") left.now ∷ moves_field (codes "joined") joined.now ∷ [])) }
     ensures memory { IsOkUnless result Refusal.Memory }
 {
-    put_members(line, members)?;
-    put_moves(line, "left", left)?;
-    put_moves(line, "joined", joined)
+    put_array(line, "members", members)?;
+    put_array(line, "left", left)?;
+    put_array(line, "joined", joined)
 }
 
-#[tactic(auto, unfolding(crate::specs::Objects::after_comma, crate::specs::Objects::field))]
-fn put_moves(line: &mut Vec<u8>, name: &str, moves: &[Move]) -> Result<(), Refusal>
-    ensures ok { OnOk result (line.new.items ≡ line.old.items ++ after_comma (moves_field name.now moves.now)) }
-    ensures memory { IsOkUnless result Refusal.Memory }
-{
-    put_name(line, name)?;
-    put(line, "[")?;
-    put_joined_moves(line, moves)?;
-    put(line, "]")
-}
+/// A move of a member.
+impl Item for Move {
+    ghost use Rattle.cpg_json.specs.Events.{move_object};
 
-fn put_joined_moves(line: &mut Vec<u8>, moves: &[Move]) -> Result<(), Refusal>
-    ensures ok { OnOk result (line.new.items ≡ line.old.items ++ joined (map move_object moves.now)) }
-    ensures memory { IsOkUnless result Refusal.Memory }
-{
-    match moves {
-        [] => Ok(()),
-        [first, others @ ..] => {
-            put_move(line, *first)?;
-            put_more_moves(line, others)
-        }
+    ghost printed = { move_object };
+
+    fn put_item(&self, line: &mut Vec<u8>) -> Result<(), Refusal> {
+        put_move(line, *self)
     }
-}
-
-#[tactic(auto, unfolding(crate::specs::Objects::after_comma))]
-fn put_more_moves(line: &mut Vec<u8>, moves: &[Move]) -> Result<(), Refusal>
-    ensures ok { OnOk result (line.new.items ≡ line.old.items ++ more (map move_object moves.now)) }
-    ensures memory { IsOkUnless result Refusal.Memory }
-{
-    for one in moves {
-        put(line, ",")?;
-        put_move(line, *one)?;
-    }
-    Ok(())
 }
 
 #[tactic(auto, unfolding(crate::specs::Objects::field))]

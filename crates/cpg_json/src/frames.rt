@@ -1,17 +1,18 @@
 //! Frames as lines.
 
-ghost use Rattle.std.specs.Prelude.{◌≡◌, ◌++◌, ◌∷◌, codes, decimal, map, OnOk, IsOkUnless};
+ghost use Rattle.std.specs.Prelude.{◌≡◌, ◌++◌, ◌∷◌, codes, OnOk, IsOkUnless};
 ghost use Rattle.cpg_json.specs.Answers.{frame_json, named_group, packet_fields, token_fields};
 ghost use Rattle.cpg_json.specs.Calls.{call_name, carried_fields};
-ghost use Rattle.cpg_json.specs.Objects.{after_comma, array, field, joined, more, word};
+ghost use Rattle.cpg_json.specs.Objects.{field, more, word};
 
+use crate::arrays::{Item, put_array};
 use crate::calls::{call_name, put_carried, put_group};
-use crate::objects::{put_end, put_head, put_maybe, put_name, put_number, put_word};
+use crate::objects::{put_end, put_head, put_maybe, put_number, put_word};
 use crate::records::put_caller;
 use cpg_cred::Refusal;
 use cpg_entry::{Call, Frame, Op, Packet, Token};
 use cpg_print::node_number;
-use cpg_text::{push_number, put};
+use cpg_text::push_number;
 
 /// Puts the group that an op names at the line's end.
 fn put_named_group(line: &mut Vec<u8>, op: &Op) -> Result<(), Refusal>
@@ -55,43 +56,18 @@ fn put_token(line: &mut Vec<u8>, token: &Token) -> Result<(), Refusal>
     put_number(line, "seq", u64::from(token.seq))?;
     put_number(line, "aru", u64::from(token.aru))?;
     put_maybe(line, "aru_id", node_number(token.aru_id))?;
-    put_asked_again(line, token.rtr.as_slice())
+    put_array(line, "rtr", token.rtr.as_slice())
 }
 
-#[tactic(auto, unfolding(crate::specs::Objects::after_comma, crate::specs::Objects::field))]
-fn put_asked_again(line: &mut Vec<u8>, places: &[u32]) -> Result<(), Refusal>
-    ensures ok { OnOk result (line.new.items ≡ line.old.items ++ after_comma (field (codes "rtr") (array (map decimal places.now)))) }
-    ensures memory { IsOkUnless result Refusal.Memory }
-{
-    put_name(line, "rtr")?;
-    put(line, "[")?;
-    put_places(line, places)?;
-    put(line, "]")
-}
+/// A place.
+impl Item for u32 {
+    ghost use Rattle.std.specs.Prelude.{decimal};
 
-fn put_places(line: &mut Vec<u8>, places: &[u32]) -> Result<(), Refusal>
-    ensures ok { OnOk result (line.new.items ≡ line.old.items ++ joined (map decimal places.now)) }
-    ensures memory { IsOkUnless result Refusal.Memory }
-{
-    match places {
-        [] => Ok(()),
-        [first, others @ ..] => {
-            push_number(line, u64::from(*first))?;
-            put_more_places(line, others)
-        }
+    ghost printed = { decimal };
+
+    fn put_item(&self, line: &mut Vec<u8>) -> Result<(), Refusal> {
+        push_number(line, u64::from(*self))
     }
-}
-
-#[tactic(auto, unfolding(crate::specs::Objects::after_comma))]
-fn put_more_places(line: &mut Vec<u8>, places: &[u32]) -> Result<(), Refusal>
-    ensures ok { OnOk result (line.new.items ≡ line.old.items ++ more (map decimal places.now)) }
-    ensures memory { IsOkUnless result Refusal.Memory }
-{
-    for place in places {
-        put(line, ",")?;
-        push_number(line, u64::from(*place))?;
-    }
-    Ok(())
 }
 
 fn put_data_line(line: &mut Vec<u8>, head: &[u8], packet: &Packet) -> Result<(), Refusal>

@@ -6,6 +6,7 @@
 
 mod admitting;
 mod answers;
+mod arrays;
 mod calls;
 mod events;
 mod frames;

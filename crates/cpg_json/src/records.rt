@@ -1,16 +1,18 @@
 //! Records as lines.
 
-ghost use Rattle.std.specs.Prelude.{◌≡◌, ◌++◌, codes, map, OnOk, IsOkUnless};
+ghost use Rattle.std.specs.Prelude.{◌≡◌, ◌++◌, codes, OnOk, IsOkUnless};
 ghost use Rattle.std.specs.Option.{option_copied};
 ghost use Rattle.cpg_record.specs.Connections.{conn_of};
 ghost use Rattle.cpg_json.specs.Marks.{line_fields};
-ghost use Rattle.cpg_json.specs.Objects.{after_comma, head_of, joined, more};
-ghost use Rattle.cpg_json.specs.Records.{asked_fields, caller_fields, conn_fields, count_json, group_fields, member_array, members_field, outcome_fields, process_array, record_json};
+ghost use Rattle.cpg_json.specs.Objects.{after_comma, head_of, more};
+ghost use Rattle.cpg_json.specs.Records.{asked_fields, caller_fields, conn_fields, count_json, group_fields, members_field, outcome_fields, process_array, record_json};
 ghost use Rattle.cpg_json.specs.Steps.{IsKept};
 
+use crate::arrays::{Item, put_array, put_joined};
 use crate::calls::{put_call, put_group, put_verdict};
 use crate::marks::put_line_number;
 use crate::objects::{put_end, put_head, put_kind, put_name, put_number};
+use crate::strings::put_string;
 use cpg_cred::{NodeId, Refusal};
 use cpg_entry::{Entry, Name};
 use cpg_record::{ConnId, Member, Members, Record};
@@ -50,48 +52,37 @@ pub(crate) fn put_process(line: &mut Vec<u8>, process: (NodeId, u32)) -> Result<
     put(line, "]")
 }
 
-fn put_member(line: &mut Vec<u8>, member: Member) -> Result<(), Refusal>
-    ensures ok { OnOk result (line.new.items ≡ line.old.items ++ member_array member) }
-    ensures memory { IsOkUnless result Refusal.Memory }
-{
-    put_process(line, (member.node, member.pid))
-}
+/// A process, by its node and its pid.
+impl Item for (NodeId, u32) {
+    ghost use Rattle.cpg_json.specs.Records.{process_array};
 
-/// Puts the members of a group at the line's end.
-#[tactic(auto, unfolding(crate::specs::Objects::after_comma, crate::specs::Objects::field))]
-pub(crate) fn put_members(line: &mut Vec<u8>, members: &[Member]) -> Result<(), Refusal>
-    ensures ok { OnOk result (line.new.items ≡ line.old.items ++ after_comma (members_field members.now)) }
-    ensures memory { IsOkUnless result Refusal.Memory }
-{
-    put_name(line, "members")?;
-    put(line, "[")?;
-    put_joined_members(line, members)?;
-    put(line, "]")
-}
+    ghost printed = { process_array };
 
-fn put_joined_members(line: &mut Vec<u8>, members: &[Member]) -> Result<(), Refusal>
-    ensures ok { OnOk result (line.new.items ≡ line.old.items ++ joined (map member_array members.now)) }
-    ensures memory { IsOkUnless result Refusal.Memory }
-{
-    match members {
-        [] => Ok(()),
-        [first, others @ ..] => {
-            put_member(line, *first)?;
-            put_more_members(line, others)
-        }
+    fn put_item(&self, line: &mut Vec<u8>) -> Result<(), Refusal> {
+        put_process(line, *self)
     }
 }
 
-#[tactic(auto, unfolding(crate::specs::Objects::after_comma))]
-fn put_more_members(line: &mut Vec<u8>, members: &[Member]) -> Result<(), Refusal>
-    ensures ok { OnOk result (line.new.items ≡ line.old.items ++ more (map member_array members.now)) }
-    ensures memory { IsOkUnless result Refusal.Memory }
-{
-    for member in members {
-        put(line, ",")?;
-        put_member(line, *member)?;
+/// A member, by its process.
+impl Item for Member {
+    ghost use Rattle.cpg_json.specs.Records.{member_array};
+
+    ghost printed = { member_array };
+
+    fn put_item(&self, line: &mut Vec<u8>) -> Result<(), Refusal> {
+        put_process(line, (self.node, self.pid))
     }
-    Ok(())
+}
+
+/// The name of a group.
+impl Item for Name {
+    ghost use Rattle.cpg_json.specs.Strings.{json_string};
+
+    ghost printed = { json_string };
+
+    fn put_item(&self, line: &mut Vec<u8>) -> Result<(), Refusal> {
+        put_string(line, self.as_slice())
+    }
 }
 
 fn put_group_members(
@@ -106,7 +97,7 @@ fn put_group_members(
         None => Ok(()),
         Some(group) => {
             put_group(line, group.as_slice())?;
-            put_members(line, members)
+            put_array(line, "members", members)
         }
     }
 }
@@ -140,7 +131,7 @@ impl KeptMembers {
         }
         self.members = members.copy(*self.text.allocator())?;
         self.text.clear();
-        put_joined_members(&mut self.text, members.as_slice())
+        put_joined(&mut self.text, members.as_slice())
     }
 
     /// Puts the kept members of a group at the line's end.

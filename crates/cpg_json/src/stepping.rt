@@ -1,10 +1,10 @@
 //! What the commands of a script over a world are answered, as JSON: an object a line, each with its marks.
 
 use crate::answers::put_answer;
-use crate::looking::put_look;
+use crate::looking::LookedAsJson;
 use crate::marks::{Marks, number_at, put_marks, put_sent};
 use cpg_cred::Refusal;
-use cpg_step::{Command, Look, PutsSteps, TellsSteps};
+use cpg_step::{Command, Look, PutsSteps, TellsSteps, put_look_in};
 use cpg_why::read_numbers;
 use cpg_world::{Reply, World};
 use std::alloc::Global;
@@ -81,6 +81,7 @@ impl PutsSteps for SteppedObjects {
         look: &Look,
     ) -> Result<(), Refusal> {
         put_sent(&mut self.head, self.marks, self.sent, self.sent)?;
-        put_look(alloc, lines, self.head.as_slice(), world, look)
+        let head = self.head.as_slice();
+        put_look_in(alloc, lines, &LookedAsJson { head }, world, look)
     }
 }

@@ -1,6 +1,7 @@
 pub mod Commands
 pub mod Gathering
 pub mod Lines
+pub mod Looks
 pub mod NumberedSteps
 pub mod Numbers
 pub mod Plain

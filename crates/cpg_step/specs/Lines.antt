@@ -1,15 +1,11 @@
 -- what commands print
-use Rattle.std.specs.Prelude.{ℕ, List, [], ◌∷◌, ◌++◌, length, map, codes, decimal, Option, Some, None, Ok, Err}
+use Rattle.std.specs.Prelude.{ℕ, List, ◌++◌, codes, decimal, Option, Some, None, Ok, Err}
 use Rattle.cpg_cred.specs.declared.refusals.Refusal.TheVariants as refusal
 use Rattle.cpg_rules.specs.declared.rules.Rule.{Rule}
 use Rattle.cpg_entry.specs.declared.frames.Frame.{Frame}
 use Rattle.cpg_entry.specs.declared.frames.Frame.TheVariants as frame
 use Rattle.cpg_entry.specs.declared.frames.Token.{Token}
 use Rattle.cpg_entry.specs.declared.frames.Packet.{Packet}
-use Rattle.cpg_record.specs.RuleTables.{rules_of}
-use Rattle.cpg_ring.specs.States.{safe_mark}
-use Rattle.cpg_ring.specs.Worlds.{item}
-use Rattle.cpg_node.specs.Nodes.{NodeValue, records_of}
 use Rattle.cpg_world_laws.specs.declared.replies.Reply.{Reply}
 use Rattle.cpg_world_laws.specs.declared.replies.Reply.TheVariants.{Connected, Admitted, Closed, Sent, Delivered, Took, Members, Groups}
 use Rattle.cpg_world_laws.specs.Replies.{Answer}
@@ -17,10 +13,10 @@ use Rattle.cpg_world_laws.specs.Worlds.{WorldValue}
 use Rattle.cpg_text.specs.Words.{listed}
 use Rattle.cpg_print.specs.Answers.{members_line, groups_line, took_line, safe_line, refused_line}
 use Rattle.cpg_print.specs.Entries.{entry_text}
-use Rattle.cpg_print.specs.Records.{audit_lines, count_line}
+use Rattle.cpg_print.specs.Records.{audit_line, count_line}
 use Rattle.cpg_print.specs.Rules.{rule_text}
 use Rattle.cpg_step.specs.declared.commands.Look.{Look}
-use Rattle.cpg_step.specs.declared.commands.Look.TheVariants.{Show, Audit, Rules, Safe}
+use Rattle.cpg_step.specs.Looks.{LookForm, told_by}
 
 -- a number, or `none`
 abbrev pub number_or_none : Option ℕ → List ℕ
@@ -71,22 +67,17 @@ show_line None = refused_line refusal.NoFrame
 abbrev pub rule_line : ℕ × Rule → List ℕ
 rule_line rule = decimal rule.0 ++ codes " " ++ rule_text rule.1 ++ codes "\n"
 
--- a table's rules, and how many there are
-abbrev pub table_lines : List (ℕ × Rule) → List (List ℕ)
-table_lines table = map rule_line table ++ (codes "rules " ++ decimal (length table) ++ codes "\n") ∷ []
-
--- a node's audit, and how many records there are
-abbrev pub audit_of : NodeValue → List (List ℕ)
-audit_of x = audit_lines (records_of x) ++ count_line (length (records_of x)) ∷ []
-
--- the lines of the node, which is there
-abbrev pub lines_at : (NodeValue → List (List ℕ)) → Option NodeValue → List (List ℕ)
-lines_at lines None = []
-lines_at lines (Some x) = lines x
+-- what is looked at, as lines of text
+abbrev pub looked_text : LookForm
+looked_text = record {
+  frame = show_line;
+  past = audit_line;
+  records = count_line;
+  rule = rule_line;
+  rules = λ count. codes "rules " ++ decimal count ++ codes "\n";
+  safe = safe_line;
+}
 
 -- what a command that only looks prints
 abbrev pub look_lines : WorldValue → Look → List (List ℕ)
-look_lines w (Show k) = show_line (item w.sent k) ∷ []
-look_lines w (Audit n) = lines_at audit_of (item w.nodes n)
-look_lines w (Rules n g) = lines_at (λ x. table_lines (rules_of (records_of x) g)) (item w.nodes n)
-look_lines w (Safe n) = lines_at (λ x. safe_line (safe_mark x.ring.state.arus) ∷ []) (item w.nodes n)
+look_lines w look = told_by looked_text w look

@@ -10,7 +10,6 @@ use Rattle.cpg_world_laws.specs.Worlds.{WorldValue}
 use Rattle.cpg_world_laws.specs.Replies.{Answer, AreReplies}
 use Rattle.cpg_step.specs.declared.commands.Command.{Command}
 use Rattle.cpg_step.specs.Commands.{in_ring}
-use Rattle.cpg_step.specs.Lines.{rule_line}
 use Rattle.cpg_step.specs.Running.{after, events_in, lines_of, Form}
 
 -- The command is done, and this is the text of its lines.
@@ -25,9 +24,9 @@ abbrev pub MayBeDone : WorldValue → Command → WorldValue → Type 0
 MayBeDone w command world = (world ≡ w) ⊎ (world ≡ after w (command ∷ []))
 
 -- the line of a rule, if there is one
-abbrev pub rule_line_of : Option (ℕ × Rule) → List ℕ
-rule_line_of None = []
-rule_line_of (Some rule) = rule_line rule
+abbrev pub line_of : (ℕ × Rule → List ℕ) → Option (ℕ × Rule) → List ℕ
+line_of line None = []
+line_of line (Some rule) = line rule
 
 -- two words that are all there are
 abbrev pub two : List (List ℕ) → Option (List ℕ × List ℕ)

@@ -25,7 +25,7 @@ pub use commands::{Command, Look};
 pub use cpg_text::Fault;
 pub use forms::{PutsSteps, SteppedAsText, TellsSteps};
 pub use gathering::run_gathered;
-pub use looking::put_look;
+pub use looking::{TellsLooks, put_look, put_look_in};
 pub use printing::{put_answer, put_frame};
 pub use reading::{command_in_line, read_node, read_node_alone};
 pub use running::{run_in_form, run_script};

@@ -3,7 +3,7 @@
 ghost use Rattle.std.specs.Prelude.{◌≡◌, ◌++◌, ◌∷◌, [], codes, decimal, Ok, OnOk, IsOkUnless};
 ghost use Rattle.std.specs.List.{concat, flat_map};
 ghost use Rattle.cpg_text.specs.Words.{listed};
-ghost use Rattle.cpg_step.specs.Lines.{number_or_none, delivered_line, reply_line, answer_line, packet_line, token_line, frame_line, rule_line, table_lines};
+ghost use Rattle.cpg_step.specs.Lines.{number_or_none, delivered_line, reply_line, answer_line, packet_line, token_line, frame_line, rule_line};
 
 use cpg_cred::Refusal;
 use cpg_entry::{Frame, Packet, Token};

@@ -10,7 +10,8 @@ ghost use Rattle.cpg_cluster.specs.Steps.{SeatsOn};
 ghost use Rattle.cpg_cluster.specs.declared.replies.Reply.TheVariants as replies;
 ghost use Rattle.cpg_json.specs.SessionAnswers.{answer_json, audit_text, reply_json, session_of, whose};
 
-use crate::answers::{put_groups, put_process_list, put_refusal, put_safe};
+use crate::answers::{put_refusal, put_safe};
+use crate::arrays::put_array;
 use crate::events::put_event_fields;
 use crate::objects::{put_end, put_head, put_number};
 use crate::records::{put_count, put_record};
@@ -97,7 +98,7 @@ fn put_members(
 {
     put_head(text, "members", head)?;
     put_whose(text, session)?;
-    put_process_list(text, processes)?;
+    put_array(text, "members", processes)?;
     put_end(text)
 }
 
@@ -113,11 +114,11 @@ fn put_names(
 {
     put_head(text, "groups", head)?;
     put_whose(text, session)?;
-    put_groups(text, names)?;
+    put_array(text, "groups", names)?;
     put_end(text)
 }
 
-#[tactic(auto, using(crate::proofs::Put::known_put))]
+#[tactic(auto, using(cpg_cluster::proofs::Put::known_put))]
 fn put_records(
     text: &mut Vec<u8>,
     head: &[u8],
@@ -138,7 +139,7 @@ fn put_records(
 
 /// Puts the records that the seat knows, and their count, at the text's end. A board has at most 1,048,576 places, so
 /// the count fits.
-#[tactic(auto, using(crate::proofs::Put::seat_put))]
+#[tactic(auto, using(cpg_cluster::proofs::Put::seat_put))]
 fn put_seat(text: &mut Vec<u8>, head: &[u8], board: &Board, seat: &Seat) -> Result<(), Refusal>
     requires { IsSeatOf board.now.cells seat.now }
     ensures ok { OnOk result (text.new.items ≡ text.old.items ++ audit_text head.now (records_of seat.now)) }

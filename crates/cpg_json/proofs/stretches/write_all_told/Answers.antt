@@ -4,7 +4,7 @@ use Rattle.cpg_record.specs.Judging.{judged}
 use Rattle.cpg_text.proofs.Lined.{map_around, map_one_more}
 use Rattle.cpg_judge.proofs.Behind.{gathers_none, gathers_stop, gathers_then}
 use Rattle.cpg_json.specs.Tails.{heard_line}
-use Rattle.cpg_json.proofs.Listing.{item_there}
+use Rattle.cpg_json.proofs.Items.{item_there}
 use Rattle.cpg_json.proofs.stretches.write_all_told.Goals as goal
 
 pub loop-place-init : goal.loop-place-init
