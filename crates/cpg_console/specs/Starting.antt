@@ -1,4 +1,4 @@
--- how a world or a cluster starts, or does not: steps of the functions that no contract of a public function cites
+-- how a world or a cluster starts, or why it does not
 use Rattle.std.specs.Prelude.{ℕ, ◌≡◌, ◌⊎◌, List, Option, Some, None, IfSome}
 use Rattle.cpg_cred.specs.Listed.{Listed}
 use Rattle.cpg_cred.specs.declared.refusals.Refusal.TheVariants.{Range, Memory}

@@ -15,7 +15,7 @@ ghost use Rattle.cpg_world_laws.specs.Worlds.{new_world};
 
 use crate::chances::Chances;
 use crate::failures::{Failure, undelivered};
-use crate::founding::{Grounds, Host, found};
+use crate::founding::{Foundation, Host, found};
 use crate::runs::Form;
 use cpg_cluster::{Sessions, WaitLimit};
 use cpg_cred::Refusal;
@@ -64,33 +64,33 @@ pub fn explain_over_cluster<H: Host + 'static, R: Read, W: Write>(
 {
     match found(alloc, settings, words, false) {
         Err(failure) => Err(failure),
-        Ok(grounds) => explain_on::<Brand, H, R, W>(
-            rt, alloc, inquiry, settings, grounds, reader, writer,
+        Ok(foundation) => explain_on::<Brand, H, R, W>(
+            rt, alloc, inquiry, settings, foundation, reader, writer,
         ),
     }
 }
 
-/// The same over a new cluster on those grounds.
+/// The same over a new cluster on that foundation.
 #[tactic(auto, using(crate::proofs::Audited::none_of_memory, crate::proofs::Audited::all_told, crate::proofs::Audited::part_told, crate::proofs::Explained::part_late))]
 fn explain_on<B, H: Host + 'static, R: Read, W: Write>(
     rt: H,
     alloc: Global,
     inquiry: &Inquiry,
     settings: Settings,
-    grounds: Grounds,
+    foundation: Foundation,
     reader: &mut R,
     writer: &mut W,
 ) -> Result<(), Failure>
 where
     B: HistoryName + Send + Sync + 'static,
-    requires name { (grounds.board.cells ≡ B.cells) × (grounds.board.table ≡ B.table) × (new_world settings grounds.list ≡ B.start) }
+    requires name { (foundation.board.cells ≡ B.cells) × (foundation.board.table ≡ B.table) × (new_world settings foundation.list ≡ B.start) }
     requires places { length B.cells ≡ settings.places }
-    ensures tells { TellsSessionsOf (inquiry.now).asked settings (Some grounds.list)
+    ensures tells { TellsSessionsOf (inquiry.now).asked settings (Some foundation.list)
         (R.remaining reader.old) (failure_of result) (W.contents writer.old) (W.contents writer.new) }
     ensures late { IfErr result (λ failure. FailsLate failure (W.contents writer.old) (W.contents writer.new)) }
     ensures word { result ≢ Err Failure.BadWord }
 {
-    let Grounds { board, list } = grounds;
+    let Foundation { board, list } = foundation;
     match Cluster::<B, Chances>::start(rt, alloc, settings, board, &list, inquiry.chances) {
         Err(_) => Err(Failure::from(Refusal::Memory)),
         Ok(cluster) => match explain_over(rt, alloc, inquiry, cluster, reader, writer) {

@@ -12,7 +12,7 @@ ghost use Rattle.cpg_world_laws.specs.Worlds.{new_world};
 
 use crate::chances::Chances;
 use crate::failures::Failure;
-use crate::founding::{Grounds, Host, found};
+use crate::founding::{Foundation, Host, found};
 use crate::output_form::OutputForm;
 use crate::tracing::{KeepsEnds, stop_kept};
 use cpg_cluster::{RunOptions, Sessions, run_sessions};
@@ -48,13 +48,13 @@ pub fn run_cluster<H: Host + 'static, R: Read, W: Write, K: KeepsEnds>(
 {
     match found(alloc, settings, words, keeper.is_asked()) {
         Err(failure) => Err(failure),
-        Ok(grounds) => run_on::<Brand, H, R, W, K>(
-            rt, alloc, options, chances, settings, grounds, reader, writer, keeper,
+        Ok(foundation) => run_on::<Brand, H, R, W, K>(
+            rt, alloc, options, chances, settings, foundation, reader, writer, keeper,
         ),
     }
 }
 
-/// Runs the script over a new cluster on those grounds.
+/// Runs the script over a new cluster on that foundation.
 #[tactic(auto, using(crate::proofs::Clustered::none_of_memory, crate::proofs::Clustered::ends_clustered))]
 fn run_on<B, H: Host + 'static, R: Read, W: Write, K: KeepsEnds>(
     rt: H,
@@ -62,22 +62,22 @@ fn run_on<B, H: Host + 'static, R: Read, W: Write, K: KeepsEnds>(
     options: &RunOptions<OutputForm>,
     chances: Chances,
     settings: Settings,
-    grounds: Grounds,
+    foundation: Foundation,
     reader: &mut R,
     writer: &mut W,
     keeper: &mut K,
 ) -> Result<(), Failure>
 where
     B: HistoryName + Send + Sync + 'static,
-    requires name { (grounds.board.cells ≡ B.cells) × (grounds.board.table ≡ B.table) × (new_world settings grounds.list ≡ B.start) }
-    ensures clusters { ClustersOf (output_as (options.now).form) settings (Some grounds.list)
+    requires name { (foundation.board.cells ≡ B.cells) × (foundation.board.table ≡ B.table) × (new_world settings foundation.list ≡ B.start) }
+    ensures clusters { ClustersOf (output_as (options.now).form) settings (Some foundation.list)
         (R.remaining reader.old) (failure_of result) (W.contents writer.old) (W.contents writer.new) }
     ensures late { IfErr result (λ failure. FailsLate failure (W.contents writer.old) (W.contents writer.new)) }
     ensures word { result ≢ Err Failure.BadWord }
     ensures kept { OnOk result (WasKept K.keeps B.start keeper.old keeper.new) }
     ensures left { OnErr result ((keeper.new ≡ keeper.old) ⊎ WasKept K.keeps B.start keeper.old keeper.new) }
 {
-    let Grounds { board, list } = grounds;
+    let Foundation { board, list } = foundation;
     match Cluster::<B, Chances>::start(rt, alloc, settings, board, &list, chances) {
         Err(_) => Err(Failure::from(Refusal::Memory)),
         Ok(cluster) => run_over(rt, alloc, options, cluster, reader, writer, keeper),

@@ -26,7 +26,7 @@ impl<H: Threads + Wait + Clock + Copy + Send> Host for H {}
 
 /// What a new cluster stands on.
 #[derive(Drop)]
-pub struct Grounds {
+pub struct Foundation {
     /// The board that its nodes share.
     pub board: Board,
     /// Whom its nodes let in.
@@ -42,9 +42,9 @@ pub fn found(
     settings: Settings,
     words: &[&str],
     traced: bool,
-) -> Result<Grounds, Failure>
-    ensures list { IfOk result (λ grounds. Some grounds.list ≡ list_of_words (map (λ word. word.now) words.now)) }
-    ensures board { IfOk result (λ grounds. (length grounds.board.cells ≡ settings.places) × (is_counted grounds.board.table ≡ traced)) }
+) -> Result<Foundation, Failure>
+    ensures list { IfOk result (λ foundation. Some foundation.list ≡ list_of_words (map (λ word. word.now) words.now)) }
+    ensures board { IfOk result (λ foundation. (length foundation.board.cells ≡ settings.places) × (is_counted foundation.board.table ≡ traced)) }
     ensures err { IfErr result (λ failure. IsNotStarted settings (list_of_words (map (λ word. word.now) words.now)) failure) }
 {
     match read_list(alloc, words) {
@@ -52,7 +52,7 @@ pub fn found(
         Ok(None) => Err(Failure::BadWord),
         Ok(Some(list)) => match board_of(alloc, settings, traced) {
             Err(failure) => Err(failure),
-            Ok(board) => Ok(Grounds { board, list }),
+            Ok(board) => Ok(Foundation { board, list }),
         },
     }
 }

@@ -41,7 +41,7 @@ pub use cpg_step::run_script;
 pub use cpg_text::{Fault, put_fault};
 pub use cpg_why::Asked;
 pub use failures::Failure;
-pub use founding::{Grounds, Host, found, new_board};
+pub use founding::{Foundation, Host, found, new_board};
 pub use hinting::perform_with_hint;
 pub use output_form::OutputForm;
 pub use pipes::Piped;

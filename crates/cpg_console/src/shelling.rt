@@ -16,7 +16,7 @@ ghost use Rattle.cpg_world_laws.specs.Worlds.{new_world};
 
 use crate::chances::Chances;
 use crate::failures::Failure;
-use crate::founding::{Grounds, Host, found};
+use crate::founding::{Foundation, Host, found};
 use crate::output_form::OutputForm;
 use crate::pipes::Piped;
 use crate::runs::{Ended, failure_after, hand_on, tell};
@@ -142,13 +142,13 @@ fn run_shell<H: Host + 'static, R: Read, W: Write, E: Write, K: KeepsEnds>(
 {
     match found(alloc, settings, words, keeper.is_asked()) {
         Err(failure) => Err(failure),
-        Ok(grounds) => shell_on::<Brand, H, R, W, E, K>(
-            rt, alloc, options, chances, settings, grounds, reader, writer, errors, keeper,
+        Ok(foundation) => shell_on::<Brand, H, R, W, E, K>(
+            rt, alloc, options, chances, settings, foundation, reader, writer, errors, keeper,
         ),
     }
 }
 
-/// Answers the lines over a new cluster on those grounds.
+/// Answers the lines over a new cluster on that foundation.
 #[tactic(auto, using(crate::proofs::Shelled::none_of_memory, crate::proofs::Shelled::shelled))]
 fn shell_on<B, H: Host + 'static, R: Read, W: Write, E: Write, K: KeepsEnds>(
     rt: H,
@@ -156,7 +156,7 @@ fn shell_on<B, H: Host + 'static, R: Read, W: Write, E: Write, K: KeepsEnds>(
     options: &RunOptions<OutputForm>,
     chances: Chances,
     settings: Settings,
-    grounds: Grounds,
+    foundation: Foundation,
     reader: &mut R,
     writer: &mut W,
     errors: &mut E,
@@ -164,13 +164,13 @@ fn shell_on<B, H: Host + 'static, R: Read, W: Write, E: Write, K: KeepsEnds>(
 ) -> Result<(), Failure>
 where
     B: HistoryName + Send + Sync + 'static,
-    requires name { (grounds.board.cells ≡ B.cells) × (grounds.board.table ≡ B.table) × (new_world settings grounds.list ≡ B.start) }
-    ensures shells { Shells (output_as (options.now).form) settings (Some grounds.list) (failure_of result)
+    requires name { (foundation.board.cells ≡ B.cells) × (foundation.board.table ≡ B.table) × (new_world settings foundation.list ≡ B.start) }
+    ensures shells { Shells (output_as (options.now).form) settings (Some foundation.list) (failure_of result)
         (R.remaining reader.old) (W.contents writer.old) (W.contents writer.new) (E.contents errors.old) (E.contents errors.new) }
     ensures kept { OnOk result (WasKept K.keeps B.start keeper.old keeper.new) }
     ensures left { OnErr result ((keeper.new ≡ keeper.old) ⊎ WasKept K.keeps B.start keeper.old keeper.new) }
 {
-    let Grounds { board, list } = grounds;
+    let Foundation { board, list } = foundation;
     match Cluster::<B, Chances>::start(rt, alloc, settings, board, &list, chances) {
         Err(_) => Err(Failure::from(Refusal::Memory)),
         Ok(cluster) => { shell_over(rt, alloc, options, cluster, reader, writer, errors, keeper) },

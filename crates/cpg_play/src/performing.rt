@@ -19,7 +19,7 @@ use crate::walks::{play_lines, play_script};
 use crate::worlds::OverWorld;
 use cpg_cluster::WaitLimit;
 use cpg_console::{
-    Chances, Ended, Failure, Grounds, Host, KeepsEnds, Piped, failure_after, found, hand_on,
+    Chances, Ended, Failure, Foundation, Host, KeepsEnds, Piped, failure_after, found, hand_on,
     stop_kept, tell, world_by,
 };
 use cpg_cred::Refusal;
@@ -143,8 +143,8 @@ fn play<H: Host + 'static, R: Read, W: Write, E: Write, K: KeepsEnds>(
         Stage::World => play_over_world(alloc, settings, words, reader, writer, errors),
         Stage::Cluster(live) => match found(alloc, settings, words, keeper.is_asked()) {
             Err(failure) => Err(failure),
-            Ok(grounds) => play_on::<Brand, H, R, W, E, K>(
-                rt, alloc, live, settings, grounds, reader, writer, errors, keeper,
+            Ok(foundation) => play_on::<Brand, H, R, W, E, K>(
+                rt, alloc, live, settings, foundation, reader, writer, errors, keeper,
             ),
         },
     }
@@ -184,13 +184,13 @@ fn shared_switches(
     Ok((switches, shared))
 }
 
-/// Plays the script over a new cluster on those grounds.
+/// Plays the script over a new cluster on that foundation.
 fn play_on<B, H: Host + 'static, R: Read, W: Write, E: Write, K: KeepsEnds>(
     rt: H,
     alloc: Global,
     live: &Live,
     settings: Settings,
-    grounds: Grounds,
+    foundation: Foundation,
     reader: &mut R,
     writer: &mut W,
     errors: &mut E,
@@ -198,7 +198,7 @@ fn play_on<B, H: Host + 'static, R: Read, W: Write, E: Write, K: KeepsEnds>(
 ) -> Result<bool, Failure>
 where
     B: HistoryName + Send + Sync + 'static,
-    requires name { (grounds.board.cells ≡ B.cells) × (grounds.board.table ≡ B.table) × (new_world settings grounds.list ≡ B.start) }
+    requires name { (foundation.board.cells ≡ B.cells) × (foundation.board.table ≡ B.table) × (new_world settings foundation.list ≡ B.start) }
     ensures word { result ≢ Err Failure.BadWord }
     ensures kept { OnOk result (WasKept K.keeps B.start keeper.old keeper.new) }
 {
@@ -206,7 +206,7 @@ where
         return Err(Failure::from(Refusal::Memory));
     };
     let gate = Switched::new(shared, live.chances);
-    let Grounds { board, list } = grounds;
+    let Foundation { board, list } = foundation;
     match Cluster::<B, Switched<Chances>>::start(rt, alloc, settings, board, &list, gate) {
         Err(_) => Err(Failure::from(Refusal::Memory)),
         Ok(cluster) => play_over(
