@@ -7,7 +7,7 @@
 #include <string.h>
 
 enum { LENT_FROM = 1024 }; /* bytes of a message from which it is lent: a piece more in a write costs more than a shorter copy */
-_Static_assert(LENT_FROM > CPGRING_SHORT_MESSAGE, "what is lent stays where it is until the ring is closed");
+_Static_assert((int)LENT_FROM > (int)CPGRING_SHORT_MESSAGE, "what is lent stays where it is until the ring is closed");
 
 uint8_t *tell(struct client *c, uint16_t kind, uint16_t tag, size_t len) {
     size_t filled = (len + 7) & ~(size_t)7;
