@@ -5,5 +5,6 @@ pub mod Fields
 pub mod Heads
 pub mod Hearing
 pub mod Items
+pub mod Put
 pub mod Texted
 pub mod Told

@@ -139,7 +139,7 @@ fn put_records(
 
 /// Puts the records that the seat knows, and their count, at the text's end. A board has at most 1,048,576 places, so
 /// the count fits.
-#[tactic(auto, using(cpg_cluster::proofs::Put::seat_put))]
+#[tactic(auto, using(crate::proofs::Put::seat_put))]
 fn put_seat(text: &mut Vec<u8>, head: &[u8], board: &Board, seat: &Seat) -> Result<(), Refusal>
     requires { IsSeatOf board.now.cells seat.now }
     ensures ok { OnOk result (text.new.items ≡ text.old.items ++ audit_text head.now (records_of seat.now)) }
