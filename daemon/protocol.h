@@ -26,7 +26,7 @@ struct head {
 
 /* Kinds of a client's frames, and what stands behind the head. */
 enum {
-    ASK_HELLO = 1,   /* u32 version, and where it is there a u32 of HELLO bits. Answer: struct hello */
+    ASK_HELLO = 1,   /* u32 version, u32 of HELLO bits. Answer: struct hello */
     ASK_JOIN = 2,    /* the group's name: 0 to 128 bytes of any value */
     ASK_LEAVE = 3,   /* nothing */
     ASK_SEND = 4,    /* the message */

@@ -26,7 +26,9 @@ use Rattle.cpg_ask.proofs.Fields.{head_reads, rule_reads}
 
 want_again : (want : Want) → WantFits want → want_in (ask_code (code_of want)) (content want) ≡ Some want
 unfolding want_in asked_in ask_code_of hello_in groups_in insert_in remove_in
-want_again (Hello version) h = ap (λ (o : Option (ℕ × List ℕ)). o >>= λ x. if_whole (Hello x.0) x.1) (u32_reads.again version [] h)
+want_again (Hello version wishes) h =
+    ap (λ (o : Option (ℕ × List ℕ)). o >>= λ x. little_at 4 x.1 >>= λ y. if_whole (Hello x.0 y.0) y.1) (u32_reads.again version (little_bytes 4 wishes) h.0)
+    ∙ ap (λ (o : Option (ℕ × List ℕ)). o >>= λ y. if_whole (Hello version y.0) y.1) (u32_reads.again wishes [] h.1)
 want_again (Join name) h = refl
 want_again Leave h = refl
 want_again (Send message) h = refl
@@ -75,11 +77,14 @@ if_whole_is made want rest e =
 hello_found : (text : List ℕ) (want : Want) → IsBytes text → hello_in text ≡ Some want → Says codes.Hello text want
 unfolding hello_in
 hello_found text want fits e =
-    let p = bind_some (little_at 4 text) (λ x. if_whole (Hello x.0) x.1) want e in
+    let p = bind_some (little_at 4 text) (λ x. little_at 4 x.1 >>= λ y. if_whole (Hello x.0 y.0) y.1) want e in
+    let q = bind_some (little_at 4 p.0.1) (λ y. if_whole (Hello p.0.0 y.0) y.1) want p.2 in
     let t = u32_reads.takes text p.0 fits p.1 in
-    let g = if_whole_is (Hello p.0.0) want p.0.1 p.2 in
-    let all : text ≡ little_bytes 4 p.0.0 = t.0.parts ∙ ap (λ (r : List ℕ). little_bytes 4 p.0.0 ++ r) g.0 in
-    subst (λ (w : Want). Says codes.Hello text w) g.1 (refl, all, t.1)
+    let u = u32_reads.takes p.0.1 q.0 t.0.rest_fits q.1 in
+    let g = if_whole_is (Hello p.0.0 q.0.0) want q.0.1 q.2 in
+    let all : text ≡ little_bytes 4 p.0.0 ++ little_bytes 4 q.0.0 =
+    t.0.parts ∙ ap (λ (r : List ℕ). little_bytes 4 p.0.0 ++ r) (u.0.parts ∙ ap (λ (r : List ℕ). little_bytes 4 q.0.0 ++ r) g.0) in
+    subst (λ (w : Want). Says codes.Hello text w) g.1 (refl, all, (t.1, u.1))
 
 groups_found : (text : List ℕ) (want : Want) → IsBytes text → groups_in text ≡ Some want → Says codes.Groups text want
 unfolding groups_in

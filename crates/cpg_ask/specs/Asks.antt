@@ -9,10 +9,11 @@ use Rattle.cpg_ask.specs.declared.asks.AskView.{AskView}
 use Rattle.cpg_ask.specs.declared.asks.Front.{Front}
 use Rattle.cpg_ask.specs.declared.asks.Front.TheVariants as fronts
 
--- what is asked for: to be let in, by a protocol's version; a group's seat; no seat; a message to the group; a group's members; the groups,
--- with members unless the number is 0; a rule of a group; and a rule's end. Names are plain, any bytes.
+-- what is asked for: to be let in, by a protocol's version and bits of what the client would have; a group's seat; no seat; a message to
+-- the group; a group's members; the groups, with members unless the number is 0; a rule of a group; and a rule's end. Names are plain,
+-- any bytes.
 pub data Want : Type 0 where
-  Hello : ℕ → Want
+  Hello : ℕ → ℕ → Want
   Join : List ℕ → Want
   Leave : Want
   Send : List ℕ → Want
@@ -34,7 +35,7 @@ pub data Reading : Type 0 where
 
 -- the code of an ask
 abbrev pub code_of : Want → AskCode
-code_of (Hello version) = codes.Hello
+code_of (Hello version wishes) = codes.Hello
 code_of (Join name) = codes.Join
 code_of Leave = codes.Leave
 code_of (Send message) = codes.Send
@@ -45,7 +46,7 @@ code_of (Remove id name) = codes.Remove
 
 -- what is seen to be asked for
 abbrev pub want_seen : WantView → Want
-want_seen (views.Hello version) = Hello version
+want_seen (views.Hello version wishes) = Hello version wishes
 want_seen (views.Join name) = Join name.now
 want_seen views.Leave = Leave
 want_seen (views.Send message) = Send message.now

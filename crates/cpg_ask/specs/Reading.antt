@@ -16,7 +16,7 @@ abbrev pub if_whole : Want → List ℕ → Option Want
 if_whole want rest = if length rest == 0 then Some want else None
 
 unfoldable pub hello_in : List ℕ → Option Want
-hello_in bytes = little_at 4 bytes >>= λ version. if_whole (Hello version.0) version.1
+hello_in bytes = little_at 4 bytes >>= λ version. little_at 4 version.1 >>= λ wishes. if_whole (Hello version.0 wishes.0) wishes.1
 
 unfoldable pub groups_in : List ℕ → Option Want
 groups_in bytes = little_at 4 bytes >>= λ members. if_whole (Groups members.0) members.1

@@ -11,7 +11,7 @@ use Rattle.cpg_ask.specs.Asks.{Want, Hello, Join, Leave, Send, Members, Groups, 
 
 -- what an ask says behind its head
 abbrev pub content : Want → List ℕ
-content (Hello version) = little_bytes 4 version
+content (Hello version wishes) = little_bytes 4 version ++ little_bytes 4 wishes
 content (Join name) = name
 content Leave = []
 content (Send message) = message
@@ -29,7 +29,7 @@ spelling ask = head_bytes (head_of ask) ++ content ask.want
 
 -- the numbers of an ask fit their types
 abbrev pub WantFits : Want → Type 0
-WantFits (Hello version) = IsU32 version
+WantFits (Hello version wishes) = IsU32 version × IsU32 wishes
 WantFits (Groups members) = IsU32 members
 WantFits (Insert rule name) = RuleFits rule
 WantFits (Remove id name) = IsU32 id

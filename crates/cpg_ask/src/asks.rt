@@ -16,7 +16,8 @@ pub const MOST_ASK: u32 = 8192;
 /// What a client asks for; names and messages are those of the stream.
 #[derive(Clone, Copy)]
 pub enum WantView<'a> {
-    Hello(u32),
+    /// The protocol's version, and bits of what the client would have.
+    Hello(u32, u32),
     Join(&'a [u8]),
     Leave,
     Send(&'a [u8]),
@@ -83,7 +84,7 @@ impl<'a> WantView<'a> {
         ensures { result ≡ code_of (want_seen self.now) }
     {
         match self {
-            WantView::Hello(_) => AskCode::Hello,
+            WantView::Hello(_, _) => AskCode::Hello,
             WantView::Join(_) => AskCode::Join,
             WantView::Leave => AskCode::Leave,
             WantView::Send(_) => AskCode::Send,
@@ -128,8 +129,9 @@ impl<'a> WantView<'a> {
     {
         let mut input = Input::of(text);
         let version = input.u32()?;
+        let wishes = input.u32()?;
         if input.is_at_end() {
-            Some(WantView::Hello(version))
+            Some(WantView::Hello(version, wishes))
         } else {
             None
         }

@@ -30,7 +30,11 @@ fn put_content(out: &mut Vec<u8>, want: &WantView<'_>) -> Result<(), AllocError>
     ensures { OnOk result (out.new.items ≡ out.old.items ++ content (want_seen want.now)) }
 {
     match want {
-        WantView::Hello(number) | WantView::Groups(number) => put_u32(out, *number),
+        WantView::Hello(version, wishes) => {
+            put_u32(out, *version)?;
+            put_u32(out, *wishes)
+        }
+        WantView::Groups(members) => put_u32(out, *members),
         WantView::Join(name) | WantView::Members(name) => out.put_slice(name),
         WantView::Leave => Ok(()),
         WantView::Send(message) => out.put_slice(message),

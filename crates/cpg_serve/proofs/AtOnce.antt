@@ -36,7 +36,7 @@ named_by x wanted (Some c) names h = h
 
 -- who asks for a call asks for no names
 named_call : (rs : List Record) (a : Option Asker) (want : Want) (call : Call) → call_of want ≡ Some call → IsNamed rs a want []
-named_call rs None (Hello version) call e = refl
+named_call rs None (Hello version wishes) call e = refl
 named_call rs None (Join name) call e = refl
 named_call rs None Leave call e = refl
 named_call rs None (Send message) call e = refl
@@ -44,7 +44,7 @@ named_call rs None (Members name) call e = refl
 named_call rs None (Groups members) call e = absurd cc
 named_call rs None (Insert rule name) call e = refl
 named_call rs None (Remove id name) call e = refl
-named_call rs (Some asker) (Hello version) call e = refl
+named_call rs (Some asker) (Hello version wishes) call e = refl
 named_call rs (Some asker) (Join name) call e = refl
 named_call rs (Some asker) Leave call e = refl
 named_call rs (Some asker) (Send message) call e = refl

@@ -63,7 +63,7 @@ wrong_tell tag want = Answer (code_of want) tag (wrong_status want)
 
 -- the answer to an ask that is no call, where these are the names of the groups
 abbrev pub plain_tell : Greeting → Option Asker → List Record → List (List ℕ) → ℕ → Want → Tell
-plain_tell greeting asker records names tag (Hello version) = Greets tag (hello_status version) greeting
+plain_tell greeting asker records names tag (Hello version wishes) = Greets tag (hello_status version) greeting
 plain_tell greeting asker records names tag (Members name) = members_tell tag records asker (coded_name name)
 plain_tell greeting asker records names tag (Groups wanted) = Named tag status.Fine (map (listing_of records asker wanted) names)
 plain_tell greeting asker records names tag (Join name) = wrong_tell tag (Join name)

@@ -27,7 +27,7 @@ insert_of (Some group) (Some rule) = Some (calls.Insert group rule.0 rule.1)
 
 -- the call that is asked for, if one is; none where the name is too long, or the words of a rule mean none
 abbrev pub call_of : Want → Option Call
-call_of (Hello version) = None
+call_of (Hello version wishes) = None
 call_of (Join name) = option_map (λ group. calls.Join group) (coded_name name)
 call_of Leave = Some calls.Leave
 call_of (Send message) = Some (calls.Send message)

@@ -110,7 +110,7 @@ impl Desk {
         ensures memory { IsOkUnless result Refusal.Memory }
     {
         match &ask.want {
-            WantView::Hello(version) => self.greet(ask.tag, hello_status(*version)),
+            WantView::Hello(version, _) => self.greet(ask.tag, hello_status(*version)),
             WantView::Members(name) => self.answer_members(node, conn, ask.tag, name),
             WantView::Groups(wanted) => self.answer_groups(node, conn, ask.tag, *wanted),
             WantView::Join(_)

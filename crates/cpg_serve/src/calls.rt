@@ -21,7 +21,7 @@ pub(crate) fn call_asked(alloc: Global, want: &WantView<'_>) -> Result<Option<Ca
     ensures memory { IsOkUnless result Refusal.Memory }
 {
     Ok(match want {
-        WantView::Hello(_) | WantView::Members(_) | WantView::Groups(_) => None,
+        WantView::Hello(_, _) | WantView::Members(_) | WantView::Groups(_) => None,
         WantView::Leave => Some(Call::Leave),
         WantView::Send(message) => Some(Call::Send(Message::from_slice(alloc, message)?)),
         WantView::Join(name) => match code_name(alloc, name)? {
