@@ -1,7 +1,8 @@
-/* Lets each allocation of a small ring fail in turn: the call has to answer CPGRING_MEMORY, and the same call made again
+/* Lets each allocation of a small ring, and of a node with clients, fail in turn: the call has to answer CPGRING_MEMORY, and the same call made again
  * has to do what it would have done, so that all that is told is the same. Linked with --wrap=malloc,--wrap=realloc. */
-#include "cpgring.h"
+#include "cpgring_served.h"
 
+#include "../daemon/protocol.h"
 #include <stdio.h>
 #include <stdlib.h>
 #include <string.h>
@@ -87,13 +88,83 @@ static size_t play(void) {
     return told + count;
 }
 
+static uint8_t asks[512];
+static size_t said;
+
+static void say(uint16_t kind, const void *body, uint32_t len) {
+    struct head head = {len, kind, 1};
+    memcpy(asks + said, &head, sizeof head);
+    memcpy(asks + said + sizeof head, body, len);
+    said += sizeof head + len;
+}
+
+/* Has all asks of a client heard; the next one is heard again where there was no memory for it. */
+static void hear(cpgring_served *node, uint16_t conn) {
+    size_t at = 0;
+    while (at < said) {
+        size_t heard = 0;
+        uint32_t why = CPGRING_HEARD_BROKEN;
+        bool before = refused;
+        DO(cpgring_served_hear(node, conn, asks + at, said - at, &heard, &why), CPGRING_OK);
+        at += heard;
+        bool again = why == CPGRING_HEARD_NO_MEMORY && refused && !before;
+        if (!again && (why != CPGRING_HEARD_ALL || at < said)) {
+            differs = true;
+            break;
+        }
+    }
+    said = 0;
+}
+
+/* All that a client is told, written. */
+static size_t written(cpgring_served *node, uint16_t conn) {
+    const uint8_t *at = NULL;
+    size_t len = 0;
+    DO(cpgring_served_output(node, conn, &at, &len), CPGRING_OK);
+    DO(cpgring_served_wrote(node, conn, len), CPGRING_OK);
+    return len;
+}
+
+/* A node with two clients that meet, say something, list and part, and the next ring. How many bytes were told. */
+static size_t serve(void) {
+    static const char conf[] = "uidgid {\n uid: 7\n}\n", message[100];
+    static const uint32_t hello[2] = {PROTOCOL_VERSION, 0}, members = 1;
+    const cpgring_setup setup = {1, 1, 1, 100, 100};
+    cpgring_served node = CPGRING_SERVED_INIT;
+    cpgring_fault fault;
+    uint16_t one = 0, two = 0, numbers[2] = {0, 0};
+    size_t told = 0;
+    DO(cpgring_served_open(&node, &setup, asks, 0, (const uint8_t *)conf, sizeof conf - 1, &fault), CPGRING_OK);
+    DO(cpgring_served_arrive(&node, 40, 7, 100, &one), CPGRING_OK);
+    DO(cpgring_served_arrive(&node, 41, 0, 100, &two), CPGRING_OK);
+    for (uint16_t conn = one; conn <= two; conn++) {
+        say(ASK_HELLO, hello, sizeof hello);
+        say(ASK_JOIN, "a-name-of-more-than-16-bytes", 28);
+        say(ASK_SEND, message, sizeof message);
+        hear(&node, conn);
+    }
+    DO(cpgring_served_settle(&node), CPGRING_OK);
+    say(ASK_MEMBERS, "a-name-of-more-than-16-bytes", 28);
+    say(ASK_GROUPS, &members, sizeof members);
+    hear(&node, one);
+    DO(cpgring_served_lost(&node, two), CPGRING_OK);
+    DO(cpgring_served_renew(&node, &setup, asks, 0, (const uint8_t *)conf, sizeof conf - 1, &fault, numbers, 2), CPGRING_OK);
+    told = written(&node, numbers[0]);
+    say(ASK_SEND, message, sizeof message);
+    hear(&node, numbers[0]);
+    DO(cpgring_served_settle(&node), CPGRING_OK);
+    told += written(&node, numbers[0]);
+    DO(cpgring_served_close(&node), CPGRING_OK);
+    return told;
+}
+
 int main(void) {
-    size_t told = play();
+    size_t told = play() + serve();
     long turns = 0;
     do {
         refused = false;
         until = turns++;
-        if (play() != told) differs = true;
+        if (play() + serve() != told) differs = true;
     } while (refused && !differs && turns < 10000);
     printf("%ld allocations refused in turn: %s\n", turns - 1, differs ? "FAILED" : "each call could be made again");
     return differs;

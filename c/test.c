@@ -2,34 +2,9 @@
  * two nodes that agree on two joins and a message, a lost frame, a full queue, listings under rules, a ring that turns by
  * itself, messages that are lent, members and their joins, and refusals. */
 #include "cpgring.h"
+#include "expect.h"
 
-#include <stdio.h>
 #include <stdlib.h>
-#include <string.h>
-
-static unsigned compared, differing;
-
-/* compares a number with the one that it has to be */
-static void is_number(const char *what, unsigned long long found, unsigned long long wanted, int line) {
-    compared++;
-    if (found != wanted) {
-        differing++;
-        fprintf(stderr, "test.c:%d: %s is %llu, not %llu\n", line, what, found, wanted);
-    }
-}
-
-/* compares bytes with a text */
-static void is_text(const uint8_t *found, size_t len, const char *wanted, int line) {
-    compared++;
-    if (len != strlen(wanted) || memcmp(found, wanted, len) != 0) {
-        differing++;
-        fprintf(stderr, "test.c:%d: \"%.*s\" is not \"%s\"\n", line, (int)len, (const char *)found, wanted);
-    }
-}
-
-#define IS(found, wanted) is_number(#found, (found), (wanted), __LINE__)
-#define TEXT(found, len, wanted) is_text((found), (len), (wanted), __LINE__)
-#define BYTES(text) (const uint8_t *)(text), sizeof(text) - 1
 
 /* Nodes, and each frame that one of them sent, numbered from 1 in the order of their sending. */
 enum { MOST = 400 };

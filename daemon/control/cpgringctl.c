@@ -204,7 +204,7 @@ static const char *status_text(uint32_t status) {
 
 int main(int count, char **words) {
     const char *path = NULL;
-    uint32_t version = PROTOCOL_VERSION, status;
+    uint32_t hello[2] = {PROTOCOL_VERSION, 0}, status;
     unsigned wait = WAIT_MS;
     int option;
     while ((option = getopt(count, words, "+s:w:h")) != -1) switch (option) {
@@ -216,7 +216,7 @@ int main(int count, char **words) {
     if (count < 1) usage();
     deadline = now_ms() + wait;
     connect_to(path, wait);
-    if ((status = ask(ASK_HELLO, &version, sizeof version)) == CS_OK) {
+    if ((status = ask(ASK_HELLO, hello, sizeof hello)) == CS_OK) {
         if (!strcmp(words[0], "insert")) status = insert(count, words);
         else if (!strcmp(words[0], "remove")) status = remove_rule(count, words);
         else status = plain(count, words);

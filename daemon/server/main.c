@@ -6,6 +6,7 @@
 #include "log.h"
 #include "loop.h"
 #include "notify.h"
+#include "proved.h"
 #include <errno.h>
 #include <malloc.h>
 #include <string.h>
@@ -44,13 +45,21 @@ static bool open_ring(const struct options *options) {
     return false;
 }
 
-static int serve(const struct options *options, int parent) {
-    if (!admission_read(options, &admission) || !open_ring(options) || !sockets_open(&sockets, options)) return 1;
+static bool open_all(const struct options *options) {
+    if (!admission_read(options, &admission)) return false;
+    if (options->proved) return proved_open(&admission, options) && sockets_open(&sockets, options);
+    if (!open_ring(options) || !sockets_open(&sockets, options)) return false;
     control_open(&ring);
+    return true;
+}
+
+static int serve(const struct options *options, int parent) {
+    if (!open_all(options)) return 1;
     if (!options->foreground) notify_parent(parent);
     notify_manager("READY=1\nSTATUS=clients are let in");
-    log_line(LOG_NOTICE, "ring %u of %u nodes at %s", ring.number, ring.count, sockets.path[0]);
-    int status = loop_run(&ring, &sockets, options);
+    log_line(LOG_NOTICE, "ring %u of %u nodes at %s%s", options->ring, options->nodes, sockets.path[0],
+             options->proved ? ", proved to the socket" : "");
+    int status = options->proved ? proved_run(&sockets) : loop_run(&ring, &sockets, options);
     notify_manager("STOPPING=1");
     return status;
 }
@@ -69,7 +78,8 @@ int main(int count, char **words) {
     if (!loop_block_signals()) return 1;
     int status = serve(&options, parent);
     sockets_close(&sockets);
-    ring_close(&ring);
+    if (options.proved) proved_close();
+    else ring_close(&ring);
     admission_free(&admission);
     return status;
 }

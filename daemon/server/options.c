@@ -29,6 +29,7 @@ static const struct option table[] = {
     {'s', "socket", "PATH", TEXT, &chosen.socket, 0, 0, "node 1's socket; node K's is PATH.K [$XDG_RUNTIME_DIR or /run, cpgringd.sock]"},
     {'n', "nodes", "N", U32, &chosen.nodes, 1, CPGRING_MOST_NODES, "nodes of the ring [1]"},
     {'f', "foreground", NULL, FLAG, &chosen.foreground, 0, 0, "stay in the foreground; else go on in the background once all is ready"},
+    {0, "proved", NULL, FLAG, &chosen.proved, 0, 0, "one node, proved from clients' bytes to clients' bytes; no audit, no lanes, no word of cpgringctl but rules"},
     {0, "mode", "OCTAL", OCTAL, &chosen.mode, 0, 0777, "mode of the sockets [666]"},
     {0, "owner", "USER[:GROUP]", OWNER, NULL, 0, 0, "owner of the sockets"},
     {0, "log", "LEVEL", LEVEL, NULL, 0, 0, "error, warning, notice, info or debug [notice]"},
@@ -176,6 +177,10 @@ enum words options_read(int count, char **words, struct options *options) {
     }
     if (chosen.lose + chosen.repeat > 100) {
         log_line(LOG_ERROR, "--lose and --repeat are more than 100 together");
+        return WORDS_BAD;
+    }
+    if (chosen.proved && (chosen.nodes != 1 || chosen.lose || chosen.repeat || chosen.audit)) {
+        log_line(LOG_ERROR, "--proved has one node, which sends no frames, and no audit");
         return WORDS_BAD;
     }
     *options = chosen;

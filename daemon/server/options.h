@@ -19,7 +19,7 @@ struct options {
     unsigned mode, stop_seconds, spin;
     uid_t owner; /* -1: left as it is */
     gid_t owner_group;
-    bool foreground;
+    bool foreground, proved;
 };
 
 enum words { WORDS_GOOD, WORDS_BAD, WORDS_ANSWERED }; /* answered: --help or --version was printed */

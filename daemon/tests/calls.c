@@ -193,7 +193,8 @@ static void sizes(void) {
     free(bytes);
 }
 
-static void names(void) {
+/* With `short` a name whose code is longer than a node's name is refused. */
+static void names(bool only_short) {
     struct cpg_name all[6] = {{0, {0}}, name_of("!own"), name_of("50%25"), {3, {' ', 0, '\n'}}, {128, {0}}, {128, {0}}};
     memset(all[4].value, 0xFF, 128);
     memset(all[5].value, 'x', 128);
@@ -201,6 +202,11 @@ static void names(void) {
         cpg_iteration_handle_t it;
         struct cpg_iteration_description_t at;
         cpg_handle_t h = open_one();
+        if (only_short && k == 4) {
+            EXPECT(cpg_join(h, &all[k]), CS_ERR_NAME_TOO_LONG);
+            EXPECT(cpg_finalize(h), CS_OK);
+            continue;
+        }
         EXPECT(cpg_join(h, &all[k]), CS_OK);
         dispatch_until(h, 0, 1);
         EXPECT(send_bytes(h, "name", 4), CS_OK);
@@ -391,11 +397,11 @@ static void no_daemon(void) {
     unsetenv("CPGRING_LIKE_COROSYNC");
 }
 
-int main(void) {
+int main(int count, char **words) {
     plain_calls();
     wrong_words();
     sizes();
-    names();
+    names(count == 2 && !strcmp(words[1], "short"));
     callbacks();
     threads();
     wakes();

@@ -103,8 +103,8 @@ static inline uint32_t raw_ask(int fd, uint16_t kind, const void *body, uint32_t
 }
 
 static inline uint32_t raw_greet(int fd) {
-    uint32_t version = PROTOCOL_VERSION;
-    return raw_ask(fd, ASK_HELLO, &version, sizeof version);
+    uint32_t hello[2] = {PROTOCOL_VERSION, 0};
+    return raw_ask(fd, ASK_HELLO, hello, sizeof hello);
 }
 
 /* ---- processes ---- */

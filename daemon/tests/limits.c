@@ -55,9 +55,9 @@ static void descriptors(void) {
     unsigned greeted = 0;
     for (unsigned k = 0; k < MOST; k++) EXPECT((fds[k] = raw_dial()) >= 0, 1);
     for (unsigned k = 0; k < MOST; k++) {
-        struct head head = {4, ASK_HELLO, 7};
-        uint32_t version = PROTOCOL_VERSION;
-        if (send(fds[k], &head, sizeof head, MSG_NOSIGNAL) > 0) send(fds[k], &version, sizeof version, MSG_NOSIGNAL);
+        uint32_t hello[2] = {PROTOCOL_VERSION, 0};
+        struct head head = {sizeof hello, ASK_HELLO, 7};
+        if (send(fds[k], &head, sizeof head, MSG_NOSIGNAL) > 0) send(fds[k], hello, sizeof hello, MSG_NOSIGNAL);
     }
     for (uint64_t end = now_ms() + 60000; greeted <= 5 && now_ms() < end; pause_ms(200)) greeted += count_answers(fds);
     pause_ms(200);

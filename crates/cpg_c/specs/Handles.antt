@@ -12,15 +12,15 @@ use Rattle.cpg_embed.specs.declared.opening.Setup.{Setup}
 use Rattle.cpg_embed.specs.declared.opening.Fault.{Fault}
 use Rattle.cpg_embed.specs.declared.statuses.TheConstants.{OK, CLOSED, BUSY}
 
--- A call at a handle: Closed where nothing is in it, and nothing happens; else what the call says of the endpoint before it and after
--- it, which stays in the handle.
-abbrev pub AtHandle : Option EndpointValue → ℕ → Option EndpointValue → (EndpointValue → EndpointValue → Type 0) → Type 0
+-- A call at a handle: Closed where nothing is in it, and nothing happens; else what the call says of the endpoint, or of the node with
+-- its clients, before it and after it, which stays in the handle.
+abbrev pub AtHandle : {A : Type 0} → Option A → ℕ → Option A → (A → A → Type 0) → Type 0
 AtHandle None status new says = (status ≡ CLOSED) × (new ≡ None)
 AtHandle (Some e) status None says = ⊥
 AtHandle (Some e) status (Some new) says = says e new
 
 -- A call that only looks: the endpoint stays as it is.
-abbrev pub SeenAt : Option EndpointValue → ℕ → Option EndpointValue → (EndpointValue → Type 0) → Type 0
+abbrev pub SeenAt : {A : Type 0} → Option A → ℕ → Option A → (A → Type 0) → Type 0
 SeenAt old status new says = AtHandle old status new (λ e after. (after ≡ e) × says e)
 
 -- Open: Busy where the handle is open already, which stays so; else an endpoint of a new node is in it, or the status says why not.
@@ -36,7 +36,7 @@ IsConfOpenedAt setup known conf None status (Some e) fault = (status ≡ OK) × 
 IsConfOpenedAt setup known conf None status None fault = IsConfOpened setup known conf (Err status) fault ⊎ (status ≡ number Memory)
 
 -- Close: nothing is in the handle then.
-abbrev pub IsEmptied : Option EndpointValue → ℕ → Option EndpointValue → Type 0
+abbrev pub IsEmptied : {A : Type 0} → Option A → ℕ → Option A → Type 0
 IsEmptied None status new = (status ≡ CLOSED) × (new ≡ None)
 IsEmptied (Some e) status new = (status ≡ OK) × (new ≡ None)
 

@@ -1,2 +1,3 @@
 pub mod Owning
 pub mod Handles
+pub mod Serving

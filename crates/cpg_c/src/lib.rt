@@ -15,4 +15,7 @@ mod lending;
 mod listings;
 mod opening;
 mod parts;
+mod served_handles;
+mod served_slots;
+mod serving;
 mod slots;

@@ -8,7 +8,7 @@ use Rattle.cpg_ring.specs.declared.settings.Settings.{Settings}
 use Rattle.cpg_node.specs.Nodes.{NodeValue, new_value}
 use Rattle.cpg_cred.specs.Shown.{number}
 use Rattle.cpg_embed.specs.Endpoints.{EndpointValue, new_endpoint}
-use Rattle.cpg_conf.specs.Listed.{listed, nothing}
+use Rattle.cpg_conf.specs.Listed.{Grows, listed, nothing}
 use Rattle.cpg_conf.specs.Names.{Known}
 use Rattle.cpg_embed.specs.declared.opening.Setup.{Setup}
 use Rattle.cpg_embed.specs.declared.opening.Fault.{Fault}
@@ -60,6 +60,14 @@ no_fault = record { text = 0; line = 0 }
 abbrev pub IsFaultOf : {A : Type 0} → ℕ → Result A Refusal → ℕ → Fault → Type 0
 IsFaultOf text (Err why) status fault = (status ≡ number why) × (fault ≡ fault_in text why)
 IsFaultOf text (Ok read) status fault = (status ≡ number refusal.Memory) × (fault ≡ fault_in text refusal.Memory)
+
+-- The list of a conf text, its names by the names text; or the text's fault.
+abbrev pub IsListOf : Result Known Refusal → List ℕ → Result Listed ℕ → Fault → Type 0
+IsListOf (Err why) conf (Ok list) fault = ⊥
+IsListOf (Err why) conf (Err status) fault = (status ≡ number why) × (fault ≡ fault_in 1 why)
+IsListOf (Ok names) conf (Ok list) fault = Grows (listed names conf) nothing list × (fault ≡ no_fault)
+IsListOf (Ok names) conf (Err status) fault =
+    IsFaultOf 2 (listed names conf) status fault ⊎ ((status ≡ number refusal.Memory) × (fault ≡ fault_in 1 refusal.Memory))
 
 -- What is told of texts that have no fault: with an endpoint nothing, and else nothing, or that memory was refused for the conf text.
 abbrev pub TellsNoFault : Result EndpointValue ℕ → Fault → Type 0

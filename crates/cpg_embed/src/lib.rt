@@ -23,7 +23,7 @@ mod told;
 
 pub use endpoints::Endpoint;
 pub use laws::{answers_end_with_their_token, seats_are_memberships};
-pub use opening::{Fault, Setup, open, open_conf};
+pub use opening::{Fault, Setup, list_of_conf, open, open_conf};
 pub use processes::Process;
 pub use records::Audited;
 pub use rules::RuleLine;

@@ -3,7 +3,7 @@
 ghost use Rattle.std.specs.Prelude.{◌≡◌, Ok, IfOk, IfErr};
 ghost use Rattle.cpg_conf.specs.Listed.{Grows, listed, nothing};
 ghost use Rattle.cpg_conf.specs.Names.{known_of};
-ghost use Rattle.cpg_embed.specs.Opening.{IsOpened, IsNodeOpened, IsConfOpened, IsFaultOf, listing_of, line_in};
+ghost use Rattle.cpg_embed.specs.Opening.{IsOpened, IsNodeOpened, IsConfOpened, IsFaultOf, IsListOf, listing_of, line_in, settings_of};
 
 use crate::endpoints::Endpoint;
 use cpg_conf::{Names, read_conf};
@@ -27,6 +27,20 @@ pub struct Setup {
     pub hops: u64,
 }
 
+impl Setup {
+    /// The ring's settings.
+    pub fn settings(&self) -> Settings
+        ensures { result ≡ settings_of self.now }
+    {
+        Settings {
+            ring: self.ring,
+            nodes: self.nodes,
+            places: self.places,
+            hops: self.hops,
+        }
+    }
+}
+
 /// The node of that setup with that list. Range where the ring has no such node, or a setting is out of range.
 fn open_node(alloc: Global, setup: &Setup, list: AcceptList) -> Result<Node, Refusal>
     ensures { IsNodeOpened setup.now list result }
@@ -34,13 +48,7 @@ fn open_node(alloc: Global, setup: &Setup, list: AcceptList) -> Result<Node, Ref
     let Some(id) = NodeId::new(setup.node) else {
         return Err(Refusal::Range);
     };
-    let settings = Settings {
-        ring: setup.ring,
-        nodes: setup.nodes,
-        places: setup.places,
-        hops: setup.hops,
-    };
-    match Node::new(alloc, settings, id, list) {
+    match Node::new(alloc, setup.settings(), id, list) {
         Ok(node) => Ok(node),
         Err(refused) => Err(refused.refusal),
     }
@@ -131,7 +139,24 @@ fn read_list(
     }
 }
 
+/// The accept list of a conf text, its names by the names text; else the status, and where the fault is.
+#[tactic(auto, using(crate::proofs::Faults::read_both, crate::proofs::Faults::unread_conf, crate::proofs::Faults::unread_names))]
+pub fn list_of_conf(
+    alloc: Global,
+    names: &[u8],
+    conf: &[u8],
+    fault: &mut Fault,
+) -> Result<AcceptList, u32>
+    ensures { IsListOf (known_of names.now) conf.now result fault.new }
+{
+    *fault = Fault { text: 0, line: 0 };
+    let names = read_names(alloc, names, fault)?;
+    let list = read_list(alloc, conf, &names, fault)?;
+    Ok(list)
+}
+
 /// An endpoint of a new node, which lets in whom the conf text lists, its names by the names text.
+#[tactic(auto, using(crate::proofs::Faults::opened_conf, crate::proofs::Faults::unopened_conf))]
 pub fn open_conf(
     alloc: Global,
     setup: &Setup,
@@ -141,8 +166,6 @@ pub fn open_conf(
 ) -> Result<Endpoint, u32>
     ensures { IsConfOpened setup.now (known_of names.now) conf.now result fault.new }
 {
-    *fault = Fault { text: 0, line: 0 };
-    let names = read_names(alloc, names, fault)?;
-    let list = read_list(alloc, conf, &names, fault)?;
+    let list = list_of_conf(alloc, names, conf, fault)?;
     open_list(alloc, setup, list)
 }

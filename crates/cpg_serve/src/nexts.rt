@@ -84,6 +84,7 @@ pub(crate) fn swap_in(
 ) -> Result<Vec<u16>, Refusal>
     requires { length desks.old.items ≡ length node.old.clients }
     ensures ok { IfOk result (λ numbers. IsFilled numbers.items node.old next.old node.new × HaveMoved greeting.now numbers.items desks.old.items desks.new.items) }
+    ensures given { IfOk result (λ numbers. length numbers.items ≡ length desks.old.items) }
     ensures err { OnErr result ((node.new ≡ node.old) × (desks.new.items ≡ desks.old.items)) }
     ensures why { (s : Settings) (list : Listed) → IsFirst s list next.old → IfErr result (λ why. WhyNotBegun s list node.old why) }
 {

@@ -162,6 +162,20 @@ impl Served {
         }
     }
 
+    /// How many connections it gave out in its ring.
+    pub fn connections(&self) -> usize
+        ensures { result ≡ length self.now.desks }
+    {
+        self.desks.len()
+    }
+
+    /// How many places of its ring it delivered.
+    pub fn delivered(&self) -> u32
+        ensures { result ≡ self.now.node.ring.state.delivered }
+    {
+        self.node.delivered()
+    }
+
     /// Where memory is asked for. There are as many desks as connections.
     pub(crate) fn memory(&self) -> Global
         ensures { length self.now.desks ≡ length self.now.node.clients }
@@ -200,6 +214,7 @@ impl Served {
     pub fn tell(&mut self, conn: u16) -> Result<(), Refusal>
         ensures did { IsCaughtUp conn self.old (item self.old.desks conn) result self.new }
         ensures memory { IsOkUnless result Refusal.Memory }
+        ensures count { length self.new.desks ≡ length self.old.desks }
     {
         tell_at(self.greeting, &mut self.node, &mut self.desks, conn)
     }
@@ -210,6 +225,7 @@ impl Served {
     pub fn settle(&mut self) -> Result<(), Refusal>
         // Whatever came of it: the node turned, delivered, and told clients, so all that `serve` says holds over it.
         ensures moves { MovesTo self.old self.new }
+        ensures count { length self.new.desks ≡ length self.old.desks }
         ensures still { OnOk result (IsStill self.new.node) }
         ensures told { OnOk result ((conn : ℕ) → conn ≤ MOST_CONNECTIONS → ToldAll self.new conn) }
         // In a ring of one node that heard no other's frame: all that was admitted is delivered, in its order, after one
@@ -232,6 +248,7 @@ impl Served {
     /// ring has too few places or hops for the members, the rules, and one more.
     pub fn renew(&mut self, settings: Settings, list: &AcceptList) -> Result<Vec<u16>, Refusal>
         ensures ok { IfOk result (λ numbers. ComesToNext settings list.now numbers.items self.old self.new) }
+        ensures count { IfOk result (λ numbers. length numbers.items ≡ length self.old.desks) }
         ensures err { OnErr result (MovesTo self.old self.new) }
         // In a ring of one node that heard no other's frame: why it did not come to rest, or the next one does not begin.
         ensures why { (t : Token) (placed : List Entry) → IsLone self.old.node.ring t placed → IfErr result (λ why. WhyNotRenewed settings list.now self.old self.new why) }
@@ -243,6 +260,7 @@ impl Served {
     /// The next ring, where this one is at rest.
     fn begin_next(&mut self, settings: Settings, list: &AcceptList) -> Result<Vec<u16>, Refusal>
         ensures ok { IfOk result (λ numbers. IsRenewed settings list.now numbers.items self.old self.new) }
+        ensures count { IfOk result (λ numbers. length numbers.items ≡ length self.old.desks) }
         ensures err { OnErr result (self.new ≡ self.old) }
         ensures why { IfErr result (λ why. WhyNotBegun settings list.now self.old.node why) }
     {
@@ -254,6 +272,7 @@ impl Served {
     /// The node turns until nothing waits, and nothing is to be delivered.
     fn turn(&mut self) -> Result<(), Refusal>
         ensures moves { MovesTo self.old self.new }
+        ensures count { length self.new.desks ≡ length self.old.desks }
         ensures still { OnOk result (IsStill self.new.node) }
         ensures turns { OnOk result (IsBrisk self.old.node.ring self.new.node.ring) }
         ensures lone { StaysLone self.old.node.ring self.new.node.ring }
@@ -276,6 +295,7 @@ impl Served {
     /// Tells every client all that the node has for it.
     fn tell_all(&mut self) -> Result<(), Refusal>
         ensures moves { MovesTo self.old self.new }
+        ensures count { length self.new.desks ≡ length self.old.desks }
         ensures ring { self.new.node.ring ≡ self.old.node.ring }
         ensures told { OnOk result ((conn : ℕ) → conn ≤ MOST_CONNECTIONS → ToldAll self.new conn) }
         ensures memory { IsOkUnless result Refusal.Memory }
@@ -404,6 +424,7 @@ fn renew_at(
 ) -> Result<Vec<u16>, Refusal>
     requires { length desks.old.items ≡ length node.old.clients }
     ensures ok { IfOk result (λ numbers. IsNext settings list.now numbers.items node.old node.new × HaveMoved (greeting_of node.new) numbers.items desks.old.items desks.new.items) }
+    ensures given { IfOk result (λ numbers. length numbers.items ≡ length desks.old.items) }
     ensures err { OnErr result ((node.new ≡ node.old) × (desks.new.items ≡ desks.old.items)) }
     ensures why { IfErr result (λ why. WhyNotBegun settings list.now node.old why) }
     ensures count { length desks.new.items ≡ length node.new.clients }
