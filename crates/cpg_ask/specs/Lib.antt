@@ -2,6 +2,7 @@ pub mod Numbers
 pub mod Heads
 pub mod Asks
 pub mod Codes
+pub mod Words
 pub mod Rules
 pub mod Reading
 pub mod Spelling
