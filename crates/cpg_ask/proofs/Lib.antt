@@ -7,4 +7,3 @@ pub mod Breaking
 pub mod Mapped
 pub mod Parts
 pub mod Retold
-pub mod TellCutting
