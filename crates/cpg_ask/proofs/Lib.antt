@@ -3,6 +3,7 @@ pub mod Fields
 pub mod Asked
 pub mod Cutting
 pub mod Named
+pub mod Begins
 pub mod Breaking
 pub mod Mapped
 pub mod Parts

@@ -1,4 +1,5 @@
 pub mod Numbers
+pub mod Adding
 pub mod Heads
 pub mod Asks
 pub mod Codes

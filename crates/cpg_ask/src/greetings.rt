@@ -32,7 +32,7 @@ pub fn put_greeting(
 {
     let mut text = Vec::new(alloc);
     put_text(&mut text, tag, status, greeting)?;
-    put_framed(alloc, out, 257, tag, text.as_slice())
+    put_framed(out, 257, tag, text.as_slice())
 }
 
 fn put_text(

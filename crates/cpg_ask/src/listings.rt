@@ -44,7 +44,7 @@ pub fn put_listed(
     put_number(&mut text, u32::from(status.number()))?;
     put_length(&mut text, members.len())?;
     put_pairs(&mut text, members)?;
-    put_framed(alloc, out, 261, tag, text.as_slice())
+    put_framed(out, 261, tag, text.as_slice())
 }
 
 fn put_wide_name(out: &mut Vec<u8>, name: &[u8]) -> Result<(), AllocError>
@@ -87,5 +87,5 @@ pub fn put_named(
     put_number(&mut text, u32::from(status.number()))?;
     put_length(&mut text, count)?;
     text.put_slice(groups)?;
-    put_framed(alloc, out, 262, tag, text.as_slice())
+    put_framed(out, 262, tag, text.as_slice())
 }

@@ -28,7 +28,7 @@ pub fn put_answer(
 {
     let mut text = Vec::new(alloc);
     put_number(&mut text, u32::from(status.number()))?;
-    put_framed(alloc, out, 256 + code.number(), tag, text.as_slice())
+    put_framed(out, 256 + code.number(), tag, text.as_slice())
 }
 
 /// Puts last that a message was denied, or leaves all as it was.
@@ -46,7 +46,7 @@ pub fn put_denied(
     put_number(&mut text, u32::from(status.number()))?;
     put_number(&mut text, denial.verdict)?;
     put_number(&mut text, denial.rule)?;
-    put_framed(alloc, out, 515, 0, text.as_slice())
+    put_framed(out, 515, 0, text.as_slice())
 }
 
 /// Puts a message of the client's group last, or leaves all as it was.
@@ -64,7 +64,7 @@ pub fn put_message(
 {
     let mut text = Vec::new(alloc);
     put_message_content(&mut text, node, pid, group, message)?;
-    put_framed(alloc, out, 513, 0, text.as_slice())
+    put_framed(out, 513, 0, text.as_slice())
 }
 
 /// Puts a change of the client's group last, or leaves all as it was.
@@ -82,7 +82,7 @@ pub fn put_change(
 {
     let mut text = Vec::new(alloc);
     put_change_content(&mut text, group, members, left, joined)?;
-    put_framed(alloc, out, 514, 0, text.as_slice())
+    put_framed(out, 514, 0, text.as_slice())
 }
 
 fn put_message_content(
