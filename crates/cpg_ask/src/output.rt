@@ -2,6 +2,7 @@
 
 #![tactic(auto, using(crate::proofs::Begins::begins_self, crate::proofs::Begins::begins_before))]
 
+ghost use Rattle.std.specs.Prelude.{◌++◌};
 ghost use Rattle.byteorder.specs.Endian.{little_bytes};
 ghost use Rattle.cpg_ask.specs.Adding.{Adds};
 ghost use Rattle.cpg_ask.specs.Heads.{head_bytes};
@@ -68,4 +69,21 @@ pub(crate) fn put_length(out: &mut Vec<u8>, length: usize) -> Result<(), AllocEr
     ensures { Adds result out.old.items out.new.items (number length) }
 {
     put_count(out, length)
+}
+
+/// Four numbers of what is told.
+pub(crate) fn put_four(
+    out: &mut Vec<u8>,
+    first: usize,
+    second: usize,
+    third: usize,
+    fourth: usize,
+) -> Result<(), AllocError>
+    ensures { Adds result out.old.items out.new.items (number first ++ (number second ++ (number third ++ number fourth))) }
+{
+    put_length(out, first)?;
+    put_length(out, second)?;
+    put_length(out, third)?;
+    put_length(out, fourth)?;
+    Ok(())
 }
