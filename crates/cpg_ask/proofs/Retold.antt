@@ -14,7 +14,6 @@ use Rattle.cpg_ask.specs.declared.statuses.Status.{Status}
 use Rattle.cpg_wire.proofs.ReadsNumbers.{text_reads}
 use Rattle.cpg_ask.specs.Numbers.{little_at, IsU32}
 use Rattle.cpg_ask.specs.Heads.{HeadFits}
-use Rattle.cpg_ask.specs.Codes.{ask_code}
 use Rattle.cpg_ask.specs.Statuses.{status_number}
 use Rattle.cpg_ask.specs.Tells.{Tell, Answer, Greets, Listed, Named, Denied, Message, Change, Process, gap, filled_up, number, pairs_bytes, listing_bytes, processes_bytes, all_bytes, tell_content, tell_kind, tell_tag, tell_bytes}
 use Rattle.cpg_ask.proofs.Littles.{u64_reads}

@@ -2,7 +2,7 @@
 
 #![tactic(auto, using(crate::proofs::Begins::begins_self, crate::proofs::Begins::begins_before, crate::proofs::Begins::begins_taken))]
 
-ghost use Rattle.std.specs.Prelude.{◌≡◌, ◌++◌, ◌<◌, length, OnOk, OnErr, IsOkUnless};
+ghost use Rattle.std.specs.Prelude.{◌≡◌, ◌++◌, ◌<◌, OnOk, OnErr, IsOkUnless};
 ghost use Rattle.cpg_ask.specs.Adding.{Adds};
 ghost use Rattle.cpg_ask.specs.Tells.{gap, filled_up, framed};
 

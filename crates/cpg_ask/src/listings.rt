@@ -1,8 +1,8 @@
 //! The answers to asks for members and for groups.
 
-ghost use Rattle.std.specs.Prelude.{◌≡◌, ◌≤◌, ◌++◌, List, length, OnOk, OnErr, IsOkUnless};
+ghost use Rattle.std.specs.Prelude.{◌≡◌, ◌++◌, List, length, OnOk, OnErr, IsOkUnless};
 ghost use Rattle.std.specs.List.{flat_map};
-ghost use Rattle.cpg_ask.specs.Tells.{Listing, Listed, Named, count_bytes, wide_name, pair_bytes, pairs_bytes, listing_bytes, tell_content, tell_bytes};
+ghost use Rattle.cpg_ask.specs.Tells.{Listing, Listed, Named, wide_name, pair_bytes, pairs_bytes, listing_bytes, tell_bytes};
 
 use crate::frames::put_framed;
 use crate::output::{put_length, put_number};

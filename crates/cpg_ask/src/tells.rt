@@ -2,7 +2,7 @@
 
 ghost use Rattle.std.specs.Prelude.{◌≡◌, ◌++◌, map, OnOk, OnErr, IsOkUnless};
 ghost use Rattle.std.specs.List.{flat_map};
-ghost use Rattle.cpg_ask.specs.Tells.{Answer, Denied, Message, Change, answer_kind, still, moved, cause_code, process_bytes, member_bytes, move_bytes, all_bytes, tell_bytes};
+ghost use Rattle.cpg_ask.specs.Tells.{Answer, Denied, Message, Change, still, moved, cause_code, process_bytes, member_bytes, move_bytes, all_bytes, tell_bytes};
 
 use crate::codes::AskCode;
 use crate::frames::{put_filled, put_framed};

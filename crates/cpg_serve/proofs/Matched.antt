@@ -1,14 +1,12 @@
 -- Each verdict answers the call that it is on.
-use Rattle.std.proofs.Common.{◌≡◌, ◌+◌, ℕ, suc, false, List, [], ◌∷◌, ◌++◌, map, length, take, Some, sym, ap, subst, ◌∙◌, length-append, arith}
-use Rattle.std.specs.List.{flat_map, slice_get}
+use Rattle.std.proofs.Common.{◌≡◌, ◌+◌, ℕ, suc, List, [], map, length, take, sym, ap, subst, ◌∙◌, length-append, arith}
+use Rattle.std.specs.List.{flat_map}
 use Rattle.cpg_entry.specs.declared.entries.Entry.{Entry}
 use Rattle.cpg_record.specs.declared.events.Event.{Event}
 use Rattle.cpg_record.specs.declared.records.Record.{Record}
 use Rattle.cpg_record.specs.declared.verdicts.Verdict.{Verdict}
 use Rattle.std.proofs.lemmas.Option.{same_Some}
-use Rattle.cpg_ring.specs.Worlds.{item}
-use Rattle.cpg_node.specs.declared.connections.Client.{Client}
-use Rattle.cpg_node.specs.Nodes.{inbox_of, open_client, if_open, records_of}
+use Rattle.cpg_node.specs.Nodes.{inbox_of, records_of}
 use Rattle.cpg_node.specs.Calls.{connected}
 use Rattle.cpg_ask.specs.Asks.{Ask}
 use Rattle.cpg_ask.proofs.Mapped.{length_mapped}
