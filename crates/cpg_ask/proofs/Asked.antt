@@ -4,23 +4,23 @@ use Rattle.byteorder.specs.Endian.{little_bytes}
 use Rattle.std.proofs.lemmas.Bool.{eqb-true, le-ltb, ltb-false}
 use Rattle.std.proofs.lemmas.List.{nil_from_length, take_at, drop_at, append_cancel_left}
 use Rattle.std.proofs.lemmas.Option.{cond_some}
-use Rattle.cpg_wire.specs.Reading.{◌>>=◌}
+use Rattle.cpg_wire.specs.Reading.{◌>>=◌, text_at}
 use Rattle.cpg_wire.proofs.Readers.{IsBytes, IsBytes-take, bind_some, some_is}
-use Rattle.cpg_wire.proofs.ReadsNumbers.{form_of_code}
+use Rattle.cpg_wire.proofs.ReadsNumbers.{form_of_code, text_reads}
 use Rattle.cpg_ask.specs.declared.heads.Head.{Head}
 use Rattle.cpg_ask.specs.declared.rules.RuleWords.{RuleWords}
 use Rattle.cpg_ask.specs.declared.asks.TheConstants.{MOST_ASK}
 use Rattle.cpg_ask.specs.declared.codes.AskCode.{AskCode}
 use Rattle.cpg_ask.specs.declared.codes.AskCode.TheVariants as codes
-use Rattle.cpg_ask.specs.Numbers.{little_at, text_at}
+use Rattle.cpg_ask.specs.Numbers.{little_at}
 use Rattle.cpg_ask.specs.Heads.{head_bytes, head_at, HeadFits}
 use Rattle.cpg_ask.specs.Rules.{rule_at}
 use Rattle.cpg_ask.specs.Codes.{ask_code, ask_code_of, all_codes}
 use Rattle.cpg_ask.specs.Asks.{Want, Hello, Join, Leave, Send, Members, Groups, Insert, Remove, Ask, Reading, Whole, Broken, code_of}
 use Rattle.cpg_ask.specs.Reading.{if_whole, hello_in, groups_in, insert_in, remove_in, asked_in, want_in, whole_of, told_in, behind, read_of}
 use Rattle.cpg_ask.specs.Spelling.{content, head_of, spelling, WantFits, IsAsk}
-use Rattle.cpg_ask.proofs.Littles.{u32_reads, text_reads}
-use Rattle.cpg_ask.proofs.Fields.{head_reads, rule_reads}
+use Rattle.cpg_ask.proofs.Littles.{u32_reads}
+use Rattle.cpg_ask.proofs.Fields.{head_reads, rule_reads, code_few}
 
 -- ---- from asks to bytes and back
 
@@ -37,18 +37,8 @@ want_again (Groups members) h = ap (λ (o : Option (ℕ × List ℕ)). o >>= λ 
 want_again (Insert rule name) h = ap (λ (o : Option (RuleWords × List ℕ)). o >>= λ x. Some (Insert x.0 x.1)) (rule_reads.again rule name h)
 want_again (Remove id name) h = ap (λ (o : Option (ℕ × List ℕ)). o >>= λ x. Some (Remove x.0 x.1)) (u32_reads.again id name h)
 
-code_small : (code : AskCode) → ask_code code ≤ 65535
-code_small codes.Hello = omega arith
-code_small codes.Join = omega arith
-code_small codes.Leave = omega arith
-code_small codes.Send = omega arith
-code_small codes.Members = omega arith
-code_small codes.Groups = omega arith
-code_small codes.Insert = omega arith
-code_small codes.Remove = omega arith
-
 head_fits : (ask : Ask) → IsAsk ask → HeadFits (head_of ask)
-head_fits ask h = record { count = omega (arith, h.short); kind = code_small (code_of ask.want); tag = h.tag }
+head_fits ask h = record { count = omega (arith, h.short); kind = omega (arith, code_few (code_of ask.want)); tag = h.tag }
 
 pub read_again : (ask : Ask) (more : List ℕ) → IsAsk ask → read_of (spelling ask ++ more) ≡ Whole ask (length (spelling ask))
 unfolding read_of

@@ -2,7 +2,7 @@
 use Rattle.std.proofs.Common.{◌≡◌, ℕ, Bool, true, false, cond, ltb, List, ◌++◌, Option, Some, None, refl, ap, ◌∙◌}
 use Rattle.cpg_ask.specs.declared.heads.Head.{Head}
 use Rattle.cpg_ask.specs.declared.asks.TheConstants.{MOST_ASK}
-use Rattle.cpg_ask.specs.Numbers.{text_at}
+use Rattle.cpg_wire.specs.Reading.{text_at}
 use Rattle.cpg_ask.specs.Heads.{head_at}
 use Rattle.cpg_ask.specs.Asks.{Broken}
 use Rattle.cpg_ask.specs.Reading.{told_in, behind, read_of}

@@ -1,15 +1,30 @@
--- Heads and rules, from bytes and back.
-use Rattle.std.proofs.Common.{◌≡◌, ℕ, List, ◌++◌, Option, Some, refl, ap, ◌∙◌}
+-- Heads, words and rules, from bytes and back.
+use Rattle.std.proofs.Common.{◌≡◌, ◌≤◌, ℕ, List, ◌++◌, Option, Some, refl, ap, ◌∙◌, arith}
 use Rattle.byteorder.specs.Endian.{little_bytes}
 use Rattle.cpg_wire.specs.Reading.{◌>>=◌}
-use Rattle.cpg_wire.proofs.Readers.{bind_some, some_is, ReadsBack, reads3, reads4}
+use Rattle.cpg_wire.proofs.Readers.{bind_some, some_is, ReadsBack, reads1, reads3, reads4}
 use Rattle.cpg_ask.specs.declared.heads.Head.{Head}
 use Rattle.cpg_ask.specs.declared.rules.RuleWords.{RuleWords}
 use Rattle.cpg_ask.specs.declared.rules.WhoWords.{WhoWords}
 use Rattle.cpg_ask.specs.Numbers.{little_at, IsU16, IsU32}
 use Rattle.cpg_ask.specs.Heads.{head_bytes, head_at, HeadFits}
-use Rattle.cpg_ask.specs.Rules.{who_bytes, rule_bytes, who_at, rule_at, WhoFits, RuleFits}
+use Rattle.cpg_ask.specs.declared.codes.AskCode.{AskCode}
+use Rattle.cpg_ask.specs.declared.codes.AskCode.TheVariants as codes
+use Rattle.cpg_ask.specs.declared.words.Words.{Words}
+use Rattle.cpg_ask.specs.Codes.{ask_code}
+use Rattle.cpg_ask.specs.Words.{words_bytes, words_at, WordsFit}
+use Rattle.cpg_ask.specs.Rules.{who_of, who_bytes, rule_bytes, who_at, rule_at, WhoFits, RuleFits}
 use Rattle.cpg_ask.proofs.Littles.{u16_reads, u32_reads, little_more}
+
+pub code_few : (code : AskCode) → ask_code code ≤ 8
+code_few codes.Hello = omega arith
+code_few codes.Join = omega arith
+code_few codes.Leave = omega arith
+code_few codes.Send = omega arith
+code_few codes.Members = omega arith
+code_few codes.Groups = omega arith
+code_few codes.Insert = omega arith
+code_few codes.Remove = omega arith
 
 pub head_reads : ReadsBack Head head_at head_bytes HeadFits
 unfolding head_at
@@ -18,13 +33,19 @@ head_reads = reads3 ℕ ℕ ℕ Head (little_at 4) (little_bytes 4) IsU32 u32_re
     (λ a b c h k l. (refl, record { count = h; kind = k; tag = l }))
     (λ d h. (d.count, d.kind, d.tag, refl, h.count, h.kind, h.tag))
 
+pub words_reads : ReadsBack Words words_at words_bytes WordsFit
+unfolding words_at
+words_reads = reads4 ℕ ℕ ℕ ℕ Words (little_at 4) (little_bytes 4) IsU32 u32_reads (little_at 4) (little_bytes 4) IsU32 u32_reads (little_at 4) (little_bytes 4) IsU32 u32_reads
+    (λ b. little_at 4) (little_bytes 4) (λ b. IsU32) (λ b h. u32_reads)
+    (λ a b c d. record { first = a; second = b; third = c; fourth = d }) words_bytes WordsFit
+    (λ a b c d h k l m. (refl, record { first = h; second = k; third = l; fourth = m }))
+    (λ w h. (w.first, w.second, w.third, w.fourth, refl, h.first, h.second, h.third, h.fourth))
+
 pub who_reads : ReadsBack WhoWords who_at who_bytes WhoFits
 unfolding who_at
-who_reads = reads4 ℕ ℕ ℕ ℕ WhoWords (little_at 4) (little_bytes 4) IsU32 u32_reads (little_at 4) (little_bytes 4) IsU32 u32_reads (little_at 4) (little_bytes 4) IsU32 u32_reads
-    (λ b. little_at 4) (little_bytes 4) (λ b. IsU32) (λ b h. u32_reads)
-    (λ a b c d. record { conditions = a; uid = b; gid = c; node = d }) who_bytes WhoFits
-    (λ a b c d h k l m. (refl, record { conditions = h; uid = k; gid = l; node = m }))
-    (λ w h. (w.conditions, w.uid, w.gid, w.node, refl, h.conditions, h.uid, h.gid, h.node))
+who_reads = reads1 Words WhoWords words_at words_bytes WordsFit words_reads who_of who_bytes WhoFits
+    (λ w h. (refl, record { conditions = h.first; uid = h.second; gid = h.third; node = h.fourth }))
+    (λ w h. (record { first = w.conditions; second = w.uid; third = w.gid; fourth = w.node }, refl, record { first = h.conditions; second = h.uid; third = h.gid; fourth = h.node }))
 
 pub rule_reads : ReadsBack RuleWords rule_at rule_bytes RuleFits
 unfolding rule_at

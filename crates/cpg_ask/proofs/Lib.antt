@@ -3,8 +3,8 @@ pub mod Fields
 pub mod Asked
 pub mod Cutting
 pub mod Named
+pub mod Begins
 pub mod Breaking
 pub mod Mapped
 pub mod Parts
 pub mod Retold
-pub mod TellCutting

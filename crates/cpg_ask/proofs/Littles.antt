@@ -2,12 +2,13 @@
 use Rattle.std.proofs.Common.{◌≡◌, ℕ, zero, suc, ◌+◌, ◌*◌, ◌^◌, ◌<◌, ◌≤◌, false, ltb, List, [], ◌∷◌, ◌++◌, length, take, drop, Some, refl, sym, ap, subst, ◌∙◌, append-nil, length-append, take-append-drop, arith}
 use Rattle.std.proofs.Math.Nat.{mod-lt}
 use Rattle.std.proofs.lemmas.Bool.{le-ltb, ltb-false}
-use Rattle.std.proofs.lemmas.List.{length-take, nil_from_length, take_at, drop_at, take-append-le, drop-append-le}
+use Rattle.std.proofs.lemmas.List.{length-take, nil_from_length, drop_at, take-append-le, drop-append-le}
 use Rattle.std.specs.Int.{byte_at, bytes_low_first}
 use Rattle.byteorder.specs.Endian.{little_from, little_number, little_bytes}
 use Rattle.byteorder.specs.Numbers.{little_from-cons, little_from-lt, little_from-take, little_from-append, little_number-reads_back, length-bytes_low_first}
 use Rattle.cpg_wire.proofs.Readers.{IsBytes, IsBytes-drop, IsBytes-take, IsBytes-rest, guard_some, some_is, Takes, ReadsBack}
-use Rattle.cpg_ask.specs.Numbers.{little_at, text_at, IsU16, IsU32}
+use Rattle.cpg_wire.specs.Reading.{text_at}
+use Rattle.cpg_ask.specs.Numbers.{little_at, IsU16, IsU32}
 
 byte_below : (place x : ℕ) → byte_at place x < 256
 byte_below zero x = mod-lt x (omega arith)
@@ -90,25 +91,6 @@ little_more n bytes more x e =
 
 abbrev Text : Type 0
 Text = List ℕ × List ℕ
-
-text_takes : (n : ℕ) (bytes : List ℕ) (x : Text) → IsBytes bytes → text_at n bytes ≡ Some x → Takes bytes x.0 x.1 × (length x.0 ≡ n)
-unfolding text_at
-text_takes n bytes x fits e =
-    let made : Text = (take n bytes, drop n bytes) in
-    let g = guard_some (ltb (length bytes) n) (Some made) x e in
-    let long : n ≤ length bytes = ltb-false _ _ g.0 in
-    let len : length (take n bytes) ≡ n = omega (arith, length-take n bytes) in
-    let taken : Takes bytes (take n bytes) (drop n bytes) = record { parts = sym (take-append-drop n bytes); rest_fits = IsBytes-drop n bytes fits } in
-    subst (λ (y : Text). Takes bytes y.0 y.1 × (length y.0 ≡ n)) (some_is made x g.1) (taken, len)
-
-text_again : (n : ℕ) (text rest : List ℕ) → length text ≡ n → text_at n (text ++ rest) ≡ Some (text, rest)
-unfolding text_at
-text_again n text rest len =
-    let long : ltb (length (text ++ rest)) n ≡ false = le-ltb _ _ (omega (arith, length-append text rest)) in
-    rw (long, take_at text rest n len, drop_at text rest n len) refl
-
-pub text_reads : (n : ℕ) → ReadsBack (List ℕ) (text_at n) (λ t. t) (λ t. length t ≡ n)
-text_reads n = record { takes = text_takes n; again = text_again n }
 
 -- what follows does not change a text that stands in front
 pub text_more : (n : ℕ) (bytes more : List ℕ) (t : Text) → text_at n bytes ≡ Some t → text_at n (bytes ++ more) ≡ Some (t.0, t.1 ++ more)

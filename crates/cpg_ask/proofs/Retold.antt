@@ -5,30 +5,33 @@ use Rattle.std.proofs.lemmas.Bool.{le-ltb}
 use Rattle.std.proofs.lemmas.List.{take_at, drop_at, length-replicate}
 use Rattle.byteorder.specs.Endian.{little_bytes}
 use Rattle.cpg_entry.specs.declared.messages.TheConstants.{MOST_MESSAGE_BYTES}
-use Rattle.cpg_wire.specs.Reading.{◌>>=◌}
+use Rattle.cpg_wire.specs.Reading.{◌>>=◌, text_at}
 use Rattle.cpg_ask.specs.declared.heads.Head.{Head}
 use Rattle.cpg_ask.specs.declared.codes.AskCode.{AskCode}
 use Rattle.cpg_ask.specs.declared.codes.AskCode.TheVariants as codes
 use Rattle.cpg_ask.specs.declared.greetings.Greeting.{Greeting as Where}
 use Rattle.cpg_ask.specs.declared.statuses.Status.{Status}
-use Rattle.cpg_ask.specs.Numbers.{little_at, text_at, IsU32}
+use Rattle.cpg_wire.proofs.ReadsNumbers.{text_reads}
+use Rattle.cpg_ask.specs.Numbers.{little_at, IsU32}
 use Rattle.cpg_ask.specs.Heads.{HeadFits}
-use Rattle.cpg_ask.specs.Codes.{ask_code}
 use Rattle.cpg_ask.specs.Statuses.{status_number}
 use Rattle.cpg_ask.specs.Tells.{Tell, Answer, Greets, Listed, Named, Denied, Message, Change, Process, gap, filled_up, number, pairs_bytes, listing_bytes, processes_bytes, all_bytes, tell_content, tell_kind, tell_tag, tell_bytes}
-use Rattle.cpg_ask.proofs.Littles.{u64_reads, text_reads}
-use Rattle.cpg_ask.proofs.Fields.{head_reads}
+use Rattle.cpg_ask.proofs.Littles.{u64_reads}
+use Rattle.cpg_ask.proofs.Fields.{head_reads, words_reads, code_few}
 use Rattle.cpg_ask.specs.declared.words.Words.{Words}
 use Rattle.cpg_ask.specs.declared.tidings.TheConstants.{MOST_TELL}
 use Rattle.cpg_ask.specs.Kinds.{kind_of}
 use Rattle.cpg_ask.specs.Tidings as tidings
 use Rattle.cpg_ask.specs.Tidings.{filling, tiding_of}
-use Rattle.cpg_ask.specs.TellReading.{answer_in, greeting_of, greeting_in, members_in, groups_in, denied_in, message_of, message_in, change_of, change_in, told_as, tiding_in, Whole, behind, read_of}
+use Rattle.cpg_ask.specs.TellReading.{answer_in, greeting_of, greeting_in, members_in, numbered_at, groups_in, denied_in, message_of, message_in, change_of, change_in, told_as, answered_in, tiding_in, Whole, behind, read_of}
 use Rattle.cpg_ask.specs.TellStreams.{TellFits, IsTell}
-use Rattle.cpg_ask.proofs.Parts.{status_again, status_fits, number_again, status_at_again, words_reads, processes_length}
+use Rattle.cpg_ask.proofs.Parts.{status_again, status_fits, number_again, status_at_again, numbered_again, processes_length}
 
 abbrev Number : Type 0
 Number = ℕ × List ℕ
+
+abbrev Numbered : Type 0
+Numbered = (Status × ℕ) × List ℕ
 
 abbrev Text : Type 0
 Text = List ℕ × List ℕ
@@ -46,27 +49,25 @@ greets_again tag s g z h =
     ∙ (ap (λ (o : Option Status). o >>= λ t. little_at 8 rest >>= λ r. Some (tidings.Greeting tag t g.node g.nodes MOST_MESSAGE_BYTES r.0)) (status_again s)
     ∙ ap (λ (o : Option Number). o >>= λ r. Some (tidings.Greeting tag s g.node g.nodes MOST_MESSAGE_BYTES r.0)) (u64_reads.again g.ring z h.2))
 
+-- a status, a number and what follows them, filled up
+numbered_then : (s : Status) (n : ℕ) (rest z : List ℕ) → IsU32 n → numbered_at ((number (status_number s) ++ (number n ++ rest)) ++ z) ≡ Some ((s, n), rest ++ z)
+numbered_then s n rest z h =
+    ap numbered_at (append_assoc (number (status_number s)) (number n ++ rest) z ∙ ap (λ (l : List ℕ). number (status_number s) ++ l) (append_assoc (number n) rest z))
+    ∙ numbered_again s n (rest ++ z) h
+
 members_again : (tag : ℕ) (s : Status) (n : ℕ) (rest z : List ℕ) → IsU32 n → members_in tag ((number (status_number s) ++ (number n ++ rest)) ++ z) ≡ Some (tidings.Members tag s n (rest ++ z))
 unfolding members_in
-members_again tag s n rest z h =
-    ap (members_in tag) (append_assoc (number (status_number s)) (number n ++ rest) z ∙ ap (λ (l : List ℕ). number (status_number s) ++ l) (append_assoc (number n) rest z))
-    ∙ (ap (λ (o : Option (Status × List ℕ)). o >>= λ t. little_at 4 t.1 >>= λ c. Some (tidings.Members tag t.0 c.0 c.1)) (status_at_again s (number n ++ (rest ++ z)))
-    ∙ ap (λ (o : Option Number). o >>= λ c. Some (tidings.Members tag s c.0 c.1)) (number_again n (rest ++ z) h))
+members_again tag s n rest z h = ap (λ (o : Option Numbered). o >>= λ x. Some (tidings.Members tag x.0.0 x.0.1 x.1)) (numbered_then s n rest z h)
 
 groups_again : (tag : ℕ) (s : Status) (n : ℕ) (rest z : List ℕ) → IsU32 n → groups_in tag ((number (status_number s) ++ (number n ++ rest)) ++ z) ≡ Some (tidings.Groups tag s n (rest ++ z))
 unfolding groups_in
-groups_again tag s n rest z h =
-    ap (groups_in tag) (append_assoc (number (status_number s)) (number n ++ rest) z ∙ ap (λ (l : List ℕ). number (status_number s) ++ l) (append_assoc (number n) rest z))
-    ∙ (ap (λ (o : Option (Status × List ℕ)). o >>= λ t. little_at 4 t.1 >>= λ c. Some (tidings.Groups tag t.0 c.0 c.1)) (status_at_again s (number n ++ (rest ++ z)))
-    ∙ ap (λ (o : Option Number). o >>= λ c. Some (tidings.Groups tag s c.0 c.1)) (number_again n (rest ++ z) h))
+groups_again tag s n rest z h = ap (λ (o : Option Numbered). o >>= λ x. Some (tidings.Groups tag x.0.0 x.0.1 x.1)) (numbered_then s n rest z h)
 
 denied_again : (s : Status) (v r : ℕ) (z : List ℕ) → IsU32 v → IsU32 r → denied_in ((number (status_number s) ++ (number v ++ number r)) ++ z) ≡ Some (tidings.Denied s v r)
 unfolding denied_in
 denied_again s v r z h k =
-    ap denied_in (append_assoc (number (status_number s)) (number v ++ number r) z ∙ ap (λ (l : List ℕ). number (status_number s) ++ l) (append_assoc (number v) (number r) z))
-    ∙ (ap (λ (o : Option (Status × List ℕ)). o >>= λ t. little_at 4 t.1 >>= λ a. little_at 4 a.1 >>= λ b. Some (tidings.Denied t.0 a.0 b.0)) (status_at_again s (number v ++ (number r ++ z)))
-    ∙ (ap (λ (o : Option Number). o >>= λ a. little_at 4 a.1 >>= λ b. Some (tidings.Denied s a.0 b.0)) (number_again v (number r ++ z) h)
-    ∙ ap (λ (o : Option Number). o >>= λ b. Some (tidings.Denied s v b.0)) (number_again r z k)))
+    ap (λ (o : Option Numbered). o >>= λ x. little_at 4 x.1 >>= λ b. Some (tidings.Denied x.0.0 x.0.1 b.0)) (numbered_then s v (number r) z h)
+    ∙ ap (λ (o : Option Number). o >>= λ b. Some (tidings.Denied s v b.0)) (number_again r z k)
 
 -- a message behind its four numbers
 message_behind : (node pid : ℕ) (m g z : List ℕ) → message_of (record { first = node; second = pid; third = length m; fourth = length g }) ((filled_up m ++ g) ++ z) ≡ Some (tidings.Message node pid g m)
@@ -111,7 +112,7 @@ change_again g ms ls js z h =
     ∙ change_behind g ms ls js z
 
 tiding_again : (tell : Tell) → TellFits tell → tiding_in (tell_kind tell) (tell_tag tell) (filled_up (tell_content tell)) ≡ Some (tiding_of tell)
-unfolding tiding_in kind_of told_as
+unfolding tiding_in kind_of told_as answered_in
 tiding_again (Answer codes.Join tag s) h = answer_again codes.Join tag s (filling (Answer codes.Join tag s))
 tiding_again (Answer codes.Leave tag s) h = answer_again codes.Leave tag s (filling (Answer codes.Leave tag s))
 tiding_again (Answer codes.Insert tag s) h = answer_again codes.Insert tag s (filling (Answer codes.Insert tag s))
@@ -126,16 +127,6 @@ tiding_again (Named tag s listings) h = groups_again tag s (length listings) (fl
 tiding_again (Denied s d) h = denied_again s d.verdict d.rule (filling (Denied s d)) h.0 h.1
 tiding_again (Message node pid g m) h = message_again node pid g m (filling (Message node pid g m)) h
 tiding_again (Change g ms ls js) h = change_again g ms ls js (filling (Change g ms ls js)) h
-
-code_few : (code : AskCode) → ask_code code ≤ 8
-code_few codes.Hello = omega arith
-code_few codes.Join = omega arith
-code_few codes.Leave = omega arith
-code_few codes.Send = omega arith
-code_few codes.Members = omega arith
-code_few codes.Groups = omega arith
-code_few codes.Insert = omega arith
-code_few codes.Remove = omega arith
 
 kind_small : (tell : Tell) → tell_kind tell ≤ 65535
 kind_small (Answer code tag s) = let few = code_few code in omega (arith, few)

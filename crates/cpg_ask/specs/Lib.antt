@@ -1,7 +1,9 @@
 pub mod Numbers
+pub mod Adding
 pub mod Heads
 pub mod Asks
 pub mod Codes
+pub mod Words
 pub mod Rules
 pub mod Reading
 pub mod Spelling

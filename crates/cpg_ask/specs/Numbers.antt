@@ -1,14 +1,10 @@
 -- Numbers on the stream: the lowest byte first, as both ends stand on one machine that keeps them so.
-use Rattle.std.specs.Prelude.{ℕ, ◌≤◌, List, length, take, drop, Option, Some, None, nat_lt, if◌then◌else◌}
+use Rattle.std.specs.Prelude.{ℕ, ◌≤◌, List, length, drop, Option, Some, None, nat_lt, if◌then◌else◌}
 use Rattle.byteorder.specs.Endian.{little_number}
 
 -- a number of that many bytes, and what follows it
 abbrev pub little_at : ℕ → List ℕ → Option (ℕ × List ℕ)
 little_at count bytes = if nat_lt (length bytes) count then None else Some (little_number count bytes, drop count bytes)
-
--- that many bytes, and what follows them
-unfoldable pub text_at : ℕ → List ℕ → Option (List ℕ × List ℕ)
-text_at count bytes = if nat_lt (length bytes) count then None else Some (take count bytes, drop count bytes)
 
 -- a number of two bytes
 abbrev pub IsU16 : ℕ → Type 0

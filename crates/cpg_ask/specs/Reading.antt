@@ -1,11 +1,11 @@
 -- Reading the front of a stream, as a function of its bytes.
 use Rattle.std.specs.Prelude.{ℕ, ◌+◌, List, length, Option, Some, None, nat_lt, ◌==◌, if◌then◌else◌}
-use Rattle.cpg_wire.specs.Reading.{◌>>=◌}
+use Rattle.cpg_wire.specs.Reading.{◌>>=◌, text_at}
 use Rattle.cpg_ask.specs.declared.heads.Head.{Head}
 use Rattle.cpg_ask.specs.declared.asks.TheConstants.{MOST_ASK}
 use Rattle.cpg_ask.specs.declared.codes.AskCode.{AskCode}
 use Rattle.cpg_ask.specs.declared.codes.AskCode.TheVariants as codes
-use Rattle.cpg_ask.specs.Numbers.{little_at, text_at}
+use Rattle.cpg_ask.specs.Numbers.{little_at}
 use Rattle.cpg_ask.specs.Heads.{head_at}
 use Rattle.cpg_ask.specs.Rules.{rule_at}
 use Rattle.cpg_ask.specs.Codes.{ask_code_of}

@@ -13,7 +13,9 @@ use Rattle.cpg_rules.specs.declared.rules.Right.TheVariants as rights
 use Rattle.cpg_wire.specs.Codes.{form_of, effect_code, right_code}
 use Rattle.cpg_ask.specs.declared.rules.RuleWords.{RuleWords}
 use Rattle.cpg_ask.specs.declared.rules.WhoWords.{WhoWords}
+use Rattle.cpg_ask.specs.declared.words.Words.{Words}
 use Rattle.cpg_ask.specs.Numbers.{little_at, IsU32}
+use Rattle.cpg_ask.specs.Words.{words_at}
 
 abbrev pub who_bytes : WhoWords → List ℕ
 who_bytes who = little_bytes 4 who.conditions ++ (little_bytes 4 who.uid ++ (little_bytes 4 who.gid ++ little_bytes 4 who.node))
@@ -21,13 +23,12 @@ who_bytes who = little_bytes 4 who.conditions ++ (little_bytes 4 who.uid ++ (lit
 abbrev pub rule_bytes : RuleWords → List ℕ
 rule_bytes rule = little_bytes 4 rule.index ++ (little_bytes 4 rule.effect ++ (little_bytes 4 rule.right ++ who_bytes rule.who))
 
+-- four words, as whom they speak of
+abbrev pub who_of : Words → WhoWords
+who_of w = record { conditions = w.first; uid = w.second; gid = w.third; node = w.fourth }
+
 unfoldable pub who_at : List ℕ → Option (WhoWords × List ℕ)
-who_at bytes = do
-  conditions ← little_at 4 bytes
-  uid ← little_at 4 conditions.1
-  gid ← little_at 4 uid.1
-  node ← little_at 4 gid.1
-  Some (record { conditions = conditions.0; uid = uid.0; gid = gid.0; node = node.0 }, node.1)
+who_at bytes = words_at bytes >>= λ w. Some (who_of w.0, w.1)
 
 unfoldable pub rule_at : List ℕ → Option (RuleWords × List ℕ)
 rule_at bytes = do

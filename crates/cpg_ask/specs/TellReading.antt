@@ -1,6 +1,6 @@
 -- Reading the front of what a client is told, as a function of its bytes.
 use Rattle.std.specs.Prelude.{ℕ, ◌+◌, ◌*◌, List, [], ◌∷◌, Option, Some, None, nat_lt, if◌then◌else◌}
-use Rattle.cpg_wire.specs.Reading.{◌>>=◌}
+use Rattle.cpg_wire.specs.Reading.{◌>>=◌, text_at}
 use Rattle.cpg_wire.specs.Codes.{form_of}
 use Rattle.cpg_ask.specs.declared.heads.Head.{Head}
 use Rattle.cpg_ask.specs.declared.codes.AskCode.{AskCode}
@@ -8,7 +8,7 @@ use Rattle.cpg_ask.specs.declared.codes.AskCode.TheVariants as codes
 use Rattle.cpg_ask.specs.declared.statuses.Status.{Status}
 use Rattle.cpg_ask.specs.declared.statuses.Status.TheVariants as status
 use Rattle.cpg_ask.specs.Statuses.{status_number}
-use Rattle.cpg_ask.specs.Numbers.{little_at, text_at}
+use Rattle.cpg_ask.specs.Numbers.{little_at}
 use Rattle.cpg_ask.specs.Heads.{head_at}
 use Rattle.cpg_ask.specs.Tells.{gap}
 use Rattle.cpg_ask.specs.declared.kinds.Kind.{Kind}
@@ -18,6 +18,7 @@ use Rattle.cpg_ask.specs.declared.tidings.Front.{Front}
 use Rattle.cpg_ask.specs.declared.tidings.Front.TheVariants as fronts
 use Rattle.cpg_ask.specs.declared.tidings.TheConstants.{MOST_TELL}
 use Rattle.cpg_ask.specs.Kinds.{kind_of}
+use Rattle.cpg_ask.specs.Words.{words_at}
 use Rattle.cpg_ask.specs.Tidings.{Tiding, Answer, Greeting, Members, Groups, Denied, Message, Change, told_seen}
 
 -- what stands at the front of a stream: a whole tell of that many bytes, part of one, or what no daemon tells
@@ -38,15 +39,6 @@ all_statuses = status.Fine ∷ status.Library ∷ status.Version ∷ status.TryA
 unfoldable pub status_of : ℕ → Option Status
 status_of number = form_of status_number all_statuses number
 
--- four numbers
-unfoldable pub words_at : List ℕ → Option (Words × List ℕ)
-words_at bytes = do
-  first ← little_at 4 bytes
-  second ← little_at 4 first.1
-  third ← little_at 4 second.1
-  fourth ← little_at 4 third.1
-  Some (record { first = first.0; second = second.0; third = third.0; fourth = fourth.0 }, fourth.1)
-
 -- a status, and what follows it
 unfoldable pub status_at : List ℕ → Option (Status × List ℕ)
 status_at bytes = little_at 4 bytes >>= λ number. status_of number.0 >>= λ status. Some (status, number.1)
@@ -63,14 +55,18 @@ greeting_of tag words rest = do
 unfoldable pub greeting_in : ℕ → List ℕ → Option Tiding
 greeting_in tag text = words_at text >>= λ words. greeting_of tag words.0 words.1
 
+-- a status and a number, and what follows them
+unfoldable pub numbered_at : List ℕ → Option ((Status × ℕ) × List ℕ)
+numbered_at bytes = status_at bytes >>= λ status. little_at 4 status.1 >>= λ number. Some ((status.0, number.0), number.1)
+
 unfoldable pub members_in : ℕ → List ℕ → Option Tiding
-members_in tag text = status_at text >>= λ status. little_at 4 status.1 >>= λ count. Some (Members tag status.0 count.0 count.1)
+members_in tag text = numbered_at text >>= λ n. Some (Members tag n.0.0 n.0.1 n.1)
 
 unfoldable pub groups_in : ℕ → List ℕ → Option Tiding
-groups_in tag text = status_at text >>= λ status. little_at 4 status.1 >>= λ count. Some (Groups tag status.0 count.0 count.1)
+groups_in tag text = numbered_at text >>= λ n. Some (Groups tag n.0.0 n.0.1 n.1)
 
 unfoldable pub denied_in : List ℕ → Option Tiding
-denied_in text = status_at text >>= λ status. little_at 4 status.1 >>= λ verdict. little_at 4 verdict.1 >>= λ rule. Some (Denied status.0 verdict.0 rule.0)
+denied_in text = numbered_at text >>= λ n. little_at 4 n.1 >>= λ rule. Some (Denied n.0.0 n.0.1 rule.0)
 
 -- a message, what fills it up, and the group's name
 unfoldable pub message_of : Words → List ℕ → Option Tiding
@@ -93,15 +89,17 @@ change_of words rest = do
 unfoldable pub change_in : List ℕ → Option Tiding
 change_in text = words_at text >>= λ words. change_of words.0 words.1
 
+-- the answer to such an ask; a message has none
+unfoldable pub answered_in : AskCode → ℕ → List ℕ → Option Tiding
+answered_in codes.Hello tag text = greeting_in tag text
+answered_in codes.Members tag text = members_in tag text
+answered_in codes.Groups tag text = groups_in tag text
+answered_in codes.Send tag text = None
+answered_in code tag text = answer_in code tag text
+
 -- what is told by that kind
 unfoldable pub told_as : Kind → ℕ → List ℕ → Option Tiding
-told_as kinds.Greets tag text = greeting_in tag text
-told_as kinds.Joined tag text = answer_in codes.Join tag text
-told_as kinds.Left tag text = answer_in codes.Leave tag text
-told_as kinds.Listed tag text = members_in tag text
-told_as kinds.Named tag text = groups_in tag text
-told_as kinds.Inserted tag text = answer_in codes.Insert tag text
-told_as kinds.Removed tag text = answer_in codes.Remove tag text
+told_as (kinds.Answer code) tag text = answered_in code tag text
 told_as kinds.Message tag text = message_in text
 told_as kinds.Change tag text = change_in text
 told_as kinds.Denied tag text = denied_in text

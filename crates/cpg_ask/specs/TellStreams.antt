@@ -1,6 +1,5 @@
 -- A stream of tells, cut.
-use Rattle.std.specs.Prelude.{◌≡◌, ◌≤◌, ◌+◌, ⊤, ℕ, List, ◌++◌, length}
-use Rattle.std.specs.List.{flat_map, AllByRecursion}
+use Rattle.std.specs.Prelude.{◌≡◌, ◌≤◌, ◌+◌, ⊤, ℕ, List, length}
 use Rattle.cpg_ask.specs.declared.codes.AskCode.{AskCode}
 use Rattle.cpg_ask.specs.declared.codes.AskCode.TheVariants as codes
 use Rattle.cpg_ask.specs.Numbers.{IsU16, IsU32}
@@ -8,6 +7,7 @@ use Rattle.cpg_ask.specs.Tells.{Tell, Answer, Greets, Listed, Named, Denied, Mes
 use Rattle.cpg_ask.specs.declared.tidings.TheConstants.{MOST_TELL}
 use Rattle.cpg_ask.specs.Tidings.{Tiding}
 use Rattle.cpg_ask.specs.TellReading.{read_of, Whole}
+use Rattle.cpg_ask.specs.Streams.{IsCut}
 
 -- the answer to such an ask is a status alone
 abbrev pub IsPlain : AskCode → Type 0
@@ -38,7 +38,5 @@ abbrev pub IsRest : List ℕ → Type 0
 IsRest rest = (tiding : Tiding) (count : ℕ) → read_of rest ≡ Whole tiding count → ⊥
 
 -- the stream is these tells, and then no whole one
-pub record Cuts (stream : List ℕ) (tells : List Tell) (rest : List ℕ) : Type 0 where
-  pub parts : stream ≡ flat_map tell_bytes tells ++ rest
-  pub each : AllByRecursion IsTell tells
-  pub ends : IsRest rest
+abbrev pub Cuts : List ℕ → List Tell → List ℕ → Type 0
+Cuts stream tells rest = IsCut Tell tell_bytes IsTell IsRest stream tells rest

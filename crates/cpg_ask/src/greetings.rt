@@ -1,14 +1,14 @@
 //! The answer to a client's first ask.
 
 ghost use Rattle.std.specs.Prelude.{◌≡◌, ◌++◌, OnOk, OnErr, IsOkUnless};
-ghost use Rattle.cpg_ask.specs.Tells.{Greets, tell_content, tell_bytes};
+ghost use Rattle.cpg_ask.specs.Tells.{Greets, tell_bytes};
 
 use crate::frames::put_framed;
-use crate::output::{put_number, put_u64};
+use crate::output::{put_four, put_u64};
 use crate::statuses::Status;
 use cpg_cred::{NodeId, Refusal};
 use cpg_entry::MOST_MESSAGE_BYTES;
-use std::alloc::{AllocError, Global};
+use std::alloc::Global;
 
 /// Where a client is: the node's number, how many nodes the ring has, and the ring's number.
 #[derive(Debug, Clone, Copy, PartialEq, Eq)]
@@ -31,21 +31,13 @@ pub fn put_greeting(
     ensures memory { IsOkUnless result Refusal.Memory }
 {
     let mut text = Vec::new(alloc);
-    put_text(&mut text, tag, status, greeting)?;
-    put_framed(alloc, out, 257, tag, text.as_slice())
-}
-
-fn put_text(
-    out: &mut Vec<u8>,
-    _tag: u16,
-    status: Status,
-    greeting: &Greeting,
-) -> Result<(), AllocError>
-    ensures { OnOk result (out.new.items ≡ out.old.items ++ tell_content (Greets _tag status greeting.now)) }
-{
-    put_number(out, u32::from(status.number()))?;
-    put_number(out, u32::from(greeting.node.get()))?;
-    put_number(out, u32::from(greeting.nodes))?;
-    put_number(out, MOST_MESSAGE_BYTES as u32)?;
-    put_u64(out, u64::from(greeting.ring))
+    put_four(
+        &mut text,
+        usize::from(status.number()),
+        usize::from(greeting.node.get()),
+        usize::from(greeting.nodes),
+        MOST_MESSAGE_BYTES,
+    )?;
+    put_u64(&mut text, u64::from(greeting.ring))?;
+    put_framed(out, 257, tag, text.as_slice())
 }

@@ -4,8 +4,8 @@
 //! that it names, and it gives none exactly where that does; then nothing is said of the rest.
 
 ghost use Rattle.std.specs.Prelude.{◌≡◌, ◌==◌, length, option_map};
-ghost use Rattle.cpg_wire.specs.Reading.{Reads};
-ghost use Rattle.cpg_ask.specs.Numbers.{little_at, text_at};
+ghost use Rattle.cpg_wire.specs.Reading.{Reads, text_at};
+ghost use Rattle.cpg_ask.specs.Numbers.{little_at};
 
 use byteorder::{ByteOrder, LittleEndian};
 use std::marker::Model;
@@ -83,7 +83,7 @@ impl<'a> Input<'a> {
     }
 
     /// The next `count` bytes.
-    #[tactic(auto, unfolding(crate::specs::Numbers::text_at))]
+    #[tactic(auto, unfolding(cpg_wire::specs::Reading::text_at))]
     pub fn text(&mut self, count: usize) -> Option<&'a [u8]>
         ensures { Reads (option_map (λ text. text.now) result) self.new (text_at count self.old) }
     {

@@ -3,16 +3,12 @@
 ghost use Rattle.std.specs.Prelude.{◌≡◌};
 ghost use Rattle.cpg_ask.specs.Kinds.{kind_of};
 
+use crate::codes::AskCode;
+
 /// What is told: an answer to an ask, or news.
 #[derive(Debug, Clone, Copy, PartialEq, Eq)]
 pub enum Kind {
-    Greets,
-    Joined,
-    Left,
-    Listed,
-    Named,
-    Inserted,
-    Removed,
+    Answer(AskCode),
     Message,
     Change,
     Denied,
@@ -25,13 +21,13 @@ impl Kind {
         ensures { result ≡ kind_of number }
     {
         match number {
-            257 => Some(Kind::Greets),
-            258 => Some(Kind::Joined),
-            259 => Some(Kind::Left),
-            261 => Some(Kind::Listed),
-            262 => Some(Kind::Named),
-            263 => Some(Kind::Inserted),
-            264 => Some(Kind::Removed),
+            257 => Some(Kind::Answer(AskCode::Hello)),
+            258 => Some(Kind::Answer(AskCode::Join)),
+            259 => Some(Kind::Answer(AskCode::Leave)),
+            261 => Some(Kind::Answer(AskCode::Members)),
+            262 => Some(Kind::Answer(AskCode::Groups)),
+            263 => Some(Kind::Answer(AskCode::Insert)),
+            264 => Some(Kind::Answer(AskCode::Remove)),
             513 => Some(Kind::Message),
             514 => Some(Kind::Change),
             515 => Some(Kind::Denied),

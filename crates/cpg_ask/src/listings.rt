@@ -1,8 +1,8 @@
 //! The answers to asks for members and for groups.
 
-ghost use Rattle.std.specs.Prelude.{◌≡◌, ◌≤◌, ◌++◌, List, length, OnOk, OnErr, IsOkUnless};
+ghost use Rattle.std.specs.Prelude.{◌≡◌, ◌++◌, List, length, OnOk, OnErr, IsOkUnless};
 ghost use Rattle.std.specs.List.{flat_map};
-ghost use Rattle.cpg_ask.specs.Tells.{Listing, Listed, Named, count_bytes, wide_name, pair_bytes, pairs_bytes, listing_bytes, tell_content, tell_bytes};
+ghost use Rattle.cpg_ask.specs.Tells.{Listing, Listed, Named, wide_name, pair_bytes, pairs_bytes, listing_bytes, tell_bytes};
 
 use crate::frames::put_framed;
 use crate::output::{put_length, put_number};
@@ -44,7 +44,7 @@ pub fn put_listed(
     put_number(&mut text, u32::from(status.number()))?;
     put_length(&mut text, members.len())?;
     put_pairs(&mut text, members)?;
-    put_framed(alloc, out, 261, tag, text.as_slice())
+    put_framed(out, 261, tag, text.as_slice())
 }
 
 fn put_wide_name(out: &mut Vec<u8>, name: &[u8]) -> Result<(), AllocError>
@@ -87,5 +87,5 @@ pub fn put_named(
     put_number(&mut text, u32::from(status.number()))?;
     put_length(&mut text, count)?;
     text.put_slice(groups)?;
-    put_framed(alloc, out, 262, tag, text.as_slice())
+    put_framed(out, 262, tag, text.as_slice())
 }

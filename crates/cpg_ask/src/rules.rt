@@ -6,6 +6,7 @@ ghost use Rattle.cpg_ask.specs.Rules.{who_at, rule_at, who_bytes, rule_bytes, ef
 
 use crate::input::Input;
 use crate::output::put_u32;
+use crate::words::Words;
 use cpg_cred::MOST_NODES;
 use cpg_entry::{Effect, NodeId, Right, Rule, Who};
 use std::alloc::AllocError;
@@ -35,15 +36,12 @@ impl WhoWords {
     fn read(input: &mut Input<'_>) -> Option<WhoWords>
         ensures { Reads result input.new (who_at input.old) }
     {
-        let conditions = input.u32()?;
-        let uid = input.u32()?;
-        let gid = input.u32()?;
-        let node = input.u32()?;
+        let words = Words::read(input)?;
         Some(WhoWords {
-            conditions,
-            uid,
-            gid,
-            node,
+            conditions: words.first,
+            uid: words.second,
+            gid: words.third,
+            node: words.fourth,
         })
     }
 

@@ -2,11 +2,11 @@
 
 ghost use Rattle.std.specs.Prelude.{◌≡◌, ◌++◌, map, OnOk, OnErr, IsOkUnless};
 ghost use Rattle.std.specs.List.{flat_map};
-ghost use Rattle.cpg_ask.specs.Tells.{Answer, Denied, Message, Change, answer_kind, still, moved, cause_code, member_bytes, move_bytes, counts_bytes, all_bytes, tell_content, tell_bytes};
+ghost use Rattle.cpg_ask.specs.Tells.{Answer, Denied, Message, Change, still, moved, cause_code, process_bytes, member_bytes, move_bytes, all_bytes, tell_bytes};
 
 use crate::codes::AskCode;
 use crate::frames::{put_filled, put_framed};
-use crate::output::{put_length, put_number};
+use crate::output::{put_four, put_number};
 use crate::statuses::{Denial, Status};
 use bytes::BufMut;
 use cpg_cred::Refusal;
@@ -28,7 +28,7 @@ pub fn put_answer(
 {
     let mut text = Vec::new(alloc);
     put_number(&mut text, u32::from(status.number()))?;
-    put_framed(alloc, out, 256 + code.number(), tag, text.as_slice())
+    put_framed(out, 256 + code.number(), tag, text.as_slice())
 }
 
 /// Puts last that a message was denied, or leaves all as it was.
@@ -46,7 +46,7 @@ pub fn put_denied(
     put_number(&mut text, u32::from(status.number()))?;
     put_number(&mut text, denial.verdict)?;
     put_number(&mut text, denial.rule)?;
-    put_framed(alloc, out, 515, 0, text.as_slice())
+    put_framed(out, 515, 0, text.as_slice())
 }
 
 /// Puts a message of the client's group last, or leaves all as it was.
@@ -62,12 +62,22 @@ pub fn put_message(
     ensures err { OnErr result (out.new.items ≡ out.old.items) }
     ensures memory { IsOkUnless result Refusal.Memory }
 {
-    let mut text = Vec::new(alloc);
-    put_message_content(&mut text, node, pid, group, message)?;
-    put_framed(alloc, out, 513, 0, text.as_slice())
+    let room = message.len().saturating_add(group.len()).saturating_add(24);
+    let mut text = Vec::with_capacity(alloc, room)?;
+    put_four(
+        &mut text,
+        usize::from(node.get()),
+        pid as usize,
+        message.len(),
+        group.len(),
+    )?;
+    put_filled(&mut text, message)?;
+    text.put_slice(group)?;
+    put_framed(out, 513, 0, text.as_slice())
 }
 
 /// Puts a change of the client's group last, or leaves all as it was.
+#[tactic(auto, using(crate::proofs::Mapped::length_mapped))]
 pub fn put_change(
     alloc: Global,
     out: &mut Vec<u8>,
@@ -81,39 +91,16 @@ pub fn put_change(
     ensures memory { IsOkUnless result Refusal.Memory }
 {
     let mut text = Vec::new(alloc);
-    put_change_content(&mut text, group, members, left, joined)?;
-    put_framed(alloc, out, 514, 0, text.as_slice())
-}
-
-fn put_message_content(
-    out: &mut Vec<u8>,
-    node: NodeId,
-    pid: u32,
-    group: &[u8],
-    message: &[u8],
-) -> Result<(), AllocError>
-    ensures { OnOk result (out.new.items ≡ out.old.items ++ tell_content (Message node pid group.now message.now)) }
-{
-    put_number(out, u32::from(node.get()))?;
-    put_number(out, pid)?;
-    put_length(out, message.len())?;
-    put_length(out, group.len())?;
-    put_filled(out, message)?;
-    out.put_slice(group)
-}
-
-fn put_change_content(
-    out: &mut Vec<u8>,
-    group: &[u8],
-    members: &[Member],
-    left: &[Move],
-    joined: &[Move],
-) -> Result<(), AllocError>
-    ensures { OnOk result (out.new.items ≡ out.old.items ++ tell_content (Change group.now (map still members.now) (map moved left.now) (map moved joined.now))) }
-{
-    put_counts(out, group, members, left, joined)?;
-    put_processes(out, members, left, joined)?;
-    out.put_slice(group)
+    put_four(
+        &mut text,
+        group.len(),
+        members.len(),
+        left.len(),
+        joined.len(),
+    )?;
+    put_processes(&mut text, members, left, joined)?;
+    text.put_slice(group)?;
+    put_framed(out, 514, 0, text.as_slice())
 }
 
 fn put_processes(
@@ -129,22 +116,6 @@ fn put_processes(
     put_moves(out, joined)
 }
 
-#[tactic(auto, using(crate::proofs::Mapped::length_mapped))]
-fn put_counts(
-    out: &mut Vec<u8>,
-    group: &[u8],
-    members: &[Member],
-    left: &[Move],
-    joined: &[Move],
-) -> Result<(), AllocError>
-    ensures { OnOk result (out.new.items ≡ out.old.items ++ counts_bytes group.now (map still members.now) (map moved left.now) (map moved joined.now)) }
-{
-    put_length(out, group.len())?;
-    put_length(out, members.len())?;
-    put_length(out, left.len())?;
-    put_length(out, joined.len())
-}
-
 fn cause_number(cause: Cause) -> u32
     ensures { result ≡ cause_code cause }
 {
@@ -155,27 +126,19 @@ fn cause_number(cause: Cause) -> u32
     }
 }
 
-fn put_member(out: &mut Vec<u8>, member: &Member) -> Result<(), AllocError>
-    ensures { OnOk result (out.new.items ≡ out.old.items ++ member_bytes member.now) }
+fn put_process(out: &mut Vec<u8>, member: &Member, reason: u32) -> Result<(), AllocError>
+    ensures { OnOk result (out.new.items ≡ out.old.items ++ process_bytes (record { node = member.now.node; pid = member.now.pid; reason = reason })) }
 {
     put_number(out, u32::from(member.node.get()))?;
     put_number(out, member.pid)?;
-    put_number(out, 0)
-}
-
-fn put_move(out: &mut Vec<u8>, each: &Move) -> Result<(), AllocError>
-    ensures { OnOk result (out.new.items ≡ out.old.items ++ move_bytes each.now) }
-{
-    put_number(out, u32::from(each.member.node.get()))?;
-    put_number(out, each.member.pid)?;
-    put_number(out, cause_number(each.cause))
+    put_number(out, reason)
 }
 
 fn put_members(out: &mut Vec<u8>, members: &[Member]) -> Result<(), AllocError>
     ensures { OnOk result (out.new.items ≡ out.old.items ++ flat_map member_bytes members.now) }
 {
     for member in members {
-        put_member(out, member)?;
+        put_process(out, member, 0)?;
     }
     Ok(())
 }
@@ -184,7 +147,7 @@ fn put_moves(out: &mut Vec<u8>, moves: &[Move]) -> Result<(), AllocError>
     ensures { OnOk result (out.new.items ≡ out.old.items ++ flat_map move_bytes moves.now) }
 {
     for each in moves {
-        put_move(out, each)?;
+        put_process(out, &each.member, cause_number(each.cause))?;
     }
     Ok(())
 }

@@ -2,7 +2,7 @@
 
 ghost use Rattle.std.specs.Prelude.{◌≡◌, option_map};
 ghost use Rattle.cpg_ask.specs.Tidings.{told_seen};
-ghost use Rattle.cpg_ask.specs.TellReading.{reading_seen, answer_in, greeting_of, greeting_in, members_in, groups_in, denied_in, message_of, message_in, change_of, change_in, told_as, tiding_in, read_of};
+ghost use Rattle.cpg_ask.specs.TellReading.{reading_seen, answer_in, answered_in, greeting_of, greeting_in, members_in, groups_in, denied_in, message_of, message_in, change_of, change_in, told_as, tiding_in, read_of};
 
 use crate::codes::AskCode;
 use crate::frames::gap;
@@ -10,7 +10,7 @@ use crate::heads::Head;
 use crate::input::Input;
 use crate::kinds::Kind;
 use crate::statuses::Status;
-use crate::words::{Words, read_status, status_of};
+use crate::words::{Words, read_numbered, read_status, status_of};
 
 /// How many bytes a tell has at most, behind its head.
 pub const MOST_TELL: u32 = 67_108_864;
@@ -81,16 +81,25 @@ impl<'a> Told<'a> {
         ensures { option_map told_seen result ≡ told_as kind tag text.now }
     {
         match kind {
-            Kind::Greets => Told::read_greeting(tag, text),
-            Kind::Joined => Told::read_answer(AskCode::Join, tag, text),
-            Kind::Left => Told::read_answer(AskCode::Leave, tag, text),
-            Kind::Listed => Told::read_members(tag, text),
-            Kind::Named => Told::read_groups(tag, text),
-            Kind::Inserted => Told::read_answer(AskCode::Insert, tag, text),
-            Kind::Removed => Told::read_answer(AskCode::Remove, tag, text),
+            Kind::Answer(code) => Told::read_answered(code, tag, text),
             Kind::Message => Told::read_message(text),
             Kind::Change => Told::read_change(text),
             Kind::Denied => Told::read_denied(text),
+        }
+    }
+
+    #[tactic(auto, unfolding(crate::specs::TellReading::answered_in))]
+    fn read_answered(code: AskCode, tag: u16, text: &'a [u8]) -> Option<Told<'a>>
+        ensures { option_map told_seen result ≡ answered_in code tag text.now }
+    {
+        match code {
+            AskCode::Hello => Told::read_greeting(tag, text),
+            AskCode::Members => Told::read_members(tag, text),
+            AskCode::Groups => Told::read_groups(tag, text),
+            AskCode::Send => None,
+            AskCode::Join | AskCode::Leave | AskCode::Insert | AskCode::Remove => {
+                Told::read_answer(code, tag, text)
+            }
         }
     }
 
@@ -127,8 +136,7 @@ impl<'a> Told<'a> {
         ensures { option_map told_seen result ≡ members_in tag text.now }
     {
         let mut input = Input::of(text);
-        let status = read_status(&mut input)?;
-        let count = input.u32()?;
+        let (status, count) = read_numbered(&mut input)?;
         Some(Told::Members(tag, status, count, input.rest()))
     }
 
@@ -137,8 +145,7 @@ impl<'a> Told<'a> {
         ensures { option_map told_seen result ≡ groups_in tag text.now }
     {
         let mut input = Input::of(text);
-        let status = read_status(&mut input)?;
-        let count = input.u32()?;
+        let (status, count) = read_numbered(&mut input)?;
         Some(Told::Groups(tag, status, count, input.rest()))
     }
 
@@ -147,8 +154,7 @@ impl<'a> Told<'a> {
         ensures { option_map told_seen result ≡ denied_in text.now }
     {
         let mut input = Input::of(text);
-        let status = read_status(&mut input)?;
-        let verdict = input.u32()?;
+        let (status, verdict) = read_numbered(&mut input)?;
         let rule = input.u32()?;
         Some(Told::Denied(status, verdict, rule))
     }

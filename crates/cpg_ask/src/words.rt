@@ -2,7 +2,8 @@
 
 ghost use Rattle.std.specs.Prelude.{◌≡◌};
 ghost use Rattle.cpg_wire.specs.Reading.{Reads};
-ghost use Rattle.cpg_ask.specs.TellReading.{status_of, status_at, words_at};
+ghost use Rattle.cpg_ask.specs.TellReading.{status_of, status_at, numbered_at};
+ghost use Rattle.cpg_ask.specs.Words.{words_at};
 
 use crate::input::Input;
 use crate::statuses::Status;
@@ -17,7 +18,7 @@ pub(crate) struct Words {
 }
 
 impl Words {
-    #[tactic(auto, unfolding(crate::specs::TellReading::words_at))]
+    #[tactic(auto, unfolding(crate::specs::Words::words_at))]
     pub(crate) fn read(input: &mut Input<'_>) -> Option<Words>
         ensures { Reads result input.new (words_at input.old) }
     {
@@ -62,4 +63,14 @@ pub(crate) fn read_status(input: &mut Input<'_>) -> Option<Status>
 {
     let number = input.u32()?;
     status_of(number)
+}
+
+/// A status and a number.
+#[tactic(auto, unfolding(crate::specs::TellReading::numbered_at))]
+pub(crate) fn read_numbered(input: &mut Input<'_>) -> Option<(Status, u32)>
+    ensures { Reads result input.new (numbered_at input.old) }
+{
+    let status = read_status(input)?;
+    let number = input.u32()?;
+    Some((status, number))
 }

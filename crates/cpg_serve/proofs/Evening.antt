@@ -32,6 +32,7 @@ use Rattle.cpg_serve.specs.Runs.{Did, Arrives, Hears, Frames, Delivers, Tells, W
 use Rattle.cpg_serve.proofs.Growing.{inbox_delivered, left_delivered}
 use Rattle.cpg_serve.proofs.Noted.{refused_by, taken_by, is_there, rest_quiet, inbox_quiet}
 use Rattle.cpg_serve.proofs.Kept.{story_heard}
+use Rattle.cpg_serve.proofs.OneByOne.{all_leave}
 use Rattle.cpg_serve.proofs.Running.{quiet_same, quiet_all, quiet_ended, is_other, item_of, item_front, heard_front, over_run}
 use Rattle.cpg_serve.specs.Meeting.{verdicts, is_taken, calls_among, IsHonest, IsEven, StaysEven}
 use Rattle.cpg_serve.proofs.Counting.{verdicts_append, verdict_one}
@@ -44,19 +45,6 @@ calls_append asks more = ap (λ (l : List Ask). length l) (filter-append (λ (as
 refused_owed : (conn : ℕ) (s : At) (owed : Owed) (call : Call) (why : Refusal) → (called_by conn s owed call (Some why)).desk.owed ≡ s.desk.owed
 refused_owed conn s owed call refusal.QueueFull = refl
 refused_owed conn s owed call _ = refl
-
-called_next : (conn : ℕ) (s : At) (owed : Owed) (call : Call) (o : Option Refusal) → (called_by conn s owed call o).desk.next ≡ s.desk.next
-called_next conn s owed call None = refl
-called_next conn s owed call (Some refusal.QueueFull) = refl
-called_next conn s owed call (Some _) = refl
-
-asked_next : (conn : ℕ) (s : At) (turn : Turn) (o : Option Call) → (asked_by conn s turn o).desk.next ≡ s.desk.next
-asked_next conn s turn None = refl
-asked_next conn s turn (Some call) = called_next conn s (owed_to turn.ask) call (submit_refusal s.node conn call)
-
-all_next : (conn : ℕ) (s : At) (turns : List Turn) → (asked_all conn s turns).desk.next ≡ s.desk.next
-all_next conn s [] = refl
-all_next conn s (turn ∷ turns) = all_next conn (asked conn s turn) turns ∙ asked_next conn s turn (call_of turn.ask.want)
 
 one_call : (ask : Ask) (b : Bool) → is_taken (call_of ask.want) ≡ b → length (calls_among (ask ∷ [])) ≡ cond b 1 0
 one_call ask true e = rw e refl
@@ -168,7 +156,7 @@ heard_own conn asks written x z bytes count stop g k h =
     let same : g.old ≡ h.0 = same_Some g.old h.0 (sym g.there ∙ h.1) in
     let there : item z.desks conn ≡ Some g.new = ap (λ ds. item ds conn) g.others ∙ item_with_same x.desks conn g.new g.old g.there in
     let q : IsQuiet conn x.node z.node = subst (λ (n : NodeValue). IsQuiet conn x.node n) (sym (ap (λ (t : At). t.node) g.did.so.done)) (quiet_all conn conn (at_of x.node g.old) turns) in
-    let next : g.new.next ≡ h.0.next = ap (λ (t : At). t.desk.next) g.did.so.done ∙ all_next conn (at_of x.node g.old) turns ∙ ap (λ (d : DeskValue). d.next) same in
+    let next : g.new.next ≡ h.0.next = ap (λ (t : At). t.desk.next) g.did.so.done ∙ (all_leave conn (at_of x.node g.old) turns).next ∙ ap (λ (d : DeskValue). d.next) same in
     let owed : length g.new.owed ≡ length h.0.owed + length (calls_among more) =
     ap (λ (t : At). length t.desk.owed) g.did.so.done ∙ all_owed conn (at_of x.node g.old) turns g.alive g.did.so.taken ∙ ap (λ (d : DeskValue). length d.owed + length (calls_among more)) same in
     let b : verdicts (inbox_of z.node conn) ≡ verdicts (inbox_of x.node conn) = ap verdicts (inbox_quiet conn x.node z.node q) in

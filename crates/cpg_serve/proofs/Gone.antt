@@ -22,7 +22,7 @@ use Rattle.cpg_serve.specs.Coming.{GoesOn, left_of, rest_of}
 use Rattle.cpg_serve.specs.Serving.{ServedValue, arrived, parted, IsHeard, IsToldAt, IsCaughtUp, IsWritten}
 use Rattle.cpg_serve.specs.Runs.{Did, Arrives, Hears, Frames, Delivers, Tells, Writes, Loses, Nothing, Run, Goes, IsGone, heard_by, written_by, LostIsGone, NothingAfterTheEnd}
 use Rattle.cpg_serve.proofs.Coming.{open_is}
-use Rattle.cpg_serve.proofs.OneByOne.{asked_all_count, ended_count}
+use Rattle.cpg_serve.proofs.OneByOne.{all_leave, ended_count}
 use Rattle.cpg_serve.proofs.Noted.{some_mapped, is_there}
 use Rattle.cpg_serve.proofs.Running.{is_other, within, front}
 
@@ -52,7 +52,7 @@ gone_not_heard conn x y bytes count stop k h = let bad : false ≡ true = sym (a
 gone_heard : (conn by : ℕ) (x y : ServedValue) (bytes : List ℕ) (count : ℕ) (stop : Stop) (b : Bool) → eqb by conn ≡ b → IsHeard by x bytes count stop y → IsGone conn x → IsGone conn y × (cond b (take count bytes) [] ≡ [])
 gone_heard conn by x y bytes count stop true e k h = absurd (gone_not_heard conn x y bytes count stop (subst (λ (n : ℕ). IsHeard n x bytes count stop y) (eqb-true by conn e) k) h)
 gone_heard conn by x y bytes count stop false e k h =
-    let same : y.node.clients ≡ x.node.clients = ap (λ (t : At). t.node.clients) k.did.so.done ∙ asked_all_count by (at_of x.node k.old) k.did.so.turns in (
+    let same : y.node.clients ≡ x.node.clients = ap (λ (t : At). t.node.clients) k.did.so.done ∙ (all_leave by (at_of x.node k.old) k.did.so.turns).clients in (
       gone_stays conn x y h k.greeting (ap (λ cs. item cs conn) same) (omega (arith, ap (λ (cs : List Client). length cs) same))
           (ap (λ ds. item ds conn) k.others ∙ item_with_other x.desks by conn k.new (is_other by conn e)),
       refl,

@@ -11,7 +11,8 @@ use Rattle.cpg_serve.specs.Serving.{ServedValue, IsHeard, IsToldAt, IsCaughtUp}
 use Rattle.cpg_serve.specs.Stories.{IsStory, StoryAt}
 use Rattle.cpg_serve.specs.Laws.{StoryOfHearing, StoryOfTelling, StoryOfDelivery}
 use Rattle.cpg_serve.specs.Hearing.{asks_of}
-use Rattle.cpg_serve.proofs.Noted.{greeting_asked, story_asked, story_told, story_delivered}
+use Rattle.cpg_serve.proofs.OneByOne.{all_leave}
+use Rattle.cpg_serve.proofs.Noted.{story_asked, story_told, story_delivered}
 
 there_now : (x y : ServedValue) (conn : ℕ) (old new : DeskValue) → item x.desks conn ≡ Some old → y.desks ≡ with_item x.desks conn new → item y.desks conn ≡ Some new
 there_now x y conn old new there others = ap (λ ds. item ds conn) others ∙ item_with_same x.desks conn new old there
@@ -25,7 +26,7 @@ story_heard conn asks written x y bytes count stop h k =
     record {
       desk = h.new;
       there = there_now x y conn h.old h.new h.there h.others;
-      greeting = ap (λ (t : At). t.desk.greeting) h.did.so.done ∙ greeting_asked conn (at_of x.node h.old) h.did.so.turns ∙ ap (λ (d : DeskValue). d.greeting) same ∙ k.greeting ∙ sym h.greeting;
+      greeting = ap (λ (t : At). t.desk.greeting) h.did.so.done ∙ (all_leave conn (at_of x.node h.old) h.did.so.turns).greeting ∙ ap (λ (d : DeskValue). d.greeting) same ∙ k.greeting ∙ sym h.greeting;
       story = subst (λ (t : At). IsStory conn (asks ++ asks_of h.did.so.turns) written t) (sym h.did.so.done) (story_asked conn asks h.did.so.turns written (at_of x.node h.old) h.did.so.taken before);
     }
 

@@ -1,14 +1,12 @@
 -- Each verdict answers the call that it is on.
-use Rattle.std.proofs.Common.{◌≡◌, ◌+◌, ℕ, suc, false, List, [], ◌∷◌, ◌++◌, map, length, take, Some, sym, ap, subst, ◌∙◌, length-append, arith}
-use Rattle.std.specs.List.{flat_map, slice_get}
+use Rattle.std.proofs.Common.{◌≡◌, ◌+◌, ℕ, suc, List, [], map, length, take, sym, ap, subst, ◌∙◌, length-append, arith}
+use Rattle.std.specs.List.{flat_map}
 use Rattle.cpg_entry.specs.declared.entries.Entry.{Entry}
 use Rattle.cpg_record.specs.declared.events.Event.{Event}
 use Rattle.cpg_record.specs.declared.records.Record.{Record}
 use Rattle.cpg_record.specs.declared.verdicts.Verdict.{Verdict}
 use Rattle.std.proofs.lemmas.Option.{same_Some}
-use Rattle.cpg_ring.specs.Worlds.{item}
-use Rattle.cpg_node.specs.declared.connections.Client.{Client}
-use Rattle.cpg_node.specs.Nodes.{inbox_of, open_client, if_open, records_of}
+use Rattle.cpg_node.specs.Nodes.{inbox_of, records_of}
 use Rattle.cpg_node.specs.Calls.{connected}
 use Rattle.cpg_ask.specs.Asks.{Ask}
 use Rattle.cpg_ask.proofs.Mapped.{length_mapped}
@@ -19,7 +17,7 @@ use Rattle.cpg_serve.specs.Asking.{at_of, owed_to}
 use Rattle.cpg_serve.specs.Coming.{left_of, rest_of}
 use Rattle.cpg_serve.specs.Stories.{Note, event_in, owed_in}
 use Rattle.cpg_serve.specs.Verdicts.{own_records}
-use Rattle.cpg_serve.proofs.Running.{get_last}
+use Rattle.cpg_serve.proofs.Running.{get_last, has_come}
 use Rattle.cpg_serve.specs.Orders.{conn_at, admitted_of, AreInOrder, VerdictsInOrder}
 use Rattle.cpg_serve.specs.Meeting.{verdicts, calls_among, AnswersInOrder, EvenBegins, HonestInAWorld}
 use Rattle.cpg_serve.proofs.Counting.{mades, told, verdicts_append, made_asks, answered_first}
@@ -41,10 +39,7 @@ answers_in_order conn asks written x k h =
 pub even_begins : EvenBegins
 even_begins pid cred x as_many =
     let conn : ℕ = suc (length x.desks) in
-    let c : Client = record { pid = pid; cred = cred; ended = false; taken = 0 } in
-    let last : item (connected x.node pid cred).clients conn ≡ Some c = ap (slice_get (x.node.clients ++ c ∷ [])) as_many ∙ get_last x.node.clients c in
-    let opened : open_client (connected x.node pid cred) conn ≡ Some c = ap if_open last in
-    let left : left_of conn (at_of (connected x.node pid cred) (new_desk x.greeting)) ≡ inbox_of (connected x.node pid cred) conn = ap (rest_of (connected x.node pid cred) conn) opened in
+    let left : left_of conn (at_of (connected x.node pid cred) (new_desk x.greeting)) ≡ inbox_of (connected x.node pid cred) conn = ap (rest_of (connected x.node pid cred) conn) (has_come pid cred x as_many) in
     (new_desk x.greeting, get_last x.desks (new_desk x.greeting), omega (arith, ap verdicts left))
 
 module _ (in_order : VerdictsInOrder) where

@@ -10,7 +10,7 @@ use Rattle.cpg_serve.specs.Asking.{At, at_of}
 use Rattle.cpg_serve.specs.Serving.{ServedValue, arrived, IsCaughtUp}
 use Rattle.cpg_serve.specs.Stories.{StoryAt}
 use Rattle.cpg_serve.specs.Runs.{Did, Arrives, Hears, Frames, Delivers, Tells, Writes, Loses, Nothing, Run, Goes, arrives, arrivals, newcomer, AllThatNewcomersAreTold}
-use Rattle.cpg_serve.proofs.OneByOne.{asked_all_count, ended_count}
+use Rattle.cpg_serve.proofs.OneByOne.{all_leave, ended_count}
 use Rattle.cpg_serve.proofs.Running.{begins, over_run}
 
 -- as many desks and connections more as clients came
@@ -29,7 +29,7 @@ grows x y (Arrives pid cred) g = subst (Grows 1 x) (sym g) (record {
 })
 grows x y (Hears by bytes count stop) g = record {
   desks = omega (arith, ap (λ (l : List DeskValue). length l) g.others, length-with_item x.desks by g.new);
-  clients = omega (arith, ap (λ (t : At). length t.node.clients) g.did.so.done, ap (λ (l : List Client). length l) (asked_all_count by (at_of x.node g.old) g.did.so.turns));
+  clients = omega (arith, ap (λ (t : At). length t.node.clients) g.did.so.done, ap (λ (l : List Client). length l) (all_leave by (at_of x.node g.old) g.did.so.turns).clients);
 }
 grows x y Frames g = record { desks = omega (arith, ap (λ (l : List DeskValue). length l) g.desks); clients = omega (arith, ap (λ (l : List Client). length l) g.clients) }
 grows x y Delivers g = subst (Grows 0 x) (sym g) (record { desks = omega arith; clients = omega arith })

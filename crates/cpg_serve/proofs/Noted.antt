@@ -181,19 +181,6 @@ story_asked conn asks (turn ∷ more) written s taken h =
     subst (λ (l : List Ask). IsStory conn l written (asked_all conn (asked conn s turn) more)) (append_assoc asks (turn.ask ∷ []) (asks_of more))
     (story_asked conn (asks ++ turn.ask ∷ []) more written (asked conn s turn) taken.2 (story_by conn asks written s turn (call_of turn.ask.want) refl taken.0 taken.1 h))
 
-called_greeting : (conn : ℕ) (s : At) (owed : Owed) (call : Call) (o : Option Refusal) → (called_by conn s owed call o).desk.greeting ≡ s.desk.greeting
-called_greeting conn s owed call None = refl
-called_greeting conn s owed call (Some refusal.QueueFull) = refl
-called_greeting conn s owed call (Some _) = refl
-
-asked_greeting : (conn : ℕ) (s : At) (turn : Turn) (o : Option Call) → (asked_by conn s turn o).desk.greeting ≡ s.desk.greeting
-asked_greeting conn s turn None = refl
-asked_greeting conn s turn (Some call) = called_greeting conn s (owed_to turn.ask) call (submit_refusal s.node conn call)
-
-pub greeting_asked : (conn : ℕ) (s : At) (turns : List Turn) → (asked_all conn s turns).desk.greeting ≡ s.desk.greeting
-greeting_asked conn s [] = refl
-greeting_asked conn s (turn ∷ turns) = greeting_asked conn (asked conn s turn) turns ∙ asked_greeting conn s turn (call_of turn.ask.want)
-
 -- ---- events
 
 happened_events : (events : List Event) → flat_map event_in (map Happened events) ≡ events

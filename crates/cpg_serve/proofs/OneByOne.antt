@@ -62,27 +62,36 @@ heard_more conn s t u bytes count more h step =
 pub more_left : (bytes : List ℕ) (count more : ℕ) (ask : Ask) → count ≤ length bytes → StandsIn (drop count bytes) ask more → (0 < more) × (count + more ≤ length bytes)
 more_left bytes count more ask within stands = (stands.some, omega (arith, stands.within, within, length-drop count bytes))
 
--- ---- as many connections as before
+-- ---- what asks leave as it is
 
-called_count : (conn : ℕ) (s : At) (owed : Owed) (call : Call) (o : Option Refusal) → (called_by conn s owed call o).node.clients ≡ s.node.clients
-called_count conn s owed call None = entry_count s.node conn (Act call) (open_client s.node conn)
+-- the connections, how the client is greeted, and the event that was taken
+pub record Leaves (s t : At) : Type 0 where
+  pub clients : t.node.clients ≡ s.node.clients
+  pub greeting : t.desk.greeting ≡ s.desk.greeting
+  pub next : t.desk.next ≡ s.desk.next
+
+called_leaves : (conn : ℕ) (s : At) (owed : Owed) (call : Call) (o : Option Refusal) → Leaves s (called_by conn s owed call o)
+called_leaves conn s owed call None = record { clients = entry_count s.node conn (Act call) (open_client s.node conn); greeting = refl; next = refl }
   where
     entry_count : (x : NodeValue) (conn : ℕ) (op : Op) (o : Option Client) → (with_entry x conn op o).clients ≡ x.clients
     entry_count x conn op None = refl
     entry_count x conn op (Some c) = refl
-called_count conn s owed call (Some refusal.QueueFull) = refl
-called_count conn s owed call (Some _) = refl
+called_leaves conn s owed call (Some refusal.QueueFull) = record { clients = refl; greeting = refl; next = refl }
+called_leaves conn s owed call (Some _) = record { clients = refl; greeting = refl; next = refl }
 
-asked_count : (conn : ℕ) (s : At) (turn : Turn) (o : Option Call) → (asked_by conn s turn o).node.clients ≡ s.node.clients
-asked_count conn s turn None = refl
-asked_count conn s turn (Some call) = called_count conn s (owed_to turn.ask) call (submit_refusal s.node conn call)
+asked_leaves : (conn : ℕ) (s : At) (turn : Turn) (o : Option Call) → Leaves s (asked_by conn s turn o)
+asked_leaves conn s turn None = record { clients = refl; greeting = refl; next = refl }
+asked_leaves conn s turn (Some call) = called_leaves conn s (owed_to turn.ask) call (submit_refusal s.node conn call)
 
-pub asked_all_count : (conn : ℕ) (s : At) (turns : List Turn) → (asked_all conn s turns).node.clients ≡ s.node.clients
-asked_all_count conn s [] = refl
-asked_all_count conn s (turn ∷ turns) = asked_all_count conn (asked conn s turn) turns ∙ asked_count conn s turn (call_of turn.ask.want)
+pub all_leave : (conn : ℕ) (s : At) (turns : List Turn) → Leaves s (asked_all conn s turns)
+all_leave conn s [] = record { clients = refl; greeting = refl; next = refl }
+all_leave conn s (turn ∷ turns) =
+    let more = all_leave conn (asked conn s turn) turns in
+    let one = asked_leaves conn s turn (call_of turn.ask.want) in
+    record { clients = more.clients ∙ one.clients; greeting = more.greeting ∙ one.greeting; next = more.next ∙ one.next }
 
 pub heard_count : (conn : ℕ) (s t : At) (bytes : List ℕ) (count : ℕ) (stop : Stop) → Hears conn s bytes count stop t → length t.node.clients ≡ length s.node.clients
-heard_count conn s t bytes count stop h = ap (λ (k : At). length k.node.clients) h.so.done ∙ ap (λ (cs : List Client). length cs) (asked_all_count conn s h.so.turns)
+heard_count conn s t bytes count stop h = ap (λ (k : At). length k.node.clients) h.so.done ∙ ap (λ (cs : List Client). length cs) ((all_leave conn s h.so.turns).clients)
 
 -- ---- what is left of bytes
 

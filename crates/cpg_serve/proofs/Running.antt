@@ -208,12 +208,19 @@ pub get_last : {X : Type 0} (xs : List X) (x : X) → slice_get (xs ++ x ∷ [])
 get_last [] x = refl
 get_last (y ∷ xs) x = get_last xs x
 
+-- a client that comes
+abbrev pub comer : ℕ → Cred → Client
+comer pid cred = record { pid = pid; cred = cred; ended = false; taken = 0 }
+
+-- the client that came last is there
+pub has_come : (pid : ℕ) (cred : Cred) (x : ServedValue) → length x.desks ≡ length x.node.clients → open_client (connected x.node pid cred) (suc (length x.desks)) ≡ Some (comer pid cred)
+has_come pid cred x as_many = ap if_open (ap (slice_get (x.node.clients ++ comer pid cred ∷ [])) as_many ∙ get_last x.node.clients (comer pid cred))
+
 pub begins : StoriesBegin
 begins pid cred x as_many =
     let conn : ℕ = suc (length x.desks) in
-    let c : Client = record { pid = pid; cred = cred; ended = false; taken = 0 } in
-    let last : item (connected x.node pid cred).clients conn ≡ Some c = ap (slice_get (x.node.clients ++ c ∷ [])) as_many ∙ get_last x.node.clients c in
-    let opened : open_client (connected x.node pid cred) conn ≡ Some c = ap if_open last in
+    let c : Client = comer pid cred in
+    let opened : open_client (connected x.node pid cred) conn ≡ Some c = has_come pid cred x as_many in
     record {
       desk = new_desk x.greeting;
       there = get_last x.desks (new_desk x.greeting);

@@ -25,6 +25,7 @@ pub fn delivery_tells()
 {}
 
 /// A client's story goes on by what it asks, by what it is told, and by what is delivered.
+#[tactic(auto, using(crate::proofs::Kept::story_of_delivery))]
 pub fn stories_go_on()
     ensures hearing { StoryOfHearing }
     ensures telling { StoryOfTelling }

@@ -1,5 +1,5 @@
-use Rattle.cpg_ask.proofs.TellCutting.{cuts_same}
+use Rattle.cpg_ask.proofs.Cutting.{tells_same}
 use Rattle.cpg_ask.proofs.laws.tells_are_cut_in_one_way.Goals as goal
 
 pub returns : goal.returns
-returns c = cuts_same
+returns c = tells_same

@@ -1,6 +1,6 @@
-use Rattle.std.proofs.Common.{◌≡◌, ◌++◌, ◌∷◌, [], ◌+◌, ◌<◌, ◌∙◌, List, length, get_or, rules, arith, ap, reverse}
+use Rattle.std.proofs.Common.{◌≡◌, ◌++◌, ◌∷◌, [], ◌∙◌, List, length, get_or, rules, arith, ap, reverse}
 use Rattle.cpg_serve.specs.Telling.{DeskValue}
-use Rattle.cpg_serve.specs.Carrying.{greeted, kept_desks}
+use Rattle.cpg_serve.specs.Carrying.{kept_desks}
 use Rattle.cpg_serve.proofs.Moved.{Popped, begins_empty, empty_end, kept_one, nothing_yet, popped, turned_round}
 use Rattle.cpg_serve.proofs.moving.move_desks.Goals as goal
 
