@@ -5,6 +5,7 @@
 #include "../protocol.h"
 #include "../spin.h"
 #include "log.h"
+#include "users.h"
 #include <cpgring_served.h>
 #include <errno.h>
 #include <sched.h>
@@ -21,11 +22,14 @@ enum { DEAD = 16384 /* connections that ended: with so many more than are open t
 
 struct peer {
     struct ucred who;
+    struct user *user;
     int fd;
     uint16_t conn;    /* 0: it is not let in, and is told so once it greets */
     uint32_t refusal; /* why */
     struct bytes in;  /* what came and was not heard */
     struct bytes out; /* what it is told and its socket did not take */
+    size_t counted;   /* bytes of `out`, of which its user was charged */
+    uint64_t came;    /* when, in milliseconds; 0 once an ask of it was heard */
     uint32_t interest;
     bool hung; /* the other end is closed: what it left is heard, and then it goes */
     bool gone;
@@ -39,6 +43,7 @@ static struct {
     int listener, epoll, signals;
     struct peer **peers;
     size_t count, room, first; /* another one is heard first in each turn */
+    size_t silent;             /* of whom no ask was heard */
     uint32_t carried;          /* places with which the ring began */
     uint64_t heard;            /* bytes, in this ring */
     uint64_t renewals;
@@ -79,27 +84,35 @@ static bool peers_have_room(void) {
     return true;
 }
 
-/* A connection of that peer. NULL: there is no place or no memory for it. */
-static struct peer *peer_new(int fd) {
-    struct peer *p = proved.count < limits.connections && peers_have_room() ? calloc(1, sizeof *p) : NULL;
-    socklen_t len = sizeof p->who;
-    if (!p) return NULL;
-    p->fd = fd;
-    p->interest = EPOLLIN;
-    if (getsockopt(fd, SOL_SOCKET, SO_PEERCRED, &p->who, &len) != 0 || !watch(fd, EPOLL_CTL_ADD, EPOLLIN, p)) {
+/* A connection of that process. NULL: the limits have no place for it, or there is no memory. */
+static struct peer *peer_new(int fd, struct ucred who) {
+    struct user *user = user_get(who.uid);
+    bool has_place = user && proved.count < limits.connections && user->connections < limits.user_connections && peers_have_room();
+    struct peer *p = has_place ? calloc(1, sizeof *p) : NULL;
+    if (p) *p = (struct peer){.who = who, .user = user, .fd = fd, .came = now_ms(), .interest = EPOLLIN};
+    if (!p || !watch(fd, EPOLL_CTL_ADD, EPOLLIN, p)) {
+        if (user) user_put(user);
         free(p);
         return NULL;
     }
-    p->refusal = cpgring_served_arrive(&proved.node, (uint32_t)p->who.pid, p->who.uid, p->who.gid, &p->conn);
+    p->refusal = cpgring_served_arrive(&proved.node, (uint32_t)who.pid, who.uid, who.gid, &p->conn);
     if (p->refusal != CPGRING_OK) p->conn = 0;
+    user->connections++;
+    proved.silent++;
     proved.peers[proved.count++] = p;
     return p;
+}
+
+static bool peer_comes(int fd) {
+    struct ucred who;
+    socklen_t len = sizeof who;
+    return getsockopt(fd, SOL_SOCKET, SO_PEERCRED, &who, &len) == 0 && peer_new(fd, who);
 }
 
 static void accept_some(void) {
     for (unsigned k = 0; k < ACCEPT_AT_ONCE; k++) {
         int fd = accept4(proved.listener, NULL, NULL, SOCK_NONBLOCK | SOCK_CLOEXEC);
-        if (fd >= 0 && !peer_new(fd)) {
+        if (fd >= 0 && !peer_comes(fd)) {
             log_line(LOG_INFO, "a connection is turned away: %zu are open", proved.count);
             close(fd);
         }
@@ -119,7 +132,17 @@ static void listen_again(void) {
     watch(proved.listener, EPOLL_CTL_ADD, EPOLLIN, &proved.listener);
 }
 
+/* An ask of it was heard, or it is gone. */
+static void peer_speaks(struct peer *p) {
+    if (p->came) proved.silent--;
+    p->came = 0;
+}
+
 static void peer_free(struct peer *p) {
+    peer_speaks(p);
+    p->user->unread -= p->counted;
+    p->user->connections--;
+    user_put(p->user);
     close(p->fd);
     bytes_free(&p->in);
     bytes_free(&p->out);
@@ -141,7 +164,38 @@ static void drop_gone(void) {
     }
 }
 
+/* When the first of those falls due who never greeted; those who are due are gone. */
+static uint64_t silence_ends(void) {
+    uint64_t first = UINT64_MAX;
+    for (size_t k = 0; proved.silent > 0 && k < proved.count; k++) {
+        uint64_t due = proved.peers[k]->came + 1000 * (uint64_t)limits.greet_seconds;
+        if (!proved.peers[k]->came || proved.peers[k]->gone) continue;
+        if (due <= now_ms()) proved.peers[k]->gone = true;
+        else if (due < first) first = due;
+    }
+    return first;
+}
+
 /* ---- bytes ---- */
+
+static void end_behind(struct peer *p) {
+    log_line(LOG_NOTICE, "process %d is too far behind with reading: it is ended", (int)p->who.pid);
+    p->gone = true;
+}
+
+/* Counts what it has not read against its user; where that is too much, the one most behind is ended. */
+static void account(struct peer *p) {
+    size_t held = bytes_held(&p->out);
+    struct peer *worst = p;
+    p->user->unread += held;
+    p->user->unread -= p->counted;
+    p->counted = held;
+    if (held > limits.unread) end_behind(p);
+    if (p->user->unread <= limits.user_unread) return;
+    for (size_t k = 0; k < proved.count; k++)
+        if (proved.peers[k]->user == p->user && !proved.peers[k]->gone && proved.peers[k]->counted > worst->counted) worst = proved.peers[k];
+    if (!worst->gone) end_behind(worst);
+}
 
 static void hang(struct peer *p) {
     if (!p->hung) watch(p->fd, EPOLL_CTL_DEL, 0, NULL); /* else it would say so again and again */
@@ -190,10 +244,7 @@ static void write_told(struct peer *p) {
         memcpy(room, at + sent, len - sent);
         p->out.end += len - sent;
     }
-    if (!p->hung && sent < len && (!room || bytes_held(&p->out) > limits.unread)) {
-        log_line(LOG_NOTICE, "process %d is too far behind with reading: it is ended", (int)p->who.pid);
-        p->gone = true;
-    }
+    if (!p->hung && sent < len && !room) p->gone = true;
     cpgring_served_wrote(&proved.node, p->conn, len);
 }
 
@@ -221,6 +272,7 @@ static void hear(struct peer *p) {
         if (cpgring_served_hear(&proved.node, p->conn, p->in.at + p->in.begin, bytes_held(&p->in), &heard, &why) != CPGRING_OK) p->gone = true;
         bytes_drop(&p->in, heard);
         proved.heard += heard;
+        if (heard > 0) peer_speaks(p);
     }
     if (why == CPGRING_HEARD_FULL) proved.more = true;
     if (why == CPGRING_HEARD_NO_MEMORY) proved.again_at = now_ms() + AGAIN_MS;
@@ -302,7 +354,7 @@ static bool take_events(int wait) {
 /* Milliseconds until something is due though nothing comes; -1: nothing is. */
 static int rest(void) {
     uint64_t at = UINT64_MAX, now = now_ms();
-    const uint64_t due[] = {proved.again_at, proved.paused_until, proved.stop_by};
+    const uint64_t due[] = {proved.again_at, proved.paused_until, proved.stop_by, silence_ends()};
     for (unsigned k = 0; k < sizeof due / sizeof *due; k++)
         if (due[k] && due[k] < at) at = due[k];
     if (at == UINT64_MAX) return -1;
@@ -331,12 +383,14 @@ static void settle(void) {
 static void turn(void) {
     proved.more = false;
     if (proved.again_at && proved.again_at <= now_ms()) proved.again_at = 0;
+    silence_ends();
     drop_gone(); /* an end stands before what a later connection of its process asks */
     for (size_t k = 0; k < proved.count; k++) hear(proved.peers[(proved.first + k) % proved.count]);
     proved.first++;
     settle();
     for (size_t k = 0; k < proved.count; k++) {
         write_told(proved.peers[k]);
+        account(proved.peers[k]);
         watch_for(proved.peers[k]);
         proved.more = proved.more || proved.peers[k]->gone;
     }
