@@ -13,7 +13,7 @@ use Rattle.cpg_ask.specs.declared.codes.AskCode.TheVariants as codes
 use Rattle.cpg_ask.specs.declared.words.Words.{Words}
 use Rattle.cpg_ask.specs.Codes.{ask_code}
 use Rattle.cpg_ask.specs.Words.{words_bytes, words_at, WordsFit}
-use Rattle.cpg_ask.specs.Rules.{who_of, who_bytes, rule_bytes, who_at, rule_at, WhoFits, RuleFits}
+use Rattle.cpg_ask.specs.Rules.{who_of, words_of, who_bytes, rule_bytes, who_at, rule_at, WhoFits, RuleFits}
 use Rattle.cpg_ask.proofs.Littles.{u16_reads, u32_reads, little_more}
 
 pub code_few : (code : AskCode) → ask_code code ≤ 8
@@ -44,8 +44,7 @@ words_reads = reads4 ℕ ℕ ℕ ℕ Words (little_at 4) (little_bytes 4) IsU32 
 pub who_reads : ReadsBack WhoWords who_at who_bytes WhoFits
 unfolding who_at
 who_reads = reads1 Words WhoWords words_at words_bytes WordsFit words_reads who_of who_bytes WhoFits
-    (λ w h. (refl, record { conditions = h.first; uid = h.second; gid = h.third; node = h.fourth }))
-    (λ w h. (record { first = w.conditions; second = w.uid; third = w.gid; fourth = w.node }, refl, record { first = h.conditions; second = h.uid; third = h.gid; fourth = h.node }))
+    (λ w h. (refl, h)) (λ w h. (words_of w, refl, h))
 
 pub rule_reads : ReadsBack RuleWords rule_at rule_bytes RuleFits
 unfolding rule_at

@@ -1,4 +1,5 @@
 pub mod Littles
+pub mod Taken
 pub mod Fields
 pub mod Asked
 pub mod Cutting

@@ -15,17 +15,21 @@ use Rattle.cpg_ask.specs.declared.rules.RuleWords.{RuleWords}
 use Rattle.cpg_ask.specs.declared.rules.WhoWords.{WhoWords}
 use Rattle.cpg_ask.specs.declared.words.Words.{Words}
 use Rattle.cpg_ask.specs.Numbers.{little_at, IsU32}
-use Rattle.cpg_ask.specs.Words.{words_at}
-
-abbrev pub who_bytes : WhoWords → List ℕ
-who_bytes who = little_bytes 4 who.conditions ++ (little_bytes 4 who.uid ++ (little_bytes 4 who.gid ++ little_bytes 4 who.node))
-
-abbrev pub rule_bytes : RuleWords → List ℕ
-rule_bytes rule = little_bytes 4 rule.index ++ (little_bytes 4 rule.effect ++ (little_bytes 4 rule.right ++ who_bytes rule.who))
+use Rattle.cpg_ask.specs.Words.{words_bytes, words_at, WordsFit}
 
 -- four words, as whom they speak of
 abbrev pub who_of : Words → WhoWords
 who_of w = record { conditions = w.first; uid = w.second; gid = w.third; node = w.fourth }
+
+-- and back
+abbrev pub words_of : WhoWords → Words
+words_of who = record { first = who.conditions; second = who.uid; third = who.gid; fourth = who.node }
+
+abbrev pub who_bytes : WhoWords → List ℕ
+who_bytes who = words_bytes (words_of who)
+
+abbrev pub rule_bytes : RuleWords → List ℕ
+rule_bytes rule = little_bytes 4 rule.index ++ (little_bytes 4 rule.effect ++ (little_bytes 4 rule.right ++ who_bytes rule.who))
 
 unfoldable pub who_at : List ℕ → Option (WhoWords × List ℕ)
 who_at bytes = words_at bytes >>= λ w. Some (who_of w.0, w.1)
@@ -38,11 +42,8 @@ rule_at bytes = do
   who ← who_at right.1
   Some (record { index = index.0; effect = effect.0; right = right.0; who = who.0 }, who.1)
 
-pub record WhoFits (who : WhoWords) : Type 0 where
-  pub conditions : IsU32 who.conditions
-  pub uid : IsU32 who.uid
-  pub gid : IsU32 who.gid
-  pub node : IsU32 who.node
+abbrev pub WhoFits : WhoWords → Type 0
+WhoFits who = WordsFit (words_of who)
 
 pub record RuleFits (rule : RuleWords) : Type 0 where
   pub index : IsU32 rule.index

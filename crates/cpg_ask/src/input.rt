@@ -47,39 +47,30 @@ impl<'a> Input<'a> {
     }
 
     /// The next two bytes as a number.
+    #[tactic(auto, using(crate::proofs::Taken::little_taken), unfolding(cpg_wire::specs::Reading::text_at))]
     pub fn u16(&mut self) -> Option<u16>
         ensures { Reads result self.new (little_at 2 self.old) }
     {
-        if self.rest.len() < 2 {
-            return None;
-        }
-        let number = LittleEndian::read_u16(self.rest);
-        self.rest = &self.rest[2..];
-        Some(number)
+        let bytes = self.text(2)?;
+        Some(LittleEndian::read_u16(bytes))
     }
 
     /// The next four bytes as a number.
+    #[tactic(auto, using(crate::proofs::Taken::little_taken), unfolding(cpg_wire::specs::Reading::text_at))]
     pub fn u32(&mut self) -> Option<u32>
         ensures { Reads result self.new (little_at 4 self.old) }
     {
-        if self.rest.len() < 4 {
-            return None;
-        }
-        let number = LittleEndian::read_u32(self.rest);
-        self.rest = &self.rest[4..];
-        Some(number)
+        let bytes = self.text(4)?;
+        Some(LittleEndian::read_u32(bytes))
     }
 
     /// The next eight bytes as a number.
+    #[tactic(auto, using(crate::proofs::Taken::little_taken), unfolding(cpg_wire::specs::Reading::text_at))]
     pub fn u64(&mut self) -> Option<u64>
         ensures { Reads result self.new (little_at 8 self.old) }
     {
-        if self.rest.len() < 8 {
-            return None;
-        }
-        let number = LittleEndian::read_u64(self.rest);
-        self.rest = &self.rest[8..];
-        Some(number)
+        let bytes = self.text(8)?;
+        Some(LittleEndian::read_u64(bytes))
     }
 
     /// The next `count` bytes.

@@ -15,20 +15,14 @@ use cpg_record::{Cause, Member, Move};
 use std::alloc::{AllocError, Global};
 
 /// Puts an answer last that is a status alone, or leaves all as it was.
-pub fn put_answer(
-    alloc: Global,
-    out: &mut Vec<u8>,
-    code: AskCode,
-    tag: u16,
-    status: Status,
-) -> Result<(), Refusal>
+#[tactic(auto, unfolding(crate::specs::Tells::number))]
+pub fn put_answer(out: &mut Vec<u8>, code: AskCode, tag: u16, status: Status) -> Result<(), Refusal>
     ensures ok { OnOk result (out.new.items ≡ out.old.items ++ tell_bytes (Answer code tag status)) }
     ensures err { OnErr result (out.new.items ≡ out.old.items) }
     ensures memory { IsOkUnless result Refusal.Memory }
 {
-    let mut text = Vec::new(alloc);
-    put_number(&mut text, u32::from(status.number()))?;
-    put_framed(out, 256 + code.number(), tag, text.as_slice())
+    let text = u32::from(status.number()).to_le_bytes();
+    put_framed(out, 256 + code.number(), tag, &text)
 }
 
 /// Puts last that a message was denied, or leaves all as it was.

@@ -2,7 +2,7 @@
 
 ghost use Rattle.std.specs.Prelude.{◌≡◌, option_map};
 ghost use Rattle.cpg_ask.specs.Tidings.{told_seen};
-ghost use Rattle.cpg_ask.specs.TellReading.{reading_seen, answer_in, answered_in, greeting_of, greeting_in, members_in, groups_in, denied_in, message_of, message_in, change_of, change_in, told_as, tiding_in, read_of};
+ghost use Rattle.cpg_ask.specs.TellReading.{reading_seen, answer_in, answered_in, greeting_in, members_in, groups_in, denied_in, message_in, change_in, told_as, tiding_in, read_of};
 
 use crate::codes::AskCode;
 use crate::frames::gap;
@@ -112,21 +112,13 @@ impl<'a> Told<'a> {
         Some(Told::Answer(code, tag, status))
     }
 
-    #[tactic(auto, unfolding(crate::specs::TellReading::greeting_in))]
+    #[tactic(auto, unfolding(crate::specs::TellReading::greeting_in, crate::specs::TellReading::greeting_of))]
     fn read_greeting(tag: u16, text: &'a [u8]) -> Option<Told<'a>>
         ensures { option_map told_seen result ≡ greeting_in tag text.now }
     {
         let mut input = Input::of(text);
         let words = Words::read(&mut input)?;
-        Told::read_greeting_behind(tag, words, input.rest())
-    }
-
-    #[tactic(auto, unfolding(crate::specs::TellReading::greeting_of))]
-    fn read_greeting_behind(tag: u16, words: Words, rest: &'a [u8]) -> Option<Told<'a>>
-        ensures { option_map told_seen result ≡ greeting_of tag words rest.now }
-    {
         let status = status_of(words.first)?;
-        let mut input = Input::of(rest);
         let ring = input.u64()?;
         Some(Told::Greeting(tag, status, words.second, words.third, words.fourth, ring))
     }
@@ -159,40 +151,24 @@ impl<'a> Told<'a> {
         Some(Told::Denied(status, verdict, rule))
     }
 
-    #[tactic(auto, unfolding(crate::specs::TellReading::message_in))]
+    #[tactic(auto, unfolding(crate::specs::TellReading::message_in, crate::specs::TellReading::message_of))]
     fn read_message(text: &'a [u8]) -> Option<Told<'a>>
         ensures { option_map told_seen result ≡ message_in text.now }
     {
         let mut input = Input::of(text);
         let words = Words::read(&mut input)?;
-        Told::read_message_behind(words, input.rest())
-    }
-
-    #[tactic(auto, unfolding(crate::specs::TellReading::message_of))]
-    fn read_message_behind(words: Words, rest: &'a [u8]) -> Option<Told<'a>>
-        ensures { option_map told_seen result ≡ message_of words rest.now }
-    {
-        let mut input = Input::of(rest);
         let message = input.text(words.third as usize)?;
         input.text(gap(words.third as usize))?;
         let group = input.text(words.fourth as usize)?;
         Some(Told::Message(words.first, words.second, group, message))
     }
 
-    #[tactic(auto, unfolding(crate::specs::TellReading::change_in))]
+    #[tactic(auto, unfolding(crate::specs::TellReading::change_in, crate::specs::TellReading::change_of))]
     fn read_change(text: &'a [u8]) -> Option<Told<'a>>
         ensures { option_map told_seen result ≡ change_in text.now }
     {
         let mut input = Input::of(text);
         let words = Words::read(&mut input)?;
-        Told::read_change_behind(words, input.rest())
-    }
-
-    #[tactic(auto, unfolding(crate::specs::TellReading::change_of))]
-    fn read_change_behind(words: Words, rest: &'a [u8]) -> Option<Told<'a>>
-        ensures { option_map told_seen result ≡ change_of words rest.now }
-    {
-        let mut input = Input::of(rest);
         let count = words.second as usize + words.third as usize + words.fourth as usize;
         let processes = input.text(12 * count)?;
         let group = input.text(words.first as usize)?;

@@ -87,7 +87,7 @@ impl Desk {
         ensures err { OnErr result (self.new ≡ self.old) }
         ensures memory { IsOkUnless result Refusal.Memory }
     {
-        put_answer(self.alloc, &mut self.out, code, tag, status)
+        put_answer(&mut self.out, code, tag, status)
     }
 
     /// Tells the client where it is.

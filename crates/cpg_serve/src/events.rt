@@ -30,7 +30,7 @@ fn put_verdict(
     if is_send(owed.code) {
         put_send_verdict(alloc, out, verdict)
     } else {
-        put_answer(alloc, out, owed.code, owed.tag, status_of_verdict(verdict))
+        put_answer(out, owed.code, owed.tag, status_of_verdict(verdict))
     }
 }
 

@@ -47,6 +47,7 @@ pub fn nothing_after_the_end()
 
 /// A ring that begins with the joins of another's members, in order, and then the rules of its tables, put in by
 /// user 0, has the same members and the same rules, each in the same order; the rules' ids are others.
+#[tactic(auto, using(crate::proofs::Seated::seats_are_there))]
 pub fn renewal_keeps_all()
     ensures keeps { RenewalKeepsAll }
     ensures seats { SeatsAreThere }
@@ -82,6 +83,7 @@ pub fn verdicts_in_order()
 /// Over any run of a node with its clients, where no more of a client's entries are placed than it made calls: the
 /// verdicts that it was told are the answers to its first calls, in order, the k-th to the k-th, and none was told
 /// where no call was owed one. At a node of a world of nodes no more are placed than were admitted.
+#[tactic(auto, using(crate::proofs::Matched::even_begins))]
 pub fn verdicts_answer_their_calls()
     ensures begins { EvenBegins }
     ensures stays { StaysEven }

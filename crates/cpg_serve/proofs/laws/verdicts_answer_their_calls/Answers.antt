@@ -1,9 +1,6 @@
 use Rattle.cpg_serve.proofs.Evening.{stays_even}
-use Rattle.cpg_serve.proofs.Matched.{answers_in_order, even_begins, honest_in_a_world}
+use Rattle.cpg_serve.proofs.Matched.{answers_in_order, honest_in_a_world}
 use Rattle.cpg_serve.proofs.laws.verdicts_answer_their_calls.Goals as goal
-
-pub returns-clause-begins : goal.returns-clause-begins
-returns-clause-begins c = even_begins
 
 pub returns-clause-stays : goal.returns-clause-stays
 returns-clause-stays c = stays_even
