@@ -2,9 +2,9 @@
 
 use crate::gates::Fates;
 use crate::load::{Load, Signals, Tally};
-use crate::sessions::{is_here, open, submit};
+use crate::sessions::Open;
 use cpg_cred::Refusal;
-use cpg_daemon::{HistoryName, Running, Session};
+use cpg_daemon::{HistoryName, Running};
 use cpg_entry::{Call, Message, Name};
 use cpg_record::Event;
 use std::alloc::Global;
@@ -50,9 +50,10 @@ pub fn nanos_since<R: Clock>(rt: &R, start: Instant) -> u64 {
 
 /// What a client sends, what it took last, and how far it is.
 #[derive(Drop)]
-struct Client {
+struct Client<'a> {
     alloc: Global,
     load: Load,
+    signals: &'a Signals,
     index: usize,
     tally: Tally,
     /// What it submits next: calls that came back, or were not submitted yet.
@@ -63,12 +64,18 @@ struct Client {
     taken: Vec<Event>,
 }
 
-impl Client {
+impl<'a> Client<'a> {
     /// The client at the node of that index, which has done nothing.
-    fn new(alloc: Global, load: Load, index: usize) -> Result<Client, Refusal> {
+    fn new(
+        alloc: Global,
+        load: Load,
+        signals: &'a Signals,
+        index: usize,
+    ) -> Result<Client<'a>, Refusal> {
         Ok(Client {
             alloc,
             load,
+            signals,
             index,
             tally: Tally::default(),
             calls: VecDeque::new(alloc),
@@ -94,9 +101,7 @@ impl Client {
     /// Submits so many calls at most, one by one, until the queue is full. Gives how many were admitted.
     fn submit_each<B: HistoryName, R: Wait>(
         &mut self,
-        rt: &R,
-        running: &Running<B, Fates>,
-        session: &mut Session<B>,
+        open: &mut Open<'_, B, R>,
         most: u32,
     ) -> Result<u32, Refusal> {
         for sent in 0..most {
@@ -104,7 +109,7 @@ impl Client {
             let Some(call) = self.calls.pop_front() else {
                 return Ok(sent);
             };
-            if let Some(back) = submit(rt, running, session, call)? {
+            if let Some(back) = open.submit(call)? {
                 self.calls.push_front(back)?;
                 return Ok(sent);
             }
@@ -115,17 +120,12 @@ impl Client {
     /// Submits so many calls in one go, until the queue is full. Gives how many were admitted.
     fn submit_many<B: HistoryName, R: Wait>(
         &mut self,
-        rt: &R,
-        running: &Running<B, Fates>,
-        session: &mut Session<B>,
+        open: &mut Open<'_, B, R>,
         most: u32,
     ) -> Result<u32, Refusal> {
-        if !is_here(running, session) {
-            return Err(Refusal::Range);
-        }
         self.fill(most)?;
         let before = self.calls.len();
-        match running.submit_many(rt, session, &mut self.calls) {
+        match open.submit_many(&mut self.calls) {
             Ok(()) | Err(Refusal::QueueFull) => {
                 let sent = before.saturating_sub(self.calls.len());
                 Ok(u32::try_from(sent).unwrap_or(most))
@@ -137,28 +137,21 @@ impl Client {
     /// Submits until the queue is full, or as many as may be submitted now were admitted. Gives how many were.
     fn submit_all<B: HistoryName, R: Wait>(
         &mut self,
-        rt: &R,
-        running: &Running<B, Fates>,
-        session: &mut Session<B>,
+        open: &mut Open<'_, B, R>,
     ) -> Result<u32, Refusal> {
         let room = self.load.room(self.tally);
         match self.load.many {
-            0 => self.submit_each(rt, running, session, room),
-            many => self.submit_many(rt, running, session, room.min(many)),
+            0 => self.submit_each(open, room),
+            many => self.submit_many(open, room.min(many)),
         }
     }
 
     /// Takes in one go until there is no event, or so many were taken.
     fn take_all<B: HistoryName, R: Wait>(
         &mut self,
-        rt: &R,
-        running: &Running<B, Fates>,
-        session: &mut Session<B>,
+        open: &mut Open<'_, B, R>,
     ) -> Result<(), Refusal> {
-        if !is_here(running, session) {
-            return Err(Refusal::Range);
-        }
-        running.take_many(rt, session, &mut self.taken, MOST_TAKES)?;
+        open.take_many(&mut self.taken, MOST_TAKES)?;
         for event in self.taken.iter() {
             self.tally = self.tally.after(event).ok_or(Refusal::Stopped)?;
         }
@@ -167,19 +160,13 @@ impl Client {
     }
 
     /// Submits, unless the load is over, and takes, and tells how far it is; where it did neither, yields.
-    fn step<B: HistoryName, R: Wait>(
-        &mut self,
-        rt: &R,
-        running: &Running<B, Fates>,
-        session: &mut Session<B>,
-        signals: &Signals,
-    ) -> Result<(), Refusal> {
-        let before = self.tally;
+    fn step<B: HistoryName, R: Wait>(&mut self, open: &mut Open<'_, B, R>) -> Result<(), Refusal> {
+        let (before, signals) = (self.tally, self.signals);
         if !signals.is_over() {
-            let sent = self.submit_all(rt, running, session)?;
+            let sent = self.submit_all(open)?;
             self.tally.sent = self.tally.sent.saturating_add(sent);
         }
-        self.take_all(rt, running, session)?;
+        self.take_all(open)?;
         if self.tally == before {
             thread::yield_now();
         }
@@ -195,19 +182,16 @@ impl Client {
     /// Sends and takes until all is done.
     fn send_and_take<B: HistoryName, R: Wait>(
         &mut self,
-        rt: &R,
-        running: &Running<B, Fates>,
-        session: &mut Session<B>,
-        signals: &Signals,
+        open: &mut Open<'_, B, R>,
     ) -> Result<(), Refusal> {
-        for _ in rt.forever() {
-            if signals.has_failed() {
+        for _ in open.rt.forever() {
+            if self.signals.has_failed() {
                 return Err(Refusal::Stopped);
             }
-            if self.load.is_done(self.tally, signals.is_over()) {
+            if self.load.is_done(self.tally, self.signals.is_over()) {
                 break;
             }
-            self.step(rt, running, session, signals)?;
+            self.step(open)?;
         }
         Ok(())
     }
@@ -223,31 +207,20 @@ fn tells_of(event: &Event, count: usize) -> bool {
 
 /// Takes an event, if there is one, and says whether it tells of a group with so many members.
 fn take_change<B: HistoryName, R: Wait>(
-    rt: &R,
-    running: &Running<B, Fates>,
-    session: &mut Session<B>,
+    open: &mut Open<'_, B, R>,
     count: usize,
 ) -> Result<Option<bool>, Refusal> {
-    if !is_here(running, session) {
-        return Err(Refusal::Range);
-    }
-    match running.take(rt, session) {
-        Ok(Some(event)) => Ok(Some(tells_of(&event, count))),
-        Ok(None) => Ok(None),
-        Err(refusal) => Err(refusal),
-    }
+    Ok(open.take()?.map(|event| tells_of(&event, count)))
 }
 
 /// Takes events until a change tells of as many members as there are nodes.
 fn take_joins<B: HistoryName, R: Wait>(
-    rt: &R,
-    running: &Running<B, Fates>,
-    session: &mut Session<B>,
+    open: &mut Open<'_, B, R>,
     signals: &Signals,
 ) -> Result<(), Refusal> {
-    let all = usize::from(running.nodes());
-    for _ in rt.forever() {
-        match take_change(rt, running, session, all)? {
+    let all = usize::from(open.running.nodes());
+    for _ in open.rt.forever() {
+        match take_change(open, all)? {
             Some(true) => break,
             Some(false) => {}
             None if signals.has_failed() => return Err(Refusal::Stopped),
@@ -259,18 +232,16 @@ fn take_joins<B: HistoryName, R: Wait>(
 
 /// Joins the group, and waits until it was told of the join of all, and all others were.
 fn enter<B: HistoryName, R: Wait>(
-    rt: &R,
-    running: &Running<B, Fates>,
-    session: &mut Session<B>,
+    open: &mut Open<'_, B, R>,
     signals: &Signals,
     join: Call,
 ) -> Result<(), Refusal> {
-    if submit(rt, running, session, join)?.is_some() {
+    if open.submit(join)?.is_some() {
         return Err(Refusal::QueueFull);
     }
-    take_joins(rt, running, session, signals)?;
+    take_joins(open, signals)?;
     signals.entered.fetch_add(1, Ordering::SeqCst);
-    if signals.wait_for(rt, running.nodes()) {
+    if signals.wait_for(open.rt, open.running.nodes()) {
         Ok(())
     } else {
         Err(Refusal::Stopped)
@@ -281,16 +252,15 @@ fn enter<B: HistoryName, R: Wait>(
 fn serve<B: HistoryName, R: Wait + Clock>(
     rt: &R,
     running: &Running<B, Fates>,
-    client: &mut Client,
-    signals: &Signals,
+    client: &mut Client<'_>,
     start: Instant,
 ) -> Result<Ended, Refusal> {
     let index = u8::try_from(client.index).unwrap_or(u8::MAX);
-    let mut session = open(rt, running, index)?;
+    let mut open = Open::at(rt, running, index)?;
     let join = Call::Join(Name::from_slice(client.alloc, b"load")?);
-    enter(rt, running, &mut session, signals, join)?;
+    enter(&mut open, client.signals, join)?;
     let begin = nanos_since(rt, start);
-    client.send_and_take(rt, running, &mut session, signals)?;
+    client.send_and_take(&mut open)?;
     Ok(Ended {
         begin,
         end: nanos_since(rt, start),
@@ -309,8 +279,8 @@ pub fn run_client<B: HistoryName, R: Wait + Clock>(
     start: Instant,
     index: usize,
 ) -> Ended {
-    let ended = match Client::new(alloc, load, index) {
-        Ok(mut client) => serve(rt, running, &mut client, signals, start).unwrap_or(Ended::FAILED),
+    let ended = match Client::new(alloc, load, signals, index) {
+        Ok(mut client) => serve(rt, running, &mut client, start).unwrap_or(Ended::FAILED),
         Err(_) => Ended::FAILED,
     };
     if !ended.whole {

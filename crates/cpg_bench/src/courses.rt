@@ -32,6 +32,15 @@ struct Part {
     looks: Vec<Look>,
 }
 
+/// What a course goes by: its load, what its clients tell each other, and what the gate notes.
+#[derive(Clone, Copy)]
+struct Course<'a> {
+    alloc: Global,
+    load: Load,
+    signals: &'a Signals,
+    notes: &'a Notes,
+}
+
 /// What the clients have taken now.
 fn look_at(signals: &Signals, millis: u64) -> Look {
     let mut told = [0; 8];
@@ -44,12 +53,16 @@ fn look_at(signals: &Signals, millis: u64) -> Look {
 /// Looks on until nothing is sent any more, each second and at the end, and turns the switch off in time.
 fn watch_sending<R: Wait + Clock>(
     rt: &R,
-    load: Load,
-    signals: &Signals,
-    notes: &Notes,
+    course: &Course<'_>,
     start: Instant,
     looks: &mut Vec<Look>,
 ) -> Result<(), AllocError> {
+    let Course {
+        load,
+        signals,
+        notes,
+        ..
+    } = *course;
     let begin = nanos_since(rt, start);
     let mut next = 1_000u64;
     for _ in rt.forever() {
@@ -71,21 +84,17 @@ fn watch_sending<R: Wait + Clock>(
 }
 
 /// Watches the clients from their begin until nothing is sent any more. Gives when that was, and what was seen of them.
-fn watch<R: Wait + Clock>(
-    rt: &R,
-    alloc: Global,
-    load: Load,
-    signals: &Signals,
-    notes: &Notes,
-    start: Instant,
-) -> Part {
-    let mut looks = Vec::new(alloc);
+fn watch<R: Wait + Clock>(rt: &R, course: &Course<'_>, start: Instant) -> Part {
+    let mut looks = Vec::new(course.alloc);
     let mut ended = Ended::FAILED;
-    if signals.wait_for(rt, load.nodes) {
-        notes.deaf.store(load.lost > 0, Ordering::SeqCst);
-        ended.whole = watch_sending(rt, load, signals, notes, start, &mut looks).is_ok();
-        signals.over.store(true, Ordering::SeqCst);
-        notes.deaf.store(false, Ordering::SeqCst);
+    if course.signals.wait_for(rt, course.load.nodes) {
+        course
+            .notes
+            .deaf
+            .store(course.load.lost > 0, Ordering::SeqCst);
+        ended.whole = watch_sending(rt, course, start, &mut looks).is_ok();
+        course.signals.over.store(true, Ordering::SeqCst);
+        course.notes.deaf.store(false, Ordering::SeqCst);
         ended.end = nanos_since(rt, start);
     }
     Part { ended, looks }
@@ -94,17 +103,20 @@ fn watch<R: Wait + Clock>(
 /// All clients, and whoever watches them where they send for a time, each in a thread of its own.
 fn run_all<B, R>(
     rt: &R,
-    alloc: Global,
     running: &Running<B, Fates>,
-    load: Load,
-    signals: &Signals,
-    notes: &Notes,
+    course: &Course<'_>,
     start: Instant,
 ) -> Result<Vec<Part>, AllocError>
 where
     B: HistoryName + Send + Sync,
     R: Threads + Wait + Clock + Sync,
 {
+    let Course {
+        alloc,
+        load,
+        signals,
+        ..
+    } = *course;
     let one = |index: usize| -> Part {
         if index < usize::from(load.nodes) {
             Part {
@@ -112,7 +124,7 @@ where
                 looks: Vec::new(alloc),
             }
         } else {
-            watch(rt, alloc, load, signals, notes, start)
+            watch(rt, course, start)
         }
     };
     let watchers = if load.sending > 0 { 1 } else { 0 };
@@ -179,20 +191,14 @@ fn print_rest<R: Print + Alloc>(rt: &R, load: Load, parts: &[Part]) -> io::Resul
 }
 
 /// The clients over running nodes, to the end of the last, and what they came to.
-fn run_over<B, R>(
-    rt: &R,
-    alloc: Global,
-    running: &Running<B, Fates>,
-    load: Load,
-    signals: &Signals,
-    notes: &Notes,
-) -> io::Result<()>
+fn run_over<B, R>(rt: &R, running: &Running<B, Fates>, course: &Course<'_>) -> io::Result<()>
 where
     B: HistoryName + Send + Sync,
     R: Threads + Wait + Clock + Print + Alloc + Sync,
 {
     let start = Instant::now(rt)?;
-    match run_all(rt, alloc, running, load, signals, notes, start) {
+    let load = course.load;
+    match run_all(rt, running, course, start) {
         Ok(ends) if load.sending == 0 => print_ends(rt, load, ends.as_slice()),
         Ok(ends) => print_rest(rt, load, ends.as_slice()),
         Err(_) => println!(rt; "no memory"),
@@ -217,22 +223,15 @@ fn rounds_of<B: HistoryName, R: Wait>(rt: &R, mut ends: Ends<B>, nodes: u8) -> u
 }
 
 /// The load over a running cluster, which is stopped. Prints how often the token went round, too.
-fn run_cluster<B, R>(
-    rt: &R,
-    alloc: Global,
-    cluster: Cluster<B, Fates>,
-    load: Load,
-    signals: &Signals,
-    notes: &Notes,
-) -> io::Result<()>
+fn run_cluster<B, R>(rt: &R, cluster: Cluster<B, Fates>, course: &Course<'_>) -> io::Result<()>
 where
     B: HistoryName + Send + Sync + 'static,
     R: Threads + Wait + Clock + Print + Alloc + Sync,
 {
-    let done = run_over(rt, alloc, &cluster, load, signals, notes);
-    let rounds = rounds_of(rt, cluster.stop(rt), load.nodes);
+    let done = run_over(rt, &cluster, course);
+    let rounds = rounds_of(rt, cluster.stop(rt), course.load.nodes);
     done?;
-    if !load.timed {
+    if !course.load.timed {
         return Ok(());
     }
     println!(rt; "rounds {rounds}")
@@ -258,8 +257,14 @@ where
     ) else {
         return println!(rt; "no memory");
     };
+    let course = Course {
+        alloc,
+        load,
+        signals: &signals,
+        notes: &notes,
+    };
     match Cluster::<B, Fates>::start(rt, alloc, settings, board, list, gate) {
-        Ok(cluster) => run_cluster(&rt, alloc, cluster, load, &signals, &notes),
+        Ok(cluster) => run_cluster(&rt, cluster, &course),
         Err(refusal) => println!(rt; "no cluster: {refusal}"),
     }
 }

@@ -9,7 +9,7 @@ ghost use Rattle.cpg_draw.specs.Drawing.{EndsDrawing, IsDrawn, Leaves};
 
 use crate::excerpts::{Excerpt, cut};
 use crate::lines::put_lines;
-use crate::pictures::picture_of;
+use crate::pictures::{Scene, picture_of};
 use crate::svg::put_svg;
 use cpg_cred::Refusal;
 use cpg_step::{Command, read_commands};
@@ -49,26 +49,6 @@ pub fn draw_script<R: Read, W: Write>(
     ensures ends { IfErr result (λ fault. EndsDrawing fault.refusal (W.contents writer.old) (W.contents writer.new)) }
     ensures whole { IfErr result (λ fault. fault.part ≡ None) }
 {
-    match draw_whole(alloc, reader, writer, shape, excerpt, world) {
-        Ok(()) => Ok(()),
-        Err(refusal) => Err(Fault::from(refusal)),
-    }
-}
-
-fn draw_whole<R: Read, W: Write>(
-    alloc: Global,
-    reader: &mut R,
-    writer: &mut W,
-    shape: Shape,
-    excerpt: Excerpt,
-    world: World,
-) -> Result<(), Refusal>
-    ensures ok { OnOk result (IfSome (R.remaining reader.old) (λ script.
-        (length script ≤ MOST_BYTES) × IsDrawn (commands_of_script world.settings.nodes script) (W.contents writer.old) (W.contents writer.new))) }
-    ensures err { IfErr result (λ refusal. IfSome (R.remaining reader.old) (λ script.
-        Leaves (commands_of_script world.settings.nodes script) refusal (W.contents writer.old) (W.contents writer.new))) }
-    ensures ends { IfErr result (λ refusal. EndsDrawing refusal (W.contents writer.old) (W.contents writer.new)) }
-{
     let script = read_whole(alloc, reader)?;
     let commands = read_commands(alloc, world.nodes(), script.as_slice())?;
     let text = draw_commands(
@@ -78,7 +58,7 @@ fn draw_whole<R: Read, W: Write>(
         world,
         cut(excerpt, commands.as_slice()),
     )?;
-    write_whole(writer, text.as_slice())
+    Ok(write_whole(writer, text.as_slice())?)
 }
 
 /// The picture of the commands' run over the world, as it is written.
@@ -94,9 +74,16 @@ fn draw_commands(
 {
     let picture = picture_of(alloc, excerpt, &mut world, commands)?;
     let mut text = Vec::new(alloc);
+    let scene = Scene {
+        alloc,
+        excerpt,
+        world: &world,
+        commands,
+        picture: &picture,
+    };
     match shape {
-        Shape::Lines => put_lines(alloc, &mut text, excerpt, &world, commands, &picture)?,
-        Shape::Svg => put_svg(alloc, &mut text, excerpt, &world, commands, &picture)?,
+        Shape::Lines => put_lines(&mut text, &scene)?,
+        Shape::Svg => put_svg(&mut text, &scene)?,
     }
     Ok(text)
 }

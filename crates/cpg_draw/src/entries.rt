@@ -3,13 +3,14 @@
 ghost use Rattle.std.specs.Prelude.{◌≤◌, length, IsOkUnless};
 
 use crate::frames::frame_at;
+use crate::pictures::Scene;
 use cpg_cred::Refusal;
 use cpg_entry::{Entry, Frame, Op};
 use cpg_print::{put_call, put_verdict};
 use cpg_record::Record;
 use cpg_step::put_answer;
 use cpg_text::{push_number, put};
-use cpg_world::{Reply, World};
+use cpg_world::Reply;
 use std::alloc::Global;
 
 /// Puts NODE/PID CALL of an entry.
@@ -26,15 +27,10 @@ fn put_entry(line: &mut Vec<u8>, entry: &Entry) -> Result<(), Refusal>
 }
 
 /// Puts the entry that the frame of that number carries, where it is data.
-pub(crate) fn put_carried(
-    alloc: Global,
-    line: &mut Vec<u8>,
-    world: &World,
-    number: u64,
-) -> Result<(), Refusal>
+pub(crate) fn put_carried(line: &mut Vec<u8>, scene: &Scene<'_>, number: u64) -> Result<(), Refusal>
     ensures memory { IsOkUnless result Refusal.Memory }
 {
-    if let Some(Frame::Packet(packet)) = frame_at(alloc, world, number as usize)? {
+    if let Some(Frame::Packet(packet)) = frame_at(scene.alloc, scene.world, number as usize)? {
         put(line, ": ")?;
         put_entry(line, &packet.entry)?;
     }

@@ -69,13 +69,10 @@ fn push_found(arrows: &mut Vec<Arrow>, found: Option<Arrow>) -> Result<(), Refus
     ensures ok { OnOk result (arrows.new.items ≡ arrows.old.items ++ arrow_list found) }
     ensures memory { IsOkUnless result Refusal.Memory }
 {
-    match found {
-        None => Ok(()),
-        Some(arrow) => {
-            arrows.push(arrow)?;
-            Ok(())
-        }
+    if let Some(arrow) = found {
+        arrows.push(arrow)?;
     }
+    Ok(())
 }
 
 /// Puts the arrow of the frame of that number after the others.

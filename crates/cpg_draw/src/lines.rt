@@ -3,54 +3,37 @@
 ghost use Rattle.std.specs.Prelude.{IsOkUnless};
 
 use crate::columns::{put_columns, put_heads};
-use crate::excerpts::Excerpt;
-use crate::pictures::Picture;
+use crate::pictures::Scene;
 use crate::rows::Row;
 use crate::words::{put_miss, put_row_words, put_start};
 use cpg_cred::Refusal;
-use cpg_step::Command;
 use cpg_text::put;
-use cpg_world::World;
-use std::alloc::Global;
 
-/// Puts the picture of a run of the commands, after which the world is that.
-pub(crate) fn put_lines(
-    alloc: Global,
-    text: &mut Vec<u8>,
-    excerpt: Excerpt,
-    world: &World,
-    commands: &[Command],
-    picture: &Picture,
-) -> Result<(), Refusal>
+/// Puts what is drawn.
+pub(crate) fn put_lines(text: &mut Vec<u8>, scene: &Scene<'_>) -> Result<(), Refusal>
     ensures memory { IsOkUnless result Refusal.Memory }
 {
-    put_heads(text, world.nodes())?;
+    let nodes = scene.world.nodes();
+    put_heads(text, nodes)?;
     put(text, "  row\n")?;
-    put_columns(text, world.nodes(), 0, None)?;
+    put_columns(text, nodes, 0, None)?;
     put(text, "  ")?;
-    put_start(alloc, text, excerpt, world, picture)?;
+    put_start(text, scene)?;
     put(text, "\n")?;
-    for row in picture.rows.as_slice() {
-        put_line(alloc, text, world, commands, picture, row)?;
+    for row in scene.picture.rows.as_slice() {
+        put_line(text, scene, row)?;
     }
-    for miss in picture.misses.as_slice() {
-        put_miss(text, world.nodes(), miss)?;
+    for miss in scene.picture.misses.as_slice() {
+        put_miss(text, nodes, miss)?;
     }
     Ok(())
 }
 
-fn put_line(
-    alloc: Global,
-    text: &mut Vec<u8>,
-    world: &World,
-    commands: &[Command],
-    picture: &Picture,
-    row: &Row,
-) -> Result<(), Refusal>
+fn put_line(text: &mut Vec<u8>, scene: &Scene<'_>, row: &Row) -> Result<(), Refusal>
     ensures memory { IsOkUnless result Refusal.Memory }
 {
-    put_columns(text, world.nodes(), row.node, row.ending())?;
-    put_row_words(alloc, text, world, commands, picture, row)?;
+    put_columns(text, scene.world.nodes(), row.node, row.ending())?;
+    put_row_words(text, scene, row)?;
     match row.answer {
         None => put(text, "\n"),
         Some(_) => Ok(()),

@@ -31,6 +31,16 @@ pub struct Picture {
     pub misses: Vec<Miss>,
 }
 
+/// What is drawn: the picture of an excerpt of a run, with its commands, and the world after them.
+#[derive(Clone, Copy)]
+pub(crate) struct Scene<'a> {
+    pub alloc: Global,
+    pub excerpt: Excerpt,
+    pub world: &'a World,
+    pub commands: &'a [Command],
+    pub picture: &'a Picture,
+}
+
 /// Runs the commands over the world. The picture of an excerpt of their run. `Memory` is the only error.
 #[tactic(auto, using(crate::proofs::Drawn::picture_drawn))]
 pub fn picture_of(

@@ -4,16 +4,15 @@ ghost use Rattle.std.specs.Prelude.{IsOkUnless};
 
 use crate::arrows::{Arrow, ArrowKind, find_arrow};
 use crate::entries::{put_carried, put_told};
-use crate::excerpts::{Excerpt, reaches};
+use crate::excerpts::reaches;
 use crate::misses::{Miss, holds_token};
-use crate::pictures::Picture;
+use crate::pictures::Scene;
 use crate::rows::Row;
 use cpg_cred::{NodeId, Refusal};
 use cpg_print::put_call;
 use cpg_step::{Command, Target, command_name, command_target};
 use cpg_text::{push_number, put};
-use cpg_world::{World, WorldEvent};
-use std::alloc::Global;
+use cpg_world::WorldEvent;
 
 /// Puts what an arrow stands for.
 pub(crate) fn put_kind(line: &mut Vec<u8>, kind: ArrowKind) -> Result<(), Refusal>
@@ -38,12 +37,7 @@ pub(crate) fn put_arrow(line: &mut Vec<u8>, arrow: &Arrow) -> Result<(), Refusal
 }
 
 /// Puts what the frame is that a row brings or shows, the row that sent it, and the entry that it carries.
-fn put_brought(
-    alloc: Global,
-    line: &mut Vec<u8>,
-    world: &World,
-    arrow: Option<Arrow>,
-) -> Result<(), Refusal>
+fn put_brought(line: &mut Vec<u8>, scene: &Scene<'_>, arrow: Option<Arrow>) -> Result<(), Refusal>
     ensures memory { IsOkUnless result Refusal.Memory }
 {
     let Some(arrow) = arrow else {
@@ -53,56 +47,41 @@ fn put_brought(
     put_arrow(line, &arrow)?;
     put(line, " of row ")?;
     push_number(line, arrow.sent.row)?;
-    put_carried(alloc, line, world, arrow.number)
+    put_carried(line, scene, arrow.number)
 }
 
 /// Puts the frames behind the first so many up to so many: the number of each, what it is, and the entry that it
 /// carries.
 fn put_sent(
-    alloc: Global,
     line: &mut Vec<u8>,
-    world: &World,
-    arrows: &[Arrow],
+    scene: &Scene<'_>,
     before: usize,
     after: usize,
 ) -> Result<(), Refusal>
     ensures memory { IsOkUnless result Refusal.Memory }
 {
     for number in before..after {
-        if let Some(arrow) = find_arrow(arrows, number + 1) {
+        if let Some(arrow) = find_arrow(scene.picture.arrows.as_slice(), number + 1) {
             put(line, ", sends ")?;
             push_number(line, arrow.number)?;
             put(line, " ")?;
             put_arrow(line, &arrow)?;
-            put_carried(alloc, line, world, arrow.number)?;
+            put_carried(line, scene, arrow.number)?;
         }
     }
     Ok(())
 }
 
 /// Puts what the line above the first row says: what was sent before the script, or which rows are not shown.
-pub(crate) fn put_start(
-    alloc: Global,
-    line: &mut Vec<u8>,
-    excerpt: Excerpt,
-    world: &World,
-    picture: &Picture,
-) -> Result<(), Refusal>
+pub(crate) fn put_start(line: &mut Vec<u8>, scene: &Scene<'_>) -> Result<(), Refusal>
     ensures memory { IsOkUnless result Refusal.Memory }
 {
-    if reaches(excerpt, 0) {
+    if reaches(scene.excerpt, 0) {
         put(line, "0 start")?;
-        put_sent(
-            alloc,
-            line,
-            world,
-            picture.arrows.as_slice(),
-            0,
-            picture.before,
-        )
+        put_sent(line, scene, 0, scene.picture.before)
     } else {
         put(line, "rows before ")?;
-        push_number(line, excerpt.first)
+        push_number(line, scene.excerpt.first)
     }
 }
 
@@ -139,41 +118,37 @@ fn put_command(line: &mut Vec<u8>, command: &Command) -> Result<(), Refusal>
 
 /// Puts what the row of one of the commands says: the command, the frames that it brings and sends, its node then, and
 /// its answer with a line's end, where it has one.
-pub(crate) fn put_row_words(
-    alloc: Global,
-    line: &mut Vec<u8>,
-    world: &World,
-    commands: &[Command],
-    picture: &Picture,
-    row: &Row,
-) -> Result<(), Refusal>
+pub(crate) fn put_row_words(line: &mut Vec<u8>, scene: &Scene<'_>, row: &Row) -> Result<(), Refusal>
     ensures memory { IsOkUnless result Refusal.Memory }
 {
     put(line, "  ")?;
     push_number(line, row.spot.row)?;
     put(line, " ")?;
-    if let Some(command) = commands.get((row.spot.row as usize).saturating_sub(1)) {
+    if let Some(command) = scene
+        .commands
+        .get((row.spot.row as usize).saturating_sub(1))
+    {
         put_command(line, command)?;
     }
-    put_brought(alloc, line, world, row.arrow)?;
-    let arrows = picture.arrows.as_slice();
-    put_sent(alloc, line, world, arrows, row.sent_before, row.sent_after)?;
+    put_brought(line, scene, row.arrow)?;
+    put_sent(line, scene, row.sent_before, row.sent_after)?;
     if let Some(state) = row.state {
         put(line, ", waiting ")?;
         push_number(line, state.waiting as u64)?;
         put(line, ", safe ")?;
         push_number(line, u64::from(state.safe))?;
     }
-    put_answer(alloc, line, world, row)
+    put_answer(line, scene, row)
 }
 
 /// Puts the answer of an event.
-fn put_answer(alloc: Global, line: &mut Vec<u8>, world: &World, row: &Row) -> Result<(), Refusal>
+fn put_answer(line: &mut Vec<u8>, scene: &Scene<'_>, row: &Row) -> Result<(), Refusal>
     ensures memory { IsOkUnless result Refusal.Memory }
 {
     let Some(answer) = &row.answer else {
         return Ok(());
     };
+    let (alloc, world) = (scene.alloc, scene.world);
     put(line, ": ")?;
     match NodeId::new(row.node) {
         Some(node) if node.get() <= world.nodes() => {

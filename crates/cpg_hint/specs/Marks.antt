@@ -20,15 +20,23 @@ cut_short text = if nat_le (length text) MOST_SHOWN then text else take MOST_SHO
 abbrev pub shown : List ℕ → List ℕ
 shown line = cut_short (escaped (take (MOST_SHOWN + 1) line))
 
+-- what stands before the line or the word of that number, which is named so
+abbrev pub front_text : List ℕ → ℕ → List ℕ
+front_text name number = name ++ decimal number ++ codes ": "
+
 -- what stands before the line
 abbrev pub number_text : ℕ → List ℕ
-number_text number = codes "line " ++ decimal number ++ codes ": "
+number_text number = front_text (codes "line ") number
 
 -- a space for each character
 abbrev pub blanks : List ℕ → List ℕ
 blanks text = flat_map (λ character. 32 ∷ []) text
 
+-- the line's end, and under what stands before the place a mark with a phrase behind it
+abbrev pub mark_under : List ℕ → List ℕ → List ℕ
+mark_under before phrase = codes "\n" ++ blanks before ++ codes "^ " ++ phrase ++ codes "\n"
+
 -- the line of that number as it is shown, and under it a mark at the place among its bytes, with a phrase behind it
 abbrev pub marked : ℕ → List ℕ → ℕ → List ℕ → List ℕ
 marked number line place phrase =
-    number_text number ++ shown line ++ codes "\n" ++ blanks (number_text number ++ shown (take place line)) ++ codes "^ " ++ phrase ++ codes "\n"
+    number_text number ++ shown line ++ mark_under (number_text number ++ shown (take place line)) phrase

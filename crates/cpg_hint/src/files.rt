@@ -71,26 +71,12 @@ fn put_flaw(
         }
         File::Names => put_flaw_text(alloc, hint, true, refusal, number, line),
         File::Passwd => {
-            let phrase = user_phrase(refusal);
-            put_end(
-                alloc,
-                hint,
-                number,
-                line,
-                account_end(refusal, stands),
-                phrase,
-            )
+            let (end, phrase) = (account_end(refusal, stands), user_phrase(refusal));
+            put_end(alloc, hint, number, line, end, phrase)
         }
         File::Group => {
-            let phrase = group_phrase(refusal);
-            put_end(
-                alloc,
-                hint,
-                number,
-                line,
-                account_end(refusal, stands),
-                phrase,
-            )
+            let (end, phrase) = (account_end(refusal, stands), group_phrase(refusal));
+            put_end(alloc, hint, number, line, end, phrase)
         }
     }
 }

@@ -4,7 +4,7 @@
 
 ghost use Rattle.std.specs.Prelude.{◌≡◌, ◌++◌, OnOk, IfOk, IsOkUnless};
 ghost use Rattle.cpg_text.specs.Lines.{lines_of};
-ghost use Rattle.cpg_hint.specs.Hints.{command_hint, has_head, hint_text, or_room, mismatch_in, whole_hint};
+ghost use Rattle.cpg_hint.specs.Hints.{command_hint, has_head, hint_text, or_room, mismatch_in};
 ghost use Rattle.cpg_hint.specs.Told.{line_at};
 
 use crate::kinds::ScriptKind;
@@ -28,28 +28,14 @@ pub fn hint_of(
     ensures memory { IsOkUnless result Refusal.Memory }
 {
     let mut text = Vec::new(alloc);
-    match fault.part {
-        None => put_whole(alloc, &mut text, kind, script, fault.refusal)?,
-        Some(part) => put_part(alloc, &mut text, part, script, fault.refusal)?,
+    match (fault.part, fault.refusal) {
+        (Some(part), refusal) => put_part(alloc, &mut text, part, script, refusal)?,
+        (None, Refusal::BadCommand(number)) => {
+            put_command(alloc, &mut text, kind, script, number)?;
+        }
+        (None, _) => {}
     }
     Ok(text)
-}
-
-/// Puts what is told of a fault of the script as a whole at the text's end.
-fn put_whole(
-    alloc: Global,
-    text: &mut Vec<u8>,
-    kind: ScriptKind,
-    script: &[u8],
-    refusal: Refusal,
-) -> Result<(), Refusal>
-    ensures ok { OnOk result (text.new.items ≡ text.old.items ++ whole_hint kind refusal (lines_of script.now)) }
-    ensures memory { IsOkUnless result Refusal.Memory }
-{
-    match refusal {
-        Refusal::BadCommand(number) => put_command(alloc, text, kind, script, number),
-        _ => Ok(()),
-    }
 }
 
 /// Puts what is told of a bad line of that number at the text's end.

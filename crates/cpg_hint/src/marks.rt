@@ -4,7 +4,7 @@
 
 ghost use Rattle.std.specs.Prelude.{◌≡◌, ◌++◌, ◌<◌, take, true, OnOk, IfOk, IsOkUnless};
 ghost use Rattle.std.specs.Fmt.{digit_glyph};
-ghost use Rattle.cpg_hint.specs.Marks.{blanks, cut_short, escaped, escaped_byte, marked, number_text, shown};
+ghost use Rattle.cpg_hint.specs.Marks.{blanks, cut_short, escaped, escaped_byte, front_text, mark_under, marked, shown};
 
 use cpg_cred::Refusal;
 use cpg_text::{push_number, put, put_byte, put_bytes};
@@ -25,24 +25,32 @@ pub fn put_marked(
     ensures ok { OnOk result (text.new.items ≡ text.old.items ++ marked number line.now place phrase.now) }
     ensures memory { IsOkUnless result Refusal.Memory }
 {
-    put_number(text, number)?;
+    put_front(text, "line ", number)?;
     put_shown(alloc, text, line)?;
-    put(text, "\n")?;
     let mut before = Vec::new(alloc);
-    put_number(&mut before, number)?;
+    put_front(&mut before, "line ", number)?;
     put_shown(alloc, &mut before, front_of(place, line))?;
-    put_blanks(text, before.as_slice())?;
+    put_mark(text, before.as_slice(), phrase)
+}
+
+/// Puts the line's end at the text's end, and under what stands before the place a mark with the phrase.
+pub(crate) fn put_mark(text: &mut Vec<u8>, before: &[u8], phrase: &[u8]) -> Result<(), Refusal>
+    ensures ok { OnOk result (text.new.items ≡ text.old.items ++ mark_under before.now phrase.now) }
+    ensures memory { IsOkUnless result Refusal.Memory }
+{
+    put(text, "\n")?;
+    put_blanks(text, before)?;
     put(text, "^ ")?;
     put_bytes(text, phrase)?;
     put(text, "\n")
 }
 
-/// Puts what stands before a line at the text's end.
-fn put_number(text: &mut Vec<u8>, number: u64) -> Result<(), Refusal>
-    ensures ok { OnOk result (text.new.items ≡ text.old.items ++ number_text number) }
+/// Puts what stands before the line or the word of that number, which is named so, at the text's end.
+pub(crate) fn put_front(text: &mut Vec<u8>, name: &str, number: u64) -> Result<(), Refusal>
+    ensures ok { OnOk result (text.new.items ≡ text.old.items ++ front_text name.now number) }
     ensures memory { IsOkUnless result Refusal.Memory }
 {
-    put(text, "line ")?;
+    put(text, name)?;
     push_number(text, number)?;
     put(text, ": ")
 }
@@ -119,7 +127,7 @@ fn upper_digit(digit: u8) -> u8
 }
 
 /// Puts a space for each character at the text's end.
-pub(crate) fn put_blanks(text: &mut Vec<u8>, before: &[u8]) -> Result<(), Refusal>
+fn put_blanks(text: &mut Vec<u8>, before: &[u8]) -> Result<(), Refusal>
     ensures ok { OnOk result (text.new.items ≡ text.old.items ++ blanks before.now) }
     ensures memory { IsOkUnless result Refusal.Memory }
 {

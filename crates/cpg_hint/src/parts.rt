@@ -6,7 +6,7 @@ ghost use Rattle.std.specs.Prelude.{◌≡◌, ◌++◌, nat_lt, length, None, O
 ghost use Rattle.cpg_text.specs.Lines.{lines_left, lines_of, words_of};
 ghost use Rattle.cpg_conf.specs.Lines.{line_of, opened};
 ghost use Rattle.cpg_accept.specs.Parts.{is_head};
-ghost use Rattle.cpg_hint.specs.Parts.{begun_at, colon_of, depth_after, flaw_end, flaw_line, flaw_phrase, flaw_text, is_uid, line_hint, name_phrase, offset_hint, open_line, opened_by, or_whole, part_hint, turn_of, value_behind};
+ghost use Rattle.cpg_hint.specs.Parts.{begun_at, colon_of, depth_after, flaw_end, flaw_line, flaw_phrase, flaw_text, is_uid, name_phrase, offset_hint, open_line, opened_by, or_whole, part_hint, turn_of, value_behind};
 ghost use Rattle.cpg_hint.specs.Reasons.{why_no_naming};
 ghost use Rattle.cpg_hint.specs.Steps.{begun_seen};
 ghost use Rattle.cpg_hint.specs.Told.{line_at};
@@ -58,23 +58,9 @@ fn put_flaw(
     ensures ok { OnOk result (text.new.items ≡ text.old.items ++ offset_hint refusal (begun_seen start.now) (flaw_line refusal (lines_left (option_map (λ after. after.now) (start.now).after)))) }
     ensures memory { IsOkUnless result Refusal.Memory }
 {
-    match flaw_line(refusal, start.after) {
-        None => Ok(()),
-        Some(offset) => put_flaw_line(alloc, text, start, refusal, offset),
-    }
-}
-
-/// Puts what is told of the line of that number in the part at the text's end.
-fn put_flaw_line(
-    alloc: Global,
-    text: &mut Vec<u8>,
-    start: &PartStart<'_>,
-    refusal: Refusal,
-    offset: u32,
-) -> Result<(), Refusal>
-    ensures ok { OnOk result (text.new.items ≡ text.old.items ++ line_hint refusal (begun_seen start.now) offset (line_at offset (lines_left (option_map (λ after. after.now) (start.now).after)))) }
-    ensures memory { IsOkUnless result Refusal.Memory }
-{
+    let Some(offset) = flaw_line(refusal, start.after) else {
+        return Ok(());
+    };
     let number = u64::from(start.number) + u64::from(offset);
     match line_at(offset, Lines { rest: start.after }) {
         None => Ok(()),

@@ -6,7 +6,7 @@ use crate::codec::put_decoded;
 use crate::events::event_of;
 use crate::looks::put_server;
 use crate::nodes::{Server, Shared};
-use crate::player::{Plays, Row};
+use crate::player::{Plays, Row, given_back};
 use crate::printing;
 use crate::spelling::put_spelled;
 use crate::states::put_audits_of;
@@ -45,14 +45,8 @@ pub struct Crew<B: BoardName> {
 
 /// What is answered to a call, which comes back as it was.
 fn submitted(answer: Result<(), Refused<Call>>, handed: &Call) -> Result<Reply, Refusal> {
-    match answer {
-        Ok(()) => Ok(Reply::Admitted),
-        Err(refused) => {
-            let is_same = refused.back.equals(handed);
-            let refusal = refused.into_refusal();
-            Err(if is_same { refusal } else { Refusal::Differs })
-        }
-    }
+    given_back(answer, |back| back.equals(handed))?;
+    Ok(Reply::Admitted)
 }
 
 /// The server of that node.

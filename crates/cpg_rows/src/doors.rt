@@ -1,6 +1,7 @@
 //! `%accept WORD ..`: names, conf texts and who is let in.
 
 use crate::player::{Plays, Row};
+use crate::printing::put_debug;
 use crate::words::{NO_COMMAND, accept_list, add_to, cred, first, index, one, two};
 use cpg_conf::{Names, read_conf};
 use cpg_cred::{AcceptList, Refusal, Via};
@@ -15,18 +16,10 @@ pub struct Door {
     names: Names,
 }
 
-/// Puts the list as its type writes it.
-fn put_list(alloc: Global, line: &mut Vec<u8>, list: &AcceptList) -> Result<(), Refusal> {
-    let text = format!(in alloc; "{list:?}\n")?;
-    let put = put_bytes(line, text.as_bytes());
-    drop(text);
-    put
-}
-
 /// Puts a copy of the list.
 fn put_copy(alloc: Global, line: &mut Vec<u8>, list: &AcceptList) -> Result<(), Refusal> {
     let copy = list.copy(alloc)?;
-    let put = put_list(alloc, line, &copy);
+    let put = put_debug(alloc, line, &copy);
     drop(copy);
     put
 }
@@ -35,7 +28,7 @@ fn put_copy(alloc: Global, line: &mut Vec<u8>, list: &AcceptList) -> Result<(), 
 fn put_told(alloc: Global, line: &mut Vec<u8>, names: &Names, text: &[u8]) -> Result<(), Refusal> {
     match read_conf(alloc, text, names, AcceptList::new(alloc)) {
         Ok(list) => {
-            let put = put_list(alloc, line, &list);
+            let put = put_debug(alloc, line, &list);
             drop(list);
             put
         }
@@ -172,6 +165,6 @@ impl Plays for Door {
     }
 
     fn put_state(&self, alloc: Global, text: &mut Vec<u8>) -> Result<(), Refusal> {
-        put_list(alloc, text, &self.list)
+        put_debug(alloc, text, &self.list)
     }
 }

@@ -1,26 +1,19 @@
 //! What can be seen of a node or station.
 
 use crate::nodes::{Server, Shared};
+use crate::printing::put_debug;
 use crate::states::put_audits;
 use crate::tables::put_rules;
 use crate::words::put_number_line;
 use cpg_cred::Refusal;
-use cpg_node::{Connection, Node};
+use cpg_node::Connection;
 use cpg_record::Record;
 use cpg_station::{BoardName, Station};
-use cpg_text::{push_number, put, put_bytes};
+use cpg_text::{push_number, put};
 use std::alloc::Global;
 
 /// Up to which number the connections of a node are shown.
 const SHOWN: u16 = 64;
-
-/// Puts the node as its type writes it: what waits, what is held, its last token.
-fn put_node(alloc: Global, text: &mut Vec<u8>, node: &Node) -> Result<(), Refusal> {
-    let all = format!(in alloc; "{node:?}\n")?;
-    let put = put_bytes(text, all.as_bytes());
-    drop(all);
-    put
-}
 
 /// Puts what only a station shows: whether it is halted, and whether its seat is as it should be.
 fn put_station<B: BoardName>(
@@ -45,7 +38,8 @@ fn put_own<B: BoardName>(
     server: &Server<B>,
 ) -> Result<(), Refusal> {
     match server {
-        Server::Alone(node) => put_node(alloc, text, node),
+        // what waits, what is held, its last token
+        Server::Alone(node) => put_debug(alloc, text, node),
         Server::Sharing(station) => put_station(text, station, shared.ahead(station)?),
     }
 }

@@ -27,7 +27,7 @@ mod worlds;
 use cpg_cred::Refusal;
 use cpg_text::{push_number, put, read_whole, write_whole};
 use parts::play_file;
-use player::{Player, TRIES};
+use player::{Player, TRIES, surely};
 use std::alloc::Global;
 use std::env;
 use std::fs::File;
@@ -50,31 +50,11 @@ fn read_words(rt: &HostRuntime) -> Result<Vec<String>, Refusal> {
     }
 }
 
-/// The same, again after a refusal.
-fn read_words_surely(rt: &HostRuntime) -> Result<Vec<String>, Refusal> {
-    for _ in 1..TRIES {
-        if let Ok(words) = read_words(rt) {
-            return Ok(words);
-        }
-    }
-    read_words(rt)
-}
-
 fn read_file(rt: &HostRuntime, path: &str) -> Result<Vec<u8>, Refusal> {
     match File::open(rt, path) {
         Ok(mut file) => read_whole(rt.alloc(), &mut file),
         Err(_) => Err(Refusal::Read),
     }
-}
-
-/// The file, read again after a refusal.
-fn read_file_surely(rt: &HostRuntime, path: &str) -> Result<Vec<u8>, Refusal> {
-    for _ in 1..TRIES {
-        if let Ok(text) = read_file(rt, path) {
-            return Ok(text);
-        }
-    }
-    read_file(rt, path)
 }
 
 fn put_file_line(line: &mut Vec<u8>, path: &str, player: &Player<'_>) -> Result<(), Refusal> {
@@ -143,7 +123,7 @@ fn play_text<W: Wait>(
 
 /// Plays a file.
 fn play<W: Wait>(rt: &HostRuntime, waits: &W, tries: u32, path: &str) -> Result<Counts, Refusal> {
-    let text = read_file_surely(rt, path)?;
+    let text = surely(|| read_file(rt, path))?;
     let counts = play_text(rt, waits, tries, path, text.as_slice());
     drop(text);
     counts
@@ -170,7 +150,7 @@ fn play_all<W: Wait>(rt: &HostRuntime, waits: &W, words: &[String]) -> Result<Co
 }
 
 fn status_of<W: Wait>(rt: &HostRuntime, waits: &W) -> Result<u8, Refusal> {
-    let words = read_words_surely(rt)?;
+    let words = surely(|| read_words(rt))?;
     let played = play_all(rt, waits, words.as_slice());
     drop(words);
     Ok(if played?.failed == 0 { 0 } else { 1 })

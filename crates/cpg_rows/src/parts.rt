@@ -12,7 +12,7 @@ use crate::player::{Player, Plays};
 use crate::policies::Judging;
 use crate::rings::Ringing;
 use crate::tables::Rules;
-use crate::words::{NO_COMMAND, first, is_word, number};
+use crate::words::{NO_COMMAND, first, is_word, named, number};
 use crate::worlds::Worldly;
 use cpg_board::Board;
 use cpg_cred::{Refusal, is_memory};
@@ -49,25 +49,18 @@ fn play_part<'a, R: Wait>(rt: &R, player: &mut Player<'a>, head: &'a [u8]) -> Ne
     if is_word(kind, "%board") {
         return play_at_board(player, None, rest);
     }
-    match kind_of(kind) {
-        Some(kind) => play_at_board(player, Some(kind), rest),
-        None => play_alone(player, kind, rest),
+    match named(&KINDS, kind) {
+        Ok(kind) => play_at_board(player, Some(kind), rest),
+        Err(_) => play_alone(player, kind, rest),
     }
 }
 
-/// The kind of a part with nodes or stations.
-fn kind_of(word: &[u8]) -> Option<Kind> {
-    if is_word(word, "%nodes") {
-        return Some(Kind::Nodes);
-    }
-    if is_word(word, "%stations") {
-        return Some(Kind::Stations);
-    }
-    if is_word(word, "%twins") {
-        return Some(Kind::Twins);
-    }
-    None
-}
+/// The parts with nodes or stations.
+const KINDS: [(&str, Kind); 3] = [
+    ("%nodes", Kind::Nodes),
+    ("%stations", Kind::Stations),
+    ("%twins", Kind::Twins),
+];
 
 /// Plays the part of an object that stands alone.
 fn play_alone<'a>(player: &mut Player<'a>, kind: &[u8], rest: &[u8]) -> Next<'a> {

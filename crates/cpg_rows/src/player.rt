@@ -3,9 +3,9 @@
 //! A call that answers Memory is made again where the driver was told so, and a call that is refused has to leave its
 //! object as it was: the text of all that can be seen of the object is compared.
 
-pub use crate::texts::TRIES;
-use crate::texts::{parts_of, put_line_surely, put_plain_surely, reserve_surely};
-use cpg_cred::Refusal;
+pub use crate::texts::{TRIES, surely};
+use crate::texts::{parts_of, put_line_surely, put_plain_surely, put_surely, reserve_surely};
+use cpg_cred::{Refusal, Refused};
 use cpg_print::put_refused_line;
 use cpg_text::{Lines, is, is_ignored, push_number, put, put_bytes, read_number, take_word, trim};
 use std::alloc::Global;
@@ -35,6 +35,20 @@ impl Row<'_> {
     /// Whether that is the first word.
     pub fn is(&self, name: &str) -> bool {
         is(self.word, name.as_bytes())
+    }
+}
+
+/// What is answered to what was handed in, which comes back as it was: whether it does is asked of what came back.
+pub fn given_back<T: Drop, F: Fn(&T) -> bool>(
+    answer: Result<(), Refused<T>>,
+    is_same: F,
+) -> Result<(), Refusal>
+    requires { F.IsAlwaysCallable is_same }
+{
+    match answer {
+        Ok(()) => Ok(()),
+        Err(refused) if is_same(&refused.back) => Err(refused.into_refusal()),
+        Err(_) => Err(Refusal::Differs),
     }
 }
 
@@ -79,26 +93,14 @@ pub struct Player<'a> {
 
 /// Puts all that can be seen of the object in the text's place.
 fn look<P: Plays>(alloc: Global, object: &P, text: &mut Vec<u8>) -> Result<(), Refusal> {
-    for _ in 1..TRIES {
-        text.clear();
-        if object.put_state(alloc, text).is_ok() {
-            return Ok(());
-        }
-    }
     text.clear();
-    object.put_state(alloc, text)
+    put_surely(text, |text| object.put_state(alloc, text))
 }
 
 /// Puts the line of the refusal in the line's place.
 fn say_refused(alloc: Global, line: &mut Vec<u8>, refusal: Refusal) -> Result<(), Refusal> {
-    for _ in 1..TRIES {
-        line.clear();
-        if put_refused_line(alloc, line, refusal).is_ok() {
-            return Ok(());
-        }
-    }
     line.clear();
-    put_refused_line(alloc, line, refusal)
+    put_surely(line, |line| put_refused_line(alloc, line, refusal))
 }
 
 /// Makes the command. `state` is one of each object.

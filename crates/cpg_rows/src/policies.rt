@@ -1,14 +1,14 @@
 //! `%policy`: entries that are judged, one a row, and what comes of them.
 
-use crate::player::{Plays, Row};
+use crate::player::{Plays, Row, given_back};
 use crate::printing;
 use crate::states::{put_audits, put_last, put_policy, put_processes};
 use crate::tables::{put_copied_rules, put_rules_of};
 use crate::words::{
-    NO_COMMAND, asker, conn_id, entry, first, index, is_word, number, one, put_number_line,
+    NO_COMMAND, asker, conn_id, entry, first, index, is_word, named, number, one, put_number_line,
     put_whether, three, two,
 };
-use cpg_cred::{By, Refusal, Refused};
+use cpg_cred::{By, Refusal};
 use cpg_entry::{Entry, Name, Packet};
 use cpg_group::{MOST_PLACES, Policy, verify};
 use cpg_print::{put_event, put_groups_line, put_members, put_members_line};
@@ -21,18 +21,6 @@ pub struct Judging {
     policy: Policy,
 }
 
-/// What is answered to a record, which comes back as it was.
-fn applied(answer: Result<(), Refused<Record>>, handed: &Record) -> Result<(), Refusal> {
-    match answer {
-        Ok(()) => Ok(()),
-        Err(refused) => {
-            let is_same = refused.back.equals(handed);
-            let refusal = refused.into_refusal();
-            Err(if is_same { refusal } else { Refusal::Differs })
-        }
-    }
-}
-
 /// Judges the entry, and puts its record last.
 fn judge_and_apply(alloc: Global, policy: &mut Policy, entry: &Entry) -> Result<(), Refusal> {
     if policy.len() >= MOST_PLACES as usize {
@@ -40,7 +28,7 @@ fn judge_and_apply(alloc: Global, policy: &mut Policy, entry: &Entry) -> Result<
     }
     let record = policy.judge(entry)?;
     let handed = record.copy(alloc)?;
-    let answer = applied(policy.apply(record), &handed);
+    let answer = given_back(policy.apply(record), |back| back.equals(&handed));
     drop(handed);
     answer
 }
@@ -53,24 +41,12 @@ pub fn judge_line(alloc: Global, policy: &mut Policy, text: &[u8]) -> Result<(),
     judged
 }
 
-/// What is answered to an entry, which comes back as it was.
-fn entered(answer: Result<(), Refused<Entry>>, handed: &Entry) -> Result<(), Refusal> {
-    match answer {
-        Ok(()) => Ok(()),
-        Err(refused) => {
-            let is_same = refused.back.equals(handed);
-            let refusal = refused.into_refusal();
-            Err(if is_same { refusal } else { Refusal::Differs })
-        }
-    }
-}
-
 /// Puts the entry last in one call.
 fn enter(alloc: Global, policy: &mut Policy, entry: &Entry) -> Result<(), Refusal> {
     if policy.len() >= MOST_PLACES as usize {
         return Err(NO_COMMAND);
     }
-    entered(policy.enter(entry.copy(alloc)?), entry)
+    given_back(policy.enter(entry.copy(alloc)?), |back| back.equals(entry))
 }
 
 fn enter_line(alloc: Global, policy: &mut Policy, text: &[u8]) -> Result<(), Refusal> {
@@ -153,31 +129,19 @@ fn put_groups(line: &mut Vec<u8>, policy: &Policy, text: &[u8]) -> Result<(), Re
     put
 }
 
-fn allowed(word: &[u8]) -> Result<Verdict, Refusal> {
-    if is_word(word, "default") {
-        return Ok(Verdict::Allowed(By::Default));
-    }
-    if is_word(word, "root") {
-        return Ok(Verdict::Allowed(By::Root));
-    }
-    if is_word(word, "free") {
-        return Ok(Verdict::Allowed(By::Free));
-    }
-    Err(NO_COMMAND)
-}
+/// By what an entry is allowed, of no rule.
+const ALLOWED: [(&str, By); 3] = [
+    ("default", By::Default),
+    ("root", By::Root),
+    ("free", By::Free),
+];
 
-fn denied(word: &[u8]) -> Result<Verdict, Refusal> {
-    if is_word(word, "default") {
-        return Ok(Verdict::Denied(Reason::Default));
-    }
-    if is_word(word, "closed") {
-        return Ok(Verdict::Denied(Reason::Closed));
-    }
-    if is_word(word, "joined") {
-        return Ok(Verdict::Denied(Reason::Joined));
-    }
-    Err(NO_COMMAND)
-}
+/// By what it is denied.
+const DENIED: [(&str, Reason); 3] = [
+    ("default", Reason::Default),
+    ("closed", Reason::Closed),
+    ("joined", Reason::Joined),
+];
 
 /// The verdict that the words say, of those that a row claims.
 fn verdict_of(text: &[u8]) -> Result<Verdict, Refusal> {
@@ -185,7 +149,11 @@ fn verdict_of(text: &[u8]) -> Result<Verdict, Refusal> {
     let (by, id) = first(rest)?;
     let is_allowed = is_word(way, "allowed");
     if !is_word(by, "rule") {
-        return if is_allowed { allowed(by) } else { denied(by) };
+        return Ok(if is_allowed {
+            Verdict::Allowed(named(&ALLOWED, by)?)
+        } else {
+            Verdict::Denied(named(&DENIED, by)?)
+        });
     }
     let id = number(one(id)?)?;
     Ok(if is_allowed {

@@ -4,8 +4,18 @@ use crate::words::put_number_line;
 use cpg_cred::Refusal;
 use cpg_entry::{Frame, Packet, Token};
 use cpg_print::{node_number, put_entry, put_groups_line, put_members_line, put_took_line};
-use cpg_text::{push_number, put};
+use cpg_text::{push_number, put, put_bytes};
 use cpg_world::Reply;
+use std::alloc::Global;
+use std::fmt::Debug;
+
+/// Puts the line of the value as its type writes it.
+pub fn put_debug<T: Debug>(alloc: Global, line: &mut Vec<u8>, value: &T) -> Result<(), Refusal> {
+    let all = format!(in alloc; "{value:?}\n")?;
+    let put = put_bytes(line, all.as_bytes());
+    drop(all);
+    put
+}
 
 pub fn put_packet(line: &mut Vec<u8>, packet: &Packet) -> Result<(), Refusal> {
     put(line, "data ")?;

@@ -3,47 +3,23 @@
 ghost use Rattle.std.specs.Prelude.{IfOk};
 ghost use Rattle.cpg_entry.specs.Ranges.{IsFrame};
 
-use crate::player::{Plays, Row};
-use crate::printing::{put_packet, put_token};
+use crate::player::{Plays, Row, given_back};
+use crate::printing::{put_debug, put_packet, put_token};
 use crate::spelling::put_spelled;
 use crate::words::{
     NO_COMMAND, are_same_packets, entry, first, is_word, node, put_number_line, settings,
 };
-use cpg_cred::{Refusal, Refused};
+use cpg_cred::Refusal;
 use cpg_entry::{Entry, Frame, Packet};
 use cpg_print::put_entry;
 use cpg_ring::{Ring, Visit};
-use cpg_text::{put, put_bytes};
+use cpg_text::put;
 use cpg_wire::decode;
 use std::alloc::Global;
 
 #[derive(Drop)]
 pub struct Ringing {
     ring: Ring,
-}
-
-/// What is answered to an entry, which comes back as it was.
-fn enqueued(answer: Result<(), Refused<Entry>>, handed: &Entry) -> Result<(), Refusal> {
-    match answer {
-        Ok(()) => Ok(()),
-        Err(refused) => {
-            let is_same = refused.back.equals(handed);
-            let refusal = refused.into_refusal();
-            Err(if is_same { refusal } else { Refusal::Differs })
-        }
-    }
-}
-
-/// What is answered to a packet, which comes back as it was.
-fn held(answer: Result<(), Refused<Packet>>, handed: &Packet) -> Result<(), Refusal> {
-    match answer {
-        Ok(()) => Ok(()),
-        Err(refused) => {
-            let is_same = are_same_packets(&refused.back, handed);
-            let refusal = refused.into_refusal();
-            Err(if is_same { refusal } else { Refusal::Differs })
-        }
-    }
 }
 
 /// Puts the entry among those that wait.
@@ -54,7 +30,7 @@ fn enqueue(alloc: Global, ring: &mut Ring, handed: &Entry, is_end: bool) -> Resu
     } else {
         ring.enqueue(entry)
     };
-    enqueued(answer, handed)
+    given_back(answer, |back| back.equals(handed))
 }
 
 fn enqueue_line(alloc: Global, ring: &mut Ring, row: &Row<'_>) -> Result<(), Refusal> {
@@ -113,7 +89,7 @@ fn hear_packet(
         Frame::Token(token) => put_visit(line, ring.on_token(&token)?),
         Frame::Packet(packet) => {
             let handed = packet.copy(alloc)?;
-            let answer = held(ring.on_data(packet), &handed);
+            let answer = given_back(ring.on_data(packet), |back| are_same_packets(back, &handed));
             drop(handed);
             answer?;
             put(line, "held\n")
@@ -208,10 +184,6 @@ impl Plays for Ringing {
 
     /// The text of the ring shows what waits, what is held and delivered, and its last token.
     fn put_state(&self, alloc: Global, text: &mut Vec<u8>) -> Result<(), Refusal> {
-        let ring = &self.ring;
-        let all = format!(in alloc; "{ring:?}\n")?;
-        let put = put_bytes(text, all.as_bytes());
-        drop(all);
-        put
+        put_debug(alloc, text, &self.ring)
     }
 }

@@ -73,17 +73,11 @@ impl Rules {
     }
 
     /// `insert INDEX ID EFFECT RIGHT WHO`.
-    fn insert_said(
-        &mut self,
-        alloc: Global,
-        line: &mut Vec<u8>,
-        text: &[u8],
-    ) -> Result<(), Refusal> {
+    fn insert_said(&mut self, alloc: Global, text: &[u8]) -> Result<(), Refusal> {
         let (at, rest) = first(text)?;
         let (id, rest) = first(rest)?;
         let (at, id) = (index(at)?, number(id)?);
-        self.insert_read(at, id, rule(alloc, rest))?;
-        put(line, "inserted\n")
+        self.insert_read(at, id, rule(alloc, rest))
     }
 
     /// Inserts the rule that was read, if one was.
@@ -115,7 +109,8 @@ impl Rules {
 impl Plays for Rules {
     fn make(&mut self, alloc: Global, line: &mut Vec<u8>, row: &Row<'_>) -> Result<(), Refusal> {
         if row.is("insert") {
-            return self.insert_said(alloc, line, row.rest);
+            self.insert_said(alloc, row.rest)?;
+            return put(line, "inserted\n");
         }
         if row.is("remove") {
             return put_whether(line, self.table.remove(number(one(row.rest)?)?));

@@ -61,36 +61,46 @@ fn put_plain(text: &mut Vec<u8>, line: &[u8]) -> Result<(), Refusal> {
     put_byte(text, b'\n')
 }
 
-/// Puts the line as `put_line` does, again after Memory.
-pub fn put_line_surely(text: &mut Vec<u8>, line: &[u8]) -> Result<(), Refusal> {
+/// What the call gives, which is made again after a refusal.
+pub fn surely<T: Drop, F: FnMut() -> Result<T, Refusal>>(mut call: F) -> Result<T, Refusal>
+    requires { F.IsAlwaysCallable call }
+{
+    for _ in 1..TRIES {
+        if let Ok(given) = call() {
+            return Ok(given);
+        }
+    }
+    call()
+}
+
+/// Puts at the text's end what the call puts there, again after a refusal.
+pub fn put_surely<F: FnMut(&mut Vec<u8>) -> Result<(), Refusal>>(
+    text: &mut Vec<u8>,
+    mut put: F,
+) -> Result<(), Refusal>
+    requires { F.IsAlwaysCallable put }
+{
     let length = text.len();
     for _ in 1..TRIES {
-        if put_line(text, line).is_ok() {
+        if put(text).is_ok() {
             return Ok(());
         }
         text.truncate(length);
     }
-    put_line(text, line)
+    put(text)
+}
+
+/// Puts the line as `put_line` does, again after Memory.
+pub fn put_line_surely(text: &mut Vec<u8>, line: &[u8]) -> Result<(), Refusal> {
+    put_surely(text, |text| put_line(text, line))
 }
 
 /// Puts the line as it is, again after Memory.
 pub fn put_plain_surely(text: &mut Vec<u8>, line: &[u8]) -> Result<(), Refusal> {
-    let length = text.len();
-    for _ in 1..TRIES {
-        if put_plain(text, line).is_ok() {
-            return Ok(());
-        }
-        text.truncate(length);
-    }
-    put_plain(text, line)
+    put_surely(text, |text| put_plain(text, line))
 }
 
 /// Gives the text room for so many bytes more, again after Memory.
 pub fn reserve_surely(text: &mut Vec<u8>, room: usize) -> Result<(), Refusal> {
-    for _ in 1..TRIES {
-        if text.reserve(room).is_ok() {
-            return Ok(());
-        }
-    }
-    Ok(text.reserve(room)?)
+    put_surely(text, |text| Ok(text.reserve(room)?))
 }

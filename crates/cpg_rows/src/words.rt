@@ -112,18 +112,24 @@ pub fn rule(alloc: Global, text: &[u8]) -> Result<Rule, Refusal> {
     }
 }
 
+/// The rights of a rule.
+const RIGHTS: [(&str, Right); 4] = [
+    ("join", Right::Join),
+    ("send", Right::Send),
+    ("list", Right::List),
+    ("edit", Right::Edit),
+];
+
 pub fn right(word: &[u8]) -> Result<Right, Refusal> {
-    if is_word(word, "join") {
-        return Ok(Right::Join);
-    }
-    if is_word(word, "send") {
-        return Ok(Right::Send);
-    }
-    if is_word(word, "list") {
-        return Ok(Right::List);
-    }
-    if is_word(word, "edit") {
-        return Ok(Right::Edit);
+    named(&RIGHTS, word)
+}
+
+/// What that word names among those.
+pub fn named<T: Copy>(known: &[(&str, T)], word: &[u8]) -> Result<T, Refusal> {
+    for (name, value) in known {
+        if is_word(word, *name) {
+            return Ok(*value);
+        }
     }
     Err(NO_COMMAND)
 }

@@ -2,7 +2,7 @@
 
 use crate::events::event_of;
 use crate::player::{Plays, Row};
-use crate::printing::{put_frame, put_reply};
+use crate::printing::{put_debug, put_frame, put_reply};
 use crate::states::put_audits_of;
 use crate::tables::put_rules_of;
 use crate::words::{
@@ -11,7 +11,7 @@ use crate::words::{
 use cpg_cred::Refusal;
 use cpg_node::Node;
 use cpg_print::put_refused_line;
-use cpg_text::{Lines, is_ignored, put_bytes};
+use cpg_text::{Lines, is_ignored};
 use cpg_wire::decode;
 use cpg_world::{Reply, World, WorldEvent};
 use std::alloc::Global;
@@ -166,10 +166,6 @@ impl Plays for Worldly {
     }
 
     fn put_state(&self, alloc: Global, text: &mut Vec<u8>) -> Result<(), Refusal> {
-        let world = &self.world;
-        let all = format!(in alloc; "{world:?}\n")?;
-        let put = put_bytes(text, all.as_bytes());
-        drop(all);
-        put
+        put_debug(alloc, text, &self.world)
     }
 }

@@ -104,21 +104,6 @@ impl<B: HistoryName> Crew<B> {
         }
     }
 
-    /// The session does that.
-    fn does<R: Wait + Clock>(
-        &mut self,
-        rt: &R,
-        alloc: Global,
-        running: &Running<B, Stage>,
-        number: usize,
-        deed: Deed,
-    ) -> Result<(), Stop> {
-        match self.sessions.get_mut(number) {
-            Some(Some(session)) => does(rt, alloc, running, session, &mut self.taken, deed),
-            _ => Err(Stop::Wrong),
-        }
-    }
-
     /// The first session has seen what the second one saw.
     fn tells(
         &mut self,
@@ -154,7 +139,10 @@ impl<B: HistoryName> Crew<B> {
                     Err(_) => Err(Stop::Refused(Refusal::Memory)),
                 }
             }
-            Step::Does(number, deed) => self.does(rt, alloc, running, number, deed),
+            Step::Does(number, deed) => match self.sessions.get_mut(number) {
+                Some(Some(session)) => does(rt, alloc, running, session, &mut self.taken, deed),
+                _ => Err(Stop::Wrong),
+            },
             Step::Tells(number, other) => self.tells(running, number, other),
             Step::Closes(number, wanted) => {
                 let session = self.take_out(number)?;

@@ -7,7 +7,7 @@
 //! users, a node, or a user of a node. So connections leave, end and join again, rules deny messages, and users
 //! other than 0 edit tables: each of these is counted, and has to come up more than 200 times.
 
-use crate::drawing::{conn_by, drawn};
+use crate::drawing::{drawn, is_so_of_each};
 use crate::entering::{are_equal, emptied_at, enter, events_at};
 use crate::plain::{decide, entry_group, group_in, is_over, member_at, rules_of, verdict_on};
 use crate::plain_events::{acts_in, are_told, hears, is_news_of, is_own};
@@ -23,9 +23,6 @@ const POLICIES: u32 = 1_000;
 
 /// How many entries each of them judges.
 const ENTRIES: u32 = 90;
-
-/// How many connections are told: those that take part, and one that makes no entry.
-const CONNS: u32 = 10;
 
 /// Whether the members are those of the group.
 fn are_members(list: &[Member], records: &[Record], group: &[u8]) -> bool {
@@ -348,29 +345,11 @@ fn conn_agrees(policy: &Policy, conn: &ConnId) -> bool {
     policy.next_event(0, *conn) == next
 }
 
-/// Whether that is so of the connection of that number.
-fn number_agrees(policy: &Policy, number: u32) -> bool {
-    match conn_by(number) {
-        Ok(conn) => conn_agrees(policy, &conn),
-        Err(_) => false,
-    }
-}
-
-/// Whether that is so of each connection.
-fn conns_agree(policy: &Policy) -> bool {
-    for number in 0..CONNS {
-        if !number_agrees(policy, number) {
-            return false;
-        }
-    }
-    true
-}
-
 /// Whether all that the policy says at its end is what the plain programs say, and its records are verified,
 /// with a change in one just where that changed nothing.
 fn end_agrees(alloc: Global, policy: &Policy, seed: u32) -> bool {
     places_agree(policy)
-        && conns_agree(policy)
+        && is_so_of_each(|conn| conn_agrees(policy, conn))
         && verify(alloc, policy.records()) == Ok(true)
         && verifies_just_the_same(alloc, policy.records(), (seed % ENTRIES) as usize)
 }

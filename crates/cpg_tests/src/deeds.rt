@@ -2,8 +2,8 @@
 //! nothing.
 
 use crate::playing::{
-    MOST_ASKS, Stop, Told, ask, holds, in_short, is_here, list_db, list_groups, next_told, pause,
-    submit, submit_many, take_many,
+    MOST_ASKS, Stop, Told, ask, holds, in_short, is_here, list_both, next_told, pause, submit,
+    submit_many, take_many,
 };
 use cpg_cred::Refusal;
 use cpg_daemon::{HistoryName, Running, Session};
@@ -233,8 +233,7 @@ fn lists<B: HistoryName, G, R: Wait>(
     wanted: Result<usize, Refusal>,
 ) -> Result<(), Stop> {
     for _ in 0..TRIES {
-        let members = list_db(rt, running, session);
-        let groups = list_groups(rt, running, session);
+        let (members, groups) = list_both(rt, running, session);
         if members != Err(Refusal::Memory) && groups != Err(Refusal::Memory) {
             return holds(members == wanted && groups == wanted);
         }

@@ -88,9 +88,25 @@ pub fn drawn(alloc: Global, seed: u32, turn: u32) -> Result<Entry, Refusal> {
 }
 
 /// One of the nine connections, or from 9 on one that makes no entry.
-pub fn conn_by(number: u32) -> Result<ConnId, Refusal> {
+fn conn_by(number: u32) -> Result<ConnId, Refusal> {
     Ok(ConnId {
         node: node((number % 3 + 1) as u8)?,
         conn: (number / 3 % 4 + 1) as u16,
     })
+}
+
+/// How many connections are asked about: those that take part, and one that makes no entry.
+const CONNS: u32 = 10;
+
+/// Whether that is so of each connection.
+pub fn is_so_of_each<F: Fn(&ConnId) -> bool>(is_so: F) -> bool
+    requires { F.IsAlwaysCallable is_so }
+{
+    for number in 0..CONNS {
+        match conn_by(number) {
+            Ok(conn) if is_so(&conn) => {}
+            _ => return false,
+        }
+    }
+    true
 }

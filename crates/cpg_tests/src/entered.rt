@@ -1,7 +1,7 @@
 //! Entries that one call judges and puts last beside those that are judged and then applied, and what a policy
 //! lends of its connections beside what it finds by searches.
 
-use crate::drawing::{conn_by, drawn};
+use crate::drawing::{drawn, is_so_of_each};
 use crate::entering::{are_equal, enter};
 use cpg_entry::{Entry, MOST_PLACES, Name};
 use cpg_group::{ConnId, Policy};
@@ -12,9 +12,6 @@ const PAIRS: u32 = 200;
 
 /// How many entries each policy judges.
 const ENTRIES: u32 = 90;
-
-/// How many connections are followed: those that take part, and one that makes no entry.
-const CONNS: u32 = 10;
 
 /// Judges the entry and puts it last by one call, and says whether that was done.
 fn enters(policy: &mut Policy, entry: Entry) -> bool {
@@ -102,27 +99,11 @@ fn log_agrees(policy: &Policy, conn: &ConnId) -> bool {
     log.own(count).is_none()
 }
 
-/// Whether that is so of the connection of that number.
-fn number_agrees(policy: &Policy, number: u32) -> bool {
-    match conn_by(number) {
-        Ok(conn) => log_agrees(policy, &conn),
-        Err(_) => false,
-    }
-}
-
-/// Whether that is so of each connection.
-fn logs_agree(policy: &Policy) -> bool {
-    for number in 0..CONNS {
-        if !number_agrees(policy, number) {
-            return false;
-        }
-    }
-    true
-}
-
 /// Whether the new policies agree.
 fn pair_agrees(alloc: Global, one: &mut Policy, other: &mut Policy, seed: u32) -> bool {
-    turns_enter(alloc, one, other, seed) && lends_connections(other) && logs_agree(other)
+    turns_enter(alloc, one, other, seed)
+        && lends_connections(other)
+        && is_so_of_each(|conn| log_agrees(other, conn))
 }
 
 /// Whether policies of the seed agree.

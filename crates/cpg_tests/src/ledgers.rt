@@ -1,18 +1,9 @@
 //! What ledgers of delivered entries have in common, and that nobody who reads them sees it.
 
-use cpg_entry::{BLOCK, Call, Cred, Entry, Ledger, Message, NodeId, Op, Refusal, Shelf};
+use crate::shelves::leave;
+use cpg_entry::{BLOCK, Call, Entry, Ledger, Message, Op, Refusal, Shelf};
 use std::alloc::Global;
-
-/// A leave by connection 1 of node 1, of that process.
-fn leave(pid: u32) -> Result<Entry, Refusal> {
-    Ok(Entry {
-        node: NodeId::new(1).ok_or(Refusal::Range)?,
-        conn: 1,
-        pid,
-        cred: Cred { uid: 7, gid: 100 },
-        op: Op::Act(Call::Leave),
-    })
-}
+use std::test::Fail;
 
 /// Puts the entry last, where the ledger has less than 1,000 entries, and asks it to share.
 fn put(ledger: &mut Ledger, shelf: &Shelf, entry: Entry) -> Result<(), Refusal> {
@@ -57,15 +48,14 @@ fn shares(alloc: Global, shelf: &Shelf, count: u32, laid: usize) -> Result<bool,
 /// A block is shared once a ledger has two of its own, so that the last entries stay its own. The ledger that comes
 /// first lays it down, and those that come later take it.
 #[test]
-fn equal_ledgers_share_blocks(rt: HostRuntime) {
+fn equal_ledgers_share_blocks(rt: HostRuntime) -> Result<(), Fail> {
     let alloc = rt.alloc();
-    let Ok(shelf) = Shelf::new(alloc, 4096) else {
-        return;
-    };
+    let shelf = Shelf::new(alloc, 4096)?;
     assert!(rt; shares(alloc, &shelf, 900, 2 * BLOCK) == Ok(true));
     assert!(rt; shares(alloc, &shelf, 900, 2 * BLOCK) == Ok(true));
     assert!(rt; shares(alloc, &shelf, 512, BLOCK) == Ok(true));
     assert!(rt; shares(alloc, &shelf, 511, 0) == Ok(true));
+    Ok(())
 }
 
 /// Whether a ledger of 600 entries, each by the process after that of the other ledgers, shares none and keeps all.
@@ -76,24 +66,22 @@ fn keeps_its_own(alloc: Global, shelf: &Shelf) -> Result<bool, Refusal> {
 
 /// A ledger whose entries are others than those on the shelf keeps its own.
 #[test]
-fn another_ledger_keeps_its_own(rt: HostRuntime) {
+fn another_ledger_keeps_its_own(rt: HostRuntime) -> Result<(), Fail> {
     let alloc = rt.alloc();
-    let Ok(shelf) = Shelf::new(alloc, 4096) else {
-        return;
-    };
+    let shelf = Shelf::new(alloc, 4096)?;
     assert!(rt; shares(alloc, &shelf, 600, BLOCK) == Ok(true));
     assert!(rt; keeps_its_own(alloc, &shelf) == Ok(true));
     assert!(rt; shares(alloc, &shelf, 600, BLOCK) == Ok(true));
+    Ok(())
 }
 
 /// A shelf has a place for each whole block of the entries that it is made for, and none past them.
 #[test]
-fn a_short_shelf_takes_what_it_can(rt: HostRuntime) {
+fn a_short_shelf_takes_what_it_can(rt: HostRuntime) -> Result<(), Fail> {
     let alloc = rt.alloc();
-    let Ok(shelf) = Shelf::new(alloc, 300) else {
-        return;
-    };
+    let shelf = Shelf::new(alloc, 300)?;
     assert!(rt; shares(alloc, &shelf, 900, BLOCK) == Ok(true));
+    Ok(())
 }
 
 /// A message of 100 bytes by connection 1 of node 1, of that process.
@@ -117,13 +105,12 @@ fn long_ones_laid(alloc: Global, shelf: &Shelf, first: u32) -> Result<usize, Ref
 
 /// Long messages stand in blocks of their ledger's own, whatever others there are: they are not looked for on the shelf.
 #[test]
-fn long_messages_have_blocks_of_their_own(rt: HostRuntime) {
+fn long_messages_have_blocks_of_their_own(rt: HostRuntime) -> Result<(), Fail> {
     let alloc = rt.alloc();
-    let Ok(shelf) = Shelf::new(alloc, 4096) else {
-        return;
-    };
+    let shelf = Shelf::new(alloc, 4096)?;
     assert!(rt; long_ones_laid(alloc, &shelf, 1) == Ok(BLOCK));
     assert!(rt; long_ones_laid(alloc, &shelf, 2) == Ok(BLOCK));
+    Ok(())
 }
 
 /// A ledger that shared the first 256 of 600 entries on a shelf that is gone.
@@ -134,9 +121,8 @@ fn outlives_its_shelf(alloc: Global) -> Result<Ledger, Refusal> {
 
 /// What was shared stays when the shelf goes.
 #[test]
-fn blocks_stay_without_the_shelf(rt: HostRuntime) {
-    let Ok(ledger) = outlives_its_shelf(rt.alloc()) else {
-        return;
-    };
+fn blocks_stay_without_the_shelf(rt: HostRuntime) -> Result<(), Fail> {
+    let ledger = outlives_its_shelf(rt.alloc())?;
     assert!(rt; has_all(&ledger, 1, 600) && ledger.in_blocks() == BLOCK);
+    Ok(())
 }

@@ -164,27 +164,15 @@ fn are_paired<B: HistoryName, R: Wait>(
     true
 }
 
-/// Whether the links are those of so many nodes with what is wanted, and where one has a frame, the pairs are of one link
-/// each.
-fn are_links_of<B: HistoryName, R: Wait>(
-    rt: &R,
-    nodes: u8,
-    left: Left,
-    links: &mut [(LinkTx<Parcel<B>>, LinkRx<Parcel<B>>)],
-) -> bool {
-    let mut last = None;
-    let are_right = are_links(rt, nodes, left, links, &mut last);
-    are_right
-        && match last {
-            Some(frame) => are_paired(rt, links, frame),
-            None => true,
-        }
-}
-
-/// Whether that is what so many nodes leave, which is let go.
+/// Whether that is what so many nodes leave, which is let go: where a link has a frame, the pairs are of one link each.
 pub fn are_left<B: HistoryName, R: Wait>(rt: &R, nodes: u8, left: Left, mut ends: Ends<B>) -> bool {
     let stations = are_stations(ends.stations.as_slice(), nodes);
-    let links = are_links_of(rt, nodes, left, ends.links.as_mut_slice());
+    let mut last = None;
+    let links = are_links(rt, nodes, left, ends.links.as_mut_slice(), &mut last);
+    let pairs = match last {
+        Some(frame) => are_paired(rt, ends.links.as_mut_slice(), frame),
+        None => true,
+    };
     drop(ends);
-    stations && links
+    stations && links && pairs
 }

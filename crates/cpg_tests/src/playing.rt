@@ -300,26 +300,19 @@ pub fn next_told<B: HistoryName, G, R: Wait + Clock>(
     Told::Nothing
 }
 
-/// How many members of `db` the session is shown.
-pub fn list_db<B: HistoryName, G, R: Wait>(
+/// How many members of `db` the session is shown, and how many groups.
+pub fn list_both<B: HistoryName, G, R: Wait>(
     rt: &R,
     running: &Running<B, G>,
     session: &mut Session<B>,
-) -> Result<usize, Refusal> {
+) -> (Result<usize, Refusal>, Result<usize, Refusal>) {
     if !is_here(running, session) {
-        return Err(Refusal::Range);
+        return (Err(Refusal::Range), Err(Refusal::Range));
     }
-    Ok(running.list(rt, session, b"db")?.as_slice().len())
-}
-
-/// How many groups the session is shown.
-pub fn list_groups<B: HistoryName, G, R: Wait>(
-    rt: &R,
-    running: &Running<B, G>,
-    session: &mut Session<B>,
-) -> Result<usize, Refusal> {
-    if !is_here(running, session) {
-        return Err(Refusal::Range);
-    }
-    Ok(running.groups(rt, session)?.as_slice().len())
+    let members = running.list(rt, session, b"db");
+    let groups = running.groups(rt, session);
+    (
+        members.map(|members| members.as_slice().len()),
+        groups.map(|groups| groups.as_slice().len()),
+    )
 }

@@ -9,7 +9,10 @@ use cpg_cred::{By, Refusal};
 use cpg_node::Settings;
 use cpg_record::{Reason, Verdict};
 use std::alloc::Global;
+use std::sync::Wait;
 use std::test::Fail;
+use std::thread::Threads;
+use std::time::Clock;
 
 const DENIED: Verdict = Verdict::Denied(Reason::Closed);
 
@@ -52,6 +55,15 @@ fn scene_of(alloc: Global, nodes: u8, plan: Plan, steps: &[Step]) -> Result<Scen
     })
 }
 
+/// The test of a scene.
+fn plays_out<R>(rt: R, alloc: Global, scene: Result<Scene, Stop>) -> Result<(), Fail>
+where
+    R: Threads + Wait + Clock + Copy + Send + 'static,
+{
+    is_played(rt, alloc, scene?)?;
+    Ok(())
+}
+
 /// A process of user 7 at each of so many nodes, the sessions 0, 1 and so on.
 fn all_enter(alloc: Global, nodes: u8) -> Result<Vec<Step>, Stop> {
     let mut steps = Vec::new(alloc);
@@ -74,7 +86,7 @@ fn held(alloc: Global, nodes: u8) -> Result<Scene, Stop> {
 #[test]
 fn a_start_puts_the_first_token_alone(rt: HostRuntime) -> Result<(), Fail> {
     for nodes in 1..=8u8 {
-        is_played(rt, rt.alloc(), held(rt.alloc(), nodes)?)?;
+        plays_out(rt, rt.alloc(), held(rt.alloc(), nodes))?;
     }
     Ok(())
 }
@@ -120,7 +132,7 @@ fn turn_of(alloc: Global, nodes: u8, plan: Plan, to_second: usize) -> Result<Sce
 #[test]
 fn a_turn_sends_data_to_all_and_the_token_to_the_next(rt: HostRuntime) -> Result<(), Fail> {
     for nodes in 1..=8u8 {
-        is_played(rt, rt.alloc(), turn_of(rt.alloc(), nodes, Plan::Pass, 3)?)?;
+        plays_out(rt, rt.alloc(), turn_of(rt.alloc(), nodes, Plan::Pass, 3))?;
     }
     Ok(())
 }
@@ -128,10 +140,9 @@ fn a_turn_sends_data_to_all_and_the_token_to_the_next(rt: HostRuntime) -> Result
 /// Of frames from node 1 each is lost, is repeated, or the first is lost and the second repeated.
 #[test]
 fn turns_obey_the_gate(rt: HostRuntime) -> Result<(), Fail> {
-    is_played(rt, rt.alloc(), turn_of(rt.alloc(), 3, Plan::Mixed, 3)?)?;
-    is_played(rt, rt.alloc(), turn_of(rt.alloc(), 2, Plan::Repeat, 6)?)?;
-    is_played(rt, rt.alloc(), turn_of(rt.alloc(), 2, Plan::Drop, 0)?)?;
-    Ok(())
+    plays_out(rt, rt.alloc(), turn_of(rt.alloc(), 3, Plan::Mixed, 3))?;
+    plays_out(rt, rt.alloc(), turn_of(rt.alloc(), 2, Plan::Repeat, 6))?;
+    plays_out(rt, rt.alloc(), turn_of(rt.alloc(), 2, Plan::Drop, 0))
 }
 
 /// All turns of so many nodes, the widest ring of eight: a process at each, one after the other, leaves, in no group, and is
@@ -168,7 +179,7 @@ fn free_of(alloc: Global, nodes: u8) -> Result<Scene, Stop> {
 #[test]
 fn each_node_is_served(rt: HostRuntime) -> Result<(), Fail> {
     for nodes in 1..=8u8 {
-        is_played(rt, rt.alloc(), free_of(rt.alloc(), nodes)?)?;
+        plays_out(rt, rt.alloc(), free_of(rt.alloc(), nodes))?;
     }
     Ok(())
 }
@@ -202,8 +213,7 @@ fn idle_nodes_send_the_token_again(rt: HostRuntime) -> Result<(), Fail> {
         Step::Gate(Cue::Sent(Way::ToTwo, 3)),
         Step::Gate(Cue::In(Way::ToOne, [64, 0, 0])),
     ];
-    is_played(rt, rt.alloc(), two_of(rt.alloc(), Plan::Drop, &steps, 0)?)?;
-    Ok(())
+    plays_out(rt, rt.alloc(), two_of(rt.alloc(), Plan::Drop, &steps, 0))
 }
 
 /// Node 1 sends its token again more often than its link has room for.
@@ -213,12 +223,7 @@ fn a_full_link_loses_frames(rt: HostRuntime) -> Result<(), Fail> {
         Step::Gate(Cue::Lets(1, u64::MAX)),
         Step::Gate(Cue::Gets(Way::ToTwo, 34)),
     ];
-    is_played(
-        rt,
-        rt.alloc(),
-        two_of(rt.alloc(), Plan::Repeat, &steps, 64)?,
-    )?;
-    Ok(())
+    plays_out(rt, rt.alloc(), two_of(rt.alloc(), Plan::Repeat, &steps, 64))
 }
 
 /// A join at node 1 is told there in its first turn, delivered at node 2 in the first turn of that, and the token passed on in
@@ -246,8 +251,7 @@ const ROUNDS: [Step; 18] = [
 
 #[test]
 fn two_rounds_make_a_place_safe(rt: HostRuntime) -> Result<(), Fail> {
-    is_played(rt, rt.alloc(), two_of(rt.alloc(), Plan::Pass, &ROUNDS, 1)?)?;
-    Ok(())
+    plays_out(rt, rt.alloc(), two_of(rt.alloc(), Plan::Pass, &ROUNDS, 1))
 }
 
 /// The first turns of two nodes wait for each other.
@@ -259,12 +263,11 @@ fn two_nodes_run_at_once(rt: HostRuntime) -> Result<(), Fail> {
         Step::Gate(Cue::Asked(1, 0)),
         Step::Gate(Cue::Asked(2, 0)),
     ];
-    is_played(
+    plays_out(
         rt,
         rt.alloc(),
-        scene_of(rt.alloc(), 2, Plan::Meeting, &steps)?,
-    )?;
-    Ok(())
+        scene_of(rt.alloc(), 2, Plan::Meeting, &steps),
+    )
 }
 
 /// A session at a node that is held is behind once it was told what another one saw; and all calls are refused with Stopped
@@ -288,12 +291,7 @@ const BEHIND: [Step; 14] = [
 
 #[test]
 fn a_held_node_is_behind(rt: HostRuntime) -> Result<(), Fail> {
-    is_played(
-        rt,
-        rt.alloc(),
-        scene_of(rt.alloc(), 2, Plan::Pass, &BEHIND)?,
-    )?;
-    Ok(())
+    plays_out(rt, rt.alloc(), scene_of(rt.alloc(), 2, Plan::Pass, &BEHIND))
 }
 
 /// A member that was told that there is nothing comes to be told what another one of its group did meanwhile, at another node,
@@ -313,8 +311,7 @@ const LATER: [Step; 10] = [
 
 #[test]
 fn nothing_ends_with_a_delivery(rt: HostRuntime) -> Result<(), Fail> {
-    is_played(rt, rt.alloc(), scene_of(rt.alloc(), 2, Plan::Free, &LATER)?)?;
-    Ok(())
+    plays_out(rt, rt.alloc(), scene_of(rt.alloc(), 2, Plan::Free, &LATER))
 }
 
 /// A call that is refused for itself is told why where the queue is full, too.
@@ -344,8 +341,7 @@ const FULL: [Step; 11] = [
 
 #[test]
 fn a_full_queue_takes_calls_again(rt: HostRuntime) -> Result<(), Fail> {
-    is_played(rt, rt.alloc(), scene_of(rt.alloc(), 1, Plan::Pass, &FULL)?)?;
-    Ok(())
+    plays_out(rt, rt.alloc(), scene_of(rt.alloc(), 1, Plan::Pass, &FULL))
 }
 
 /// Messages that are submitted in one go.
@@ -408,8 +404,7 @@ const GOES: [Step; 18] = [
 
 #[test]
 fn many_go_as_one_by_one(rt: HostRuntime) -> Result<(), Fail> {
-    is_played(rt, rt.alloc(), scene_of(rt.alloc(), 1, Plan::Free, &GOES)?)?;
-    Ok(())
+    plays_out(rt, rt.alloc(), scene_of(rt.alloc(), 1, Plan::Free, &GOES))
 }
 
 /// A process leaves, in no group, and the node then holds place 1. A session leaves 1,100 times and is told each verdict, and
@@ -451,8 +446,7 @@ fn alone(alloc: Global) -> Result<Scene, Stop> {
 
 #[test]
 fn a_cluster_of_one_gets_safe(rt: HostRuntime) -> Result<(), Fail> {
-    is_played(rt, rt.alloc(), alone(rt.alloc())?)?;
-    Ok(())
+    plays_out(rt, rt.alloc(), alone(rt.alloc()))
 }
 
 /// Settings of which one is out of its range.

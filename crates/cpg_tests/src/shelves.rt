@@ -18,7 +18,7 @@ use std::test::Fail;
 const COUNT: u32 = 512;
 
 /// A leave by connection 1 of node 1, of that process.
-fn leave(pid: u32) -> Result<Entry, Refusal>
+pub fn leave(pid: u32) -> Result<Entry, Refusal>
     ensures { IfOk result IsEntry }
 {
     Ok(Entry {

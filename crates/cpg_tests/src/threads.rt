@@ -3,7 +3,6 @@
 ghost use Rattle.std.specs.Prelude.{◌≡◌};
 ghost use Rattle.cpg_board.specs.Seats.{IsSeatOf};
 ghost use Rattle.cpg_world_laws.specs.Worlds.{new_world};
-ghost use Rattle.cpg_history.specs.Members.{HaveSeen};
 
 use crate::playing::{Told, connect, next_told, settings_of, submit};
 use crate::replaying::{begins, plays_again};
@@ -173,22 +172,8 @@ fn are_left<B: HistoryName>(members: &[Member<B>], records: &[Record]) -> bool {
     }
 }
 
-/// Whether the records are sound, what is left begins them, and so does what is judged where all that was recorded is
-/// played.
-fn are_right<B: HistoryName>(
-    alloc: Global,
-    members: Vec<Member<B>>,
-    front: Front<B>,
-    records: &[Record],
-) -> bool
-    requires { HaveSeen members.items front.seen }
-{
-    let left = are_left(members.as_slice(), records);
-    let played = plays_again(alloc, members, front, records);
-    left && played && are_sound(alloc, records)
-}
-
-/// Whether a cluster of three nodes serves three clients so.
+/// Whether a cluster of three nodes serves three clients so: the records are sound, what is left begins them, and so does what
+/// is judged where all that was recorded is played.
 fn three_on<B, R>(
     rt: R,
     alloc: Global,
@@ -204,7 +189,10 @@ where
     let cluster = Cluster::<B, PassAll>::start(rt, alloc, settings, board, list, PassAll)?;
     let seen = seen_by_three(&rt, alloc, &cluster);
     let (members, front) = cluster.stop_traced(&rt);
-    Ok(are_right(alloc, members, front, seen?.as_slice()))
+    let records = seen?;
+    let left = are_left(members.as_slice(), records.as_slice());
+    let played = plays_again(alloc, members, front, records.as_slice());
+    Ok(left && played && are_sound(alloc, records.as_slice()))
 }
 
 /// Whether a new one does, of which what happens is recorded.

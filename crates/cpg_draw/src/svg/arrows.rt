@@ -3,22 +3,22 @@
 ghost use Rattle.std.specs.Prelude.{IsOkUnless};
 
 use crate::arrows::Arrow;
+use crate::pictures::Scene;
+use crate::rows::Row;
 use crate::svg::layout::{bend_between, column_at, label_across, label_down, row_at};
 use crate::svg::shapes::{put_frame_title, put_place, put_point};
 use crate::words::{put_arrow, put_kind};
 use cpg_cred::Refusal;
 use cpg_text::put;
-use cpg_world::World;
-use std::alloc::Global;
 
-/// Puts the path of the arrow to a line and a node, with an open diamond at its beginning where it comes from a row
+/// Puts the path of the arrow to the row where it ends, with an open diamond at its beginning where it comes from a row
 /// above all lines.
-fn put_path(text: &mut Vec<u8>, arrow: &Arrow, place: u64, node: u8) -> Result<(), Refusal>
+fn put_path(text: &mut Vec<u8>, arrow: &Arrow, row: &Row) -> Result<(), Refusal>
     ensures memory { IsOkUnless result Refusal.Memory }
 {
     let from = (column_at(arrow.node), row_at(arrow.sent.place));
-    let to = (column_at(node), row_at(place));
-    let bend = bend_between(arrow.node, node);
+    let to = (column_at(row.node), row_at(row.spot.place));
+    let bend = bend_between(arrow.node, row.node);
     put(text, "<path d='M")?;
     put_point(text, from.0, from.1)?;
     put(text, "Q")?;
@@ -39,41 +39,44 @@ pub(crate) fn side(from: u8, to: u8) -> &'static str {
     if from < to { "right" } else { "left" }
 }
 
-/// Puts the arrow that ends on a line at a node, under its frame.
-pub(crate) fn put_arrow_to(
-    alloc: Global,
-    text: &mut Vec<u8>,
-    world: &World,
-    place: u64,
-    node: u8,
-    arrow: &Arrow,
-) -> Result<(), Refusal>
+/// Puts the arrow that ends in the row, if one does, under its frame.
+pub(crate) fn put_arrow_to(text: &mut Vec<u8>, scene: &Scene<'_>, row: &Row) -> Result<(), Refusal>
     ensures memory { IsOkUnless result Refusal.Memory }
 {
+    let Some(arrow) = row.ending() else {
+        return Ok(());
+    };
     put(text, "<g class='")?;
     put_kind(text, arrow.kind)?;
     put(text, "'>")?;
-    put_frame_title(alloc, text, world, arrow.number)?;
-    put_path(text, arrow, place, node)?;
+    put_frame_title(text, scene, arrow.number)?;
+    put_path(text, &arrow, row)?;
     put(text, "</g>")
 }
 
 /// Puts the label of that arrow, under its frame.
-pub(crate) fn put_label_at(
-    alloc: Global,
-    text: &mut Vec<u8>,
-    world: &World,
-    place: u64,
-    node: u8,
-    arrow: &Arrow,
-) -> Result<(), Refusal>
+pub(crate) fn put_label_at(text: &mut Vec<u8>, scene: &Scene<'_>, row: &Row) -> Result<(), Refusal>
     ensures memory { IsOkUnless result Refusal.Memory }
 {
+    let Some(arrow) = row.ending() else {
+        return Ok(());
+    };
+    let at = (
+        label_across(arrow.node, row.node),
+        label_down(row.spot.place),
+    );
     put(text, "<g class='")?;
-    put(text, side(arrow.node, node))?;
+    put(text, side(arrow.node, row.node))?;
     put(text, "'>")?;
-    put_frame_title(alloc, text, world, arrow.number)?;
-    put_place(text, label_across(arrow.node, node), label_down(place))?;
+    put_frame_title(text, scene, arrow.number)?;
+    put_label(text, at, &arrow)
+}
+
+/// Puts the words of an arrow's label at a point, and ends what stands round them.
+pub(crate) fn put_label(text: &mut Vec<u8>, at: (u64, u64), arrow: &Arrow) -> Result<(), Refusal>
+    ensures memory { IsOkUnless result Refusal.Memory }
+{
+    put_place(text, at.0, at.1)?;
     put_arrow(text, arrow)?;
     put(text, "</text></g>")
 }

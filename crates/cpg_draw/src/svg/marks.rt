@@ -3,17 +3,16 @@
 ghost use Rattle.std.specs.Prelude.{◌≡◌, length, IsOkUnless};
 
 use crate::misses::Miss;
-use crate::svg::arrows::side;
+use crate::pictures::Scene;
+use crate::svg::arrows::{put_label, side};
 use crate::svg::layout::{
     MARKS, column_at, label_across, label_down, line_at, mark_across, row_at, second_across,
     words_across,
 };
-use crate::svg::shapes::{put_frame_title, put_place, put_point, put_words};
-use crate::words::{put_arrow, put_kind, put_miss};
+use crate::svg::shapes::{put_frame_title, put_point, put_words};
+use crate::words::{put_kind, put_miss};
 use cpg_cred::Refusal;
 use cpg_text::{push_number, put};
-use cpg_world::World;
-use std::alloc::Global;
 
 /// What a stub ends with: a cross where the frame is lost, else an open diamond.
 fn end(miss: &Miss) -> &'static str {
@@ -54,16 +53,13 @@ fn put_mark_label(text: &mut Vec<u8>, miss: &Miss, place: u64) -> Result<(), Ref
     put(text, "<g class='")?;
     put(text, side(arrow.node, miss.node))?;
     put(text, "'>")?;
-    put_place(text, across, label_down(arrow.sent.place))?;
-    put_arrow(text, &arrow)?;
-    put(text, "</text></g>")
+    put_label(text, (across, label_down(arrow.sent.place)), &arrow)
 }
 
 /// Puts a frame that did not come: its mark, and what is said of it on a line below so many rows.
 fn put_shape(
-    alloc: Global,
     text: &mut Vec<u8>,
-    world: &World,
+    scene: &Scene<'_>,
     down: u64,
     place: u64,
     miss: &Miss,
@@ -73,11 +69,11 @@ fn put_shape(
     put(text, "<g class='")?;
     put_kind(text, miss.arrow.kind)?;
     put(text, if miss.lost { "lost'>" } else { "way'>" })?;
-    put_frame_title(alloc, text, world, miss.arrow.number)?;
+    put_frame_title(text, scene, miss.arrow.number)?;
     put_mark(text, miss, place)?;
     put_mark_label(text, miss, place)?;
-    let nodes = world.nodes();
-    let mut words = Vec::new(alloc);
+    let nodes = scene.world.nodes();
+    let mut words = Vec::new(scene.alloc);
     put_miss(&mut words, nodes, miss)?;
     put_words(text, words_across(nodes), down, words.as_slice())?;
     put(text, "</g>\n")
@@ -90,24 +86,19 @@ fn place_after(last: (u64, u64), row: u64) -> u64 {
 }
 
 /// Puts the frames that did not come, below so many rows.
-pub(crate) fn put_misses(
-    alloc: Global,
-    text: &mut Vec<u8>,
-    world: &World,
-    rows: u64,
-    misses: &[Miss],
-) -> Result<(), Refusal>
+pub(crate) fn put_misses(text: &mut Vec<u8>, scene: &Scene<'_>, rows: u64) -> Result<(), Refusal>
     ensures memory { IsOkUnless result Refusal.Memory }
 {
     // By node, the row and the place of its next frame.
     let mut next = [(0u64, 0u64); 256];
+    let misses = scene.picture.misses.as_slice();
     for index in 0..misses.len() {
         let miss = &misses[index];
         let node = usize::from(miss.node);
         let row = miss.arrow.sent.row;
         let place = place_after(next[node], row);
         let down = line_at(rows, index as u64 + 1) + 4;
-        put_shape(alloc, text, world, down, place, miss)?;
+        put_shape(text, scene, down, place, miss)?;
         next[node] = (row, place.min(MARKS) + 1);
     }
     Ok(())

@@ -2,18 +2,14 @@
 
 ghost use Rattle.std.specs.Prelude.{IsOkUnless};
 
-use crate::excerpts::Excerpt;
-use crate::pictures::Picture;
+use crate::pictures::Scene;
 use crate::rows::Row;
 use crate::svg::arrows::{put_arrow_to, put_label_at};
 use crate::svg::layout::{HEADS, LETTERS, column_at, end_of, number_down, row_at, words_across};
 use crate::svg::shapes::{put_escaped, put_place, put_point, put_title, put_words};
 use crate::words::{put_row_words, put_start};
 use cpg_cred::Refusal;
-use cpg_step::Command;
 use cpg_text::{push_number, put};
-use cpg_world::World;
-use std::alloc::Global;
 
 /// Puts the columns of so many nodes, down to the last of so many rows.
 pub(crate) fn put_columns(text: &mut Vec<u8>, nodes: u8, rows: u64) -> Result<(), Refusal>
@@ -68,39 +64,26 @@ fn put_words_of(text: &mut Vec<u8>, nodes: u8, place: u64, words: &[u8]) -> Resu
 }
 
 /// Puts the lower layer of the line above the first row.
-pub(crate) fn put_start_under(
-    alloc: Global,
-    text: &mut Vec<u8>,
-    excerpt: Excerpt,
-    world: &World,
-    picture: &Picture,
-) -> Result<(), Refusal>
+pub(crate) fn put_start_under(text: &mut Vec<u8>, scene: &Scene<'_>) -> Result<(), Refusal>
     ensures memory { IsOkUnless result Refusal.Memory }
 {
-    let mut words = Vec::new(alloc);
-    put_start(alloc, &mut words, excerpt, world, picture)?;
-    put_line(text, world.nodes(), 0)?;
-    put_words_of(text, world.nodes(), 0, words.as_slice())
+    let nodes = scene.world.nodes();
+    let mut words = Vec::new(scene.alloc);
+    put_start(&mut words, scene)?;
+    put_line(text, nodes, 0)?;
+    put_words_of(text, nodes, 0, words.as_slice())
 }
 
 /// Puts the lower layer of a row.
-pub(crate) fn put_under(
-    alloc: Global,
-    text: &mut Vec<u8>,
-    world: &World,
-    commands: &[Command],
-    picture: &Picture,
-    row: &Row,
-) -> Result<(), Refusal>
+pub(crate) fn put_under(text: &mut Vec<u8>, scene: &Scene<'_>, row: &Row) -> Result<(), Refusal>
     ensures memory { IsOkUnless result Refusal.Memory }
 {
-    let mut words = Vec::new(alloc);
-    put_row_words(alloc, &mut words, world, commands, picture, row)?;
-    put_line(text, world.nodes(), row.spot.place)?;
-    if let Some(arrow) = row.ending() {
-        put_arrow_to(alloc, text, world, row.spot.place, row.node, &arrow)?;
-    }
-    put_words_of(text, world.nodes(), row.spot.place, words.as_slice())
+    let nodes = scene.world.nodes();
+    let mut words = Vec::new(scene.alloc);
+    put_row_words(&mut words, scene, row)?;
+    put_line(text, nodes, row.spot.place)?;
+    put_arrow_to(text, scene, row)?;
+    put_words_of(text, nodes, row.spot.place, words.as_slice())
 }
 
 /// Puts the numbers of so many nodes above a line, where they stand there: above line 0, and again after so many.
@@ -150,18 +133,11 @@ fn put_dot(text: &mut Vec<u8>, row: &Row) -> Result<(), Refusal>
 }
 
 /// Puts the upper layer of a row.
-pub(crate) fn put_over(
-    alloc: Global,
-    text: &mut Vec<u8>,
-    world: &World,
-    row: &Row,
-) -> Result<(), Refusal>
+pub(crate) fn put_over(text: &mut Vec<u8>, scene: &Scene<'_>, row: &Row) -> Result<(), Refusal>
     ensures memory { IsOkUnless result Refusal.Memory }
 {
-    put_heads(text, world.nodes(), row.spot.place)?;
+    put_heads(text, scene.world.nodes(), row.spot.place)?;
     put_dot(text, row)?;
-    if let Some(arrow) = row.ending() {
-        put_label_at(alloc, text, world, row.spot.place, row.node, &arrow)?;
-    }
+    put_label_at(text, scene, row)?;
     put(text, "\n")
 }

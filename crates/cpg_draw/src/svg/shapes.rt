@@ -3,23 +3,21 @@
 ghost use Rattle.std.specs.Prelude.{◌<◌, ◌^◌, IsOkUnless};
 
 use crate::frames::frame_at;
+use crate::pictures::Scene;
 use crate::svg::layout::{line_at, width};
 use cpg_cred::Refusal;
 use cpg_step::put_frame;
 use cpg_text::{push_number, put, put_byte};
-use cpg_world::World;
-use std::alloc::Global;
 
-/// Puts the beginning of a picture of so many nodes and rows, with so many lines below them.
-pub(crate) fn put_opening(
-    text: &mut Vec<u8>,
-    nodes: u8,
-    rows: u64,
-    lines: u64,
-) -> Result<(), Refusal>
+/// Puts the beginning of a picture of so many rows, with a line below them for each frame that did not come.
+pub(crate) fn put_opening(text: &mut Vec<u8>, scene: &Scene<'_>, rows: u64) -> Result<(), Refusal>
     ensures memory { IsOkUnless result Refusal.Memory }
 {
-    let (width, height) = (width(nodes), line_at(rows, lines.saturating_add(1)));
+    let lines = scene.picture.misses.len() as u64;
+    let (width, height) = (
+        width(scene.world.nodes()),
+        line_at(rows, lines.saturating_add(1)),
+    );
     put(
         text,
         "<svg xmlns='http://www.w3.org/2000/svg' viewBox='0 0 ",
@@ -88,17 +86,16 @@ pub(crate) fn put_title(text: &mut Vec<u8>, words: &[u8]) -> Result<(), Refusal>
 
 /// The same: the frame of that number, as `show` prints it.
 pub(crate) fn put_frame_title(
-    alloc: Global,
     text: &mut Vec<u8>,
-    world: &World,
+    scene: &Scene<'_>,
     number: u64,
 ) -> Result<(), Refusal>
     ensures memory { IsOkUnless result Refusal.Memory }
 {
-    let Some(frame) = frame_at(alloc, world, number as usize)? else {
+    let Some(frame) = frame_at(scene.alloc, scene.world, number as usize)? else {
         return Ok(());
     };
-    let mut line = Vec::new(alloc);
+    let mut line = Vec::new(scene.alloc);
     put_frame(&mut line, &frame)?;
     put_title(text, line.as_slice())
 }
