@@ -21,7 +21,7 @@ use denote.Signature.{type_at}
 use denote.Steps.{nothing}
 use denote.Triple.Spec.{triple_of}
 use denote.Triple.Table.{entered}
-use denote.Triple.Walked.{says, Stays, stay_dropped, walk_of, ends_at, Goes-dropped, walk_Meets}
+use denote.Triple.Walked.{says, Stays, stay_dropped, Walks, walk_of, ends_at, Goes-dropped, walk_Meets}
 use Rattle.std.specs.Prelude.{Some}
 use Rattle.std_alloc.proofs.BoxSteps.Form.{D, B, word, box_typed}
 use Rattle.std_alloc.proofs.BoxSteps.Steps.{box_out, box_in}
@@ -37,9 +37,7 @@ kept = (stay_dropped from_parts yes, tt)
 module _ {M : Type 1} {𝓤 : Ura M} (𝓛 : Logic 𝓤) (memory : Memory → SProp 𝓤) (run : Routine → Fun 𝓤) (𝓣 : Tables 𝓤 𝓛.H) where
   open 𝓛 use {H}
 
-  steps : (z : (walk_of 𝓛 contract_of.ended kept (contract_of.clauses 𝓛 memory run)).Ghost)
-      → ent 𝓤 ((walk_of 𝓛 contract_of.ended kept (contract_of.clauses 𝓛 memory run)).pre z)
-      (WpFn 𝓤 H 𝓣.C 𝓣.Λ code.function (z.0.4.0 ++ []) ((walk_of 𝓛 contract_of.ended kept (contract_of.clauses 𝓛 memory run)).post z))
+  steps : Walks 𝓛 contract_of.ended kept (WpFn 𝓤 H 𝓣.C 𝓣.Λ code.function) (contract_of.clauses 𝓛 memory run)
   steps z =
       let after = (walk_of 𝓛 contract_of.ended kept (contract_of.clauses 𝓛 memory run)).post z in
       let v : D boxed = record { ptr = z.0.3.0.pointer; alloc = z.0.3.0.alloc; value = z.0.3.0.value } in
