@@ -36,18 +36,19 @@ abbrev pub path_or_none : Option NamedText → List ℕ
 path_or_none None = []
 path_or_none (Some named) = named.path.now
 
--- the text of one of the files, and its path
+-- one of the files, where there is such a one
+abbrev pub file_in : Admission → AdmitFile → Option NamedText
+file_in a (file.Conf index) = slice_get a.confs.now index
+file_in a file.Names = a.names
+file_in a file.Passwd = a.passwd
+file_in a file.Group = a.group
+
+-- its text, and its path
 abbrev pub text_in : Admission → AdmitFile → List ℕ
-text_in a (file.Conf index) = text_or_none (slice_get a.confs.now index)
-text_in a file.Names = text_or_none a.names
-text_in a file.Passwd = text_or_none a.passwd
-text_in a file.Group = text_or_none a.group
+text_in a it = text_or_none (file_in a it)
 
 abbrev pub path_in : Admission → AdmitFile → List ℕ
-path_in a (file.Conf index) = path_or_none (slice_get a.confs.now index)
-path_in a file.Names = path_or_none a.names
-path_in a file.Passwd = path_or_none a.passwd
-path_in a file.Group = path_or_none a.group
+path_in a it = path_or_none (file_in a it)
 
 -- the names that are told: by the names text, or where there is none by the accounts
 abbrev pub names_of : Option NamedText → List ℕ → List ℕ → Result Known AdmitFault

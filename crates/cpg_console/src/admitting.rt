@@ -5,7 +5,7 @@
 ghost use Rattle.std.specs.Prelude.{◌≡◌, Ok, IfOk, IfErr, IsOkUnless};
 ghost use Rattle.cpg_accept.specs.Admitting.{asks_in, known_by};
 ghost use Rattle.cpg_conf.specs.Listed.{numbers_listed};
-ghost use Rattle.cpg_console.specs.Admitting.{admitted_as, names_told, path_in, path_or_none, printed_asked, printed_by, text_in, text_or_none, told_of, Admits, IsUnprinted, TellsOf, WritesText};
+ghost use Rattle.cpg_console.specs.Admitting.{admitted_as, file_in, names_told, path_or_none, printed_asked, printed_by, text_or_none, told_of, Admits, IsUnprinted, TellsOf, WritesText};
 ghost use Rattle.cpg_console.specs.Pipes.{stream_of};
 ghost use Rattle.cpg_console.specs.declared.admitting.Unadmitted.TheVariants as unadmitted;
 
@@ -92,27 +92,15 @@ impl<'a> Admission<'a> {
         }
     }
 
-    /// The text of one of the files.
-    fn text(&self, file: File) -> &'a [u8]
-        ensures { result.now ≡ text_in self.now file }
+    /// One of the files, where there is such a one.
+    fn file(&self, file: File) -> Option<NamedText<'a>>
+        ensures { result ≡ file_in self.now file }
     {
         match file {
-            File::Conf(index) => text_of(self.confs.get(index).copied()),
-            File::Names => text_of(self.names),
-            File::Passwd => text_of(self.passwd),
-            File::Group => text_of(self.group),
-        }
-    }
-
-    /// The path of one of the files.
-    fn path(&self, file: File) -> &'a str
-        ensures { result.now ≡ path_in self.now file }
-    {
-        match file {
-            File::Conf(index) => path_of(self.confs.get(index).copied()),
-            File::Names => path_of(self.names),
-            File::Passwd => path_of(self.passwd),
-            File::Group => path_of(self.group),
+            File::Conf(index) => self.confs.get(index).copied(),
+            File::Names => self.names,
+            File::Passwd => self.passwd,
+            File::Group => self.group,
         }
     }
 }
@@ -256,8 +244,9 @@ fn lines_of(
     ensures ok { IfOk result (λ lines. lines.items ≡ told_of hints admission.now fault.now) }
     ensures memory { IsOkUnless result Refusal.Memory }
 {
-    let text = admission.text(fault.file);
-    let mut lines = fault_line(alloc, admission.path(fault.file), text, fault.refusal)?;
+    let file = admission.file(fault.file);
+    let text = text_of(file);
+    let mut lines = fault_line(alloc, path_of(file), text, fault.refusal)?;
     if hints {
         let hint = file_hint(alloc, fault.file, text, fault.refusal)?;
         put_bytes(&mut lines, hint.as_slice())?;

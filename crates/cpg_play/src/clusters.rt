@@ -15,8 +15,8 @@ use crate::switches::Switches;
 use crate::walks::Plays;
 use cpg_cluster::shell::HELP;
 use cpg_cluster::{
-    Ask, Command, Numbered, PLAIN, PutsAnswer, Reply, RunOptions, Sessions, TextForm, WaitLimit,
-    answer_with_memory, do_command, put_answer,
+    Ask, Command, Numbered, PLAIN, PutsAnswer, Reply, Sessions, TextForm, WaitLimit,
+    answer_with_memory, put_answer,
 };
 use cpg_cred::Refusal;
 use cpg_daemon::{HistoryName, Running};
@@ -84,31 +84,6 @@ impl<'a, H, B: HistoryName, G> OverCluster<'a, H, B, G> {
     }
 }
 
-/// Does a command with that wait limit, and puts what is printed of its answer.
-fn command<B: HistoryName, G, H: Wait + Clock>(
-    rt: &H,
-    alloc: Global,
-    text: &mut Vec<u8>,
-    running: &Running<B, G>,
-    sessions: &mut Sessions<B>,
-    wait_limit: WaitLimit,
-    command: Command,
-) -> Result<(), Refusal>
-    requires command { IsWithin running.now.nodes command }
-    requires within { AreWithin running.now.nodes sessions.old.slots }
-    requires none { text.old.items ≡ [] }
-    ensures ok { OnOk result (IsAnswered B.start sessions.old command text.new.items sessions.new) }
-    ensures within { AreWithin running.now.nodes sessions.new.slots }
-    ensures memory { IsOkUnless result Refusal.Memory }
-{
-    let options = RunOptions {
-        wait_limit,
-        form: TextForm::Plain,
-    };
-    let line = Numbered { number: 0, command };
-    do_command(rt, alloc, text, running, sessions, &options, &line)
-}
-
 /// The number of a session that was just given; 0 where none was.
 fn number_of(answer: &Result<Reply, Refusal>) -> u32 {
     match answer {
@@ -117,14 +92,16 @@ fn number_of(answer: &Result<Reply, Refusal>) -> u32 {
     }
 }
 
-/// Does a command, puts what is printed of its answer, and returns the number of the session that it gave, if it gave one.
+/// Does a command with that wait limit, puts what is printed of its answer, and returns the number of the session that it
+/// gave, if it gave one.
 #[tactic(auto, using(cpg_cluster::proofs::Doing::answer_done))]
-fn connect<B: HistoryName, G, H: Wait + Clock>(
+fn command<B: HistoryName, G, H: Wait + Clock>(
     rt: &H,
     alloc: Global,
     text: &mut Vec<u8>,
     running: &Running<B, G>,
     sessions: &mut Sessions<B>,
+    wait_limit: WaitLimit,
     command: Command,
 ) -> Result<u32, Refusal>
     requires command { IsWithin running.now.nodes command }
@@ -135,14 +112,7 @@ fn connect<B: HistoryName, G, H: Wait + Clock>(
     ensures memory { IsOkUnless result Refusal.Memory }
 {
     let line = Numbered { number: 0, command };
-    let answer = answer_with_memory(
-        rt,
-        alloc,
-        running,
-        PLAIN.wait_limit,
-        sessions,
-        &line.command,
-    )?;
+    let answer = answer_with_memory(rt, alloc, running, wait_limit, sessions, &line.command)?;
     TextForm::Plain.put(alloc, text, running.board(), &line, &answer)?;
     Ok(number_of(&answer))
 }
@@ -187,16 +157,19 @@ impl<H: Wait + Clock, B: HistoryName, G> OverCluster<'_, H, B, G> {
         let (rt, running, sessions) = (self.rt, self.running, &mut self.sessions);
         match deed {
             Deed::Command(asked) => {
-                command(rt, alloc, text, running, sessions, self.wait_limit, asked)
+                command(rt, alloc, text, running, sessions, self.wait_limit, asked)?;
+                Ok(())
             }
             Deed::Named(asked, name) => {
-                let number = connect(rt, alloc, text, running, sessions, asked)?;
+                let wait_limit = PLAIN.wait_limit;
+                let number = command(rt, alloc, text, running, sessions, wait_limit, asked)?;
                 self.names.give(name, number)
             }
             Deed::Wait(number, millis) => {
                 let asked = Command::Ask(number, Ask::Wait);
                 let wait_limit = WaitLimit::Millis(millis);
-                command(rt, alloc, text, running, sessions, wait_limit, asked)
+                command(rt, alloc, text, running, sessions, wait_limit, asked)?;
+                Ok(())
             }
             Deed::Drain(number) => drain(rt, alloc, text, running, sessions, number),
             Deed::Turn(switch) => {

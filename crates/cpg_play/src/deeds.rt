@@ -124,26 +124,6 @@ fn with_number(alloc: Global, names: &Names, line: &[u8]) -> Result<Option<Vec<u
     Ok(Some(numbered))
 }
 
-/// The deed of a line of `run` whose session may be named.
-fn read_command(
-    alloc: Global,
-    nodes: u8,
-    names: &Names,
-    line: &[u8],
-) -> Result<Option<Deed>, Refusal>
-    ensures within { IfOk result (λ found. IfSome found (λ deed. IsDeedWithin nodes deed)) }
-    ensures memory { IsOkUnless result Refusal.Memory }
-{
-    let command = match with_number(alloc, names, line)? {
-        Some(numbered) => command_in_line(alloc, nodes, numbered.as_slice())?,
-        None => command_in_line(alloc, nodes, line)?,
-    };
-    match command {
-        Some(command) => Ok(Some(Deed::Command(command))),
-        None => Ok(None),
-    }
-}
-
 /// What a line says where there are so many nodes, if it says something.
 pub fn read_deed(
     alloc: Global,
@@ -165,5 +145,12 @@ pub fn read_deed(
     if let Some(deed) = read_named(alloc, nodes, words)? {
         return Ok(Some(deed));
     }
-    read_command(alloc, nodes, names, line)
+    let command = match with_number(alloc, names, line)? {
+        Some(numbered) => command_in_line(alloc, nodes, numbered.as_slice())?,
+        None => command_in_line(alloc, nodes, line)?,
+    };
+    match command {
+        Some(command) => Ok(Some(Deed::Command(command))),
+        None => Ok(None),
+    }
 }

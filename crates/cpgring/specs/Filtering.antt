@@ -65,8 +65,7 @@ rows_named word = places_named word >>= in_order
 
 -- the rows that are asked for: all, where none are
 abbrev pub rows_given : Option (List ℕ) → Option (ℕ × ℕ)
-rows_given None = Some (1, 4294967295)
-rows_given (Some word) = rows_named word
+rows_given word = places_given word >>= in_order
 
 -- one of the options was used
 abbrev pub is_filtered : Found → Bool

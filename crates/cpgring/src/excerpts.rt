@@ -5,9 +5,9 @@
 ghost use Rattle.std.specs.Prelude.{◌≡◌, ◌↔◌, None, codes, option_map, IfSome};
 ghost use Rattle.clap.specs.Words.{found_of, first_value};
 ghost use Rattle.cpgring.specs.Asking.{IsExcerptGiven};
-ghost use Rattle.cpgring.specs.Filtering.{rows_given, rows_named};
+ghost use Rattle.cpgring.specs.Filtering.{in_order, rows_given, rows_named};
 
-use crate::filtering::places_of;
+use crate::filtering::{places_of, read_places};
 use crate::options::{FRAMES_ONLY, ROWS};
 use clap::ArgMatches;
 use cpg_console::Excerpt;
@@ -29,20 +29,19 @@ pub fn excerpt_of(given: &ArgMatches<'_>) -> Option<Excerpt>
 fn read_rows(word: Option<&str>) -> Option<(u32, u32)>
     ensures { result ≡ rows_given (option_map (λ text. text.now) word.entry) }
 {
-    match word {
-        None => Some((1, u32::MAX)),
-        Some(word) => rows_of(word.as_bytes()),
-    }
+    in_order(read_places(word)?)
 }
 
 /// The first and the last of the rows `A..B`, `A..`, `..B` or `A`; A is not behind B.
 pub(crate) fn rows_of(word: &[u8]) -> Option<(u32, u32)>
     ensures { result ≡ rows_named word.now }
 {
-    let (first, last) = places_of(word)?;
-    if first <= last {
-        Some((first, last))
-    } else {
-        None
-    }
+    in_order(places_of(word)?)
+}
+
+/// The first and the last row, where the first is not behind the last.
+fn in_order(rows: (u32, u32)) -> Option<(u32, u32)>
+    ensures { result ≡ in_order rows }
+{
+    if rows.0 <= rows.1 { Some(rows) } else { None }
 }

@@ -91,7 +91,7 @@ fn read_connection(word: Option<&str>) -> Option<Option<ConnId>>
 }
 
 /// The first and the last place that is asked for; all, where none is.
-fn read_places(word: Option<&str>) -> Option<(u32, u32)>
+pub(crate) fn read_places(word: Option<&str>) -> Option<(u32, u32)>
     ensures { result ≡ places_given (option_map (λ text. text.now) word.entry) }
 {
     match word {
