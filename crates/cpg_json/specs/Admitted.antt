@@ -8,12 +8,15 @@ use Rattle.cpg_accept.specs.Forms.{Form, admitted_told}
 use Rattle.cpg_json.specs.Answers.{accept_json, refusal_fields, via_name}
 use Rattle.cpg_json.specs.Objects.{field, kind, line, number, word}
 
--- a listed user, and a listed group
+-- a listed number of that name: of a user, and of a group
+abbrev pub listed_json : List ℕ → ℕ → List ℕ
+listed_json name value = line (kind (codes "listed") ∷ number name value ∷ [])
+
 abbrev pub user_json : ℕ → List ℕ
-user_json uid = line (kind (codes "listed") ∷ number (codes "uid") uid ∷ [])
+user_json = listed_json (codes "uid")
 
 abbrev pub group_json : ℕ → List ℕ
-group_json gid = line (kind (codes "listed") ∷ number (codes "gid") gid ∷ [])
+group_json = listed_json (codes "gid")
 
 -- the answer to credentials, with what was asked
 abbrev pub echo_json : Cred → Option Via → List ℕ

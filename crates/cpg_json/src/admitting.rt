@@ -2,7 +2,7 @@
 
 ghost use Rattle.std.specs.Prelude.{◌≡◌, ◌++◌, None, Some, IfOk, OnOk, IsOkUnless};
 ghost use Rattle.cpg_conf.specs.Listed.{numbers_listed};
-ghost use Rattle.cpg_json.specs.Admitted.{admitted_json, admitted_json_echo, echo_json, group_json, user_json};
+ghost use Rattle.cpg_json.specs.Admitted.{admitted_json, admitted_json_echo, echo_json, listed_json};
 
 use crate::answers::{put_accept, put_refusal, via_name};
 use crate::objects::{put_end, put_kind, put_number, put_word};
@@ -12,23 +12,13 @@ use cpg_conf::Numbers;
 use cpg_cred::{Cred, Refusal, Via};
 use std::alloc::Global;
 
-/// Puts the object of a listed user on its line.
-fn put_user(line: &mut Vec<u8>, uid: u32) -> Result<(), Refusal>
-    ensures ok { OnOk result (line.new.items ≡ line.old.items ++ user_json uid) }
+/// Puts the object of a listed user or group on its line, whose number has that name.
+fn put_listed(line: &mut Vec<u8>, name: &str, value: u32) -> Result<(), Refusal>
+    ensures ok { OnOk result (line.new.items ≡ line.old.items ++ listed_json name.now value) }
     ensures memory { IsOkUnless result Refusal.Memory }
 {
     put_kind(line, "listed")?;
-    put_number(line, "uid", u64::from(uid))?;
-    put_end(line)
-}
-
-/// Puts the object of a listed group on its line.
-fn put_group(line: &mut Vec<u8>, gid: u32) -> Result<(), Refusal>
-    ensures ok { OnOk result (line.new.items ≡ line.old.items ++ group_json gid) }
-    ensures memory { IsOkUnless result Refusal.Memory }
-{
-    put_kind(line, "listed")?;
-    put_number(line, "gid", u64::from(gid))?;
+    put_number(line, name, u64::from(value))?;
     put_end(line)
 }
 
@@ -56,11 +46,11 @@ impl TellsAdmitted for AdmittedAsJson {
     }
 
     fn put_user(text: &mut Vec<u8>, uid: u32) -> Result<(), Refusal> {
-        put_user(text, uid)
+        put_listed(text, "uid", uid)
     }
 
     fn put_group(text: &mut Vec<u8>, gid: u32) -> Result<(), Refusal> {
-        put_group(text, gid)
+        put_listed(text, "gid", gid)
     }
 }
 
@@ -81,11 +71,11 @@ impl TellsAdmitted for EchoedAsJson {
     }
 
     fn put_user(text: &mut Vec<u8>, uid: u32) -> Result<(), Refusal> {
-        put_user(text, uid)
+        put_listed(text, "uid", uid)
     }
 
     fn put_group(text: &mut Vec<u8>, gid: u32) -> Result<(), Refusal> {
-        put_group(text, gid)
+        put_listed(text, "gid", gid)
     }
 }
 

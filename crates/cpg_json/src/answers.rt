@@ -1,16 +1,15 @@
 //! What calls and commands are answered, as lines.
 
-ghost use Rattle.std.specs.Prelude.{◌≡◌, ◌++◌, ◌∷◌, [], OnOk, IsOkUnless, Some};
+ghost use Rattle.std.specs.Prelude.{◌≡◌, ◌++◌, ◌∷◌, [], map, OnOk, IsOkUnless, Some};
 ghost use Rattle.std.specs.Option.{option_copied};
 ghost use Rattle.cpg_json.specs.Answers.{accept_json, answer_json, refusal_carries, refusal_fields, refused_json, reply_json, rule_count_json, rule_json, safe_json, took_json, via_name};
-ghost use Rattle.cpg_json.specs.Objects.{head_of, line as object_line, more, number};
+ghost use Rattle.cpg_json.specs.Objects.{array, field, head_of, line as object_line, more, number};
 
-use crate::arrays::put_array;
+use crate::arrays::{Item, put_array};
 use crate::calls::{put_by, put_rule};
 use crate::events::put_event_fields;
 use crate::objects::{put_end, put_head, put_kind, put_maybe, put_number, put_word};
-use cpg_cred::{NodeId, Refusal, Via};
-use cpg_entry::Name;
+use cpg_cred::{Refusal, Via};
 use cpg_record::Event;
 use cpg_rules::Rule;
 use cpg_world::Reply;
@@ -137,21 +136,18 @@ fn put_took(line: &mut Vec<u8>, head: &[u8], event: Option<&Event>) -> Result<()
     }
 }
 
-fn put_listing(line: &mut Vec<u8>, head: &[u8], processes: &[(NodeId, u32)]) -> Result<(), Refusal>
-    ensures ok { OnOk result (line.new.items ≡ line.old.items ++ reply_json head.now (Reply.Members processes.now)) }
+/// Puts an object of its kind and an array of that name at the lines' end.
+fn put_listing<T: Item>(
+    line: &mut Vec<u8>,
+    head: &[u8],
+    name: &str,
+    items: &[T],
+) -> Result<(), Refusal>
+    ensures ok { OnOk result (line.new.items ≡ line.old.items ++ object_line (head_of name.now head.now ∷ field name.now (array (map T.printed items.now)) ∷ [])) }
     ensures memory { IsOkUnless result Refusal.Memory }
 {
-    put_head(line, "members", head)?;
-    put_array(line, "members", processes)?;
-    put_end(line)
-}
-
-fn put_names_listing(line: &mut Vec<u8>, head: &[u8], names: &[Name]) -> Result<(), Refusal>
-    ensures ok { OnOk result (line.new.items ≡ line.old.items ++ reply_json head.now (Reply.Groups names.now)) }
-    ensures memory { IsOkUnless result Refusal.Memory }
-{
-    put_head(line, "groups", head)?;
-    put_array(line, "groups", names)?;
+    put_head(line, name, head)?;
+    put_array(line, name, items)?;
     put_end(line)
 }
 
@@ -172,8 +168,8 @@ fn put_reply(line: &mut Vec<u8>, head: &[u8], reply: &Reply) -> Result<(), Refus
         Reply::Sent(count) => put_counted(line, head, "sent", "frames", *count as u64),
         Reply::Delivered(place) => put_delivered(line, head, *place),
         Reply::Took(event) => put_took(line, head, event.as_ref()),
-        Reply::Members(processes) => put_listing(line, head, processes.as_slice()),
-        Reply::Groups(names) => put_names_listing(line, head, names.as_slice()),
+        Reply::Members(processes) => put_listing(line, head, "members", processes.as_slice()),
+        Reply::Groups(names) => put_listing(line, head, "groups", names.as_slice()),
     }
 }
 

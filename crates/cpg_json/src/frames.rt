@@ -70,31 +70,21 @@ impl Item for u32 {
     }
 }
 
-fn put_data_line(line: &mut Vec<u8>, head: &[u8], packet: &Packet) -> Result<(), Refusal>
-    ensures ok { OnOk result (line.new.items ≡ line.old.items ++ frame_json head.now (Frame.Packet packet.now)) }
-    ensures memory { IsOkUnless result Refusal.Memory }
-{
-    put_head(line, "data", head)?;
-    put_packet(line, packet)?;
-    put_end(line)
-}
-
-fn put_token_line(line: &mut Vec<u8>, head: &[u8], token: &Token) -> Result<(), Refusal>
-    ensures ok { OnOk result (line.new.items ≡ line.old.items ++ frame_json head.now (Frame.Token token.now)) }
-    ensures memory { IsOkUnless result Refusal.Memory }
-{
-    put_head(line, "token", head)?;
-    put_token(line, token)?;
-    put_end(line)
-}
-
 /// Puts the line of a frame at the lines' end.
 pub(crate) fn put_frame(line: &mut Vec<u8>, head: &[u8], frame: &Frame) -> Result<(), Refusal>
     ensures ok { OnOk result (line.new.items ≡ line.old.items ++ frame_json head.now frame.now) }
     ensures memory { IsOkUnless result Refusal.Memory }
 {
     match frame {
-        Frame::Packet(packet) => put_data_line(line, head, packet),
-        Frame::Token(token) => put_token_line(line, head, token),
+        Frame::Packet(packet) => {
+            put_head(line, "data", head)?;
+            put_packet(line, packet)?;
+            put_end(line)
+        }
+        Frame::Token(token) => {
+            put_head(line, "token", head)?;
+            put_token(line, token)?;
+            put_end(line)
+        }
     }
 }

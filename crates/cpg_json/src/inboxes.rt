@@ -15,10 +15,10 @@ ghost use Rattle.cpg_judge.specs.Gathering.{Gathers};
 ghost use Rattle.cpg_json.specs.Events.{event_json};
 ghost use Rattle.cpg_json.specs.Judging.{inbox_lines};
 ghost use Rattle.cpg_json.specs.Steps.{lines_at, lines_between, IsInbox};
-ghost use Rattle.cpg_json.specs.Tails.{front_of, heard_text, own_text, AreTails};
+ghost use Rattle.cpg_json.specs.Tails.{heard_text, own_text, AreTails};
 
 use crate::events::{put_front, put_inbox, put_verdict_tail};
-use crate::stretches::{Inbox, write_between};
+use crate::stretches::{Inbox, put_told, write_between};
 use crate::tails::Tails;
 use cpg_cred::Refusal;
 use cpg_entry::Name;
@@ -54,48 +54,35 @@ fn put_heard(lines: &mut Vec<u8>, heard: bool, front: &[u8], tail: &[u8]) -> Res
     if !heard {
         return Ok(());
     }
-    put_bytes(lines, front)?;
-    put_bytes(lines, tail)
+    put_told(lines, front, tail)
 }
 
-/// Puts what the place tells the connection of that front at the lines' end.
-fn put_place(
-    lines: &mut Vec<u8>,
-    policy: &Policy,
-    tails: &Tails,
-    front: &[u8],
-    place: u32,
-    conn: &ConnId,
-) -> Result<(), Refusal>
-    requires place { (1 ≤ place) × (place ≤ length (judged policy.now)) }
-    requires tails { AreTails tails.now (judged policy.now) (length (judged policy.now)) }
-    requires front { front.now ≡ front_of conn.now }
-    ensures ok { OnOk result (lines.new.items ≡ lines.old.items ++ concat (lines_at (judged policy.now) conn.now place)) }
+/// Puts what the place tells the connection at the lines' end.
+fn put_place(lines: &mut Vec<u8>, inbox: &Inbox<'_>, place: u32) -> Result<(), Refusal>
+    requires inbox { IsInbox inbox.now }
+    requires place { (1 ≤ place) × (place ≤ length (judged inbox.now.policy.now)) }
+    ensures ok { OnOk result (lines.new.items ≡ lines.old.items ++ concat (lines_at (judged inbox.now.policy.now) inbox.now.conn.now place)) }
     ensures memory { IsOkUnless result Refusal.Memory }
 {
-    let past = &policy.records()[place as usize - 1];
-    let own = conn.is(&ConnId::of(&past.entry));
-    let heard = policy.count_at(place, *conn) > usize::from(own);
-    put_own(lines, own, front, place, past.verdict)?;
-    put_heard(lines, heard, front, tails.at(place))
+    let past = &inbox.policy.records()[place as usize - 1];
+    let own = inbox.conn.is(&ConnId::of(&past.entry));
+    let heard = inbox.policy.count_at(place, *inbox.conn) > usize::from(own);
+    put_own(lines, own, inbox.front, place, past.verdict)?;
+    put_heard(lines, heard, inbox.front, inbox.tails.at(place))
 }
 
-/// Writes what the place tells the connection of that front.
+/// Writes what the place tells the connection.
 fn write_place<W: Write>(
     writer: &mut W,
     lines: &mut Vec<u8>,
-    policy: &Policy,
-    tails: &Tails,
-    front: &[u8],
+    inbox: &Inbox<'_>,
     place: u32,
-    conn: &ConnId,
 ) -> Result<(), Refusal>
-    requires place { (1 ≤ place) × (place ≤ length (judged policy.now)) }
-    requires tails { AreTails tails.now (judged policy.now) (length (judged policy.now)) }
-    requires front { front.now ≡ front_of conn.now }
-    ensures { Gathers result (W.contents writer.old) lines.old.items (W.contents writer.new) lines.new.items (lines_at (judged policy.now) conn.now place) }
+    requires inbox { IsInbox inbox.now }
+    requires place { (1 ≤ place) × (place ≤ length (judged inbox.now.policy.now)) }
+    ensures { Gathers result (W.contents writer.old) lines.old.items (W.contents writer.new) lines.new.items (lines_at (judged inbox.now.policy.now) inbox.now.conn.now place) }
 {
-    put_place(lines, policy, tails, front, place, conn)?;
+    put_place(lines, inbox, place)?;
     write_much(writer, lines)
 }
 
@@ -115,15 +102,7 @@ fn write_upto<W: Write>(
     ensures { Gathers result (W.contents writer.old) lines.old.items (W.contents writer.new) lines.new.items (lines_between (judged inbox.now.policy.now) inbox.now.conn.now after place) }
 {
     write_between(writer, lines, inbox, group, after, place - 1)?;
-    write_place(
-        writer,
-        lines,
-        inbox.policy,
-        inbox.tails,
-        inbox.front,
-        place,
-        inbox.conn,
-    )
+    write_place(writer, lines, inbox, place)
 }
 
 /// Writes what the judged places tell the connection, from one at which it made the entry to the next.

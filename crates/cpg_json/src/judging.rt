@@ -6,8 +6,8 @@ use crate::records::{KeptMembers, put_count, put_record_kept};
 use crate::tails::Tails;
 use cpg_cred::Refusal;
 use cpg_group::Policy;
-use cpg_judge::{PutsJudged, TellsJudged};
-use cpg_record::{ConnId, Record};
+use cpg_judge::{Placed, PutsJudged, TellsJudged};
+use cpg_record::ConnId;
 use cpg_why::{line_of, read_numbers};
 use std::alloc::Global;
 use std::io::Write;
@@ -62,13 +62,8 @@ impl PutsJudged for JudgedObjects {
 
     ghost stands = { λ puts entries count. AreTails puts.tails (judged entries) (length (judged entries)) × IsKept puts.kept };
 
-    fn put_record(
-        &mut self,
-        lines: &mut Vec<u8>,
-        _policy: &Policy,
-        place: u32,
-        past: &Record,
-    ) -> Result<(), Refusal> {
+    fn put_record(&mut self, lines: &mut Vec<u8>, placed: &Placed<'_>) -> Result<(), Refusal> {
+        let Placed { place, past, .. } = *placed;
         let number = line_of(self.numbers.as_slice(), place);
         put_record_kept(lines, number, place, past, &mut self.kept)
     }

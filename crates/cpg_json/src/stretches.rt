@@ -48,7 +48,7 @@ fn places_between<'a>(policy: &'a Policy, group: &[u8], after: u32, last: u32) -
 }
 
 /// Puts the line of what a place tells its group, behind that front, at the lines' end.
-fn put_told(lines: &mut Vec<u8>, front: &[u8], tail: &[u8]) -> Result<(), Refusal>
+pub(crate) fn put_told(lines: &mut Vec<u8>, front: &[u8], tail: &[u8]) -> Result<(), Refusal>
     ensures ok { OnOk result (lines.new.items ≡ lines.old.items ++ (front.now ++ tail.now)) }
     ensures memory { IsOkUnless result Refusal.Memory }
 {

@@ -56,10 +56,11 @@ fn put_why(line: &mut Vec<u8>, cited: &Cited, place: u32, decided: &Decided) -> 
     let Some(past) = cited.record(place) else {
         return Ok(());
     };
-    put_kind(line, "why")?;
-    put_number(line, "place", u64::from(place))?;
-    put_judged(line, cited, place, past)?;
-    put_decided(line, cited, past, decided)?;
+    put_judged(line, "why", cited, place, past)?;
+    put_by(line, decided.name())?;
+    put_facts(line, cited, past, decided)?;
+    put(line, "}")?;
+    put_rest(line, cited, decided)?;
     put_end(line)
 }
 
@@ -70,9 +71,7 @@ fn put_made(line: &mut Vec<u8>, cited: &Cited, place: u32) -> Result<(), Refusal
     let Some(past) = cited.record(place) else {
         return Ok(());
     };
-    put_kind(line, "entry")?;
-    put_number(line, "place", u64::from(place))?;
-    put_judged(line, cited, place, past)?;
+    put_judged(line, "entry", cited, place, past)?;
     put_end(line)
 }
 
@@ -94,10 +93,18 @@ fn put_made_by(line: &mut Vec<u8>, cited: &Cited, place: u32, entry: &Entry) -> 
     put_whole_call(line, &entry.op)
 }
 
-/// Puts what follows the place of an entry, and its verdict.
-fn put_judged(line: &mut Vec<u8>, cited: &Cited, place: u32, past: &Record) -> Result<(), Refusal>
+/// Puts the front of an object of that kind: an entry, and its verdict.
+fn put_judged(
+    line: &mut Vec<u8>,
+    kind: &str,
+    cited: &Cited,
+    place: u32,
+    past: &Record,
+) -> Result<(), Refusal>
     ensures { IsOkUnless result Refusal.Memory }
 {
+    put_kind(line, kind)?;
+    put_number(line, "place", u64::from(place))?;
     put_made_by(line, cited, place, &past.entry)?;
     put_verdict(line, past.verdict)
 }
@@ -153,18 +160,10 @@ fn put_by(line: &mut Vec<u8>, name: &str) -> Result<(), Refusal>
     put(line, "\"")
 }
 
-/// Puts what decided the answer of a record.
-fn put_decided(
-    line: &mut Vec<u8>,
-    cited: &Cited,
-    past: &Record,
-    decided: &Decided,
-) -> Result<(), Refusal>
+/// Puts what stands around what decided: where that is a table, the rules that were passed, and more of the rule.
+fn put_rest(line: &mut Vec<u8>, cited: &Cited, decided: &Decided) -> Result<(), Refusal>
     ensures { IsOkUnless result Refusal.Memory }
 {
-    put_by(line, decided.name())?;
-    put_facts(line, cited, past, decided)?;
-    put(line, "}")?;
     match decided {
         Decided::Rule(ruled) => put_around(line, cited, ruled),
         Decided::Default(unruled) => put_passed(line, unruled.passed.as_slice()),
@@ -324,9 +323,7 @@ fn put_stand(line: &mut Vec<u8>, cited: &Cited, stand: &Stand) -> Result<(), Ref
     let Some(past) = cited.record(stand.place) else {
         return Ok(());
     };
-    put_kind(line, "to")?;
-    put_number(line, "place", u64::from(stand.place))?;
-    put_judged(line, cited, stand.place, past)?;
+    put_judged(line, "to", cited, stand.place, past)?;
     put_name(line, "told")?;
     put(
         line,

@@ -1,11 +1,11 @@
 //! The forms in which judged entries are told.
 
 use crate::output::write_inbox;
-use crate::texts::Texts;
+use crate::texts::{Placed, Texts};
 use cpg_cred::Refusal;
 use cpg_group::Policy;
 use cpg_print::put_count;
-use cpg_record::{ConnId, Record};
+use cpg_record::ConnId;
 use std::alloc::Global;
 use std::io::Write;
 
@@ -27,19 +27,13 @@ pub trait PutsJudged: Drop {
     ghost stands: { Self → List Entry → ℕ → Type 0 };
 
     /// Takes in the record of the place, the one after those that were taken in, and puts its lines at the lines' end.
-    fn put_record(
-        &mut self,
-        lines: &mut Vec<u8>,
-        policy: &Policy,
-        place: u32,
-        past: &Record,
-    ) -> Result<(), Refusal>
-        requires place { (1 ≤ place) × (place ≤ length policy.now) }
-        requires past { record_at (judged policy.now) place ≡ Some past.now }
-        requires before { stands self.old policy.now (place - 1) }
-        ensures ok { OnOk result (lines.new.items ≡ lines.old.items ++ concat (record_by (form self.old) place past.now)) }
+    fn put_record(&mut self, lines: &mut Vec<u8>, placed: &Placed<'_>) -> Result<(), Refusal>
+        requires place { (1 ≤ placed.now.place) × (placed.now.place ≤ length placed.now.policy.now) }
+        requires past { record_at (judged placed.now.policy.now) placed.now.place ≡ Some placed.now.past.now }
+        requires before { stands self.old placed.now.policy.now (placed.now.place - 1) }
+        ensures ok { OnOk result (lines.new.items ≡ lines.old.items ++ concat (record_by (form self.old) placed.now.place placed.now.past.now)) }
         ensures same { OnOk result (form self.new ≡ form self.old) }
-        ensures taken { OnOk result (stands self.new policy.now place) }
+        ensures taken { OnOk result (stands self.new placed.now.policy.now placed.now.place) }
         ensures memory { IsOkUnless result Refusal.Memory };
 
     /// Puts the line of the count of records at the lines' end.
@@ -107,14 +101,8 @@ impl PutsJudged for Texts {
 
     ghost stands = { λ texts entries count. AreTexts texts (judged entries) count × AreShown texts (judged entries) count };
 
-    fn put_record(
-        &mut self,
-        lines: &mut Vec<u8>,
-        policy: &Policy,
-        place: u32,
-        past: &Record,
-    ) -> Result<(), Refusal> {
-        self.put_place(lines, policy, place, past)
+    fn put_record(&mut self, lines: &mut Vec<u8>, placed: &Placed<'_>) -> Result<(), Refusal> {
+        self.put_place(lines, placed)
     }
 
     fn put_count(&self, lines: &mut Vec<u8>, count: u32) -> Result<(), Refusal> {

@@ -17,6 +17,7 @@ ghost use Rattle.cpg_judge.specs.Scripts.{entries_of_script};
 use crate::forms::{JudgedAsText, PutsJudged, TellsJudged};
 use crate::gathering::{write_all, write_much};
 use crate::scripts::judge_lines;
+use crate::texts::Placed;
 use cpg_cred::Refusal;
 use cpg_group::Policy;
 use cpg_record::{ConnId, Record};
@@ -165,7 +166,12 @@ fn write_record<P: PutsJudged, W: Write>(
     ensures same { OnOk result (P.form puts.new ≡ P.form puts.old) }
     ensures taken { OnOk result (P.stands puts.new policy.now place) }
 {
-    puts.put_record(lines, policy, place, record_of(policy, place))?;
+    let placed = Placed {
+        policy,
+        place,
+        past: record_of(policy, place),
+    };
+    puts.put_record(lines, &placed)?;
     write_much(writer, lines)
 }
 

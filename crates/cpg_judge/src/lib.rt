@@ -18,3 +18,4 @@ pub use forms::{JudgedAsText, PutsJudged, TellsJudged};
 pub use gathering::{write_all, write_much};
 pub use judging::{judge_in_form, judge_script};
 pub use scripts::judge_lines;
+pub use texts::Placed;

@@ -39,6 +39,14 @@ const LINE_ROOM: usize = 60;
 /// their own.
 const KEPT_INSIDE: usize = 16;
 
+/// A place of judged entries, and its record.
+#[derive(Clone, Copy)]
+pub struct Placed<'a> {
+    pub policy: &'a Policy,
+    pub place: u32,
+    pub past: &'a Record,
+}
+
 /// The move of the member that the entry's connection becomes.
 fn join_of(past: &Record) -> Move
     ensures { result ≡ record { member = member_of past.now.entry; cause = Cause.Join } }
@@ -193,17 +201,20 @@ impl Text {
     fn put_place(
         &mut self,
         lines: &mut Vec<u8>,
-        policy: &Policy,
-        place: u32,
-        past: &Record,
+        placed: &Placed<'_>,
         group: &[u8],
     ) -> Result<(), Refusal>
-        requires allowed { StandsAllowed policy.now place past.now group.now }
-        requires members { (with_place past.now (told_text (judged policy.now) place) self.old).members ≡ members_text past.now.members }
-        ensures ok { OnOk result (self.new ≡ with_place past.now (told_text (judged policy.now) place) self.old) }
-        ensures line { OnOk result (lines.new.items ≡ lines.old.items ++ audit_line place past.now) }
+        requires allowed { StandsAllowed placed.now.policy.now placed.now.place placed.now.past.now group.now }
+        requires members { (with_place placed.now.past.now (told_text (judged placed.now.policy.now) placed.now.place) self.old).members ≡ members_text placed.now.past.now.members }
+        ensures ok { OnOk result (self.new ≡ with_place placed.now.past.now (told_text (judged placed.now.policy.now) placed.now.place) self.old) }
+        ensures line { OnOk result (lines.new.items ≡ lines.old.items ++ audit_line placed.now.place placed.now.past.now) }
         ensures memory { IsOkUnless result Refusal.Memory }
     {
+        let Placed {
+            policy,
+            place,
+            past,
+        } = *placed;
         self.take_in(policy, place, past, group)?;
         put_audit_with(lines, place, past, self.members.as_slice())
     }
@@ -303,22 +314,20 @@ impl Texts {
     fn begin(
         &mut self,
         lines: &mut Vec<u8>,
-        policy: &Policy,
-        place: u32,
-        past: &Record,
+        placed: &Placed<'_>,
         name: &Name,
     ) -> Result<(), Refusal>
-        requires allowed { StandsAllowed policy.now place past.now name.now }
-        requires members { (with_place past.now (told_text (judged policy.now) place) no_text).members ≡ members_text past.now.members }
+        requires allowed { StandsAllowed placed.now.policy.now placed.now.place placed.now.past.now name.now }
+        requires members { (with_place placed.now.past.now (told_text (judged placed.now.policy.now) placed.now.place) no_text).members ≡ members_text placed.now.past.now.members }
         requires lacking { LacksText self.old name.now }
-        ensures ok { OnOk result ((g : List ℕ) → kept_text self.new g ≡ (if bytes_eq name.now g then with_place past.now (told_text (judged policy.now) place) (kept_text self.old g) else kept_text self.old g)) }
-        ensures line { OnOk result (lines.new.items ≡ lines.old.items ++ audit_line place past.now) }
+        ensures ok { OnOk result ((g : List ℕ) → kept_text self.new g ≡ (if bytes_eq name.now g then with_place placed.now.past.now (told_text (judged placed.now.policy.now) placed.now.place) (kept_text self.old g) else kept_text self.old g)) }
+        ensures line { OnOk result (lines.new.items ≡ lines.old.items ++ audit_line placed.now.place placed.now.past.now) }
         ensures memory { IsOkUnless result Refusal.Memory }
     {
         let alloc = *self.kept.allocator();
         let key = name.copy(alloc)?;
-        let mut text = Text::with_room(alloc, policy.places_in(name.as_slice()).len())?;
-        text.put_place(lines, policy, place, past, name.as_slice())?;
+        let mut text = Text::with_room(alloc, placed.policy.places_in(name.as_slice()).len())?;
+        text.put_place(lines, placed, name.as_slice())?;
         self.last = self.kept.len();
         self.kept.insert(key, text)?;
         Ok(())
@@ -329,24 +338,22 @@ impl Texts {
     fn put_allowed(
         &mut self,
         lines: &mut Vec<u8>,
-        policy: &Policy,
-        place: u32,
-        past: &Record,
+        placed: &Placed<'_>,
         name: &Name,
     ) -> Result<(), Refusal>
-        requires allowed { StandsAllowed policy.now place past.now name.now }
-        requires members { (with_place past.now (told_text (judged policy.now) place) (kept_text self.old name.now)).members ≡ members_text past.now.members }
-        ensures ok { OnOk result ((g : List ℕ) → kept_text self.new g ≡ (if bytes_eq name.now g then with_place past.now (told_text (judged policy.now) place) (kept_text self.old g) else kept_text self.old g)) }
-        ensures line { OnOk result (lines.new.items ≡ lines.old.items ++ audit_line place past.now) }
+        requires allowed { StandsAllowed placed.now.policy.now placed.now.place placed.now.past.now name.now }
+        requires members { (with_place placed.now.past.now (told_text (judged placed.now.policy.now) placed.now.place) (kept_text self.old name.now)).members ≡ members_text placed.now.past.now.members }
+        ensures ok { OnOk result ((g : List ℕ) → kept_text self.new g ≡ (if bytes_eq name.now g then with_place placed.now.past.now (told_text (judged placed.now.policy.now) placed.now.place) (kept_text self.old g) else kept_text self.old g)) }
+        ensures line { OnOk result (lines.new.items ≡ lines.old.items ++ audit_line placed.now.place placed.now.past.now) }
         ensures memory { IsOkUnless result Refusal.Memory }
     {
         match self.index_of(name) {
             Some(index) => {
                 self.last = index;
                 let (_, text) = self.kept.pair_mut(index);
-                text.put_place(lines, policy, place, past, name.as_slice())
+                text.put_place(lines, placed, name.as_slice())
             }
-            None => self.begin(lines, policy, place, past, name),
+            None => self.begin(lines, placed, name),
         }
     }
 
@@ -355,24 +362,23 @@ impl Texts {
     pub(crate) fn put_place(
         &mut self,
         lines: &mut Vec<u8>,
-        policy: &Policy,
-        place: u32,
-        past: &Record,
+        placed: &Placed<'_>,
     ) -> Result<(), Refusal>
-        requires place { (1 ≤ place) × (place ≤ length policy.now) }
-        requires stands { record_at (judged policy.now) place ≡ Some past.now }
-        requires texts { AreTexts self.old (judged policy.now) (place - 1) }
-        requires shown { AreShown self.old (judged policy.now) (place - 1) }
-        ensures ok { OnOk result (AreTexts self.new (judged policy.now) place) }
-        ensures shown { OnOk result (AreShown self.new (judged policy.now) place) }
-        ensures line { OnOk result (lines.new.items ≡ lines.old.items ++ audit_line place past.now) }
+        requires place { (1 ≤ placed.now.place) × (placed.now.place ≤ length placed.now.policy.now) }
+        requires stands { record_at (judged placed.now.policy.now) placed.now.place ≡ Some placed.now.past.now }
+        requires texts { AreTexts self.old (judged placed.now.policy.now) (placed.now.place - 1) }
+        requires shown { AreShown self.old (judged placed.now.policy.now) (placed.now.place - 1) }
+        ensures ok { OnOk result (AreTexts self.new (judged placed.now.policy.now) placed.now.place) }
+        ensures shown { OnOk result (AreShown self.new (judged placed.now.policy.now) placed.now.place) }
+        ensures line { OnOk result (lines.new.items ≡ lines.old.items ++ audit_line placed.now.place placed.now.past.now) }
         ensures memory { IsOkUnless result Refusal.Memory }
     {
+        let Placed { place, past, .. } = *placed;
         match &past.group {
             None => put_audit(lines, place, past),
             Some(name) => {
                 if past.verdict.is_allowed() {
-                    self.put_allowed(lines, policy, place, past, name)
+                    self.put_allowed(lines, placed, name)
                 } else {
                     put_audit_with(lines, place, past, self.of(name).members())
                 }

@@ -27,7 +27,7 @@ three (Some u) y z = refl
 three None (Some u) z = refl
 three None None z = refl
 
-matches_unmet : (who : Who) (asker : Asker) → matches who asker ≡ not (is_some (unmet who asker))
+pub matches_unmet : (who : Who) (asker : Asker) → matches who asker ≡ not (is_some (unmet who asker))
 unfolding unmet
 matches_unmet who asker =
     let x = lacking Uid asker.cred.uid who.uid in

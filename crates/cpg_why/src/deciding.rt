@@ -223,54 +223,6 @@ fn count_rules(policy: &Policy, group: Option<&Name>) -> usize
     }
 }
 
-/// What decided that an entry is allowed.
-fn explain_allowed(
-    alloc: Global,
-    policy: &Policy,
-    past: &Record,
-    last: Option<u32>,
-    by: By,
-) -> Result<Decided, Refusal>
-    requires { past.now ≡ record_of (judged policy.now) past.now.entry }
-    ensures ok { IfOk result (λ decided. decided ≡ decided_by (judged policy.now) past.now last (Allowed by)) }
-    ensures memory { IsOkUnless result Refusal.Memory }
-{
-    match by {
-        By::Root => Ok(Decided::Root),
-        By::Free | By::Rule(_) | By::Default => decide_by_right(alloc, policy, past),
-    }
-}
-
-/// What decided that an entry is denied.
-fn explain_denied(
-    alloc: Global,
-    policy: &Policy,
-    past: &Record,
-    last: Option<u32>,
-    reason: Reason,
-) -> Result<Decided, Refusal>
-    requires { past.now ≡ record_of (judged policy.now) past.now.entry }
-    ensures ok { IfOk result (λ decided. decided ≡ decided_by (judged policy.now) past.now last (Denied reason)) }
-    ensures memory { IsOkUnless result Refusal.Memory }
-{
-    let rules = count_rules(policy, past.group.as_ref());
-    match reason {
-        Reason::Rule(_) | Reason::Default => decide_by_right(alloc, policy, past),
-        Reason::Closed => Ok(Decided::Closed { since: last }),
-        Reason::Joined => Ok(Decided::Joined { since: last }),
-        Reason::Twice => Ok(Decided::Twice {
-            by: find_holder(past),
-            since: last,
-        }),
-        Reason::Full => Ok(Decided::Full {
-            members: past.members.len(),
-        }),
-        Reason::Position => Ok(Decided::Position { rules }),
-        Reason::TableFull => Ok(Decided::TableFull { rules }),
-        Reason::Absent => Ok(Decided::Absent),
-    }
-}
-
 /// What decided the answer of a record, which comes after the judged ones. The connection that is told of moved last at
 /// `last`.
 pub fn explain(
@@ -284,8 +236,24 @@ pub fn explain(
     ensures ok { IfOk result (λ decided. decided ≡ decided_of (judged policy.now) past.now) }
     ensures memory { IsOkUnless result Refusal.Memory }
 {
+    let rules = count_rules(policy, past.group.as_ref());
     match past.verdict {
-        Verdict::Allowed(by) => explain_allowed(alloc, policy, past, last, by),
-        Verdict::Denied(reason) => explain_denied(alloc, policy, past, last, reason),
+        Verdict::Allowed(By::Root) => Ok(Decided::Root),
+        Verdict::Allowed(By::Free | By::Rule(_) | By::Default)
+        | Verdict::Denied(Reason::Rule(_) | Reason::Default) => {
+            decide_by_right(alloc, policy, past)
+        }
+        Verdict::Denied(Reason::Closed) => Ok(Decided::Closed { since: last }),
+        Verdict::Denied(Reason::Joined) => Ok(Decided::Joined { since: last }),
+        Verdict::Denied(Reason::Twice) => Ok(Decided::Twice {
+            by: find_holder(past),
+            since: last,
+        }),
+        Verdict::Denied(Reason::Full) => Ok(Decided::Full {
+            members: past.members.len(),
+        }),
+        Verdict::Denied(Reason::Position) => Ok(Decided::Position { rules }),
+        Verdict::Denied(Reason::TableFull) => Ok(Decided::TableFull { rules }),
+        Verdict::Denied(Reason::Absent) => Ok(Decided::Absent),
     }
 }

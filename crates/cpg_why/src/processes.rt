@@ -9,7 +9,7 @@ ghost use Rattle.cpg_why.specs.Processes.{has_process, is_of, is_pid, pid_at, pr
 
 use crate::findings::Finding;
 use crate::numbers::find_record;
-use crate::standings::stand_at;
+use crate::standings::{Spot, stand_at};
 use cpg_cred::Refusal;
 use cpg_group::Policy;
 use cpg_record::{ConnId, Record};
@@ -65,7 +65,14 @@ fn stand_if(
     ensures memory { IsOkUnless result Refusal.Memory }
 {
     if is_of(policy, pid, conn) {
-        stand_at(list, policy, conn, place)
+        stand_at(
+            list,
+            &Spot {
+                policy,
+                conn,
+                place,
+            },
+        )
     } else {
         Ok(())
     }

@@ -21,6 +21,14 @@ use cpg_group::Policy;
 use cpg_record::{ConnId, Event, Record};
 use std::alloc::Global;
 
+/// A place of judged entries, and the connection that is asked of there.
+#[derive(Clone, Copy)]
+pub(crate) struct Spot<'a> {
+    pub(crate) policy: &'a Policy,
+    pub(crate) conn: &'a ConnId,
+    pub(crate) place: u32,
+}
+
 /// How a connection stands to an entry.
 #[derive(Debug, Clone, Copy, PartialEq, Eq)]
 pub enum Standing {
@@ -166,17 +174,16 @@ fn copy_group(alloc: Global, group: Option<&Name>) -> Result<Option<Name>, Refus
 }
 
 /// How the connection stands to the entry of the record of that place, and where it is before it.
-fn find_stand(
-    alloc: Global,
-    policy: &Policy,
-    conn: &ConnId,
-    place: u32,
-    past: &Record,
-) -> Result<Stand, Refusal>
-    requires { (1 ≤ place) × (place ≤ length policy.now) }
-    ensures ok { IfOk result (λ stand. stand ≡ stand_of (records_before (judged policy.now) place) conn.now place past.now) }
+fn find_stand(alloc: Global, spot: &Spot<'_>, past: &Record) -> Result<Stand, Refusal>
+    requires { (1 ≤ spot.now.place) × (spot.now.place ≤ length spot.now.policy.now) }
+    ensures ok { IfOk result (λ stand. stand ≡ stand_of (records_before (judged spot.now.policy.now) spot.now.place) spot.now.conn.now spot.now.place past.now) }
     ensures memory { IsOkUnless result Refusal.Memory }
 {
+    let Spot {
+        policy,
+        conn,
+        place,
+    } = *spot;
     let (since, tried) = find_last(&policy.records()[..place as usize - 1], conn);
     Ok(Stand {
         place,
@@ -189,20 +196,15 @@ fn find_stand(
 }
 
 /// Puts how the connection stands to the entry of that place last.
-fn stand_to(
-    list: &mut Vec<Finding>,
-    policy: &Policy,
-    conn: &ConnId,
-    place: u32,
-) -> Result<(), Refusal>
-    requires { (1 ≤ place) × (place ≤ length policy.now) }
-    ensures ok { OnOk result (list.new.items ≡ list.old.items ++ stand_by (records_before (judged policy.now) place) conn.now place (record_at (judged policy.now) place)) }
+fn stand_to(list: &mut Vec<Finding>, spot: &Spot<'_>) -> Result<(), Refusal>
+    requires { (1 ≤ spot.now.place) × (spot.now.place ≤ length spot.now.policy.now) }
+    ensures ok { OnOk result (list.new.items ≡ list.old.items ++ stand_by (records_before (judged spot.now.policy.now) spot.now.place) spot.now.conn.now spot.now.place (record_at (judged spot.now.policy.now) spot.now.place)) }
     ensures memory { IsOkUnless result Refusal.Memory }
 {
-    match find_record(policy.records(), place) {
+    match find_record(spot.policy.records(), spot.place) {
         None => Ok(()),
         Some(past) => {
-            let stand = find_stand(*list.allocator(), policy, conn, place, past)?;
+            let stand = find_stand(*list.allocator(), spot, past)?;
             list.push(Finding::Stands(stand))?;
             Ok(())
         }
@@ -222,17 +224,12 @@ fn hear_all(list: &mut Vec<Finding>, conn: &ConnId, events: &[Event]) -> Result<
 }
 
 /// Puts how the connection stands to the entry of that place last, and what it is told there.
-pub(crate) fn stand_at(
-    list: &mut Vec<Finding>,
-    policy: &Policy,
-    conn: &ConnId,
-    place: u32,
-) -> Result<(), Refusal>
-    requires { (1 ≤ place) × (place ≤ length policy.now) }
-    ensures ok { OnOk result (list.new.items ≡ list.old.items ++ stand_at (judged policy.now) conn.now place) }
+pub(crate) fn stand_at(list: &mut Vec<Finding>, spot: &Spot<'_>) -> Result<(), Refusal>
+    requires { (1 ≤ spot.now.place) × (spot.now.place ≤ length spot.now.policy.now) }
+    ensures ok { OnOk result (list.new.items ≡ list.old.items ++ stand_at (judged spot.now.policy.now) spot.now.conn.now spot.now.place) }
     ensures memory { IsOkUnless result Refusal.Memory }
 {
-    stand_to(list, policy, conn, place)?;
-    let told = policy.events_at(place, *conn)?;
-    hear_all(list, conn, told.as_slice())
+    stand_to(list, spot)?;
+    let told = spot.policy.events_at(spot.place, *spot.conn)?;
+    hear_all(list, spot.conn, told.as_slice())
 }

@@ -17,7 +17,7 @@ use crate::forms::{Cited, Tells};
 use crate::inboxes::{find_told, stands};
 use crate::processes::{has_process, stand_process};
 use crate::scripts::read_entries;
-use crate::standings::stand_at;
+use crate::standings::{Spot, stand_at};
 use crate::walk::{find_denials, find_why, pass_all};
 use crate::way::find_way;
 use cpg_cluster::read_numbers;
@@ -226,7 +226,12 @@ fn find_stand(
 {
     let walk = pass_all(alloc, entries)?;
     let mut list = Vec::new(alloc);
-    match stand_at(&mut list, &walk.policy, conn, place) {
+    let spot = Spot {
+        policy: &walk.policy,
+        conn,
+        place,
+    };
+    match stand_at(&mut list, &spot) {
         Ok(()) => Ok(walk.found(list)),
         Err(refusal) => Err(WhyFault::from(refusal)),
     }

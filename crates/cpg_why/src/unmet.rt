@@ -1,10 +1,9 @@
 //! Which condition of a rule an asker does not meet.
 
 ghost use Rattle.std.specs.Prelude.{◌≡◌, ◌&&◌};
-ghost use Rattle.cpg_rules.specs.Decision.{agrees, matches, same_right};
+ghost use Rattle.cpg_rules.specs.Decision.{matches, same_right};
 ghost use Rattle.cpg_why.specs.Unmet.{lacking, unmet};
 
-use cpg_cred::NodeId;
 use cpg_print::node_number;
 use cpg_rules::{Asker, Right, Rule, Who};
 
@@ -74,32 +73,10 @@ pub fn find_unmet(who: &Who, asker: &Asker) -> Option<Unmet>
     }
 }
 
-/// Whether a condition on a number holds of it.
-fn holds(condition: Option<u32>, number: u32) -> bool
-    ensures { result ≡ agrees condition number }
-{
-    match condition {
-        None => true,
-        Some(wanted) => number == wanted,
-    }
-}
-
-/// Whether a condition on a node holds of it.
-fn holds_at(condition: Option<NodeId>, node: NodeId) -> bool
-    ensures { result ≡ agrees condition node }
-{
-    match condition {
-        None => true,
-        Some(wanted) => node == wanted,
-    }
-}
-
 /// Whether the rule speaks of that right and that asker.
+#[tactic(auto, using(crate::proofs::Conditions::matches_unmet))]
 pub(crate) fn speaks_of(rule: &Rule, right: Right, asker: &Asker) -> bool
     ensures { result ≡ same_right rule.now.right right && matches rule.now.who asker.now }
 {
-    rule.right == right
-        && holds(rule.who.uid, asker.cred.uid)
-        && holds(rule.who.gid, asker.cred.gid)
-        && holds_at(rule.who.node, asker.node)
+    rule.right == right && find_unmet(&rule.who, asker).is_none()
 }

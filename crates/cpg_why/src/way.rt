@@ -10,6 +10,7 @@ ghost use Rattle.cpg_why.specs.Ways.{change_in, made_by, way_at, way_of};
 
 use crate::findings::Finding;
 use crate::numbers::find_record;
+use crate::standings::Spot;
 use cpg_cred::Refusal;
 use cpg_group::Policy;
 use cpg_record::{ConnId, Event, Record};
@@ -60,19 +61,14 @@ fn find_changes(list: &mut Vec<Finding>, conn: &ConnId, events: &[Event]) -> Res
 }
 
 /// Puts what a place has of the connection last.
-fn find_at(
-    list: &mut Vec<Finding>,
-    policy: &Policy,
-    conn: &ConnId,
-    place: u32,
-) -> Result<(), Refusal>
-    requires { (1 ≤ place) × (place ≤ length policy.now) }
-    ensures ok { OnOk result (list.new.items ≡ list.old.items ++ way_at (judged policy.now) conn.now place) }
+fn find_at(list: &mut Vec<Finding>, spot: &Spot<'_>) -> Result<(), Refusal>
+    requires { (1 ≤ spot.now.place) × (spot.now.place ≤ length spot.now.policy.now) }
+    ensures ok { OnOk result (list.new.items ≡ list.old.items ++ way_at (judged spot.now.policy.now) spot.now.conn.now spot.now.place) }
     ensures memory { IsOkUnless result Refusal.Memory }
 {
-    find_made(list, policy.records(), conn, place)?;
-    let told = policy.events_at(place, *conn)?;
-    find_changes(list, conn, told.as_slice())
+    find_made(list, spot.policy.records(), spot.conn, spot.place)?;
+    let told = spot.policy.events_at(spot.place, *spot.conn)?;
+    find_changes(list, spot.conn, told.as_slice())
 }
 
 /// Puts the way of a connection through the judged entries last.
@@ -85,7 +81,15 @@ pub(crate) fn find_way(
     ensures memory { IsOkUnless result Refusal.Memory }
 {
     for index in 0..policy.len() {
-        find_at(list, policy, conn, index as u32 + 1)?;
+        let place = index as u32 + 1;
+        find_at(
+            list,
+            &Spot {
+                policy,
+                conn,
+                place,
+            },
+        )?;
     }
     Ok(())
 }

@@ -1,24 +1,23 @@
 //! What commands of sessions are answered, as lines.
 
-ghost use Rattle.std.specs.Prelude.{◌≡◌, ◌++◌, ◌∷◌, Ok, codes, length, OnOk, IsOkUnless};
+ghost use Rattle.std.specs.Prelude.{◌≡◌, ◌++◌, ◌∷◌, [], Ok, codes, length, map, OnOk, IsOkUnless};
 ghost use Rattle.std.specs.List.{concat};
 ghost use Rattle.cpg_board.specs.Seats.{IsSeatOf, records_of};
 ghost use Rattle.cpg_json.specs.Answers.{refusal_fields};
-ghost use Rattle.cpg_json.specs.Objects.{head_of, line as object_line, more};
+ghost use Rattle.cpg_json.specs.Objects.{array, field, head_of, line as object_line, more};
 ghost use Rattle.cpg_json.specs.Records.{records_json};
 ghost use Rattle.cpg_cluster.specs.Steps.{SeatsOn};
 ghost use Rattle.cpg_cluster.specs.declared.replies.Reply.TheVariants as replies;
 ghost use Rattle.cpg_json.specs.SessionAnswers.{answer_json, audit_text, reply_json, session_of, whose};
 
 use crate::answers::{put_refusal, put_safe};
-use crate::arrays::put_array;
+use crate::arrays::{Item, put_array};
 use crate::events::put_event_fields;
 use crate::objects::{put_end, put_head, put_number};
 use crate::records::{put_count, put_record};
 use cpg_board::{Board, Seat};
 use cpg_cluster::{Command, Reply};
-use cpg_cred::{NodeId, Refusal};
-use cpg_entry::Name;
+use cpg_cred::Refusal;
 use cpg_node::Event;
 
 /// The number of the session that the command is for, if it is for one.
@@ -87,34 +86,19 @@ fn put_taken(
 }
 
 #[tactic(auto, using(crate::proofs::Fields::more_append))]
-fn put_members(
+fn put_listing<T: Item>(
     text: &mut Vec<u8>,
     head: &[u8],
     session: Option<u32>,
-    processes: &[(NodeId, u32)],
+    name: &str,
+    items: &[T],
 ) -> Result<(), Refusal>
-    ensures ok { OnOk result (text.new.items ≡ text.old.items ++ reply_json head.now session (replies.Members processes.now)) }
+    ensures ok { OnOk result (text.new.items ≡ text.old.items ++ object_line (head_of name.now head.now ∷ whose session ++ field name.now (array (map T.printed items.now)) ∷ [])) }
     ensures memory { IsOkUnless result Refusal.Memory }
 {
-    put_head(text, "members", head)?;
+    put_head(text, name, head)?;
     put_whose(text, session)?;
-    put_array(text, "members", processes)?;
-    put_end(text)
-}
-
-#[tactic(auto, using(crate::proofs::Fields::more_append))]
-fn put_names(
-    text: &mut Vec<u8>,
-    head: &[u8],
-    session: Option<u32>,
-    names: &[Name],
-) -> Result<(), Refusal>
-    ensures ok { OnOk result (text.new.items ≡ text.old.items ++ reply_json head.now session (replies.Groups names.now)) }
-    ensures memory { IsOkUnless result Refusal.Memory }
-{
-    put_head(text, "groups", head)?;
-    put_whose(text, session)?;
-    put_array(text, "groups", names)?;
+    put_array(text, name, items)?;
     put_end(text)
 }
 
@@ -168,8 +152,14 @@ fn put_reply(
         Reply::Admitted => put_alone(text, head, session, "admitted"),
         Reply::Took(event) => put_taken(text, head, session, event),
         Reply::Nothing(_) => put_alone(text, head, session, "none"),
-        Reply::Members(processes) => put_members(text, head, session, processes.as_slice()),
-        Reply::Groups(names) => put_names(text, head, session, names.as_slice()),
+        Reply::Members(processes) => put_listing(
+            text,
+            head,
+            session,
+            "members",
+            processes.as_slice(),
+        ),
+        Reply::Groups(names) => put_listing(text, head, session, "groups", names.as_slice()),
         Reply::Audit(seat) => put_seat(text, head, board, seat),
         Reply::Closed => put_alone(text, head, session, "closed"),
         Reply::Safe(place) => put_safe(text, head, *place),

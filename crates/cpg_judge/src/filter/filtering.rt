@@ -6,6 +6,7 @@ ghost use Rattle.cpg_judge.specs.Filters.{keeps_record};
 use crate::filter::filters::Filter;
 use crate::filter::inboxes::write_inbox;
 use crate::forms::{PutsJudged, TellsJudged};
+use crate::texts::Placed;
 use cpg_cred::Refusal;
 use cpg_group::Policy;
 use cpg_print::{put_audit, put_count};
@@ -54,16 +55,10 @@ impl<'a> PutsJudged for Filter<'a> {
 
     ghost stands = { λ filter entries count. Unit {0} };
 
-    fn put_record(
-        &mut self,
-        lines: &mut Vec<u8>,
-        _policy: &Policy,
-        place: u32,
-        past: &Record,
-    ) -> Result<(), Refusal> {
-        match kept(self, place, past) {
+    fn put_record(&mut self, lines: &mut Vec<u8>, placed: &Placed<'_>) -> Result<(), Refusal> {
+        match kept(self, placed.place, placed.past) {
             None => Ok(()),
-            Some(past) => put_audit(lines, place, past),
+            Some(past) => put_audit(lines, placed.place, past),
         }
     }
 

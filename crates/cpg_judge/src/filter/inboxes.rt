@@ -19,6 +19,14 @@ use cpg_print::{put_event, put_inbox};
 use cpg_record::{ConnId, Event};
 use std::io::Write;
 
+/// The inbox of a connection, and the filter that says what is kept of it.
+#[derive(Clone, Copy)]
+struct FilteredInbox<'a, 'f> {
+    policy: &'a Policy,
+    filter: &'a Filter<'f>,
+    conn: &'a ConnId,
+}
+
 /// Puts the line of the event, where it is kept, at the lines' end.
 fn put_kept(lines: &mut Vec<u8>, only: Option<Only>, event: &Event) -> Result<(), Refusal>
     ensures ok { OnOk result (lines.new.items ≡ lines.old.items ++ concat (event_kept only event.now)) }
@@ -59,37 +67,29 @@ fn put_told(
 }
 
 /// Puts what is kept of what the place tells the connection at the lines' end.
-fn put_place(
-    lines: &mut Vec<u8>,
-    policy: &Policy,
-    filter: &Filter<'_>,
-    place: u32,
-    conn: &ConnId,
-) -> Result<(), Refusal>
-    requires { (1 ≤ place) × (place ≤ length policy.now) }
-    ensures ok { OnOk result (lines.new.items ≡ lines.old.items ++ concat (lines_at filter.now (judged policy.now) conn.now place)) }
+fn put_place(lines: &mut Vec<u8>, inbox: &FilteredInbox<'_, '_>, place: u32) -> Result<(), Refusal>
+    requires { (1 ≤ place) × (place ≤ length inbox.now.policy.now) }
+    ensures ok { OnOk result (lines.new.items ≡ lines.old.items ++ concat (lines_at inbox.now.filter.now (judged inbox.now.policy.now) inbox.now.conn.now place)) }
     ensures memory { IsOkUnless result Refusal.Memory }
 {
-    if filter.keeps_place(place, record_of(policy, place)) {
-        put_told(lines, policy, filter.only, place, conn)?;
+    if inbox
+        .filter
+        .keeps_place(place, record_of(inbox.policy, place))
+    {
+        put_told(lines, inbox.policy, inbox.filter.only, place, inbox.conn)?;
     }
     Ok(())
 }
 
 /// Puts what is kept of what the judged places tell the connection at the lines' end, from one that tells it anything
 /// to the next.
-fn put_places(
-    lines: &mut Vec<u8>,
-    policy: &Policy,
-    filter: &Filter<'_>,
-    conn: &ConnId,
-) -> Result<(), Refusal>
-    ensures ok { OnOk result (lines.new.items ≡ lines.old.items ++ concat (told_lines filter.now (judged policy.now) conn.now)) }
+fn put_places(lines: &mut Vec<u8>, inbox: &FilteredInbox<'_, '_>) -> Result<(), Refusal>
+    ensures ok { OnOk result (lines.new.items ≡ lines.old.items ++ concat (told_lines inbox.now.filter.now (judged inbox.now.policy.now) inbox.now.conn.now)) }
     ensures memory { IsOkUnless result Refusal.Memory }
 {
     let mut after = 0u32;
-    while let Some(place) = policy.next_event(after, *conn) {
-        put_place(lines, policy, filter, place, conn)?;
+    while let Some(place) = inbox.policy.next_event(after, *inbox.conn) {
+        put_place(lines, inbox, place)?;
         after = place;
     }
     Ok(())
@@ -97,19 +97,14 @@ fn put_places(
 
 /// Puts what is kept of the inbox of a connection at the lines' end, behind a line that names it; nothing where
 /// nothing of it is kept.
-fn put_headed(
-    lines: &mut Vec<u8>,
-    policy: &Policy,
-    filter: &Filter<'_>,
-    conn: &ConnId,
-) -> Result<(), Refusal>
-    ensures ok { OnOk result (lines.new.items ≡ lines.old.items ++ concat (headed conn.now (told_lines filter.now (judged policy.now) conn.now))) }
+fn put_headed(lines: &mut Vec<u8>, inbox: &FilteredInbox<'_, '_>) -> Result<(), Refusal>
+    ensures ok { OnOk result (lines.new.items ≡ lines.old.items ++ concat (headed inbox.now.conn.now (told_lines inbox.now.filter.now (judged inbox.now.policy.now) inbox.now.conn.now))) }
     ensures memory { IsOkUnless result Refusal.Memory }
 {
     let start = lines.len();
-    put_inbox(lines, conn)?;
+    put_inbox(lines, inbox.conn)?;
     let head = lines.len();
-    put_places(lines, policy, filter, conn)?;
+    put_places(lines, inbox)?;
     if lines.len() == head {
         lines.truncate(start);
     }
@@ -117,17 +112,12 @@ fn put_headed(
 }
 
 /// Puts what is kept of the inbox of a connection, where that is kept, at the lines' end.
-fn put_inbox_kept(
-    lines: &mut Vec<u8>,
-    policy: &Policy,
-    filter: &Filter<'_>,
-    conn: &ConnId,
-) -> Result<(), Refusal>
-    ensures ok { OnOk result (lines.new.items ≡ lines.old.items ++ concat (inbox_kept filter.now (judged policy.now) conn.now)) }
+fn put_inbox_kept(lines: &mut Vec<u8>, inbox: &FilteredInbox<'_, '_>) -> Result<(), Refusal>
+    ensures ok { OnOk result (lines.new.items ≡ lines.old.items ++ concat (inbox_kept inbox.now.filter.now (judged inbox.now.policy.now) inbox.now.conn.now)) }
     ensures memory { IsOkUnless result Refusal.Memory }
 {
-    if filter.keeps_conn(conn) {
-        put_headed(lines, policy, filter, conn)?;
+    if inbox.filter.keeps_conn(inbox.conn) {
+        put_headed(lines, inbox)?;
     }
     Ok(())
 }
@@ -142,6 +132,11 @@ pub fn write_inbox<W: Write>(
 ) -> Result<(), Refusal>
     ensures { Gathers result (W.contents writer.old) lines.old.items (W.contents writer.new) lines.new.items (inbox_kept filter.now (judged policy.now) conn.now) }
 {
-    put_inbox_kept(lines, policy, filter, conn)?;
+    let inbox = FilteredInbox {
+        policy,
+        filter,
+        conn,
+    };
+    put_inbox_kept(lines, &inbox)?;
     write_much(writer, lines)
 }

@@ -12,14 +12,14 @@ pub bounds-records-place : goal.bounds-records-place
 bounds-records-place c = omega (arith, c.requires.place.0, c.requires.place.1, ap length c.records.ensures)
 
 pub count_at-requires : goal.count_at-requires
-count_at-requires c = (c.requires.place.0, omega (arith, c.requires.place.1, (each_entry_is_judged c.args.policy.now).0))
+count_at-requires c = (c.requires.place.0, omega (arith, c.requires.place.1, (each_entry_is_judged c.args.inbox.now.policy.now).0))
 
 pub returns-clause-ok : goal.returns-clause-ok
 returns-clause-ok c =
-    let there = stands (judged c.args.policy.now) c.args.place c.index-records-place.result c.requires.place.0 c.requires.place.1
+    let there = stands (judged c.args.inbox.now.policy.now) c.args.place c.index-records-place.result c.requires.place.0 c.requires.place.1
     (c.index-records-place.is ∙ ap (λ (l : List Record). get_or l (c.args.place - 1) c.index-records-place.result) c.records.ensures) in
     where_ok c.put_heard.result
-    (λ put. place_put (judged c.args.policy.now) c.args.place c.args.conn.now c.index-records-place.result c.is-own.result c.count_at.result c.from.result c.args.front.now c.at.result.now c.args.lines.now.items c.put_own.new.lines.items c.put_heard.new.lines.items
-    there (c.is-own.ensures ∙ ap (λ (other : ConnId). is_conn c.args.conn.now other) c.of.ensures) c.count_at.ensures c.from.ensures c.requires.front (c.at.ensures (judged c.args.policy.now) c.requires.tails c.requires.place.1)
+    (λ put. place_put (judged c.args.inbox.now.policy.now) c.args.place c.args.inbox.now.conn.now c.index-records-place.result c.is-own.result c.count_at.result c.from.result c.args.inbox.now.front.now c.at.result.now c.args.lines.now.items c.put_own.new.lines.items c.put_heard.new.lines.items
+    there (c.is-own.ensures ∙ ap (λ (other : ConnId). is_conn c.args.inbox.now.conn.now other) c.of.ensures) c.count_at.ensures c.from.ensures c.requires.inbox.1 (c.at.ensures (judged c.args.inbox.now.policy.now) c.requires.inbox.0 c.requires.place.1)
     c.in_ok-put_own.ensures.ok put)
     c.put_heard.ensures.ok

@@ -5,5 +5,5 @@ use Rattle.cpg_why.proofs.standings.find_stand.Goals as goal
 
 pub slice_bounds-find_last-length : goal.slice_bounds-find_last-length
 slice_bounds-find_last-length c =
-    let many : length c.records.result.now ≡ length c.args.policy.now = ap length c.records.ensures ∙ (each_entry_is_judged c.args.policy.now).0 in
-    sym (length-take-le (c.args.place - 1) c.records.result.now (omega (arith, many, c.requires.1)))
+    let many : length c.records.result.now ≡ length c.args.spot.now.policy.now = ap length c.records.ensures ∙ (each_entry_is_judged c.args.spot.now.policy.now).0 in
+    sym (length-take-le (c.args.spot.now.place - 1) c.records.result.now (omega (arith, many, c.requires.1)))

@@ -11,13 +11,13 @@ use Rattle.cpg_judge.proofs.filter.inboxes.put_places.Goals as goal
 pub put_place-requires : goal.put_place-requires
 put_place-requires c =
     let next = c.in-Some.ensures in
-    (omega (arith, next.above), omega (arith, next.within, (each_entry_is_judged c.args.policy.now).0))
+    (omega (arith, next.above), omega (arith, next.within, (each_entry_is_judged c.args.inbox.now.policy.now).0))
 
 pub loop-place-preserved : goal.loop-place-preserved
 loop-place-preserved c =
-    let f = c.args.filter.now in
-    let rs = judged c.args.policy.now in
-    let conn = c.args.conn.now in
+    let f = c.args.inbox.now.filter.now in
+    let rs = judged c.args.inbox.now.policy.now in
+    let conn = c.args.inbox.now.conn.now in
     let next = c.in-Some.ensures in
     let front = lines_between f rs conn 0 c.loop-place.after in
     let some = lines_at f rs conn c.in-Some.place in
@@ -29,4 +29,4 @@ loop-place-preserved c =
 
 pub returns-clause-ok : goal.returns-clause-ok
 returns-clause-ok c =
-    rw (all_told c.args.filter.now (judged c.args.policy.now) c.args.conn.now c.loop-place.after c.loop-place.invariant.within c.in_default.ensures) c.loop-place.invariant.put
+    rw (all_told c.args.inbox.now.filter.now (judged c.args.inbox.now.policy.now) c.args.inbox.now.conn.now c.loop-place.after c.loop-place.invariant.within c.in_default.ensures) c.loop-place.invariant.put

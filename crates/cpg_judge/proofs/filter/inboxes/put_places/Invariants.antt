@@ -6,9 +6,9 @@ use Rattle.cpg_judge.proofs.filter.inboxes.put_places.Given as goal
 
 abbrev pub invariant-loop-place : goal.invariant-loop-place
 invariant-loop-place l = record {
-  within : l.after ≤ length (judged l.policy);
-  put : l.lines.items ≡ l.initial.lines.items ++ concat (lines_between l.filter (judged l.policy) l.conn 0 l.after);
+  within : l.after ≤ length (judged l.inbox.policy.now);
+  put : l.lines.items ≡ l.initial.lines.items ++ concat (lines_between l.inbox.filter.now (judged l.inbox.policy.now) l.inbox.conn.now 0 l.after);
 }
 
 abbrev pub decreases-loop-place : goal.decreases-loop-place
-decreases-loop-place l = length (judged l.policy) - l.after
+decreases-loop-place l = length (judged l.inbox.policy.now) - l.after
