@@ -262,6 +262,7 @@ static void next_ring(void) {
     IS(cpgring_served_renew(&node, &next, asks, 0, CONF, &fault, numbers, 1), CPGRING_SPACE);
     IS(cpgring_served_renew(&node, &next, asks, 0, BYTES("uidgid {\n"), &fault, numbers, 3), CPGRING_UNCLOSED);
     IS(cpgring_served_renew(&node, &next, asks, 0, BYTES(""), &fault, numbers, 3), CPGRING_ACCESS); /* it lets user 7 in no more */
+    for (size_t k = 0; k < 3; k++) IS(numbers[k], 9); /* none was written */
     IS(cpgring_served_renew(&node, &next, asks, 0, CONF, &fault, numbers, 3), CPGRING_OK);
     IS(numbers[0], 2); /* the first is the daemon's own, which put the rule in */
     IS(numbers[1], 0);

@@ -76,7 +76,8 @@ uint32_t cpgring_served_reached(cpgring_served *handle, size_t *connections, uin
  * the next one has the same members and rules, each in their order. Hands over the new number of each connection that was given
  * out: numbers[n - 1] is that of connection n, 0 where it ended. CPGRING_SPACE where there are fewer numbers than connections;
  * what cpgring_served_open answers, and then CPGRING_RING_END where places are too few, CPGRING_ACCESS where an open connection
- * is not let in, CPGRING_CONNECTIONS_FULL where 65,535 are open: the ring goes on, as after cpgring_served_settle. */
+ * is not let in, CPGRING_CONNECTIONS_FULL where 65,535 are open: the ring goes on, as after cpgring_served_settle, and no
+ * number is written. */
 uint32_t cpgring_served_renew(cpgring_served *handle, const cpgring_setup *setup, const uint8_t *names, size_t names_len,
                               const uint8_t *conf, size_t conf_len, cpgring_fault *fault, uint16_t *numbers, size_t count);
 

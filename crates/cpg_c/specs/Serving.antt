@@ -104,17 +104,17 @@ HasWritten x conn count status y =
 abbrev pub AreGiven : List ℕ → List ℕ → List ℕ → Type 0
 AreGiven numbers buffer filled = filled ≡ numbers ++ drop (length numbers) buffer
 
--- The next ring began by that list, with these numbers at the buffer's front, or the status says why not.
+-- The next ring began by that list, with the new numbers at the buffer's front; or the status says why not, and the buffer stays.
 abbrev pub HasBegunNext : Settings → Listed → ServedValue → ℕ → List ℕ → List ℕ → ServedValue → Type 0
 HasBegunNext s list x status buffer filled y = ((status ≡ OK) × ((numbers : List ℕ) × ComesToNext s list numbers x y × AreGiven numbers buffer filled))
-    ⊎ ((why : Refusal) × (status ≡ number why) × MovesTo x y × ((t : Token) (placed : List Entry) → IsLone x.node.ring t placed → WhyNotRenewed s list x y why))
+    ⊎ ((why : Refusal) × (status ≡ number why) × (filled ≡ buffer) × MovesTo x y × ((t : Token) (placed : List Entry) → IsLone x.node.ring t placed → WhyNotRenewed s list x y why))
 
 -- The same by the list of a conf text, if it is read.
 abbrev pub HasRenewedByConf : Settings → Result Known Refusal → List ℕ → ServedValue → ℕ → Fault → List ℕ → List ℕ → ServedValue → Type 0
 HasRenewedByConf s known conf x status fault buffer filled y =
-    (IsListOf known conf (Err status) fault × (y ≡ x)) ⊎ ((list : Listed) × IsListOf known conf (Ok list) fault × HasBegunNext s list x status buffer filled y)
+    (IsListOf known conf (Err status) fault × (y ≡ x) × (filled ≡ buffer)) ⊎ ((list : Listed) × IsListOf known conf (Ok list) fault × HasBegunNext s list x status buffer filled y)
 
 -- Renew: Space where the buffer has no room for a number of each connection, and nothing is done.
 pub record HasRenewed (s : Settings) (known : Result Known Refusal) (conf : List ℕ) (x : ServedValue) (status : ℕ) (fault : Fault) (buffer filled : List ℕ) (y : ServedValue) : Type 0 where
-  pub short : length buffer < length x.desks → (status ≡ SPACE) × (y ≡ x)
+  pub short : length buffer < length x.desks → (status ≡ SPACE) × (y ≡ x) × (filled ≡ buffer)
   pub room : length x.desks ≤ length buffer → HasRenewedByConf s known conf x status fault buffer filled y
