@@ -13,6 +13,7 @@ use Rattle.cpg_entry.specs.declared.calls.Call.TheVariants.{Insert, Join}
 use Rattle.cpg_entry.specs.declared.calls.Op.{Op}
 use Rattle.cpg_entry.specs.declared.calls.Op.TheVariants.{Act, Gone}
 use Rattle.cpg_entry.specs.declared.entries.Entry.{Entry}
+use Rattle.cpg_entry.specs.declared.ranges.TheConstants.{MOST_CONNECTIONS}
 use Rattle.cpg_entry.specs.declared.frames.Token.{Token}
 use Rattle.cpg_record.specs.declared.memberships.Member.{Member}
 use Rattle.cpg_record.specs.declared.records.Record.{Record}
@@ -27,7 +28,7 @@ use Rattle.cpg_node.specs.Calls.{connected, disconnected, ended_by, submitted, w
 use Rattle.cpg_ask.proofs.Mapped.{length_mapped}
 use Rattle.cpg_serve.specs.Renewing.{Root, Seat, TableOf, all_inserts, bare, held_by, inserts, root_entry, seat_entry}
 use Rattle.cpg_serve.specs.Settling.{HasTurned, IsAlike, IsBrisk, IsLone, IsStill}
-use Rattle.cpg_serve.specs.Carrying.{ConnectsBy, HasEntered, HasNumber, HasParted, HasPut, HaveConnected, HaveJoined, IsBegun, IsLetIn, IsRoot, anew, living, number_at, numbered, renumbered, table_of}
+use Rattle.cpg_serve.specs.Carrying.{ConnectsBy, HasEntered, HasNumber, HasParted, HasPut, HaveConnected, HaveJoined, IsBegun, IsFresh, IsLetIn, IsRoot, anew, living, number_at, numbered, renumbered, table_of}
 use Rattle.cpg_serve.proofs.Settled.{lone_entry}
 use Rattle.cpg_serve.proofs.Turns.{alike_same, alike_then}
 
@@ -115,11 +116,15 @@ numbered_push n (k ∷ cs) c = by_end k.ended (numbered_push n cs c) (numbered_p
     by_end false e f = ap (λ (l : List ℕ). suc n ∷ l) (f ∙ ap (λ m. numbered (suc n) cs ++ last_number c m ∷ []) (omega arith))
 
 pub connected_none : (x : NodeValue) → HaveConnected [] [] x x
-connected_none x = record { ring = refl; list = refl; given = refl; alive = sym (append-nil (map anew x.clients)); let_in = tt }
+connected_none x = record { ring = refl; list = refl; given = refl; alive = sym (append-nil (map anew x.clients)); fresh = λ h. h; few = λ h. h; let_in = tt }
 
 one_more_in : (list : Listed) (cs : List Client) (c : Client) → AllByRecursion (IsLetIn list) cs → IsLetIn list c → AllByRecursion (IsLetIn list) (cs ++ c ∷ [])
 one_more_in list [] c h k = (k, tt)
 one_more_in list (d ∷ cs) c h k = (h.0, one_more_in list cs c h.1 k)
+
+one_more_fresh : (cs : List Client) (c : Client) → AllByRecursion IsFresh cs → IsFresh c → AllByRecursion IsFresh (cs ++ c ∷ [])
+one_more_fresh [] c h k = (k, tt)
+one_more_fresh (d ∷ cs) c h k = (h.0, one_more_fresh cs c h.1 k)
 
 pub connected_count : (cs : List Client) (numbers : List ℕ) (x y : NodeValue) → HaveConnected cs numbers x y → length y.clients ≡ length x.clients + length (living cs)
 connected_count cs numbers x y h = sym (length_mapped anew y.clients) ∙ ap (λ (l : List Client). length l) h.alive ∙ length-append (map anew x.clients) (map anew (living cs))
@@ -139,6 +144,8 @@ connected_by cs c numbers number x y z h k = by_end c.ended refl k
       given = ap (λ l. l ++ number ∷ []) h.given ∙ ap (λ n. numbered (length x.clients) cs ++ n ∷ []) (k.0 ∙ ap (λ (b : Bool). if b then 0 else suc (length x.clients + length (living cs))) (sym e)) ∙ sym (numbered_push (length x.clients) cs c);
       alive = ap (λ (w : NodeValue). map anew w.clients) k.1 ∙ h.alive
           ∙ ap (λ (l : List Client). map anew x.clients ++ map anew l) (sym (living_push cs c ∙ ap (λ (b : Bool). living cs ++ (if b then [] else c ∷ [])) e ∙ append-nil (living cs)));
+      fresh = λ f. subst (λ (w : NodeValue). AllByRecursion IsFresh w.clients) (sym k.1) (h.fresh f);
+      few = λ f. subst (λ (w : NodeValue). length w.clients ≤ MOST_CONNECTIONS) (sym k.1) (h.few f);
       let_in = subst (AllByRecursion (IsLetIn x.list)) (sym (living_push cs c ∙ ap (λ (b : Bool). living cs ++ (if b then [] else c ∷ [])) e ∙ append-nil (living cs))) h.let_in;
     }
     by_end false e k = record {
@@ -150,6 +157,8 @@ connected_by cs c numbers number x y z h k = by_end c.ended refl k
           ∙ append_assoc (map anew x.clients) (map anew (living cs)) (anew new ∷ [])
           ∙ ap (λ (l : List Client). map anew x.clients ++ l) (ap (λ (k : Client). map anew (living cs) ++ k ∷ []) same ∙ sym (map-append anew (living cs) (c ∷ [])))
           ∙ ap (λ (l : List Client). map anew x.clients ++ map anew l) (sym (living_push cs c ∙ ap (λ (b : Bool). living cs ++ (if b then [] else c ∷ [])) e));
+      fresh = λ f. subst (λ (w : NodeValue). AllByRecursion IsFresh w.clients) (sym k.1) (one_more_fresh y.clients new (h.fresh f) refl);
+      few = λ f. subst (λ (w : NodeValue). length w.clients ≤ MOST_CONNECTIONS) (sym k.1) (omega (arith, length-append y.clients (new ∷ []), k.3));
       let_in = subst (AllByRecursion (IsLetIn x.list)) (sym (living_push cs c ∙ ap (λ (b : Bool). living cs ++ (if b then [] else c ∷ [])) e))
           (one_more_in x.list (living cs) c h.let_in (subst (λ (l : Listed). IsLetIn l c) h.list k.2));
     }

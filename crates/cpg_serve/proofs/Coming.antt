@@ -192,7 +192,7 @@ others_by : (x : NodeValue) (conn : ℕ) (o : Option Client) (other : ℕ) → o
 others_by x conn None other h = refl
 others_by x conn (Some c) other h = counted_others x conn c (next_event x conn c) other h
 
-counted_counted : (x : NodeValue) (conn : ℕ) (c : Client) (next : Option Event) → open_client x conn ≡ Some c → next_event x conn c ≡ next → IsCounted conn x → IsCounted conn (counted x conn c next)
+pub counted_counted : (x : NodeValue) (conn : ℕ) (c : Client) (next : Option Event) → open_client x conn ≡ Some c → next_event x conn c ≡ next → IsCounted conn x → IsCounted conn (counted x conn c next)
 counted_counted x conn c None found is h = h
 counted_counted x conn c (Some event) found is h = λ d at_d.
     let at = open_is (item x.clients conn) c found in
@@ -203,7 +203,7 @@ counted_counted x conn c (Some event) found is h = λ d at_d.
     let within : suc c.taken ≤ length (inbox_of x conn) = slice_get_within (inbox_of x conn) c.taken event is in
     subst (λ (k : Client). k.taken ≤ length (inbox_of x conn)) same within
 
-counted_by : (x : NodeValue) (conn : ℕ) (o : Option Client) → open_client x conn ≡ o → IsCounted conn x → IsCounted conn (node_after_take x conn o)
+pub counted_by : (x : NodeValue) (conn : ℕ) (o : Option Client) → open_client x conn ≡ o → IsCounted conn x → IsCounted conn (node_after_take x conn o)
 counted_by x conn None e h = h
 counted_by x conn (Some c) e h = counted_counted x conn c (next_event x conn c) e refl h
 

@@ -15,20 +15,21 @@ use Rattle.cpg_node.specs.Answers.{IsTakeAnswer}
 use Rattle.cpg_ask.specs.declared.greetings.Greeting.{Greeting}
 use Rattle.cpg_serve.specs.Telling.{new_desk}
 use Rattle.cpg_serve.specs.Asking.{at_of}
-use Rattle.cpg_serve.specs.Coming.{IsTold, next_by, next_of, rest_of}
+use Rattle.cpg_serve.specs.Coming.{IsCounted, IsTold, next_by, next_of, rest_of}
 use Rattle.cpg_serve.specs.Carrying.{HasGiven, HasTaken, HaveGiven, anew, rest_for}
 use Rattle.cpg_serve.specs.Stories.{IsQuiet}
-use Rattle.cpg_serve.proofs.Coming.{fetched_left, none_left, open_is}
+use Rattle.cpg_serve.proofs.Coming.{counted_counted, fetched_left, none_left, open_is}
 use Rattle.cpg_serve.proofs.Noted.{inbox_quiet, rest_quiet}
 
 pub taken_none : (conn : ℕ) (x : NodeValue) → HasTaken conn x x
-taken_none conn x = record { ring = refl; list = refl; clients = refl; others = λ other apart. refl }
+taken_none conn x = record { ring = refl; list = refl; clients = refl; counted = λ h. h; others = λ other apart. refl }
 
 pub taken_then : (conn : ℕ) (x y z : NodeValue) → HasTaken conn x y → HasTaken conn y z → HasTaken conn x z
 taken_then conn x y z h k = record {
   ring = k.ring ∙ h.ring;
   list = k.list ∙ h.list;
   clients = k.clients ∙ h.clients;
+  counted = λ c. k.counted (h.counted c);
   others = λ other apart. k.others other apart ∙ h.others other apart;
 }
 
@@ -41,18 +42,19 @@ with_anew : (cs : List Client) (conn : ℕ) (c k : Client) → item cs conn ≡ 
 with_anew cs zero c k at same = refl
 with_anew cs (suc i) c k at same = set_anew cs i c k at same
 
-took_by : (conn : ℕ) (x : NodeValue) (c : Client) (next : Option Event) → open_client x conn ≡ Some c → HasTaken conn x (counted x conn c next)
-took_by conn x c None e = taken_none conn x
-took_by conn x c (Some event) e = record {
+took_by : (conn : ℕ) (x : NodeValue) (c : Client) (next : Option Event) → open_client x conn ≡ Some c → next_event x conn c ≡ next → HasTaken conn x (counted x conn c next)
+took_by conn x c None e is = taken_none conn x
+took_by conn x c (Some event) e is = record {
   ring = refl;
   list = refl;
   clients = with_anew x.clients conn c (record c { taken = suc c.taken }) (open_is (item x.clients conn) c e).0 refl;
+  counted = counted_counted x conn c (Some event) e is;
   others = λ other apart. item_with_other x.clients conn other (record c { taken = suc c.taken }) apart;
 }
 
 took_one : (conn : ℕ) (x : NodeValue) (o : Option Client) → open_client x conn ≡ o → HasTaken conn x (node_after_take x conn o)
 took_one conn x None e = taken_none conn x
-took_one conn x (Some c) e = took_by conn x c (next_event x conn c) e
+took_one conn x (Some c) e = took_by conn x c (next_event x conn c) e refl
 
 pub took_is : (conn : ℕ) (x y : NodeValue) → y ≡ took x conn → HasTaken conn x y
 took_is conn x y is = subst (HasTaken conn x) (sym is) (took_one conn x (open_client x conn) refl)
@@ -82,7 +84,7 @@ closed_rest conn x e = ap (rest_of x conn) e
 -- ---- one connection after another
 
 pub given_none : (x : NodeValue) → HaveGiven 0 x x
-given_none x = record { ring = refl; list = refl; clients = refl; given = λ conn low. first conn low }
+given_none x = record { ring = refl; list = refl; clients = refl; counted = λ h. h; given = λ conn low. first conn low }
   where
     first : (conn : ℕ) → conn ≤ 0 → rest_for x conn ≡ []
     first zero low = refl
@@ -93,13 +95,21 @@ given_more last next x y z is h k = record {
   ring = k.0.ring ∙ h.ring;
   list = k.0.list ∙ h.list;
   clients = k.0.clients ∙ h.clients;
+  counted = λ all conn. ⊎_elim
+      (λ (own : conn ≡ next). subst (λ (n : ℕ). IsCounted n z) (sym own) (k.0.counted (h.counted all next)))
+      (λ (other : conn ≢ next). still_counted conn other (h.counted all conn))
+      (cases_eq conn next);
   given = λ conn low. ⊎_elim
       (λ (own : conn ≡ next). subst (λ (n : ℕ). rest_for z n ≡ []) (sym own) k.1)
       (λ (other : conn ≢ next). still conn other ∙ h.given conn (omega arith))
       (cases_eq conn next);
 }
   where
+    quiet : (conn : ℕ) → conn ≢ next → IsQuiet conn y z
+    quiet conn other = record { records = rw k.0.ring refl; node = ap (λ r. r.node) k.0.ring; client = k.0.others conn other }
+
     still : (conn : ℕ) → conn ≢ next → rest_for z conn ≡ rest_for y conn
-    still conn other =
-        let quiet : IsQuiet conn y z = record { records = rw k.0.ring refl; node = ap (λ r. r.node) k.0.ring; client = k.0.others conn other } in
-        ap (rest_of z conn) (ap if_open (k.0.others conn other)) ∙ rest_quiet conn y z (open_client y conn) (inbox_quiet conn y z quiet)
+    still conn other = ap (rest_of z conn) (ap if_open (k.0.others conn other)) ∙ rest_quiet conn y z (open_client y conn) (inbox_quiet conn y z (quiet conn other))
+
+    still_counted : (conn : ℕ) → conn ≢ next → IsCounted conn y → IsCounted conn z
+    still_counted conn other h = λ c found. subst (λ (l : List Event). c.taken ≤ length l) (sym (inbox_quiet conn y z (quiet conn other))) (h c (sym (ap if_open (k.0.others conn other)) ∙ found))

@@ -27,7 +27,7 @@ use Rattle.cpg_serve.specs.Asking.{At, Turn, at_of, owed_to, call_of, goes_on, c
 use Rattle.cpg_serve.specs.Hearing.{AllTaken, asks_of}
 use Rattle.cpg_serve.specs.Coming.{left_of, rest_of, GoesOn}
 use Rattle.cpg_serve.specs.Serving.{ServedValue, with_node, arrived, parted, IsHeard, IsToldAt, IsCaughtUp, IsWritten}
-use Rattle.cpg_serve.specs.Stories.{IsQuiet, StoryAt, told_next}
+use Rattle.cpg_serve.specs.Stories.{IsQuiet, StoryAt, nothing_before, told_next}
 use Rattle.cpg_serve.specs.Runs.{Did, Arrives, Hears, Frames, Delivers, Tells, Writes, Loses, Nothing, Goes, IsKeptBy, heard_by, written_by}
 use Rattle.cpg_serve.proofs.Growing.{inbox_delivered, left_delivered}
 use Rattle.cpg_serve.proofs.Noted.{refused_by, taken_by, is_there, rest_quiet, inbox_quiet}
@@ -121,7 +121,7 @@ even_told conn asks x z h e honest there g =
     let owed : length e.owed ≡ length (fold owed_after h.0.owed g.first) = ap (λ (l : List Owed). length l) g.owed in
     (e, there, omega (arith, h.2, parts, inbox_same, left, owed))
 
-even_delivered : (conn : ℕ) (asks : List Ask) (written : List ℕ) (x : ServedValue) → StoryAt conn asks written x → IsEven conn asks x → IsEven conn asks (with_node x (node_after_delivery x.node))
+even_delivered : (conn : ℕ) (asks : List Ask) (written : List ℕ) (x : ServedValue) → StoryAt nothing_before conn asks written x → IsEven conn asks x → IsEven conn asks (with_node x (node_after_delivery x.node))
 even_delivered conn asks written x k h =
     let c = item_of (item x.node.clients conn) k.story.alive in
     let o = is_there (open_client x.node conn) k.story.alive in
@@ -134,22 +134,22 @@ even_delivered conn asks written x k h =
 -- ---- one call
 
 abbrev Brings : ℕ → List Ask → List ℕ → Did → ServedValue → Type 0
-Brings conn asks written did z = (more : List Ask) × (heard_by conn did ≡ flat_map spelling more) × StoryAt conn (asks ++ more) (written ++ written_by conn did) z × IsEven conn (asks ++ more) z
+Brings conn asks written did z = (more : List Ask) × (heard_by conn did ≡ flat_map spelling more) × StoryAt nothing_before conn (asks ++ more) (written ++ written_by conn did) z × IsEven conn (asks ++ more) z
 
 none_spelled : (more : List Ask) → [] ≡ flat_map spelling more → more ≡ []
 none_spelled [] e = refl
 none_spelled (ask ∷ more) e = absurd cc
 
 -- where nothing is heard of the client
-unheard : (conn : ℕ) (asks : List Ask) (written : List ℕ) (x z : ServedValue) (did : Did) → Goes x did z → IsKeptBy conn did → heard_by conn did ≡ [] → StoryAt conn asks written x → IsEven conn asks z → Brings conn asks written did z
+unheard : (conn : ℕ) (asks : List Ask) (written : List ℕ) (x z : ServedValue) (did : Did) → Goes x did z → IsKeptBy conn did → heard_by conn did ≡ [] → StoryAt nothing_before conn asks written x → IsEven conn asks z → Brings conn asks written did z
 unheard conn asks written x z did goes kept none k even =
-    let s = over_run x z (did ∷ []) (z, goes, refl) conn asks written (kept, tt) k in
+    let s = over_run x z (did ∷ []) (z, goes, refl) nothing_before conn asks written (kept, tt) k in
     let nothing : s.0 ≡ [] = none_spelled s.0 (sym (append-nil (heard_by conn did) ∙ none) ∙ s.1) in
-    let same : List Ask → List ℕ → Type 0 = λ more bytes. StoryAt conn (asks ++ more) (written ++ bytes) z in
+    let same : List Ask → List ℕ → Type 0 = λ more bytes. StoryAt nothing_before conn (asks ++ more) (written ++ bytes) z in
     ([], none, subst (λ (b : List ℕ). same [] b) (append-nil (written_by conn did)) (subst (λ (m : List Ask). same m (written_by conn did ++ [])) nothing s.2), subst (λ (l : List Ask). IsEven conn l z) (sym (append-nil asks)) even)
 
-heard_own : (conn : ℕ) (asks : List Ask) (written : List ℕ) (x z : ServedValue) (bytes : List ℕ) (count : ℕ) (stop : Stop) → IsHeard conn x bytes count stop z → StoryAt conn asks written x → IsEven conn asks x
-    → (more : List Ask) × (take count bytes ≡ flat_map spelling more) × StoryAt conn (asks ++ more) (written ++ []) z × IsEven conn (asks ++ more) z
+heard_own : (conn : ℕ) (asks : List Ask) (written : List ℕ) (x z : ServedValue) (bytes : List ℕ) (count : ℕ) (stop : Stop) → IsHeard conn x bytes count stop z → StoryAt nothing_before conn asks written x → IsEven conn asks x
+    → (more : List Ask) × (take count bytes ≡ flat_map spelling more) × StoryAt nothing_before conn (asks ++ more) (written ++ []) z × IsEven conn (asks ++ more) z
 heard_own conn asks written x z bytes count stop g k h =
     let turns : List Turn = g.did.so.turns in
     let more : List Ask = asks_of turns in
@@ -161,10 +161,10 @@ heard_own conn asks written x z bytes count stop g k h =
     ap (λ (t : At). length t.desk.owed) g.did.so.done ∙ all_owed conn (at_of x.node g.old) turns g.alive g.did.so.taken ∙ ap (λ (d : DeskValue). length d.owed + length (calls_among more)) same in
     let b : verdicts (inbox_of z.node conn) ≡ verdicts (inbox_of x.node conn) = ap verdicts (inbox_quiet conn x.node z.node q) in
     let c : verdicts (left_of conn (at_of z.node g.new)) ≡ verdicts (left_of conn (at_of x.node h.0)) = ap verdicts (left_quiet conn x.node z.node h.0 g.new next q) in
-    let after : StoryAt conn (asks ++ more) written z = story_heard conn asks written x z bytes count stop g k in (
+    let after : StoryAt nothing_before conn (asks ++ more) written z = story_heard nothing_before conn asks written x z bytes count stop g k in (
       more,
       heard_front bytes (flat_map spelling more) count g.did.so.parts,
-      subst (λ (w : List ℕ). StoryAt conn (asks ++ more) w z) (sym (append-nil written)) after,
+      subst (λ (w : List ℕ). StoryAt nothing_before conn (asks ++ more) w z) (sym (append-nil written)) after,
       (g.new, there, omega (arith, h.2, owed, b, c, calls_append asks more)),
     )
 
@@ -173,11 +173,11 @@ heard_other conn by asks x z bytes count stop is g h =
     even_quiet conn asks x z h h.0 (ap (λ ds. item ds conn) g.others ∙ item_with_other x.desks by conn g.new is ∙ h.1) refl refl
     (subst (λ (n : NodeValue). IsQuiet conn x.node n) (sym (ap (λ (t : At). t.node) g.did.so.done)) (quiet_all conn by (at_of x.node g.old) g.did.so.turns))
 
-heard_one : (conn by : ℕ) (asks : List Ask) (written : List ℕ) (x z : ServedValue) (bytes : List ℕ) (count : ℕ) (stop : Stop) (b : Bool) → eqb by conn ≡ b → IsHeard by x bytes count stop z → StoryAt conn asks written x → IsEven conn asks x
-    → (more : List Ask) × (cond b (take count bytes) [] ≡ flat_map spelling more) × StoryAt conn (asks ++ more) (written ++ []) z × IsEven conn (asks ++ more) z
+heard_one : (conn by : ℕ) (asks : List Ask) (written : List ℕ) (x z : ServedValue) (bytes : List ℕ) (count : ℕ) (stop : Stop) (b : Bool) → eqb by conn ≡ b → IsHeard by x bytes count stop z → StoryAt nothing_before conn asks written x → IsEven conn asks x
+    → (more : List Ask) × (cond b (take count bytes) [] ≡ flat_map spelling more) × StoryAt nothing_before conn (asks ++ more) (written ++ []) z × IsEven conn (asks ++ more) z
 heard_one conn by asks written x z bytes count stop true e g k h = heard_own conn asks written x z bytes count stop (subst (λ (n : ℕ). IsHeard n x bytes count stop z) (eqb-true by conn e) g) k h
 heard_one conn by asks written x z bytes count stop false e g k h =
-    subst (λ (b : Bool). (more : List Ask) × (cond b (take count bytes) [] ≡ flat_map spelling more) × StoryAt conn (asks ++ more) (written ++ []) z × IsEven conn (asks ++ more) z) e
+    subst (λ (b : Bool). (more : List Ask) × (cond b (take count bytes) [] ≡ flat_map spelling more) × StoryAt nothing_before conn (asks ++ more) (written ++ []) z × IsEven conn (asks ++ more) z) e
     (unheard conn asks written x z (Hears by bytes count stop) g tt (rw e refl) k (heard_other conn by asks x z bytes count stop (is_other by conn e) g h))
 
 told_other : (conn by : ℕ) (asks : List Ask) (x z : ServedValue) (result : Result Unit Refusal) (o : Option DeskValue) → conn ≢ by → IsCaughtUp by x o result z → IsEven conn asks x → IsEven conn asks z
@@ -205,13 +205,13 @@ written_one conn by asks x z bytes false e g h =
     even_quiet conn asks x z h h.0 (ap (λ (v : ServedValue). item v.desks conn) g.after ∙ item_with_other x.desks by conn (wrote g.old (length bytes)) (is_other by conn e) ∙ h.1) refl refl
     (subst (λ (v : ServedValue). IsQuiet conn x.node v.node) (sym g.after) (quiet_same conn x.node))
 
-even_arrived : (conn : ℕ) (asks : List Ask) (written : List ℕ) (x : ServedValue) (pid : ℕ) (cred : Cred) → StoryAt conn asks written x → IsEven conn asks x → IsEven conn asks (arrived x pid cred)
+even_arrived : (conn : ℕ) (asks : List Ask) (written : List ℕ) (x : ServedValue) (pid : ℕ) (cred : Cred) → StoryAt nothing_before conn asks written x → IsEven conn asks x → IsEven conn asks (arrived x pid cred)
 even_arrived conn asks written x pid cred k h =
     let c = item_of (item x.node.clients conn) k.story.alive in
     even_quiet conn asks x (arrived x pid cred) h h.0 (item_front x.desks (new_desk x.greeting ∷ []) conn h.0 h.1 ∙ h.1) refl refl
     (record { records = refl; node = refl; client = item_front x.node.clients _ conn c.0 c.1 })
 
-one : (conn : ℕ) (asks : List Ask) (written : List ℕ) (x z : ServedValue) (did : Did) → Goes x did z → IsKeptBy conn did → StoryAt conn asks written x → IsEven conn asks x → IsHonest conn asks x → Brings conn asks written did z
+one : (conn : ℕ) (asks : List Ask) (written : List ℕ) (x z : ServedValue) (did : Did) → Goes x did z → IsKeptBy conn did → StoryAt nothing_before conn asks written x → IsEven conn asks x → IsHonest conn asks x → Brings conn asks written did z
 one conn asks written x z (Arrives pid cred) g i k h honest = unheard conn asks written x z (Arrives pid cred) g i refl k (subst (IsEven conn asks) (sym g) (even_arrived conn asks written x pid cred k h))
 one conn asks written x z (Hears by bytes count stop) g i k h honest = heard_one conn by asks written x z bytes count stop (eqb by conn) refl g k h
 one conn asks written x z Frames g i k h honest = unheard conn asks written x z Frames g i refl k
@@ -229,8 +229,8 @@ pub stays_even : StaysEven
 stays_even conn asks written x y [] run i k h honest = (
   [],
   refl,
-  subst (λ (z : ServedValue). StoryAt conn (asks ++ []) (written ++ []) z) (sym run)
-      (subst (λ (w : List ℕ). StoryAt conn (asks ++ []) w x) (sym (append-nil written)) (subst (λ (l : List Ask). StoryAt conn l written x) (sym (append-nil asks)) k)),
+  subst (λ (z : ServedValue). StoryAt nothing_before conn (asks ++ []) (written ++ []) z) (sym run)
+      (subst (λ (w : List ℕ). StoryAt nothing_before conn (asks ++ []) w x) (sym (append-nil written)) (subst (λ (l : List Ask). StoryAt nothing_before conn l written x) (sym (append-nil asks)) k)),
   subst (λ (z : ServedValue). IsEven conn (asks ++ []) z) (sym run) (subst (λ (l : List Ask). IsEven conn l x) (sym (append-nil asks)) h),
 )
 stays_even conn asks written x y (did ∷ dids) run i k h honest =
@@ -238,7 +238,7 @@ stays_even conn asks written x y (did ∷ dids) run i k h honest =
     let later = stays_even conn (asks ++ first.0) (written ++ written_by conn did) run.0 y dids run.2 i.1 first.2 first.3 (honest.1 first.0 first.1) in (
       first.0 ++ later.0,
       ap (λ (l : List ℕ). l ++ flat_map (heard_by conn) dids) first.1 ∙ ap (λ (l : List ℕ). flat_map spelling first.0 ++ l) later.1 ∙ sym (flat_map-append spelling first.0 later.0),
-      subst (λ (l : List Ask). StoryAt conn l (written ++ flat_map (written_by conn) (did ∷ dids)) y) (append_assoc asks first.0 later.0)
-          (subst (λ (w : List ℕ). StoryAt conn ((asks ++ first.0) ++ later.0) w y) (append_assoc written (written_by conn did) (flat_map (written_by conn) dids)) later.2),
+      subst (λ (l : List Ask). StoryAt nothing_before conn l (written ++ flat_map (written_by conn) (did ∷ dids)) y) (append_assoc asks first.0 later.0)
+          (subst (λ (w : List ℕ). StoryAt nothing_before conn ((asks ++ first.0) ++ later.0) w y) (append_assoc written (written_by conn did) (flat_map (written_by conn) dids)) later.2),
       subst (λ (l : List Ask). IsEven conn l y) (append_assoc asks first.0 later.0) later.3,
     )

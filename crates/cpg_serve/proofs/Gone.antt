@@ -1,11 +1,11 @@
 -- A client that is gone stays so.
-use Rattle.std.proofs.Common.{◌≡◌, ◌≢◌, ◌≤◌, ℕ, true, false, Bool, cond, eqb, is_some, List, [], ◌∷◌, ◌++◌, length, take, Option, Some, None, Result, refl, sym, ap, subst, ◌∙◌, append-nil, length-append, arith}
+use Rattle.std.proofs.Common.{◌≡◌, ◌≢◌, ◌≤◌, ℕ, zero, suc, true, false, Bool, cond, eqb, is_some, List, [], ◌∷◌, ◌++◌, length, set, take, Option, Some, None, Result, refl, sym, ap, subst, ◌∙◌, append-nil, length-append, arith}
 use Rattle.std.specs.Prelude.{option_to_list}
-use Rattle.std.specs.List.{flat_map, fold}
+use Rattle.std.specs.List.{flat_map, fold, slice_get}
 use Rattle.std.proofs.lemmas.Bool.{eqb-true}
-use Rattle.std.proofs.lemmas.Option.{same_Some}
+use Rattle.std.proofs.lemmas.Option.{none-some, same_Some}
 use Rattle.cpg_cred.specs.declared.refusals.Refusal.{Refusal}
-use Rattle.cpg_ring.specs.Worlds.{item}
+use Rattle.cpg_ring.specs.Worlds.{item, with_item}
 use Rattle.cpg_ring.proofs.Lists.{item_with_same, item_with_other, length-with_item}
 use Rattle.cpg_record.specs.declared.events.Event.{Event}
 use Rattle.cpg_node.specs.declared.connections.Client.{Client}
@@ -29,6 +29,27 @@ use Rattle.cpg_serve.proofs.Running.{is_other, within, front}
 abbrev desk_of : Greeting → List Owed → Option Event → List ℕ → DeskValue
 desk_of g owed next out = record { greeting = g; owed = owed; next = next; out = out }
 
+-- a desk is one of those, or the last
+own_last : (ds : List DeskValue) (e d : DeskValue) (n : ℕ) → (item ds n ≡ Some d → d ≡ e) → item (ds ++ e ∷ []) n ≡ Some d → d ≡ e
+own_last ds e d zero h k = absurd (none-some d k)
+own_last ds e d (suc i) h k = by_place ds i h k
+  where
+    by_place : (l : List DeskValue) (j : ℕ) → (slice_get l j ≡ Some d → d ≡ e) → slice_get (l ++ e ∷ []) j ≡ Some d → d ≡ e
+    by_place [] zero f g = sym (same_Some e d g)
+    by_place [] (suc j) f g = absurd (none-some d g)
+    by_place (x ∷ l) zero f g = f g
+    by_place (x ∷ l) (suc j) f g = by_place l j f g
+
+-- what was put at a place is there, if anything is
+own_put : (ds : List DeskValue) (n : ℕ) (e d : DeskValue) → item (with_item ds n e) n ≡ Some d → d ≡ e
+own_put ds zero e d k = absurd (none-some d k)
+own_put ds (suc i) e d k = by_place ds i k
+  where
+    by_place : (l : List DeskValue) (j : ℕ) → slice_get (set l j e) j ≡ Some d → d ≡ e
+    by_place [] j g = absurd (none-some d g)
+    by_place (x ∷ l) zero g = sym (same_Some e d g)
+    by_place (x ∷ l) (suc j) g = by_place l j g
+
 -- ---- one call
 
 -- the client stays gone where its desk and its connection are as they were
@@ -37,13 +58,15 @@ gone_stays : (conn : ℕ) (x y : ServedValue) → IsGone conn x → y.greeting �
 gone_stays conn x y h greeting client more desk = record {
   ended = ap if_open client ∙ h.ended;
   known = omega (arith, h.known, more);
-  empty = desk ∙ h.empty ∙ ap (λ g. Some (new_desk g)) (sym greeting);
+  empty = λ d there. h.empty d (sym desk ∙ there) ∙ ap new_desk (sym greeting);
 }
 
 gone_arrived : (conn : ℕ) (x : ServedValue) (pid : ℕ) (cred : Cred) → IsGone conn x → IsGone conn (arrived x pid cred)
-gone_arrived conn x pid cred h =
-    gone_stays conn x (arrived x pid cred) h refl (front x.node.clients _ conn h.known) (omega (arith, length-append x.node.clients (record { pid = pid; cred = cred; ended = false; taken = 0 } ∷ [])))
-    (front x.desks (new_desk x.greeting ∷ []) conn (within x.desks conn (new_desk x.greeting) h.empty))
+gone_arrived conn x pid cred h = record {
+  ended = ap if_open (front x.node.clients _ conn h.known) ∙ h.ended;
+  known = omega (arith, h.known, length-append x.node.clients (record { pid = pid; cred = cred; ended = false; taken = 0 } ∷ []));
+  empty = λ d there. own_last x.desks (new_desk x.greeting) d conn (h.empty d) there;
+}
 
 -- a client that is heard is not gone
 gone_not_heard : (conn : ℕ) (x y : ServedValue) (bytes : List ℕ) (count : ℕ) (stop : Stop) → IsHeard conn x bytes count stop y → IsGone conn x → ⊥
@@ -96,8 +119,12 @@ gone_told_own conn x y result k h =
     record {
       ended = t.1;
       known = omega (arith, h.known, k.goes.count);
-      empty = ap (λ ds. item ds conn) k.others ∙ item_with_same x.desks conn k.new (new_desk x.greeting) h.empty ∙ ap (λ d. Some d) t.0 ∙ ap (λ g. Some (new_desk g)) (sym k.greeting);
+      empty = λ d there. own_put x.desks conn k.new d (sym (ap (λ ds. item ds conn) k.others) ∙ there) ∙ t.0 ∙ ap new_desk (sym k.greeting);
     }
+
+gone_told_same : (conn : ℕ) (x y : ServedValue) (result : Result Unit Refusal) (o : Option DeskValue) → item x.desks conn ≡ o → IsCaughtUp conn x o result y → IsGone conn x → IsGone conn y
+gone_told_same conn x y result None e k h = subst (IsGone conn) (sym k.1) h
+gone_told_same conn x y result (Some old) e k h = gone_told_own conn x y result (subst (λ (d : DeskValue). IsToldAt conn x d result y) (h.empty old e) k) h
 
 gone_told_other : (conn by : ℕ) (x y : ServedValue) (result : Result Unit Refusal) (o : Option DeskValue) → conn ≢ by → IsCaughtUp by x o result y → IsGone conn x → IsGone conn y
 gone_told_other conn by x y result None is k h = subst (IsGone conn) (sym k.1) h
@@ -106,20 +133,19 @@ gone_told_other conn by x y result (Some old) is k h =
 
 gone_told : (conn by : ℕ) (x y : ServedValue) (result : Result Unit Refusal) (b : Bool) → eqb by conn ≡ b → IsCaughtUp by x (item x.desks by) result y → IsGone conn x → IsGone conn y
 gone_told conn by x y result true e k h =
-    let same : by ≡ conn = eqb-true by conn e in
-    gone_told_own conn x y result (subst (λ (o : Option DeskValue). IsCaughtUp conn x o result y) h.empty (subst (λ (n : ℕ). IsCaughtUp n x (item x.desks n) result y) same k)) h
+    gone_told_same conn x y result (item x.desks conn) refl (subst (λ (n : ℕ). IsCaughtUp n x (item x.desks n) result y) (eqb-true by conn e) k) h
 gone_told conn by x y result false e k h = gone_told_other conn by x y result (item x.desks by) (is_other by conn e) k h
 
 gone_written : (conn by : ℕ) (x y : ServedValue) (bytes : List ℕ) (b : Bool) → eqb by conn ≡ b → IsWritten by x bytes y → IsGone conn x → IsGone conn y × (cond b bytes [] ≡ [])
 gone_written conn by x y bytes true e k h =
     let own : IsWritten conn x bytes y = subst (λ (n : ℕ). IsWritten n x bytes y) (eqb-true by conn e) k in
-    let old : own.old ≡ new_desk x.greeting = same_Some own.old (new_desk x.greeting) (sym own.there ∙ h.empty) in
+    let old : own.old ≡ new_desk x.greeting = h.empty own.old own.there in
     let none : bytes ≡ [] = (nothing_in bytes (wrote own.old (length bytes)).out (sym (ap (λ (d : DeskValue). d.out) old) ∙ own.front)).0 in
     let new : wrote own.old (length bytes) ≡ new_desk x.greeting = ap (λ (d : DeskValue). wrote d (length bytes)) old ∙ ap (λ (l : List ℕ). wrote (new_desk x.greeting) (length l)) none in (
       subst (IsGone conn) (sym own.after) (record {
         ended = h.ended;
         known = h.known;
-        empty = item_with_same x.desks conn (wrote own.old (length bytes)) own.old own.there ∙ ap (λ d. Some d) new;
+        empty = λ d there. own_put x.desks conn (wrote own.old (length bytes)) d there ∙ new;
       }),
       none,
     )
@@ -127,7 +153,7 @@ gone_written conn by x y bytes false e k h = (
   subst (IsGone conn) (sym k.after) (record {
     ended = h.ended;
     known = h.known;
-    empty = item_with_other x.desks by conn (wrote k.old (length bytes)) (is_other by conn e) ∙ h.empty;
+    empty = λ d there. h.empty d (sym (item_with_other x.desks by conn (wrote k.old (length bytes)) (is_other by conn e)) ∙ there);
   }),
   refl,
 )
@@ -142,7 +168,7 @@ gone_lost conn by x true e h =
     subst (λ (n : ℕ). IsGone conn (parted x n)) (sym same) (record {
       ended = ap (λ (o : Option Client). open_client (ended_by x.node conn o) conn) h.ended ∙ h.ended;
       known = subst (λ (o : Option Client). conn ≤ length (ended_by x.node conn o).clients) (sym h.ended) h.known;
-      empty = item_with_same x.desks conn (new_desk x.greeting) (new_desk x.greeting) h.empty;
+      empty = λ d there. own_put x.desks conn (new_desk x.greeting) d there;
     })
 gone_lost conn by x false e h =
     let count : length (parted x by).node.clients ≡ length x.node.clients = ended_count x.node by (open_client x.node by) in
@@ -182,12 +208,12 @@ ended_is x conn c e =
     ap if_open (item_with_same x.clients conn (record c { ended = true }) c at.0)
 
 pub lost_is_gone : LostIsGone
-lost_is_gone conn asks written x k =
+lost_is_gone before conn asks written x k =
     let c = is_there (open_client x.node conn) k.story.alive in
     let at = open_is (item x.node.clients conn) c.0 c.1 in
     let known : conn ≤ length x.node.clients = within x.node.clients conn c.0 at.0 in
     record {
       ended = ap (λ (o : Option Client). open_client (ended_by x.node conn o) conn) c.1 ∙ ended_is x.node conn c.0 c.1;
       known = subst (λ (o : Option Client). conn ≤ length (ended_by x.node conn o).clients) (sym c.1) (omega (arith, known, length-with_item x.node.clients conn (record c.0 { ended = true })));
-      empty = item_with_same x.desks conn (new_desk x.greeting) k.desk k.there;
+      empty = λ d there. own_put x.desks conn (new_desk x.greeting) d there;
     }

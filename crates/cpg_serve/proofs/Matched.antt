@@ -30,9 +30,9 @@ answers_in_order conn asks written x k h =
     let even : length k.desk.owed + verdicts (inbox_of x.node conn) ≡ length (calls_among asks) + verdicts left =
     subst (λ (d : DeskValue). length d.owed + verdicts (inbox_of x.node conn) ≡ length (calls_among asks) + verdicts (left_of conn (at_of x.node d))) same h.2 in
     let owed : length (owed_in [] notes) ≡ length k.desk.owed = ap (λ (l : List Owed). length l) k.story.owed in
-    let events : verdicts (inbox_of x.node conn) ≡ told notes + verdicts left = sym (ap verdicts k.story.events) ∙ verdicts_append (flat_map event_in notes) left in
+    let events : verdicts (inbox_of x.node conn) ≡ told notes + verdicts left = sym (ap verdicts k.story.now.events) ∙ verdicts_append (flat_map event_in notes) left in
     let made : mades notes ≡ map owed_to (calls_among asks) =
-    made_asks k.desk.greeting (asker_of x.node conn) (records_of x.node) notes k.story.each ∙ ap (λ (l : List Ask). map owed_to (calls_among l)) k.story.asked in
+    made_asks k.desk.greeting (asker_of x.node conn) (records_of x.node) notes k.story.now.each ∙ ap (λ (l : List Ask). map owed_to (calls_among l)) k.story.asked in
     let count : length (mades notes) ≡ length (calls_among asks) = ap (λ (l : List Owed). length l) made ∙ length_mapped owed_to (calls_among asks) in
     answered_first [] notes (omega (arith, even, owed, events, count)) ∙ ap (take (told notes)) made
 

@@ -8,7 +8,7 @@ use Rattle.cpg_node.specs.Nodes.{open_client}
 use Rattle.cpg_serve.specs.Telling.{DeskValue, new_desk, wrote}
 use Rattle.cpg_serve.specs.Asking.{At, at_of}
 use Rattle.cpg_serve.specs.Serving.{ServedValue, arrived, IsCaughtUp}
-use Rattle.cpg_serve.specs.Stories.{StoryAt}
+use Rattle.cpg_serve.specs.Stories.{StoryAt, nothing_before}
 use Rattle.cpg_serve.specs.Runs.{Did, Arrives, Hears, Frames, Delivers, Tells, Writes, Loses, Nothing, Run, Goes, arrives, arrivals, newcomer, AllThatNewcomersAreTold}
 use Rattle.cpg_serve.proofs.OneByOne.{all_leave, ended_count}
 use Rattle.cpg_serve.proofs.Running.{begins, over_run}
@@ -53,5 +53,5 @@ newcomers_told x y dids as_many run = λ before after pid cred e kept.
     let z : ServedValue = c.0 in
     let same : suc (length z.desks) ≡ newcomer x before = omega (arith, c.1.desks) in
     let many : length z.desks ≡ length z.node.clients = omega (arith, as_many, c.1.desks, c.1.clients) in
-    let first : StoryAt (newcomer x before) [] [] (arrived z pid cred) = subst (λ (n : ℕ). StoryAt n [] [] (arrived z pid cred)) same (begins pid cred z many) in
-    over_run (arrived z pid cred) y after c.2 (newcomer x before) [] [] kept first
+    let first : StoryAt nothing_before (newcomer x before) [] [] (arrived z pid cred) = subst (λ (n : ℕ). StoryAt nothing_before n [] [] (arrived z pid cred)) same (begins pid cred z many) in
+    over_run (arrived z pid cred) y after c.2 nothing_before (newcomer x before) [] [] kept first

@@ -10,6 +10,7 @@ use Rattle.cpg_cred.specs.declared.refusals.Refusal.TheVariants as refusal
 use Rattle.cpg_entry.specs.declared.calls.Call.{Call}
 use Rattle.cpg_entry.specs.declared.calls.Op.{Op}
 use Rattle.cpg_entry.specs.declared.calls.Op.TheVariants.{Act}
+use Rattle.cpg_record.specs.declared.connections.ConnId.{ConnId}
 use Rattle.cpg_record.specs.declared.events.Event.{Event}
 use Rattle.cpg_record.specs.declared.records.Record.{Record}
 use Rattle.cpg_record.specs.Events.{inbox}
@@ -30,7 +31,7 @@ use Rattle.cpg_serve.specs.Telling.{DeskValue, event_tell, owed_after, tells, to
 use Rattle.cpg_serve.specs.Asking.{At, Turn, IsTurn, owed_to, at_of, asked, asked_by, asked_all, called_by, call_of, plain_answer, refused_tell, owing, goes_on, takes_by}
 use Rattle.cpg_serve.specs.Hearing.{AllTaken, asks_of}
 use Rattle.cpg_serve.specs.Coming.{left_of, rest_of, GoesOn, IsCounted}
-use Rattle.cpg_serve.specs.Stories.{IsQuiet, Note, Made, Answered, Happened, ask_in, event_in, owed_by, owed_in, tell_by, tells_in, IsPlain, IsRefused, IsNote, IsRising, IsStory, made_by, calls_made, unless_refused, told_next}
+use Rattle.cpg_serve.specs.Stories.{IsQuiet, Note, Made, Answered, Happened, ask_in, event_in, owed_by, owed_in, tell_by, tells_in, IsPlain, IsRefused, IsNote, IsRising, Before, IsToldIn, IsStory, made_by, calls_made, unless_refused, told_next}
 use Rattle.cpg_serve.proofs.Growing.{inbox_delivered, left_delivered, records_delivered}
 
 -- ---- notes, one after another
@@ -75,28 +76,44 @@ rising_append g a rs least (Happened event ∷ notes) more low each h k = rising
 bytes_append : (notes more : List Note) → flat_map tell_bytes (tells_in [] (notes ++ more)) ≡ flat_map tell_bytes (tells_in [] notes) ++ flat_map tell_bytes (tells_in (owed_in [] notes) more)
 bytes_append notes more = ap (flat_map tell_bytes) (tells_append [] notes more) ∙ flat_map-append tell_bytes (tells_in [] notes) (tells_in (owed_in [] notes) more)
 
+-- notes of a ring, and more of them, whose events leave what is left
+told_more : (conn places : ℕ) (s t : At) (notes more : List Note) → IsToldIn conn places s.desk.greeting s.node (left_of conn s) notes → IsAlike conn s t → Each s conn more → IsRising (length (records_of s.node)) more
+    → flat_map event_in more ++ left_of conn t ≡ left_of conn s → conn_id t.node conn ≡ conn_id s.node conn → IsToldIn conn places t.desk.greeting t.node (left_of conn t) (notes ++ more)
+told_more conn places s t notes more h alike each rising left same = record {
+  each = each_alike conn s t (notes ++ more) alike (each_append s.desk.greeting (asker_of s.node conn) (records_of s.node) notes more h.each each);
+  rising = rising_append s.desk.greeting (asker_of s.node conn) (records_of s.node) places notes more h.began h.each h.rising rising;
+  began = subst (λ (rs : List Record). places ≤ length rs) (sym alike.records) h.began;
+  events =
+      let front : List Event = inbox (take places (records_of s.node)) (conn_id s.node conn) in
+      ap (λ (rs : List Record). inbox (take places rs) (conn_id t.node conn) ++ (flat_map event_in (notes ++ more) ++ left_of conn t)) alike.records
+      ∙ ap (λ (c : ConnId). inbox (take places (records_of s.node)) c ++ (flat_map event_in (notes ++ more) ++ left_of conn t)) same
+      ∙ ap (λ (l : List Event). front ++ (l ++ left_of conn t)) (flat_map-append event_in notes more)
+      ∙ ap (λ (l : List Event). front ++ l) (append_assoc (flat_map event_in notes) (flat_map event_in more) (left_of conn t))
+      ∙ ap (λ (l : List Event). front ++ (flat_map event_in notes ++ l)) left ∙ h.events
+      ∙ sym (ap (λ (rs : List Record). inbox rs (conn_id t.node conn)) alike.records ∙ ap (λ (c : ConnId). inbox (records_of s.node) c) same);
+}
+
 -- a story goes on by notes, whose events leave what is left
-pub story_notes : (conn : ℕ) (asks more : List Ask) (written : List ℕ) (s t : At) (notes : List Note) → IsStory conn asks written s → IsAlike conn s t → Each s conn notes → IsRising (length (records_of s.node)) notes
-    → flat_map ask_in notes ≡ more → flat_map event_in notes ++ left_of conn t ≡ left_of conn s → inbox_of t.node conn ≡ inbox_of s.node conn
+pub story_notes : (before : Before) (conn : ℕ) (asks more : List Ask) (written : List ℕ) (s t : At) (notes : List Note) → IsStory before conn asks written s → IsAlike conn s t → Each s conn notes → IsRising (length (records_of s.node)) notes
+    → flat_map ask_in notes ≡ more → flat_map event_in notes ++ left_of conn t ≡ left_of conn s → conn_id t.node conn ≡ conn_id s.node conn
     → IsCounted conn t.node → is_some (open_client t.node conn) ≡ true
     → t.desk.owed ≡ owed_in s.desk.owed notes → t.desk.out ≡ s.desk.out ++ flat_map tell_bytes (tells_in s.desk.owed notes)
-    → IsStory conn (asks ++ more) written t
-story_notes conn asks more written s t notes h alike each rising asked left same counted alive owed out = record {
-  notes = h.notes ++ notes;
-  each = each_alike conn s t (h.notes ++ notes) alike (each_append s.desk.greeting (asker_of s.node conn) (records_of s.node) h.notes notes h.each each);
-  rising = rising_append s.desk.greeting (asker_of s.node conn) (records_of s.node) 0 h.notes notes (omega arith) h.each h.rising rising;
-  asked = flat_map-append ask_in h.notes notes ∙ ap (λ (l : List Ask). l ++ flat_map ask_in notes) h.asked ∙ ap (λ (l : List Ask). asks ++ l) asked;
-  events = ap (λ (l : List Event). l ++ left_of conn t) (flat_map-append event_in h.notes notes)
-      ∙ append_assoc (flat_map event_in h.notes) (flat_map event_in notes) (left_of conn t)
-      ∙ ap (λ (l : List Event). flat_map event_in h.notes ++ l) left ∙ h.events ∙ sym same;
-  counted = counted;
-  alive = alive;
-  owed = fold-append owed_by [] h.notes notes ∙ ap (λ (o : List Owed). owed_in o notes) h.owed ∙ sym owed;
-  told = ap (λ (l : List ℕ). written ++ l) out ∙ sym (append_assoc written s.desk.out (flat_map tell_bytes (tells_in s.desk.owed notes)))
-      ∙ ap (λ (l : List ℕ). l ++ flat_map tell_bytes (tells_in s.desk.owed notes)) h.told
-      ∙ ap (λ (o : List Owed). flat_map tell_bytes (tells_in [] h.notes) ++ flat_map tell_bytes (tells_in o notes)) (sym h.owed)
-      ∙ sym (bytes_append h.notes notes);
-}
+    → IsStory before conn (asks ++ more) written t
+story_notes before conn asks more written s t notes h alike each rising asked left same counted alive owed out =
+    let old : List Note = before.notes ++ h.notes in
+    let all : before.notes ++ (h.notes ++ notes) ≡ old ++ notes = sym (append_assoc before.notes h.notes notes) in
+    record {
+      notes = h.notes ++ notes;
+      now = told_more conn before.places s t h.notes notes h.now alike each rising left same;
+      asked = ap (flat_map ask_in) all ∙ flat_map-append ask_in old notes ∙ ap (λ (l : List Ask). l ++ flat_map ask_in notes) h.asked ∙ ap (λ (l : List Ask). asks ++ l) asked;
+      counted = counted;
+      alive = alive;
+      owed = ap (owed_in []) all ∙ fold-append owed_by [] old notes ∙ ap (λ (o : List Owed). owed_in o notes) h.owed ∙ sym owed;
+      told = ap (λ (l : List ℕ). written ++ l) out ∙ sym (append_assoc written s.desk.out (flat_map tell_bytes (tells_in s.desk.owed notes)))
+          ∙ ap (λ (l : List ℕ). l ++ flat_map tell_bytes (tells_in s.desk.owed notes)) h.told
+          ∙ ap (λ (o : List Owed). flat_map tell_bytes (tells_in [] old) ++ flat_map tell_bytes (tells_in o notes)) (sym h.owed)
+          ∙ sym (bytes_append old notes) ∙ ap (λ (l : List Note). flat_map tell_bytes (tells_in [] l)) (sym all);
+    }
 
 -- ---- an ask
 
@@ -104,9 +121,9 @@ entry_left : (conn : ℕ) (x : NodeValue) (d : DeskValue) (by : ℕ) (op : Op) (
 entry_left conn x d by op None = refl
 entry_left conn x d by op (Some c) = refl
 
-entry_inbox : (conn : ℕ) (x : NodeValue) (by : ℕ) (op : Op) (o : Option Client) → inbox_of (with_entry x by op o) conn ≡ inbox_of x conn
-entry_inbox conn x by op None = refl
-entry_inbox conn x by op (Some c) = refl
+entry_conn : (conn : ℕ) (x : NodeValue) (by : ℕ) (op : Op) (o : Option Client) → conn_id (with_entry x by op o) conn ≡ conn_id x conn
+entry_conn conn x by op None = refl
+entry_conn conn x by op (Some c) = refl
 
 entry_counted : (conn : ℕ) (x : NodeValue) (by : ℕ) (op : Op) (o : Option Client) → IsCounted conn x → IsCounted conn (with_entry x by op o)
 entry_counted conn x by op None h = h
@@ -149,37 +166,37 @@ all_records (r ∷ rs) = ap (λ (l : List Record). r ∷ l) (all_records rs)
 same_alike : (conn : ℕ) (s : At) (tell : Tell) → IsAlike conn s (at_of s.node (told s.desk tell))
 same_alike conn s tell = record { greeting = refl; asker = refl; records = refl }
 
-story_told_at_once : (conn : ℕ) (asks : List Ask) (written : List ℕ) (s : At) (ask : Ask) (tell : Tell) → IsStory conn asks written s
+story_told_at_once : (before : Before) (conn : ℕ) (asks : List Ask) (written : List ℕ) (s : At) (ask : Ask) (tell : Tell) → IsStory before conn asks written s
     → IsPlain s.desk.greeting (asker_of s.node conn) (records_of s.node) ask tell ⊎ IsRefused ask tell
-    → IsStory conn (asks ++ ask ∷ []) written (at_of s.node (told s.desk tell))
-story_told_at_once conn asks written s ask tell h is =
+    → IsStory before conn (asks ++ ask ∷ []) written (at_of s.node (told s.desk tell))
+story_told_at_once before conn asks written s ask tell h is =
     let rs : List Record = records_of s.node in
     let over : IsPlain s.desk.greeting (asker_of s.node conn) (take (length rs) rs) ask tell ⊎ IsRefused ask tell =
     subst (λ (l : List Record). IsPlain s.desk.greeting (asker_of s.node conn) l ask tell ⊎ IsRefused ask tell) (sym (all_records rs)) is in
-    story_notes conn asks (ask ∷ []) written s (at_of s.node (told s.desk tell)) (Answered (length rs) ask tell ∷ []) h (same_alike conn s tell) ((omega arith, over), tt) (omega arith, tt) refl refl refl h.counted h.alive refl
+    story_notes before conn asks (ask ∷ []) written s (at_of s.node (told s.desk tell)) (Answered (length rs) ask tell ∷ []) h (same_alike conn s tell) ((omega arith, over), tt) (omega arith, tt) refl refl refl h.counted h.alive refl
     (ap (λ (l : List ℕ). s.desk.out ++ l) (sym (append-nil (tell_bytes tell))))
 
-story_called : (conn : ℕ) (asks : List Ask) (written : List ℕ) (s : At) (ask : Ask) (call : Call) (o : Option Refusal) → call_of ask.want ≡ Some call → submit_refusal s.node conn call ≡ o → goes_on o ≡ true
-    → IsStory conn asks written s → IsStory conn (asks ++ ask ∷ []) written (called_by conn s (owed_to ask) call o)
-story_called conn asks written s ask call None is why goes h =
-    story_notes conn asks (ask ∷ []) written s (called_by conn s (owed_to ask) call None) (Made ask ∷ []) h (entry_alike conn s (owed_to ask) (Act call) (open_client s.node conn))
+story_called : (before : Before) (conn : ℕ) (asks : List Ask) (written : List ℕ) (s : At) (ask : Ask) (call : Call) (o : Option Refusal) → call_of ask.want ≡ Some call → submit_refusal s.node conn call ≡ o → goes_on o ≡ true
+    → IsStory before conn asks written s → IsStory before conn (asks ++ ask ∷ []) written (called_by conn s (owed_to ask) call o)
+story_called before conn asks written s ask call None is why goes h =
+    story_notes before conn asks (ask ∷ []) written s (called_by conn s (owed_to ask) call None) (Made ask ∷ []) h (entry_alike conn s (owed_to ask) (Act call) (open_client s.node conn))
     ((call, is, taken_by s.node call (open_client s.node conn) h.alive why), tt) tt refl
-    (entry_left conn s.node (owing s.desk (owed_to ask)) conn (Act call) (open_client s.node conn)) (entry_inbox conn s.node conn (Act call) (open_client s.node conn))
+    (entry_left conn s.node (owing s.desk (owed_to ask)) conn (Act call) (open_client s.node conn)) (entry_conn conn s.node conn (Act call) (open_client s.node conn))
     (entry_counted conn s.node conn (Act call) (open_client s.node conn) h.counted) (entry_alive conn s.node conn (Act call) (open_client s.node conn) h.alive) refl (sym (append-nil s.desk.out))
-story_called conn asks written s ask call (Some why) is refused goes h =
-    subst (λ (t : At). IsStory conn (asks ++ ask ∷ []) written t) (sym (refused_is conn s (owed_to ask) call why goes))
-    (story_told_at_once conn asks written s ask (refused_tell (owed_to ask) why) h (inr (call, why, is, refused_by s.node call (open_client s.node conn) why h.alive refused goes, refl)))
+story_called before conn asks written s ask call (Some why) is refused goes h =
+    subst (λ (t : At). IsStory before conn (asks ++ ask ∷ []) written t) (sym (refused_is conn s (owed_to ask) call why goes))
+    (story_told_at_once before conn asks written s ask (refused_tell (owed_to ask) why) h (inr (call, why, is, refused_by s.node call (open_client s.node conn) why h.alive refused goes, refl)))
 
-story_by : (conn : ℕ) (asks : List Ask) (written : List ℕ) (s : At) (turn : Turn) (o : Option Call) → call_of turn.ask.want ≡ o → IsTurn conn s turn → takes_by conn s o ≡ true
-    → IsStory conn asks written s → IsStory conn (asks ++ turn.ask ∷ []) written (asked_by conn s turn o)
-story_by conn asks written s turn None is named goes h = story_told_at_once conn asks written s turn.ask (plain_answer conn s turn) h (inl (is, (turn.names, named, refl)))
-story_by conn asks written s turn (Some call) is named goes h = story_called conn asks written s turn.ask call (submit_refusal s.node conn call) is refl goes h
+story_by : (before : Before) (conn : ℕ) (asks : List Ask) (written : List ℕ) (s : At) (turn : Turn) (o : Option Call) → call_of turn.ask.want ≡ o → IsTurn conn s turn → takes_by conn s o ≡ true
+    → IsStory before conn asks written s → IsStory before conn (asks ++ turn.ask ∷ []) written (asked_by conn s turn o)
+story_by before conn asks written s turn None is named goes h = story_told_at_once before conn asks written s turn.ask (plain_answer conn s turn) h (inl (is, (turn.names, named, refl)))
+story_by before conn asks written s turn (Some call) is named goes h = story_called before conn asks written s turn.ask call (submit_refusal s.node conn call) is refl goes h
 
-pub story_asked : (conn : ℕ) (asks : List Ask) (more : List Turn) (written : List ℕ) (s : At) → AllTaken conn s more → IsStory conn asks written s → IsStory conn (asks ++ asks_of more) written (asked_all conn s more)
-story_asked conn asks [] written s taken h = subst (λ (l : List Ask). IsStory conn l written s) (sym (append-nil asks)) h
-story_asked conn asks (turn ∷ more) written s taken h =
-    subst (λ (l : List Ask). IsStory conn l written (asked_all conn (asked conn s turn) more)) (append_assoc asks (turn.ask ∷ []) (asks_of more))
-    (story_asked conn (asks ++ turn.ask ∷ []) more written (asked conn s turn) taken.2 (story_by conn asks written s turn (call_of turn.ask.want) refl taken.0 taken.1 h))
+pub story_asked : (before : Before) (conn : ℕ) (asks : List Ask) (more : List Turn) (written : List ℕ) (s : At) → AllTaken conn s more → IsStory before conn asks written s → IsStory before conn (asks ++ asks_of more) written (asked_all conn s more)
+story_asked before conn asks [] written s taken h = subst (λ (l : List Ask). IsStory before conn l written s) (sym (append-nil asks)) h
+story_asked before conn asks (turn ∷ more) written s taken h =
+    subst (λ (l : List Ask). IsStory before conn l written (asked_all conn (asked conn s turn) more)) (append_assoc asks (turn.ask ∷ []) (asks_of more))
+    (story_asked before conn (asks ++ turn.ask ∷ []) more written (asked conn s turn) taken.2 (story_by before conn asks written s turn (call_of turn.ask.want) refl taken.0 taken.1 h))
 
 -- ---- events
 
@@ -207,8 +224,8 @@ happened_tells : (owed : List Owed) (events : List Event) → tells_in owed (map
 happened_tells owed [] = refl
 happened_tells owed (e ∷ es) = ap (λ (l : List Tell). option_to_list (event_tell (slice_get owed 0) e) ++ l) (happened_tells (owed_after owed e) es)
 
-same_inbox : (x y : NodeValue) (conn : ℕ) → y.ring ≡ x.ring → inbox_of y conn ≡ inbox_of x conn
-same_inbox x y conn e = rw e refl
+same_conn : (x y : NodeValue) (conn : ℕ) → y.ring ≡ x.ring → conn_id y conn ≡ conn_id x conn
+same_conn x y conn e = ap (λ r. record { node = r.node; conn = conn }) e
 
 same_records : (x y : NodeValue) → y.ring ≡ x.ring → records_of y ≡ records_of x
 same_records x y e = ap (λ r. judged (delivered_entries r.state)) e
@@ -222,13 +239,13 @@ pub alive_by : (x y : NodeValue) (conn : ℕ) → asker_of y conn ≡ asker_of x
 alive_by x y conn e h = sym (some_mapped (asker_by y) (open_client y conn)) ∙ ap is_some e ∙ some_mapped (asker_by x) (open_client x conn) ∙ h
 
 -- some of what was left was told
-pub story_told : (conn : ℕ) (asks : List Ask) (written : List ℕ) (s t : At) → GoesOn conn s t → IsStory conn asks written s → IsStory conn asks written t
-story_told conn asks written s t goes h =
-    subst (λ (l : List Ask). IsStory conn l written t) (append-nil asks)
-    (story_notes conn asks [] written s t (map Happened goes.first) h (record { greeting = goes.greeting; asker = goes.asker; records = same_records s.node t.node goes.ring })
+pub story_told : (before : Before) (conn : ℕ) (asks : List Ask) (written : List ℕ) (s t : At) → GoesOn conn s t → IsStory before conn asks written s → IsStory before conn asks written t
+story_told before conn asks written s t goes h =
+    subst (λ (l : List Ask). IsStory before conn l written t) (append-nil asks)
+    (story_notes before conn asks [] written s t (map Happened goes.first) h (record { greeting = goes.greeting; asker = goes.asker; records = same_records s.node t.node goes.ring })
     (happened_each s.desk.greeting (asker_of s.node conn) (records_of s.node) goes.first) (happened_rising (length (records_of s.node)) goes.first) (happened_asks goes.first)
     (ap (λ (l : List Event). l ++ left_of conn t) (happened_events goes.first) ∙ sym goes.left)
-    (same_inbox s.node t.node conn goes.ring) (goes.counted h.counted) (alive_by s.node t.node conn goes.asker h.alive)
+    (same_conn s.node t.node conn goes.ring) (goes.counted h.counted) (alive_by s.node t.node conn goes.asker h.alive)
     (goes.owed ∙ sym (happened_owed s.desk.owed goes.first))
     (goes.out ∙ ap (λ (l : List Tell). s.desk.out ++ flat_map tell_bytes l) (sym (happened_tells s.desk.owed goes.first))))
 
@@ -253,18 +270,33 @@ pub is_there : (o : Option Client) → is_some o ≡ true → (c : Client) × (o
 is_there (Some c) h = (c, refl)
 is_there None h = absurd cc
 
-pub story_delivered : (conn : ℕ) (asks : List Ask) (written : List ℕ) (x : NodeValue) (d : DeskValue) → IsStory conn asks written (at_of x d) → IsStory conn asks written (at_of (node_after_delivery x) d)
-story_delivered conn asks written x d h =
+told_delivered : (conn places : ℕ) (x : NodeValue) (d : DeskValue) (c : Client) (notes : List Note) → open_client x conn ≡ Some c → IsCounted conn x → IsToldIn conn places d.greeting x (left_of conn (at_of x d)) notes
+    → IsToldIn conn places d.greeting (node_after_delivery x) (left_of conn (at_of (node_after_delivery x) d)) notes
+told_delivered conn places x d c notes found counted h =
+    let rs : List Record = records_of x in
+    let more : List Record = option_to_list (next_record x) in
+    let news : List Event = flat_map event_in notes in
+    let left : List Event = left_of conn (at_of x d) in
+    let front : List Event = inbox (take places rs) (conn_id x conn) in
+    record {
+      each = subst (λ (l : List Record). AllByRecursion (IsNote d.greeting (asker_of x conn) l) notes) (sym (records_delivered x)) (each_grown d.greeting (asker_of x conn) rs more notes h.each);
+      rising = h.rising;
+      began = subst (λ (l : List Record). places ≤ length l) (sym (records_delivered x)) (omega (arith, h.began, length-append rs more));
+      events = ap (λ (l : List Record). inbox (take places l) (conn_id x conn) ++ (news ++ left_of conn (at_of (node_after_delivery x) d))) (records_delivered x)
+          ∙ ap (λ (l : List Record). inbox l (conn_id x conn) ++ (news ++ left_of conn (at_of (node_after_delivery x) d))) (take-append-le places rs more h.began)
+          ∙ ap (λ (l : List Event). front ++ (news ++ l)) (left_delivered x conn d c found counted)
+          ∙ ap (λ (l : List Event). front ++ l) (sym (append_assoc news left (told_next x conn)))
+          ∙ sym (append_assoc front (news ++ left) (told_next x conn))
+          ∙ ap (λ (l : List Event). l ++ told_next x conn) h.events ∙ sym (inbox_delivered x conn);
+    }
+
+pub story_delivered : (before : Before) (conn : ℕ) (asks : List Ask) (written : List ℕ) (x : NodeValue) (d : DeskValue) → IsStory before conn asks written (at_of x d) → IsStory before conn asks written (at_of (node_after_delivery x) d)
+story_delivered before conn asks written x d h =
     let c = is_there (open_client x conn) h.alive in
     record {
       notes = h.notes;
-      each = subst (λ (rs : List Record). AllByRecursion (IsNote d.greeting (asker_of x conn) rs) h.notes) (sym (records_delivered x))
-          (each_grown d.greeting (asker_of x conn) (records_of x) (option_to_list (next_record x)) h.notes h.each);
-      rising = h.rising;
+      now = told_delivered conn before.places x d c.0 h.notes c.1 h.counted h.now;
       asked = h.asked;
-      events = ap (λ (l : List Event). flat_map event_in h.notes ++ l) (left_delivered x conn d c.0 c.1 h.counted)
-          ∙ sym (append_assoc (flat_map event_in h.notes) (left_of conn (at_of x d)) (told_next x conn))
-          ∙ ap (λ (l : List Event). l ++ told_next x conn) h.events ∙ sym (inbox_delivered x conn);
       counted = counted_delivered conn x h.counted;
       alive = h.alive;
       owed = h.owed;
@@ -284,18 +316,29 @@ asker_quiet conn x y q =
     ap (λ (o : Option Client). option_map (asker_by y) (if_open o)) q.client
     ∙ ap (λ (n : ℕ). option_map (λ (c : Client). record { node = n; cred = c.cred }) (if_open (item x.clients conn))) q.node
 
-pub story_quiet : (conn : ℕ) (asks : List Ask) (written : List ℕ) (x y : NodeValue) (d : DeskValue) → IsQuiet conn x y → IsStory conn asks written (at_of x d) → IsStory conn asks written (at_of y d)
-story_quiet conn asks written x y d q h =
-    let inbox : inbox_of y conn ≡ inbox_of x conn = inbox_quiet conn x y q in
+told_quiet : (conn places : ℕ) (x y : NodeValue) (d : DeskValue) (notes : List Note) → IsQuiet conn x y → IsToldIn conn places d.greeting x (left_of conn (at_of x d)) notes → IsToldIn conn places d.greeting y (left_of conn (at_of y d)) notes
+told_quiet conn places x y d notes q h =
+    let inbox_same : inbox_of y conn ≡ inbox_of x conn = inbox_quiet conn x y q in
+    let news : List Event = flat_map event_in notes in
+    let front : List Event = inbox (take places (records_of x)) (conn_id x conn) in
+    record {
+      each = each_alike conn (at_of x d) (at_of y d) notes (record { greeting = refl; asker = asker_quiet conn x y q; records = q.records }) h.each;
+      rising = h.rising;
+      began = subst (λ (rs : List Record). places ≤ length rs) (sym q.records) h.began;
+      events = ap (λ (rs : List Record). inbox (take places rs) (conn_id y conn) ++ (news ++ left_of conn (at_of y d))) q.records
+          ∙ ap (λ (n : ℕ). inbox (take places (records_of x)) (record { node = n; conn = conn }) ++ (news ++ left_of conn (at_of y d))) q.node
+          ∙ ap (λ (o : Option Client). front ++ (news ++ (option_to_list d.next ++ rest_of y conn o))) (ap if_open q.client)
+          ∙ ap (λ (l : List Event). front ++ (news ++ (option_to_list d.next ++ l))) (rest_quiet conn x y (open_client x conn) inbox_same) ∙ h.events ∙ sym inbox_same;
+    }
+
+pub story_quiet : (before : Before) (conn : ℕ) (asks : List Ask) (written : List ℕ) (x y : NodeValue) (d : DeskValue) → IsQuiet conn x y → IsStory before conn asks written (at_of x d) → IsStory before conn asks written (at_of y d)
+story_quiet before conn asks written x y d q h =
     let same : open_client y conn ≡ open_client x conn = ap if_open q.client in
     record {
       notes = h.notes;
-      each = each_alike conn (at_of x d) (at_of y d) h.notes (record { greeting = refl; asker = asker_quiet conn x y q; records = q.records }) h.each;
-      rising = h.rising;
+      now = told_quiet conn before.places x y d h.notes q h.now;
       asked = h.asked;
-      events = ap (λ (o : Option Client). flat_map event_in h.notes ++ (option_to_list d.next ++ rest_of y conn o)) same
-          ∙ ap (λ (l : List Event). flat_map event_in h.notes ++ (option_to_list d.next ++ l)) (rest_quiet conn x y (open_client x conn) inbox) ∙ h.events ∙ sym inbox;
-      counted = λ c found. subst (λ (l : List Event). c.taken ≤ length l) (sym inbox) (h.counted c (sym same ∙ found));
+      counted = λ c found. subst (λ (l : List Event). c.taken ≤ length l) (sym (inbox_quiet conn x y q)) (h.counted c (sym same ∙ found));
       alive = ap is_some same ∙ h.alive;
       owed = h.owed;
       told = h.told;

@@ -47,8 +47,8 @@ nothing_taken None rest e = refl
 nothing_taken (Some event) rest e = absurd cc
 
 pub each_goes_over : EachGoesOver
-each_goes_over s list numbers x y zero c d h told few opened there = absurd (none-some c opened)
-each_goes_over s list numbers x y (suc i) c d h told few opened there =
+each_goes_over s list numbers x y zero c d h told opened there = absurd (none-some c opened)
+each_goes_over s list numbers x y (suc i) c d h told opened there =
     let at = at_place 1 x.node.clients x.desks i c d opened there in
     let alive : c.ended ≡ false = (open_is (slice_get x.node.clients i) c opened).1 in
     let number : number_at numbers (suc i) ≡ suc (suc at.place) = ap (λ (l : List ℕ). number_in (slice_get l i)) h.node.renumbers ∙ at.number ∙ omega arith in
@@ -61,5 +61,5 @@ each_goes_over s list numbers x y (suc i) c d h told few opened there =
       client = ap (λ n. option_map anew (open_client y.node n)) number ∙ open_anew (slice_get y.node.clients (suc at.place)) c alive client;
       desk = ap (item y.desks) number ∙ desk;
       told = ap (λ (o : Option Event). option_to_list o ++ rest_of y.node (number_at numbers (suc i)) (open_client y.node (number_at numbers (suc i)))) (nothing_taken d.next (rest_of x.node (suc i) (open_client x.node (suc i))) (told d there))
-          ∙ h.node.given (number_at numbers (suc i)) few;
+          ∙ h.node.given (number_at numbers (suc i));
     }

@@ -1,7 +1,8 @@
 -- Why the next ring does not begin: what each part of it is refused for.
-use Rattle.std.proofs.Common.{◌≡◌, ◌⊎◌, ◌<◌, ◌≤◌, ◌+◌, ◌*◌, ℕ, zero, suc, Bool, true, false, not, List, [], ◌∷◌, ◌++◌, map, length, take, get_or, min, Option, Some, None, is_some, option_map, Ok, Err, Result, IfErr, IfOk, OnErr, OnOk, refl, sym, ap, subst, ◌∙◌, inl, inr, ⊎_elim, arith, append-nil, length-append, nat_le, if◌then◌else◌, leb-true, true≢false, eqb-true, eq-eqb, ◌==◌, ◌&&◌}
+use Rattle.std.proofs.Common.{◌≡◌, ◌⊎◌, ◌<◌, ◌≤◌, ◌+◌, ◌*◌, ℕ, zero, suc, Bool, true, false, not, List, [], ◌∷◌, ◌++◌, map, length, take, get_or, min, Option, Some, None, is_some, option_map, Ok, Err, Result, IfErr, IfOk, OnErr, OnOk, refl, sym, ap, subst, ◌∙◌, inl, inr, ⊎_elim, arith, append-nil, length-append, nat_le, if◌then◌else◌, le-leb, leb-true, true≢false, eqb-true, eq-eqb, ◌==◌, ◌&&◌}
 use Rattle.std.specs.List.{AllByRecursion, slice_get}
 use Rattle.std.proofs.lemmas.List.{take_more}
+use Rattle.std.proofs.lemmas.Bool.{cases_lt}
 use Rattle.std.proofs.lemmas.Option.{none-some, same_Some}
 use Rattle.std.proofs.lemmas.Result.{IfErr-weaker}
 use Rattle.cpg_cred.specs.declared.credentials.Cred.{Cred}
@@ -149,6 +150,17 @@ connect_lets x c none = by_via (is_some (via_of x.list c.cred)) (nat_le MOST_CON
     by_via true many e = refl
     by_via false many e = absurd (none-some refusal.Access (sym e))
 
+connect_fits : (x : NodeValue) (c : Client) → connect_refusal x c.cred ≡ None → length x.clients < MOST_CONNECTIONS
+connect_fits x c none = by_many (is_some (via_of x.list c.cred)) (nat_le MOST_CONNECTIONS (length x.clients)) refl none
+  where
+    by_many : (some many : Bool) → nat_le MOST_CONNECTIONS (length x.clients) ≡ many → (if not some then Some refusal.Access else if many then Some refusal.ConnectionsFull else None) ≡ None → length x.clients < MOST_CONNECTIONS
+    by_many false many e none = absurd (none-some refusal.Access (sym none))
+    by_many true true e none = absurd (none-some refusal.ConnectionsFull (sym none))
+    by_many true false e none = ⊎_elim
+        (λ (fits : length x.clients < MOST_CONNECTIONS). fits)
+        (λ (past : MOST_CONNECTIONS ≤ length x.clients). absurd (true≢false (sym (le-leb MOST_CONNECTIONS (length x.clients) past) ∙ e)))
+        (cases_lt (length x.clients) MOST_CONNECTIONS)
+
 unlet : (x : NodeValue) (c : Client) (why : Refusal) → connect_refusal x c.cred ≡ Some why → ((why ≡ refusal.Access) × (is_some (via_of x.list c.cred) ≡ false)) ⊎ ((why ≡ refusal.ConnectionsFull) × (MOST_CONNECTIONS ≤ length x.clients))
 unlet x c why e = by_via (is_some (via_of x.list c.cred)) (nat_le MOST_CONNECTIONS (length x.clients)) refl refl e
   where
@@ -196,7 +208,8 @@ connects_ok old x y conn k (Ok n) found a = by_open (open_client old conn) found
     by_open None e = absurd (none-some k (sym e))
     by_open (Some c) e =
         let same : k ≡ record { id = conn_id old conn; pid = c.pid; cred = c.cred; taken = c.taken } = same_Some k (record { id = conn_id old conn; pid = c.pid; cred = c.cred; taken = c.taken }) e in
-        (a.1.0, a.1.1 ∙ ap (λ (j : Connection). connected x j.pid j.cred) same, connect_lets x c (subst (λ (j : Connection). connect_refusal x j.cred ≡ None) same a.0))
+        let none : connect_refusal x c.cred ≡ None = subst (λ (j : Connection). connect_refusal x j.cred ≡ None) same a.0 in
+        (a.1.0, a.1.1 ∙ ap (λ (j : Connection). connected x j.pid j.cred) same, connect_lets x c none, connect_fits x c none)
 
 pub connects_not : (old x y : NodeValue) (conn : ℕ) (k : Connection) (r : Result ℕ Refusal) → Some k ≡ connection_of old conn → IsAnswer (connect_refusal x k.cred) (λ n. (n ≡ suc (length x.clients)) × (y ≡ connected x k.pid k.cred)) r
     → IfErr r (λ why. WhyNotOne x (open_client old conn) why)

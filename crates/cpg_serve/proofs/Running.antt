@@ -24,7 +24,7 @@ use Rattle.cpg_serve.specs.Telling.{DeskValue, new_desk, wrote}
 use Rattle.cpg_serve.specs.Asking.{At, Turn, owed_to, at_of, asked, asked_by, asked_all, called_by, call_of}
 use Rattle.cpg_serve.specs.Coming.{rest_of}
 use Rattle.cpg_serve.specs.Serving.{ServedValue, arrived, parted, IsHeard, IsCaughtUp, IsWritten}
-use Rattle.cpg_serve.specs.Stories.{IsStory, IsQuiet, StoryAt}
+use Rattle.cpg_serve.specs.Stories.{Before, IsStory, IsQuiet, StoryAt}
 use Rattle.cpg_serve.specs.Runs.{Did, Arrives, Hears, Frames, Delivers, Tells, Writes, Loses, Nothing, Run, IsFramed, Goes, IsKeptBy, heard_by, written_by, AllThatIsTold, StoriesBegin}
 use Rattle.cpg_serve.proofs.Growing.{slice_get_front}
 use Rattle.cpg_serve.proofs.Noted.{story_quiet}
@@ -78,53 +78,51 @@ item_of None h = absurd cc
 
 -- ---- a story that others leave
 
-stays : (conn : ℕ) (asks : List Ask) (written : List ℕ) (x y : ServedValue) (k : StoryAt conn asks written x) → item y.desks conn ≡ Some k.desk → y.greeting ≡ x.greeting → IsQuiet conn x.node y.node → StoryAt conn asks written y
-stays conn asks written x y k there greeting q = record { desk = k.desk; there = there; greeting = k.greeting ∙ sym greeting; story = story_quiet conn asks written x.node y.node k.desk q k.story }
+stays : (before : Before) (conn : ℕ) (asks : List Ask) (written : List ℕ) (x y : ServedValue) (k : StoryAt before conn asks written x) → item y.desks conn ≡ Some k.desk → y.greeting ≡ x.greeting → IsQuiet conn x.node y.node → StoryAt before conn asks written y
+stays before conn asks written x y k there greeting q = record { desk = k.desk; there = there; greeting = k.greeting ∙ sym greeting; story = story_quiet before conn asks written x.node y.node k.desk q k.story }
 
-stays_heard : (conn by : ℕ) (asks : List Ask) (written : List ℕ) (x y : ServedValue) (bytes : List ℕ) (count : ℕ) (stop : Stop) → conn ≢ by → IsHeard by x bytes count stop y → StoryAt conn asks written x → StoryAt conn asks written y
-stays_heard conn by asks written x y bytes count stop is h k =
-    stays conn asks written x y k (ap (λ ds. item ds conn) h.others ∙ item_with_other x.desks by conn h.new is ∙ k.there) h.greeting
+stays_heard : (before : Before) (conn by : ℕ) (asks : List Ask) (written : List ℕ) (x y : ServedValue) (bytes : List ℕ) (count : ℕ) (stop : Stop) → conn ≢ by → IsHeard by x bytes count stop y → StoryAt before conn asks written x → StoryAt before conn asks written y
+stays_heard before conn by asks written x y bytes count stop is h k =
+    stays before conn asks written x y k (ap (λ ds. item ds conn) h.others ∙ item_with_other x.desks by conn h.new is ∙ k.there) h.greeting
     (subst (λ (n : NodeValue). IsQuiet conn x.node n) (sym (ap (λ (t : At). t.node) h.did.so.done)) (quiet_all conn by (at_of x.node h.old) h.did.so.turns))
 
-stays_told : (conn by : ℕ) (asks : List Ask) (written : List ℕ) (x y : ServedValue) (result : Result Unit Refusal) (o : Option DeskValue) → conn ≢ by → IsCaughtUp by x o result y → StoryAt conn asks written x → StoryAt conn asks written y
-stays_told conn by asks written x y result None is h k = subst (λ (z : ServedValue). StoryAt conn asks written z) (sym h.1) k
-stays_told conn by asks written x y result (Some old) is h k =
-    stays conn asks written x y k (ap (λ ds. item ds conn) h.others ∙ item_with_other x.desks by conn h.new is ∙ k.there) h.greeting
+stays_told : (before : Before) (conn by : ℕ) (asks : List Ask) (written : List ℕ) (x y : ServedValue) (result : Result Unit Refusal) (o : Option DeskValue) → conn ≢ by → IsCaughtUp by x o result y → StoryAt before conn asks written x → StoryAt before conn asks written y
+stays_told before conn by asks written x y result None is h k = subst (λ (z : ServedValue). StoryAt before conn asks written z) (sym h.1) k
+stays_told before conn by asks written x y result (Some old) is h k =
+    stays before conn asks written x y k (ap (λ ds. item ds conn) h.others ∙ item_with_other x.desks by conn h.new is ∙ k.there) h.greeting
     (record { records = rw h.goes.ring refl; node = ap (λ r. r.node) h.goes.ring; client = h.goes.others conn is })
 
-stays_written : (conn by : ℕ) (asks : List Ask) (written : List ℕ) (x y : ServedValue) (bytes : List ℕ) → conn ≢ by → IsWritten by x bytes y → StoryAt conn asks written x → StoryAt conn asks written y
-stays_written conn by asks written x y bytes is h k =
-    subst (λ (z : ServedValue). StoryAt conn asks written z) (sym h.after)
-    (stays conn asks written x (record { greeting = x.greeting; node = x.node; desks = with_item x.desks by (wrote h.old (length bytes)) }) k
+stays_written : (before : Before) (conn by : ℕ) (asks : List Ask) (written : List ℕ) (x y : ServedValue) (bytes : List ℕ) → conn ≢ by → IsWritten by x bytes y → StoryAt before conn asks written x → StoryAt before conn asks written y
+stays_written before conn by asks written x y bytes is h k =
+    subst (λ (z : ServedValue). StoryAt before conn asks written z) (sym h.after)
+    (stays before conn asks written x (record { greeting = x.greeting; node = x.node; desks = with_item x.desks by (wrote h.old (length bytes)) }) k
     (item_with_other x.desks by conn (wrote h.old (length bytes)) is ∙ k.there) refl (quiet_same conn x.node))
 
-stays_framed : (conn : ℕ) (asks : List Ask) (written : List ℕ) (x y : ServedValue) → IsFramed x y → StoryAt conn asks written x → StoryAt conn asks written y
-stays_framed conn asks written x y h k =
-    stays conn asks written x y k (ap (λ ds. item ds conn) h.desks ∙ k.there) h.greeting (record { records = h.records; node = h.number; client = ap (λ cs. item cs conn) h.clients })
+stays_framed : (before : Before) (conn : ℕ) (asks : List Ask) (written : List ℕ) (x y : ServedValue) → IsFramed x y → StoryAt before conn asks written x → StoryAt before conn asks written y
+stays_framed before conn asks written x y h k =
+    stays before conn asks written x y k (ap (λ ds. item ds conn) h.desks ∙ k.there) h.greeting (record { records = h.records; node = h.number; client = ap (λ cs. item cs conn) h.clients })
 
-stays_arrived : (conn : ℕ) (asks : List Ask) (written : List ℕ) (x : ServedValue) (pid : ℕ) (cred : Cred) → StoryAt conn asks written x → StoryAt conn asks written (arrived x pid cred)
-stays_arrived conn asks written x pid cred k =
+stays_arrived : (before : Before) (conn : ℕ) (asks : List Ask) (written : List ℕ) (x : ServedValue) (pid : ℕ) (cred : Cred) → StoryAt before conn asks written x → StoryAt before conn asks written (arrived x pid cred)
+stays_arrived before conn asks written x pid cred k =
     let c = item_of (item x.node.clients conn) k.story.alive in
-    stays conn asks written x (arrived x pid cred) k (item_front x.desks (new_desk x.greeting ∷ []) conn k.desk k.there ∙ k.there) refl
+    stays before conn asks written x (arrived x pid cred) k (item_front x.desks (new_desk x.greeting ∷ []) conn k.desk k.there ∙ k.there) refl
     (record { records = refl; node = refl; client = item_front x.node.clients _ conn c.0 c.1 })
 
-written_own : (conn : ℕ) (asks : List Ask) (written : List ℕ) (x y : ServedValue) (bytes : List ℕ) → IsWritten conn x bytes y → StoryAt conn asks written x → StoryAt conn asks (written ++ bytes) y
-written_own conn asks written x y bytes h k =
+written_own : (before : Before) (conn : ℕ) (asks : List Ask) (written : List ℕ) (x y : ServedValue) (bytes : List ℕ) → IsWritten conn x bytes y → StoryAt before conn asks written x → StoryAt before conn asks (written ++ bytes) y
+written_own before conn asks written x y bytes h k =
     let same : h.old ≡ k.desk = same_Some h.old k.desk (sym h.there ∙ k.there) in
-    let before : IsStory conn asks written (at_of x.node h.old) = subst (λ (d : DeskValue). IsStory conn asks written (at_of x.node d)) (sym same) k.story in
+    let here : IsStory before conn asks written (at_of x.node h.old) = subst (λ (d : DeskValue). IsStory before conn asks written (at_of x.node d)) (sym same) k.story in
     let new : DeskValue = wrote h.old (length bytes) in
-    let after : IsStory conn asks (written ++ bytes) (at_of x.node new) = record {
-      notes = before.notes;
-      each = before.each;
-      rising = before.rising;
-      asked = before.asked;
-      events = before.events;
-      counted = before.counted;
-      alive = before.alive;
-      owed = before.owed;
-      told = append_assoc written bytes new.out ∙ ap (λ (l : List ℕ). written ++ l) (sym h.front) ∙ before.told;
+    let after : IsStory before conn asks (written ++ bytes) (at_of x.node new) = record {
+      notes = here.notes;
+      now = record { each = here.now.each; rising = here.now.rising; began = here.now.began; events = here.now.events };
+      asked = here.asked;
+      counted = here.counted;
+      alive = here.alive;
+      owed = here.owed;
+      told = append_assoc written bytes new.out ∙ ap (λ (l : List ℕ). written ++ l) (sym h.front) ∙ here.told;
     } in
-    subst (λ (z : ServedValue). StoryAt conn asks (written ++ bytes) z) (sym h.after) (record {
+    subst (λ (z : ServedValue). StoryAt before conn asks (written ++ bytes) z) (sym h.after) (record {
       desk = new;
       there = item_with_same x.desks conn new h.old h.there;
       greeting = ap (λ (d : DeskValue). d.greeting) same ∙ k.greeting;
@@ -134,15 +132,15 @@ written_own conn asks written x y bytes h k =
 -- ---- one call
 
 -- what one call brings to a story
-abbrev Brings : ℕ → List Ask → List ℕ → Did → ServedValue → Type 0
-Brings conn asks written did y = (more : List Ask) × (heard_by conn did ≡ flat_map spelling more) × StoryAt conn (asks ++ more) (written ++ written_by conn did) y
+abbrev Brings : Before → ℕ → List Ask → List ℕ → Did → ServedValue → Type 0
+Brings before conn asks written did y = (more : List Ask) × (heard_by conn did ≡ flat_map spelling more) × StoryAt before conn (asks ++ more) (written ++ written_by conn did) y
 
-nothing_more : (conn : ℕ) (asks : List Ask) (written : List ℕ) (did : Did) (y : ServedValue) → heard_by conn did ≡ [] → written_by conn did ≡ [] → StoryAt conn asks written y → Brings conn asks written did y
-nothing_more conn asks written did y heard wrote k = (
+nothing_more : (before : Before) (conn : ℕ) (asks : List Ask) (written : List ℕ) (did : Did) (y : ServedValue) → heard_by conn did ≡ [] → written_by conn did ≡ [] → StoryAt before conn asks written y → Brings before conn asks written did y
+nothing_more before conn asks written did y heard wrote k = (
   [],
   heard,
-  subst (λ (w : List ℕ). StoryAt conn (asks ++ []) (written ++ w) y) (sym wrote)
-      (subst (λ (w : List ℕ). StoryAt conn (asks ++ []) w y) (sym (append-nil written)) (subst (λ (l : List Ask). StoryAt conn l written y) (sym (append-nil asks)) k)),
+  subst (λ (w : List ℕ). StoryAt before conn (asks ++ []) (written ++ w) y) (sym wrote)
+      (subst (λ (w : List ℕ). StoryAt before conn (asks ++ []) w y) (sym (append-nil written)) (subst (λ (l : List Ask). StoryAt before conn l written y) (sym (append-nil asks)) k)),
 )
 
 pub is_other : (by conn : ℕ) → eqb by conn ≡ false → conn ≢ by
@@ -151,56 +149,56 @@ is_other by conn e same = let t : eqb by conn ≡ true = eq-eqb by conn (sym sam
 pub heard_front : (bytes front : List ℕ) (count : ℕ) → bytes ≡ front ++ drop count bytes → take count bytes ≡ front
 heard_front bytes front count e = append_cancel_right (take count bytes) front (drop count bytes) (take-append-drop count bytes ∙ e)
 
-heard_one : (conn by : ℕ) (asks : List Ask) (written : List ℕ) (x y : ServedValue) (bytes : List ℕ) (count : ℕ) (stop : Stop) (b : Bool) → eqb by conn ≡ b → IsHeard by x bytes count stop y → StoryAt conn asks written x
-    → (more : List Ask) × (cond b (take count bytes) [] ≡ flat_map spelling more) × StoryAt conn (asks ++ more) (written ++ []) y
-heard_one conn by asks written x y bytes count stop false e h k =
-    ([], refl, subst (λ (w : List ℕ). StoryAt conn (asks ++ []) w y) (sym (append-nil written)) (subst (λ (l : List Ask). StoryAt conn l written y) (sym (append-nil asks)) (stays_heard conn by asks written x y bytes count stop (is_other by conn e) h k)))
-heard_one conn by asks written x y bytes count stop true e h k =
+heard_one : (before : Before) (conn by : ℕ) (asks : List Ask) (written : List ℕ) (x y : ServedValue) (bytes : List ℕ) (count : ℕ) (stop : Stop) (b : Bool) → eqb by conn ≡ b → IsHeard by x bytes count stop y → StoryAt before conn asks written x
+    → (more : List Ask) × (cond b (take count bytes) [] ≡ flat_map spelling more) × StoryAt before conn (asks ++ more) (written ++ []) y
+heard_one before conn by asks written x y bytes count stop false e h k =
+    ([], refl, subst (λ (w : List ℕ). StoryAt before conn (asks ++ []) w y) (sym (append-nil written)) (subst (λ (l : List Ask). StoryAt before conn l written y) (sym (append-nil asks)) (stays_heard before conn by asks written x y bytes count stop (is_other by conn e) h k)))
+heard_one before conn by asks written x y bytes count stop true e h k =
     let own : IsHeard conn x bytes count stop y = subst (λ (n : ℕ). IsHeard n x bytes count stop y) (eqb-true by conn e) h in
-    let s = story_of_hearing conn asks written x y bytes count stop own k in
-    (s.0, heard_front bytes (flat_map spelling s.0) count s.1, subst (λ (w : List ℕ). StoryAt conn (asks ++ s.0) w y) (sym (append-nil written)) s.2)
+    let s = story_of_hearing before conn asks written x y bytes count stop own k in
+    (s.0, heard_front bytes (flat_map spelling s.0) count s.1, subst (λ (w : List ℕ). StoryAt before conn (asks ++ s.0) w y) (sym (append-nil written)) s.2)
 
-told_one : (conn by : ℕ) (asks : List Ask) (written : List ℕ) (x y : ServedValue) (result : Result Unit Refusal) (b : Bool) → eqb by conn ≡ b → IsCaughtUp by x (item x.desks by) result y → StoryAt conn asks written x → StoryAt conn asks written y
-told_one conn by asks written x y result false e h k = stays_told conn by asks written x y result (item x.desks by) (is_other by conn e) h k
-told_one conn by asks written x y result true e h k = story_of_telling conn asks written x y result (subst (λ (n : ℕ). IsCaughtUp n x (item x.desks n) result y) (eqb-true by conn e) h) k
+told_one : (before : Before) (conn by : ℕ) (asks : List Ask) (written : List ℕ) (x y : ServedValue) (result : Result Unit Refusal) (b : Bool) → eqb by conn ≡ b → IsCaughtUp by x (item x.desks by) result y → StoryAt before conn asks written x → StoryAt before conn asks written y
+told_one before conn by asks written x y result false e h k = stays_told before conn by asks written x y result (item x.desks by) (is_other by conn e) h k
+told_one before conn by asks written x y result true e h k = story_of_telling before conn asks written x y result (subst (λ (n : ℕ). IsCaughtUp n x (item x.desks n) result y) (eqb-true by conn e) h) k
 
-written_one : (conn by : ℕ) (asks : List Ask) (written : List ℕ) (x y : ServedValue) (bytes : List ℕ) (b : Bool) → eqb by conn ≡ b → IsWritten by x bytes y → StoryAt conn asks written x → StoryAt conn asks (written ++ cond b bytes []) y
-written_one conn by asks written x y bytes false e h k = subst (λ (w : List ℕ). StoryAt conn asks w y) (sym (append-nil written)) (stays_written conn by asks written x y bytes (is_other by conn e) h k)
-written_one conn by asks written x y bytes true e h k = written_own conn asks written x y bytes (subst (λ (n : ℕ). IsWritten n x bytes y) (eqb-true by conn e) h) k
+written_one : (before : Before) (conn by : ℕ) (asks : List Ask) (written : List ℕ) (x y : ServedValue) (bytes : List ℕ) (b : Bool) → eqb by conn ≡ b → IsWritten by x bytes y → StoryAt before conn asks written x → StoryAt before conn asks (written ++ cond b bytes []) y
+written_one before conn by asks written x y bytes false e h k = subst (λ (w : List ℕ). StoryAt before conn asks w y) (sym (append-nil written)) (stays_written before conn by asks written x y bytes (is_other by conn e) h k)
+written_one before conn by asks written x y bytes true e h k = written_own before conn asks written x y bytes (subst (λ (n : ℕ). IsWritten n x bytes y) (eqb-true by conn e) h) k
 
-one : (conn : ℕ) (asks : List Ask) (written : List ℕ) (x y : ServedValue) (did : Did) → Goes x did y → IsKeptBy conn did → StoryAt conn asks written x → Brings conn asks written did y
-one conn asks written x y (Arrives pid cred) h i k = nothing_more conn asks written (Arrives pid cred) y refl refl (subst (λ (z : ServedValue). StoryAt conn asks written z) (sym h) (stays_arrived conn asks written x pid cred k))
-one conn asks written x y (Hears by bytes count stop) h i k = heard_one conn by asks written x y bytes count stop (eqb by conn) refl h k
-one conn asks written x y Frames h i k = nothing_more conn asks written Frames y refl refl (stays_framed conn asks written x y h k)
-one conn asks written x y Delivers h i k = nothing_more conn asks written Delivers y refl refl (subst (λ (z : ServedValue). StoryAt conn asks written z) (sym h) (story_of_delivery conn asks written x k))
-one conn asks written x y (Tells by) h i k = nothing_more conn asks written (Tells by) y refl refl (told_one conn by asks written x y h.0 (eqb by conn) refl h.1 k)
-one conn asks written x y (Writes by bytes) h i k =
-    ([], refl, subst (λ (l : List Ask). StoryAt conn l (written ++ written_by conn (Writes by bytes)) y) (sym (append-nil asks)) (written_one conn by asks written x y bytes (eqb by conn) refl h k))
-one conn asks written x y (Loses by) h i k = nothing_more conn asks written (Loses by) y refl refl
-    (subst (λ (z : ServedValue). StoryAt conn asks written z) (sym h) (stays conn asks written x (parted x by) k (item_with_other x.desks by conn (new_desk x.greeting) i ∙ k.there) refl (quiet_ended conn by x.node (open_client x.node by) i)))
-one conn asks written x y Nothing h i k = nothing_more conn asks written Nothing y refl refl (subst (λ (z : ServedValue). StoryAt conn asks written z) (sym h) k)
+one : (before : Before) (conn : ℕ) (asks : List Ask) (written : List ℕ) (x y : ServedValue) (did : Did) → Goes x did y → IsKeptBy conn did → StoryAt before conn asks written x → Brings before conn asks written did y
+one before conn asks written x y (Arrives pid cred) h i k = nothing_more before conn asks written (Arrives pid cred) y refl refl (subst (λ (z : ServedValue). StoryAt before conn asks written z) (sym h) (stays_arrived before conn asks written x pid cred k))
+one before conn asks written x y (Hears by bytes count stop) h i k = heard_one before conn by asks written x y bytes count stop (eqb by conn) refl h k
+one before conn asks written x y Frames h i k = nothing_more before conn asks written Frames y refl refl (stays_framed before conn asks written x y h k)
+one before conn asks written x y Delivers h i k = nothing_more before conn asks written Delivers y refl refl (subst (λ (z : ServedValue). StoryAt before conn asks written z) (sym h) (story_of_delivery before conn asks written x k))
+one before conn asks written x y (Tells by) h i k = nothing_more before conn asks written (Tells by) y refl refl (told_one before conn by asks written x y h.0 (eqb by conn) refl h.1 k)
+one before conn asks written x y (Writes by bytes) h i k =
+    ([], refl, subst (λ (l : List Ask). StoryAt before conn l (written ++ written_by conn (Writes by bytes)) y) (sym (append-nil asks)) (written_one before conn by asks written x y bytes (eqb by conn) refl h k))
+one before conn asks written x y (Loses by) h i k = nothing_more before conn asks written (Loses by) y refl refl
+    (subst (λ (z : ServedValue). StoryAt before conn asks written z) (sym h) (stays before conn asks written x (parted x by) k (item_with_other x.desks by conn (new_desk x.greeting) i ∙ k.there) refl (quiet_ended conn by x.node (open_client x.node by) i)))
+one before conn asks written x y Nothing h i k = nothing_more before conn asks written Nothing y refl refl (subst (λ (z : ServedValue). StoryAt before conn asks written z) (sym h) k)
 
 -- ---- a run
 
-over : (conn : ℕ) (asks : List Ask) (written : List ℕ) (x y : ServedValue) (dids : List Did) → Run x dids y → AllByRecursion (IsKeptBy conn) dids → StoryAt conn asks written x
-    → (more : List Ask) × (flat_map (heard_by conn) dids ≡ flat_map spelling more) × StoryAt conn (asks ++ more) (written ++ flat_map (written_by conn) dids) y
-over conn asks written x y [] h i k = (
+over : (before : Before) (conn : ℕ) (asks : List Ask) (written : List ℕ) (x y : ServedValue) (dids : List Did) → Run x dids y → AllByRecursion (IsKeptBy conn) dids → StoryAt before conn asks written x
+    → (more : List Ask) × (flat_map (heard_by conn) dids ≡ flat_map spelling more) × StoryAt before conn (asks ++ more) (written ++ flat_map (written_by conn) dids) y
+over before conn asks written x y [] h i k = (
   [],
   refl,
-  subst (λ (z : ServedValue). StoryAt conn (asks ++ []) (written ++ []) z) (sym h)
-      (subst (λ (w : List ℕ). StoryAt conn (asks ++ []) w x) (sym (append-nil written)) (subst (λ (l : List Ask). StoryAt conn l written x) (sym (append-nil asks)) k)),
+  subst (λ (z : ServedValue). StoryAt before conn (asks ++ []) (written ++ []) z) (sym h)
+      (subst (λ (w : List ℕ). StoryAt before conn (asks ++ []) w x) (sym (append-nil written)) (subst (λ (l : List Ask). StoryAt before conn l written x) (sym (append-nil asks)) k)),
 )
-over conn asks written x y (did ∷ dids) h i k =
-    let first = one conn asks written x h.0 did h.1 i.0 k in
-    let later = over conn (asks ++ first.0) (written ++ written_by conn did) h.0 y dids h.2 i.1 first.2 in (
+over before conn asks written x y (did ∷ dids) h i k =
+    let first = one before conn asks written x h.0 did h.1 i.0 k in
+    let later = over before conn (asks ++ first.0) (written ++ written_by conn did) h.0 y dids h.2 i.1 first.2 in (
       first.0 ++ later.0,
       ap (λ (l : List ℕ). l ++ flat_map (heard_by conn) dids) first.1 ∙ ap (λ (l : List ℕ). flat_map spelling first.0 ++ l) later.1 ∙ sym (flat_map-append spelling first.0 later.0),
-      subst (λ (l : List Ask). StoryAt conn l (written ++ flat_map (written_by conn) (did ∷ dids)) y) (append_assoc asks first.0 later.0)
-          (subst (λ (w : List ℕ). StoryAt conn ((asks ++ first.0) ++ later.0) w y) (append_assoc written (written_by conn did) (flat_map (written_by conn) dids)) later.2),
+      subst (λ (l : List Ask). StoryAt before conn l (written ++ flat_map (written_by conn) (did ∷ dids)) y) (append_assoc asks first.0 later.0)
+          (subst (λ (w : List ℕ). StoryAt before conn ((asks ++ first.0) ++ later.0) w y) (append_assoc written (written_by conn did) (flat_map (written_by conn) dids)) later.2),
     )
 
 pub over_run : AllThatIsTold
-over_run x y dids h = λ conn asks written i k. over conn asks written x y dids h i k
+over_run x y dids h = λ before conn asks written i k. over before conn asks written x y dids h i k
 
 -- ---- the first story
 
@@ -227,10 +225,8 @@ begins pid cred x as_many =
       greeting = refl;
       story = record {
         notes = [];
-        each = tt;
-        rising = tt;
+        now = record { each = tt; rising = tt; began = omega arith; events = ap (rest_of (connected x.node pid cred) conn) opened };
         asked = refl;
-        events = ap (rest_of (connected x.node pid cred) conn) opened;
         counted = λ d found. let same : c ≡ d = same_Some c d (sym opened ∙ found) in subst (λ (k : Client). k.taken ≤ length (inbox_of (connected x.node pid cred) conn)) same (omega arith);
         alive = ap is_some opened;
         owed = refl;

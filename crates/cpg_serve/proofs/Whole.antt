@@ -6,7 +6,7 @@ use Rattle.std.specs.Ordering.{nat_cmp}
 use Rattle.std.specs.Prelude.{option_map}
 use Rattle.std.proofs.lemmas.Bool.{cases_lt}
 use Rattle.std.proofs.Math.Seq.{take-length}
-use Rattle.std.proofs.lemmas.Option.{same_Some}
+use Rattle.std.proofs.lemmas.Option.{none-some, same_Some}
 use Rattle.cpg_cred.specs.declared.credentials.Cred.{Cred}
 use Rattle.cpg_cred.specs.Listed.{Listed}
 use Rattle.cpg_entry.specs.declared.calls.Op.TheVariants.{Gone}
@@ -19,16 +19,18 @@ use Rattle.cpg_ring.specs.declared.settings.Settings.{Settings}
 use Rattle.cpg_ring.specs.Moves.{first_token, next_entry}
 use Rattle.cpg_ring.specs.Rings.{RingNode}
 use Rattle.cpg_ring.specs.Worlds.{item, with_item}
+use Rattle.cpg_ring.proofs.Lists.{length-with_item}
 use Rattle.cpg_node.specs.declared.connections.Client.{Client}
-use Rattle.cpg_node.specs.Nodes.{NodeValue, delivered_entries, entry_by, if_open, new_value, open_client, records_of}
+use Rattle.cpg_node.specs.Nodes.{NodeValue, delivered_entries, entry_by, if_open, inbox_of, new_value, open_client, records_of}
 use Rattle.cpg_node.specs.Calls.{connected}
 use Rattle.cpg_ask.proofs.Mapped.{length_mapped}
 use Rattle.cpg_serve.specs.Coming.{rest_of}
 use Rattle.cpg_serve.specs.Renewing.{Root, Seat, all_inserts, held_by, renewal, seat_entry}
 use Rattle.cpg_serve.specs.Settling.{IsAlike, IsLone, IsStill}
-use Rattle.cpg_serve.specs.Carrying.{AreLetIn, AreOfOne, HasNumber, HasParted, HasPut, HasPutAll, HaveConnected, HaveGiven, HaveJoined, IsBegun, IsFirst, IsNext, IsRoot, KeepsAll, anew, living, next_entries, numbered, own_client, renumbered, rest_for, root_end, table_of, tables_in}
+use Rattle.cpg_serve.specs.Carrying.{AreCounted, AreLetIn, AreOfOne, HasNumber, HasParted, HasPut, HasPutAll, HaveConnected, HaveGiven, HaveJoined, IsBegun, IsFirst, IsFresh, IsNext, IsRoot, KeepsAll, anew, living, next_entries, numbered, own_client, renumbered, rest_for, root_end, table_of, tables_in}
 use Rattle.cpg_serve.proofs.Begun.{root_still}
 use Rattle.cpg_serve.proofs.Carried.{next_keeps_all}
+use Rattle.cpg_serve.proofs.Coming.{open_is}
 use Rattle.cpg_serve.proofs.Lone.{delivered_is, lone_new}
 use Rattle.cpg_serve.proofs.Running.{within}
 use Rattle.cpg_serve.proofs.Turns.{none_next}
@@ -92,8 +94,8 @@ few_living (c ∷ cs) = by_end c.ended (few_living cs)
     by_end false h = omega (arith, h)
 
 -- whoever has no number there was given all
-none_more : (x y : NodeValue) (most : ℕ) → map anew y.clients ≡ own_client ∷ map anew (living x.clients) → (suc (length x.clients) ≤ most) ⊎ (MOST_CONNECTIONS ≤ most) → ((conn : ℕ) → conn ≤ most → rest_for y conn ≡ []) → (conn : ℕ) → conn ≤ MOST_CONNECTIONS → rest_for y conn ≡ []
-none_more x y most clients ends given conn few = ⊎_elim
+none_more : (x y : NodeValue) (most : ℕ) → map anew y.clients ≡ own_client ∷ map anew (living x.clients) → length y.clients ≤ MOST_CONNECTIONS → (suc (length x.clients) ≤ most) ⊎ (MOST_CONNECTIONS ≤ most) → ((conn : ℕ) → conn ≤ most → rest_for y conn ≡ []) → (conn : ℕ) → rest_for y conn ≡ []
+none_more x y most clients few ends given conn = ⊎_elim
     (λ (past : most < conn). ap (λ (o : Option Client). rest_of y conn (if_open o)) (absent (item y.clients conn) refl past))
     (λ (low : conn ≤ most). given conn low)
     (cases_lt most conn)
@@ -105,7 +107,7 @@ none_more x y most clients ends given conn few = ⊎_elim
     absent None e past = refl
     absent (Some c) e past =
         let l = within y.clients conn c e in
-        absurd (⊎_elim (λ (a : suc (length x.clients) ≤ most). omega (arith, a, l, past, count)) (λ (a : MOST_CONNECTIONS ≤ most). omega (arith, a, few, past)) ends)
+        absurd (⊎_elim (λ (a : suc (length x.clients) ≤ most). omega (arith, a, l, past, count)) (λ (a : MOST_CONNECTIONS ≤ most). omega (arith, a, few, l, past)) ends)
 
 ends_at : (count last most : ℕ) → last ≡ count → most ≡ min (last + 1) (2 ^ 16 - 1) → (suc count ≤ most) ⊎ (MOST_CONNECTIONS ≤ most)
 ends_at count last most is e = ⊎_elim
@@ -119,15 +121,19 @@ pub record IsOpen (s : Settings) (list : Listed) (cs : List Client) (x : NodeVal
   pub number : x.ring.node ≡ 1
   pub lets_in : x.list ≡ list
   pub clients : map anew x.clients ≡ own_open ∷ map anew (living cs)
+  pub fresh : AllByRecursion IsFresh x.clients
+  pub few : length x.clients ≤ MOST_CONNECTIONS
 
 -- the same once the daemon's own connection ended
 record IsClosed (s : Settings) (list : Listed) (cs : List Client) (x : NodeValue) : Type 0 where
   pub settings : x.ring.settings ≡ s
   pub lets_in : x.list ≡ list
   pub clients : map anew x.clients ≡ own_client ∷ map anew (living cs)
+  pub counted : AreCounted x
+  pub few : length x.clients ≤ MOST_CONNECTIONS
 
 pub first_open : (s : Settings) (list : Listed) (x : NodeValue) → IsFirst s list x → IsOpen s list [] x
-first_open s list x h = subst (IsOpen s list []) (sym h.1) (record { settings = refl; number = refl; lets_in = refl; clients = refl })
+first_open s list x h = subst (IsOpen s list []) (sym h.1) (record { settings = refl; number = refl; lets_in = refl; clients = refl; fresh = (refl, tt); few = omega arith })
 
 pub all_open : (s : Settings) (list : Listed) (cs : List Client) (numbers : List ℕ) (x y : NodeValue) → IsOpen s list [] x → HaveConnected cs numbers x y → IsOpen s list cs y
 all_open s list cs numbers x y h k = record {
@@ -135,6 +141,8 @@ all_open s list cs numbers x y h k = record {
   number = ap (λ (r : RingNode). r.node) k.ring ∙ h.number;
   lets_in = k.list ∙ h.lets_in;
   clients = k.alive ∙ ap (λ (l : List Client). l ++ map anew (living cs)) h.clients;
+  fresh = k.fresh h.fresh;
+  few = k.few h.few;
 }
 
 pub all_numbered : (s : Settings) (list : Listed) (cs : List Client) (numbers : List ℕ) (x y : NodeValue) → IsOpen s list [] x → HaveConnected cs numbers x y → numbers ≡ numbered 1 cs
@@ -146,6 +154,8 @@ open_still s list cs x y alike same h = record {
   number = alike.number ∙ h.number;
   lets_in = alike.list ∙ h.lets_in;
   clients = ap (λ (l : List Client). map anew l) same ∙ h.clients;
+  fresh = subst (AllByRecursion IsFresh) (sym same) h.fresh;
+  few = subst (λ (l : List Client). length l ≤ MOST_CONNECTIONS) (sym same) h.few;
 }
 
 pub is_root : (s : Settings) (list : Listed) (cs : List Client) (x : NodeValue) → IsOpen s list cs x → IsRoot root x
@@ -154,18 +164,43 @@ is_root s list cs x h = (sym h.number, root_open x.clients (map anew (living cs)
 ended_entry : (taken : ℕ) (es : List Entry) (x : NodeValue) → x.ring.node ≡ 1 → es ++ entry_by x 1 (record { pid = 0; cred = record { uid = 0; gid = 0 }; ended = false; taken = taken }) Gone ∷ [] ≡ es ++ root_end root ∷ []
 ended_entry taken es x is = ap (λ (n : ℕ). es ++ record { node = n; conn = 1; pid = 0; cred = record { uid = 0; gid = 0 }; op = Gone } ∷ []) is
 
+-- the daemon's own connection, with what it took
+abbrev own_at : (ended : Bool) → ℕ → Client
+own_at ended taken = record { pid = 0; cred = record { uid = 0; gid = 0 }; ended = ended; taken = taken }
+
+fresh_ended : (cs : List Client) (taken : ℕ) → if_open (item cs 1) ≡ Some (own_at false taken) → AllByRecursion IsFresh cs → AllByRecursion IsFresh (with_item cs 1 (own_at true taken))
+fresh_ended [] taken e h = absurd (none-some (own_at false taken) e)
+fresh_ended (c ∷ cs) taken e h =
+    let same : c ≡ own_at false taken = same_Some c (own_at false taken) (open_is (Some c) (own_at false taken) e).0 in
+    (sym (ap (λ (k : Client). k.taken) same) ∙ h.0, h.1)
+
+fresh_at : (cs : List Client) (i : ℕ) (c : Client) → slice_get cs i ≡ Some c → AllByRecursion IsFresh cs → IsFresh c
+fresh_at [] i c e h = absurd (none-some c e)
+fresh_at (d ∷ cs) zero c e h = subst IsFresh (same_Some d c e) h.0
+fresh_at (d ∷ cs) (suc i) c e h = fresh_at cs i c e h.1
+
+fresh_counted : (x : NodeValue) → AllByRecursion IsFresh x.clients → AreCounted x
+fresh_counted x h = λ conn c found. by_place conn c (open_is (item x.clients conn) c found).0
+  where
+    by_place : (conn : ℕ) (c : Client) → item x.clients conn ≡ Some c → c.taken ≤ length (inbox_of x conn)
+    by_place zero c e = absurd (none-some c e)
+    by_place (suc i) c e = let none = fresh_at x.clients i c e h in omega (arith, none)
+
 root_gone : (s : Settings) (list : Listed) (cs : List Client) (es : List Entry) (x y : NodeValue) → IsOpen s list cs x → HasParted 1 x y → IsBegun x es → IsClosed s list cs y × IsBegun y (es ++ root_end root ∷ [])
 root_gone s list cs es x y h k b = by_root (is_root s list cs x h).1
   where
-    by_root : ((taken : ℕ) × (open_client x 1 ≡ Some (record { pid = 0; cred = record { uid = 0; gid = 0 }; ended = false; taken = taken }))) → IsClosed s list cs y × IsBegun y (es ++ root_end root ∷ [])
-    by_root r = (
-      record {
-        settings = k.alike.settings ∙ h.settings;
-        lets_in = k.alike.list ∙ h.lets_in;
-        clients = ap (λ (l : List Client). map anew l) (k.clients (record { pid = 0; cred = record { uid = 0; gid = 0 }; ended = false; taken = r.0 }) r.1) ∙ root_ended x.clients (map anew (living cs)) r.0 h.clients;
-      },
-      subst (IsBegun y) (ended_entry r.0 es x h.number) (k.begun es (record { pid = 0; cred = record { uid = 0; gid = 0 }; ended = false; taken = r.0 }) r.1 b),
-    )
+    by_root : ((taken : ℕ) × (open_client x 1 ≡ Some (own_at false taken))) → IsClosed s list cs y × IsBegun y (es ++ root_end root ∷ [])
+    by_root r =
+        let clients : y.clients ≡ with_item x.clients 1 (own_at true r.0) = k.clients (own_at false r.0) r.1 in (
+          record {
+            settings = k.alike.settings ∙ h.settings;
+            lets_in = k.alike.list ∙ h.lets_in;
+            clients = ap (λ (l : List Client). map anew l) clients ∙ root_ended x.clients (map anew (living cs)) r.0 h.clients;
+            counted = fresh_counted y (subst (AllByRecursion IsFresh) (sym clients) (fresh_ended x.clients r.0 r.1 h.fresh));
+            few = omega (arith, h.few, ap (λ (l : List Client). length l) clients, length-with_item x.clients 1 (own_at true r.0));
+          },
+          subst (IsBegun y) (ended_entry r.0 es x h.number) (k.begun es (own_at false r.0) r.1 b),
+        )
 
 tables_put : (s : Settings) (list : Listed) (cs : List Client) (rs : List Record) (seats : List Seat) (x y : NodeValue) → IsOpen s list cs x → HasPutAll rs x y → IsBegun x (map seat_entry seats) → IsClosed s list cs y × IsBegun y (next_entries seats root rs)
 tables_put s list cs rs seats x y h k b = by_put k.0 (k.1 root refl) k.2
@@ -179,10 +214,10 @@ keeps_of : (es : List Entry) (cs : List Client) (seats : List Seat) (y : NodeVal
 keeps_of es cs seats y has held b =
     subst (KeepsAll cs (judged es)) (sym (ap judged (delivered_is y.ring b.token (next_entries seats root (judged es)) b.lone (none_next y b.still.1)))) (next_keeps_all es cs root seats refl has held)
 
-next_of_parts : (s : Settings) (list : Listed) (x y : NodeValue) (numbers : List ℕ) (seats : List Seat) → AreOfOne s → AreLetIn list x.clients → numbers ≡ numbered 1 x.clients → AllByRecursion (HasNumber (numbered 1 x.clients)) (memberships (records_of x))
+next_of_parts : (s : Settings) (list : Listed) (x y : NodeValue) (numbers : List ℕ) (seats : List Seat) → AreOfOne s → length x.clients ≤ MOST_CONNECTIONS → AreLetIn list x.clients → numbers ≡ numbered 1 x.clients → AllByRecursion (HasNumber (numbered 1 x.clients)) (memberships (records_of x))
     → map held_by seats ≡ map (renumbered (numbered 1 x.clients)) (memberships (records_of x)) → IsClosed s list x.clients y → IsBegun y (next_entries seats root (records_of x))
-    → ((conn : ℕ) → conn ≤ MOST_CONNECTIONS → rest_for y conn ≡ []) → IsNext s list numbers x y
-next_of_parts s list x y numbers seats one in_it nums has held closed begun given = record {
+    → ((conn : ℕ) → rest_for y conn ≡ []) → IsNext s list numbers x y
+next_of_parts s list x y numbers seats one few in_it nums has held closed begun given = record {
   of_one = one;
   let_in = in_it;
   settings = closed.settings;
@@ -192,6 +227,8 @@ next_of_parts s list x y numbers seats one in_it nums has held closed begun give
   keeps = keeps_of (delivered_entries x.ring.state) x.clients seats y has held begun;
   renumbers = nums;
   clients = closed.clients;
+  few = few;
+  counted = closed.counted;
   given = given;
 }
 
@@ -200,6 +237,8 @@ closed_still s list cs most x y h k = record {
   settings = ap (λ (r : RingNode). r.settings) h.ring ∙ k.settings;
   lets_in = h.list ∙ k.lets_in;
   clients = h.clients ∙ k.clients;
+  counted = h.counted k.counted;
+  few = omega (arith, k.few, sym (length_mapped anew y.clients) ∙ ap (λ (l : List Client). length l) h.clients ∙ length_mapped anew x.clients);
 }
 
 pub seated_by : (numbers : List ℕ) (now all : List Membership) (rs seen : List Record) (x y : NodeValue) → now ≡ all → all ≡ memberships seen → seen ≡ rs → HaveJoined numbers now x y → HaveJoined numbers (memberships rs) x y
@@ -209,19 +248,19 @@ pub tables_by : (now groups : List (List ℕ)) (rs seen : List Record) (x z y : 
 tables_by now groups rs seen x z y h k l puts parted =
     (z, (λ r own. subst (λ (gs : List (List ℕ)). HasPut r (all_inserts r (map (table_of rs) gs)) x z) (h ∙ k ∙ ap tables_in l) (puts r own)), parted)
 
-pub next_is : (s : Settings) (list : Listed) (x y0 y1 y2 y4 y5 : NodeValue) (last most : ℕ) (numbers seen : List ℕ) → IsFirst s list y0 → last ≡ length x.clients → HaveConnected (take last x.clients) numbers y0 y1
+pub next_is : (s : Settings) (list : Listed) (x y0 y1 y2 y4 y5 : NodeValue) (last most : ℕ) (numbers seen : List ℕ) → IsFirst s list y0 → last ≤ MOST_CONNECTIONS → last ≡ length x.clients → HaveConnected (take last x.clients) numbers y0 y1
     → seen ≡ numbers → HaveJoined seen (memberships (records_of x)) y1 y2 → HasPutAll (records_of x) y2 y4 → HaveGiven most y4 y5 → most ≡ min (last + 1) (2 ^ 16 - 1) → IsNext s list numbers x y5
-next_is s list x y0 y1 y2 y4 y5 last most numbers seen first is conn same joins tables given ends =
+next_is s list x y0 y1 y2 y4 y5 last most numbers seen first few is conn same joins tables given ends =
     by_connected (subst (λ (cs : List Client). HaveConnected cs numbers y0 y1) (ap (λ n. take n x.clients) is ∙ take-length x.clients) conn)
   where
     joined : HaveJoined numbers (memberships (records_of x)) y1 y2
     joined = subst (λ (l : List ℕ). HaveJoined l (memberships (records_of x)) y1 y2) same joins
 
     by_numbers : AreLetIn list x.clients → numbers ≡ numbered 1 x.clients → IsClosed s list x.clients y4 × IsBegun y4 (next_entries joined.seats root (records_of x)) → IsNext s list numbers x y5
-    by_numbers in_it nums closed = next_of_parts s list x y5 numbers joined.seats first.0 in_it nums (subst (λ (l : List ℕ). AllByRecursion (HasNumber l) (memberships (records_of x))) nums joined.numbered)
+    by_numbers in_it nums closed = next_of_parts s list x y5 numbers joined.seats first.0 (omega (arith, few, is)) in_it nums (subst (λ (l : List ℕ). AllByRecursion (HasNumber l) (memberships (records_of x))) nums joined.numbered)
         (joined.held ∙ ap (λ (l : List ℕ). map (renumbered l) (memberships (records_of x))) nums) (closed_still s list x.clients most y4 y5 given closed.0)
         (begun_ring y4 y5 (next_entries joined.seats root (records_of x)) given.ring closed.1)
-        (none_more x y5 most (given.clients ∙ closed.0.clients) (ends_at (length x.clients) last most is ends) given.given)
+        (none_more x y5 most (given.clients ∙ closed.0.clients) (closed_still s list x.clients most y4 y5 given closed.0).few (ends_at (length x.clients) last most is ends) given.given)
 
     by_connected : HaveConnected x.clients numbers y0 y1 → IsNext s list numbers x y5
     by_connected h = by_numbers (subst (λ (l : Listed). AreLetIn l x.clients) (first_open s list y0 first).lets_in h.let_in) (all_numbered s list x.clients numbers y0 y1 (first_open s list y0 first) h)

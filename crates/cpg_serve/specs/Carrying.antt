@@ -1,5 +1,5 @@
 -- What the next ring takes over of a node: its open connections, its members and its tables.
-use Rattle.std.specs.Prelude.{◌≡◌, ◌≢◌, ◌≤◌, ℕ, suc, Bool, false, true, not, List, [], ◌∷◌, ◌++◌, map, length, is_some, Option, Some, None, option_map, ◌==◌, if◌then◌else◌}
+use Rattle.std.specs.Prelude.{◌≡◌, ◌≢◌, ◌<◌, ◌≤◌, ℕ, suc, Bool, false, true, not, List, [], ◌∷◌, ◌++◌, map, length, is_some, Option, Some, None, option_map, ◌==◌, if◌then◌else◌}
 use Rattle.std.specs.List.{AllByRecursion, filter, fold, list_any}
 use Rattle.std.specs.Str.{bytes_eq}
 use Rattle.cpg_cred.specs.declared.credentials.Cred.{Cred}
@@ -27,7 +27,7 @@ use Rattle.cpg_node.specs.Calls.{connected}
 use Rattle.cpg_ask.specs.declared.greetings.Greeting.{Greeting}
 use Rattle.cpg_serve.specs.Telling.{DeskValue, new_desk}
 use Rattle.cpg_serve.specs.Asking.{at_of}
-use Rattle.cpg_serve.specs.Coming.{left_of, rest_of}
+use Rattle.cpg_serve.specs.Coming.{IsCounted, left_of, rest_of}
 use Rattle.cpg_serve.specs.Serving.{ServedValue, greeting_of}
 use Rattle.cpg_serve.specs.Renewing.{Root, Seat, TableOf, all_inserts, bare, held_by, renewal, seat_entry}
 use Rattle.cpg_serve.specs.Settling.{IsAlike, IsLone, IsStill, MovesTo, ToldAll}
@@ -122,6 +122,10 @@ pub record IsBegun (x : NodeValue) (entries : List Entry) : Type 0 where
 abbrev pub anew : Client → Client
 anew c = record { pid = c.pid; cred = c.cred; ended = c.ended; taken = 0 }
 
+-- it took nothing
+abbrev pub IsFresh : Client → Type 0
+IsFresh c = c.taken ≡ 0
+
 -- those that are open
 abbrev pub living : List Client → List Client
 living clients = filter (λ c. not c.ended) clients
@@ -165,10 +169,10 @@ pub record HasParted (conn : ℕ) (x y : NodeValue) : Type 0 where
   pub clients : (c : Client) → open_client x conn ≡ Some c → y.clients ≡ with_item x.clients conn (record c { ended = true })
   pub begun : (es : List Entry) (c : Client) → open_client x conn ≡ Some c → IsBegun x es → IsBegun y (es ++ entry_by x conn c Gone ∷ [])
 
--- an open connection of an old node is one of the new node, too, whose list lets it in
+-- an open connection of an old node is one of the new node, too, whose list lets it in, and which has a number for it
 abbrev pub ConnectsBy : Option Client → ℕ → NodeValue → NodeValue → Type 0
 ConnectsBy None number x y = (number ≡ 0) × (y ≡ x)
-ConnectsBy (Some c) number x y = (number ≡ suc (length x.clients)) × (y ≡ connected x c.pid c.cred) × IsLetIn x.list c
+ConnectsBy (Some c) number x y = (number ≡ suc (length x.clients)) × (y ≡ connected x c.pid c.cred) × IsLetIn x.list c × (length x.clients < MOST_CONNECTIONS)
 
 -- So are those of these clients, by these numbers.
 pub record HaveConnected (old : List Client) (numbers : List ℕ) (x y : NodeValue) : Type 0 where
@@ -176,6 +180,8 @@ pub record HaveConnected (old : List Client) (numbers : List ℕ) (x y : NodeVal
   pub list : y.list ≡ x.list
   pub given : numbers ≡ numbered (length x.clients) old
   pub alive : map anew y.clients ≡ map anew x.clients ++ map anew (living old)
+  pub fresh : AllByRecursion IsFresh x.clients → AllByRecursion IsFresh y.clients
+  pub few : length x.clients ≤ MOST_CONNECTIONS → length y.clients ≤ MOST_CONNECTIONS
   pub let_in : AreLetIn x.list old
 
 -- Members joined again, by their new numbers.
@@ -201,11 +207,16 @@ pub record HasPut (root : Root) (entries : List Entry) (x y : NodeValue) : Type 
 abbrev pub HasPutAll : List Record → NodeValue → NodeValue → Type 0
 HasPutAll records x y = (z : NodeValue) × ((root : Root) → root.conn ≡ 1 → HasPut root (all_inserts root (map (table_of records) (tables_in records))) x z) × HasParted 1 z y
 
+-- none took more than its inbox has
+abbrev pub AreCounted : NodeValue → Type 0
+AreCounted x = (conn : ℕ) → IsCounted conn x
+
 -- The connection took some of what the ring tells it.
 pub record HasTaken (conn : ℕ) (x y : NodeValue) : Type 0 where
   pub ring : y.ring ≡ x.ring
   pub list : y.list ≡ x.list
   pub clients : map anew y.clients ≡ map anew x.clients
+  pub counted : IsCounted conn x → IsCounted conn y
   pub others : (other : ℕ) → other ≢ conn → item y.clients other ≡ item x.clients other
 
 -- what the connection did not take yet
@@ -221,6 +232,7 @@ pub record HaveGiven (last : ℕ) (x y : NodeValue) : Type 0 where
   pub ring : y.ring ≡ x.ring
   pub list : y.list ≡ x.list
   pub clients : map anew y.clients ≡ map anew x.clients
+  pub counted : AreCounted x → AreCounted y
   pub given : (conn : ℕ) → conn ≤ last → rest_for y conn ≡ []
 
 -- a new ring of one node, with the daemon's own connection
@@ -231,7 +243,7 @@ IsFirst s list x = AreOfOne s × (x ≡ connected (new_value s 1 list) 0 (record
 
 -- The node of the next ring, by these settings and that list: the same members in the same order, by the new numbers of
 -- their connections, and the same rules in the same order; the open connections, behind the daemon's own, each of which
--- took all that the ring tells it so far. It is a ring of one node, in which nothing waits.
+-- took all that the ring tells it so far, and no more. It is a ring of one node, in which nothing waits.
 pub record IsNext (s : Settings) (list : Listed) (numbers : List ℕ) (x y : NodeValue) : Type 0 where
   pub of_one : AreOfOne s
   pub settings : y.ring.settings ≡ s
@@ -242,7 +254,9 @@ pub record IsNext (s : Settings) (list : Listed) (numbers : List ℕ) (x y : Nod
   pub keeps : KeepsAll x.clients (records_of x) (records_of y)
   pub renumbers : numbers ≡ numbered 1 x.clients
   pub clients : map anew y.clients ≡ own_client ∷ map anew (living x.clients)
-  pub given : (conn : ℕ) → conn ≤ MOST_CONNECTIONS → rest_for y conn ≡ []
+  pub few : length x.clients ≤ MOST_CONNECTIONS
+  pub counted : AreCounted y
+  pub given : (conn : ℕ) → rest_for y conn ≡ []
 
 -- a new ring's node became that of the next ring
 abbrev pub IsFilled : List ℕ → NodeValue → NodeValue → NodeValue → Type 0
@@ -266,10 +280,10 @@ pub record GoesOver (numbers : List ℕ) (y : ServedValue) (conn : ℕ) (c : Cli
   pub desk : item y.desks (number_at numbers conn) ≡ Some (greeted y.greeting d)
   pub told : left_of (number_at numbers conn) (at_of y.node (greeted y.greeting d)) ≡ []
 
--- so does each that was told all, of a next ring of no more connections than there can be
+-- so does each that was told all
 abbrev pub EachGoesOver : Type 0
 EachGoesOver = (s : Settings) (list : Listed) (numbers : List ℕ) (x y : ServedValue) (conn : ℕ) (c : Client) (d : DeskValue) → IsRenewed s list numbers x y → ToldAll x conn
-    → number_at numbers conn ≤ MOST_CONNECTIONS → open_client x.node conn ≡ Some c → item x.desks conn ≡ Some d → GoesOver numbers y conn c d
+    → open_client x.node conn ≡ Some c → item x.desks conn ≡ Some d → GoesOver numbers y conn c d
 
 -- nothing moves, and every client was told all
 abbrev pub IsAtRest : ServedValue → Type 0

@@ -19,7 +19,7 @@ use Rattle.cpg_world_laws.specs.Worlds.{WorldValue, runs, Reached}
 use Rattle.cpg_world_laws.specs.Replies.{Answer, AreReplies}
 use Rattle.cpg_serve.specs.Orders.{admitted_of}
 use Rattle.cpg_serve.specs.Serving.{ServedValue, arrived}
-use Rattle.cpg_serve.specs.Stories.{Note, Made, Answered, Happened, event_in, StoryAt}
+use Rattle.cpg_serve.specs.Stories.{Note, Made, Answered, Happened, event_in, StoryAt, nothing_before}
 use Rattle.cpg_serve.specs.Runs.{Did, Run, IsKeptBy, heard_by, written_by}
 use Rattle.cpg_serve.specs.Verdicts.{verdict_in}
 
@@ -60,14 +60,14 @@ IsEven conn asks x = (d : DeskValue) × (item x.desks conn ≡ Some d)
 
 -- The verdicts that a client was told are the answers to its first calls, in order: the k-th to the k-th.
 abbrev pub AnswersInOrder : Type 0
-AnswersInOrder = (conn : ℕ) (asks : List Ask) (written : List ℕ) (x : ServedValue) (k : StoryAt conn asks written x) → IsEven conn asks x
+AnswersInOrder = (conn : ℕ) (asks : List Ask) (written : List ℕ) (x : ServedValue) (k : StoryAt nothing_before conn asks written x) → IsEven conn asks x
     → answered_in [] k.story.notes ≡ take (verdicts (flat_map event_in k.story.notes)) (map owed_to (calls_among asks))
 
 -- It stays so over any run, and begins so.
 abbrev pub StaysEven : Type 0
 StaysEven = (conn : ℕ) (asks : List Ask) (written : List ℕ) (x y : ServedValue) (dids : List Did) (run : Run x dids y) → AllByRecursion (IsKeptBy conn) dids
-    → StoryAt conn asks written x → IsEven conn asks x → IsHonestRun conn asks x dids y run
-    → (more : List Ask) × (flat_map (heard_by conn) dids ≡ flat_map spelling more) × StoryAt conn (asks ++ more) (written ++ flat_map (written_by conn) dids) y × IsEven conn (asks ++ more) y
+    → StoryAt nothing_before conn asks written x → IsEven conn asks x → IsHonestRun conn asks x dids y run
+    → (more : List Ask) × (flat_map (heard_by conn) dids ≡ flat_map spelling more) × StoryAt nothing_before conn (asks ++ more) (written ++ flat_map (written_by conn) dids) y × IsEven conn (asks ++ more) y
 
 -- A client that comes begins so.
 abbrev pub EvenBegins : Type 0

@@ -9,9 +9,9 @@ use Rattle.cpg_node.specs.Calls.{node_after_delivery}
 use Rattle.cpg_ask.specs.Asks.{Ask}
 use Rattle.cpg_ask.specs.Spelling.{spelling}
 use Rattle.cpg_serve.specs.declared.hearing.Stop.{Stop}
-use Rattle.cpg_serve.specs.Telling.{new_desk}
+use Rattle.cpg_serve.specs.Telling.{DeskValue, new_desk}
 use Rattle.cpg_serve.specs.Serving.{ServedValue, with_node, arrived, parted, IsHeard, IsCaughtUp, IsWritten}
-use Rattle.cpg_serve.specs.Stories.{StoryAt}
+use Rattle.cpg_serve.specs.Stories.{Before, StoryAt, nothing_before}
 
 -- What was called: a client came; so many of a client's bytes were heard; a frame was heard; a place was delivered; a
 -- client was told what was left, or some of it; bytes were written to a client; a client was lost; or nothing was done.
@@ -68,8 +68,8 @@ written_by conn _ = []
 -- it was told are the spellings of what notes tell, of which the asks are those, in order, and the events are its
 -- inbox, in order, but for what is left.
 abbrev pub AllThatIsToldOver : ServedValue → List Did → ServedValue → Type 0
-AllThatIsToldOver x dids y = (conn : ℕ) (asks : List Ask) (written : List ℕ) → AllByRecursion (IsKeptBy conn) dids → StoryAt conn asks written x
-    → (more : List Ask) × (flat_map (heard_by conn) dids ≡ flat_map spelling more) × StoryAt conn (asks ++ more) (written ++ flat_map (written_by conn) dids) y
+AllThatIsToldOver x dids y = (before : Before) (conn : ℕ) (asks : List Ask) (written : List ℕ) → AllByRecursion (IsKeptBy conn) dids → StoryAt before conn asks written x
+    → (more : List Ask) × (flat_map (heard_by conn) dids ≡ flat_map spelling more) × StoryAt before conn (asks ++ more) (written ++ flat_map (written_by conn) dids) y
 
 abbrev pub AllThatIsTold : Type 0
 AllThatIsTold = (x y : ServedValue) (dids : List Did) → Run x dids y → AllThatIsToldOver x dids y
@@ -77,17 +77,17 @@ AllThatIsTold = (x y : ServedValue) (dids : List Did) → Run x dids y → AllTh
 -- A client that comes to a node that has as many desks as connections begins with the story of no asks, and nothing
 -- written.
 abbrev pub StoriesBegin : Type 0
-StoriesBegin = (pid : ℕ) (cred : Cred) (x : ServedValue) → length x.desks ≡ length x.node.clients → StoryAt (suc (length x.desks)) [] [] (arrived x pid cred)
+StoriesBegin = (pid : ℕ) (cred : Cred) (x : ServedValue) → length x.desks ≡ length x.node.clients → StoryAt nothing_before (suc (length x.desks)) [] [] (arrived x pid cred)
 
 -- The connection ended, and its desk holds nothing.
 pub record IsGone (conn : ℕ) (x : ServedValue) : Type 0 where
   pub ended : open_client x.node conn ≡ None
   pub known : conn ≤ length x.node.clients
-  pub empty : item x.desks conn ≡ Some (new_desk x.greeting)
+  pub empty : (d : DeskValue) → item x.desks conn ≡ Some d → d ≡ new_desk x.greeting
 
 -- a client that is lost is gone
 abbrev pub LostIsGone : Type 0
-LostIsGone = (conn : ℕ) (asks : List Ask) (written : List ℕ) (x : ServedValue) → StoryAt conn asks written x → IsGone conn (parted x conn)
+LostIsGone = (before : Before) (conn : ℕ) (asks : List Ask) (written : List ℕ) (x : ServedValue) → StoryAt before conn asks written x → IsGone conn (parted x conn)
 
 -- A client that is gone stays so over any run, is heard no more, and nothing is written to it.
 abbrev pub NothingAfterTheEndOver : ServedValue → List Did → ServedValue → Type 0
@@ -113,7 +113,7 @@ newcomer x before = suc (length x.desks + arrivals before)
 abbrev pub AllThatNewcomersAreToldOver : ServedValue → List Did → ServedValue → Type 0
 AllThatNewcomersAreToldOver x dids y = (before after : List Did) (pid : ℕ) (cred : Cred) → dids ≡ before ++ Arrives pid cred ∷ after
     → AllByRecursion (IsKeptBy (newcomer x before)) after
-    → (more : List Ask) × (flat_map (heard_by (newcomer x before)) after ≡ flat_map spelling more) × StoryAt (newcomer x before) more (flat_map (written_by (newcomer x before)) after) y
+    → (more : List Ask) × (flat_map (heard_by (newcomer x before)) after ≡ flat_map spelling more) × StoryAt nothing_before (newcomer x before) more (flat_map (written_by (newcomer x before)) after) y
 
 -- It is so at a node that has as many desks as connections.
 abbrev pub AllThatNewcomersAreTold : Type 0

@@ -7,7 +7,7 @@ use Rattle.cpg_entry.specs.declared.calls.Call.{Call}
 use Rattle.cpg_ring.specs.Worlds.{item}
 use Rattle.cpg_record.specs.declared.events.Event.{Event}
 use Rattle.cpg_record.specs.declared.records.Record.{Record}
-use Rattle.cpg_record.specs.Events.{events}
+use Rattle.cpg_record.specs.Events.{events, inbox}
 use Rattle.cpg_node.specs.Nodes.{NodeValue, inbox_of, open_client, records_of, conn_id}
 use Rattle.cpg_node.specs.Calls.{next_record, submitted, submit_refusal, call_refusal}
 use Rattle.cpg_ask.specs.declared.greetings.Greeting.{Greeting}
@@ -81,26 +81,41 @@ IsRising least (Made ask ∷ notes) = IsRising least notes
 IsRising least (Answered places ask tell ∷ notes) = (least ≤ places) × IsRising places notes
 IsRising least (Happened event ∷ notes) = IsRising least notes
 
--- For as long as the client's connection is open: all that it was told are the spellings of what notes tell, whose asks
--- are all that it asked, in order, and whose events are its inbox, in order, but for what is left.
-pub record IsStory (conn : ℕ) (asks : List Ask) (written : List ℕ) (s : At) : Type 0 where
+-- Notes of one ring, of a client that came when so many of its places were delivered: each is right there, and their
+-- events are all that the ring told the client since then, in order, but for what is left.
+pub record IsToldIn (conn : ℕ) (places : ℕ) (greeting : Greeting) (x : NodeValue) (left : List Event) (notes : List Note) : Type 0 where
+  pub each : AllByRecursion (IsNote greeting (asker_of x conn) (records_of x)) notes
+  pub rising : IsRising places notes
+  pub began : places ≤ length (records_of x)
+  pub events : inbox (take places (records_of x)) (conn_id x conn) ++ (flat_map event_in notes ++ left) ≡ inbox_of x conn
+
+-- What there was of a client before its ring: the notes of earlier rings, and with how many places this one began.
+pub record Before : Type 0 where
   pub notes : List Note
-  pub each : AllByRecursion (IsNote s.desk.greeting (asker_of s.node conn) (records_of s.node)) notes
-  pub rising : IsRising 0 notes
-  pub asked : flat_map ask_in notes ≡ asks
-  pub events : flat_map event_in notes ++ left_of conn s ≡ inbox_of s.node conn
-  pub owed : owed_in [] notes ≡ s.desk.owed
+  pub places : ℕ
+
+-- of a client that came in this ring
+abbrev pub nothing_before : Before
+nothing_before = record { notes = []; places = 0 }
+
+-- For as long as the client's connection is open: all that it was told are the spellings of what notes tell, whose asks
+-- are all that it asked, in order; those of this ring have all that the ring told it, but for what is left.
+pub record IsStory (before : Before) (conn : ℕ) (asks : List Ask) (written : List ℕ) (s : At) : Type 0 where
+  pub notes : List Note
+  pub now : IsToldIn conn before.places s.desk.greeting s.node (left_of conn s) notes
+  pub asked : flat_map ask_in (before.notes ++ notes) ≡ asks
+  pub owed : owed_in [] (before.notes ++ notes) ≡ s.desk.owed
   -- the connection is open, and took no more than its inbox has
   pub counted : IsCounted conn s.node
   pub alive : is_some (open_client s.node conn) ≡ true
-  pub told : written ++ s.desk.out ≡ flat_map tell_bytes (tells_in [] notes)
+  pub told : written ++ s.desk.out ≡ flat_map tell_bytes (tells_in [] (before.notes ++ notes))
 
 -- the client of that connection has a desk, and that story, and is greeted as all are
-pub record StoryAt (conn : ℕ) (asks : List Ask) (written : List ℕ) (x : ServedValue) : Type 0 where
+pub record StoryAt (before : Before) (conn : ℕ) (asks : List Ask) (written : List ℕ) (x : ServedValue) : Type 0 where
   pub desk : DeskValue
   pub there : item x.desks conn ≡ Some desk
   pub greeting : desk.greeting ≡ x.greeting
-  pub story : IsStory conn asks written (at_of x.node desk)
+  pub story : IsStory before conn asks written (at_of x.node desk)
 
 -- what the next place tells the connection, if it is held
 abbrev pub told_by : NodeValue → ℕ → Option Record → List Event

@@ -14,7 +14,7 @@ ghost use Rattle.cpg_node.specs.Answers.{IsFrameAnswer};
 ghost use Rattle.cpg_ring.specs.Answers.{IsAnswer};
 ghost use Rattle.cpg_wire.specs.Reading.{frame_of};
 ghost use Rattle.cpg_serve.specs.Telling.{new_desk};
-ghost use Rattle.cpg_serve.specs.Stories.{StoryAt};
+ghost use Rattle.cpg_serve.specs.Stories.{StoryAt, nothing_before};
 ghost use Rattle.cpg_serve.specs.Runs.{IsFramed};
 ghost use Rattle.cpg_serve.specs.Serving.{greeting_of, served_of, AreAsMany, with_node, arrived, parted, out_of, IsServedMade, IsAway, IsHeard, IsCaughtUp, IsWritten, IsUnwritten, AreWritten};
 ghost use Rattle.cpg_serve.specs.Carrying.{ComesToNext, HaveMoved, IsNext, IsRenewed};
@@ -90,7 +90,7 @@ impl Served {
         ensures why { IfErr result (λ why. (why ≡ Refusal.Memory) ⊎ (connect_refusal self.old.node cred ≡ Some why)) }
         ensures err { OnErr result (self.new ≡ self.old) }
         // It asked nothing yet, and nothing was written to it.
-        ensures begins { OnOk result (StoryAt (suc (length self.old.desks)) [] [] self.new) }
+        ensures begins { OnOk result (StoryAt nothing_before (suc (length self.old.desks)) [] [] self.new) }
     {
         self.desks.reserve(1)?;
         let conn = self.node.connect(pid, cred)?;

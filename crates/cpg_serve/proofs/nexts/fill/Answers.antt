@@ -1,4 +1,4 @@
-use Rattle.std.proofs.Common.{rules}
+use Rattle.std.proofs.Common.{arith, rules}
 use Rattle.cpg_serve.proofs.Moved.{number_each}
 use Rattle.cpg_serve.proofs.Unbegun.{all_connected, connects_why, joins_not, memory_why, puts_not}
 use Rattle.cpg_serve.proofs.Whole.{next_is}
@@ -29,7 +29,7 @@ returns-in_err-give_all-clause-why c = λ s list first.
 pub returns : goal.returns
 returns c = record {
   ok = λ s list first. next_is s list c.args.old.now c.args.node.now c.connect_all.new.node c.seat_all.new.node c.put_tables.new.node c.give_all.new.node c.args.last c.saturating_add.result
-      c.in_ok-numbers.numbers.items c.as_slice.result.now first c.requires c.in_ok-numbers.ensures.ok c.as_slice.ensures.value c.in_ok-seat_all.ensures.ok c.in_ok-put_tables.ensures.ok c.in_ok-give_all.ensures.ok
+      c.in_ok-numbers.numbers.items c.as_slice.result.now first (omega arith) c.requires c.in_ok-numbers.ensures.ok c.as_slice.ensures.value c.in_ok-seat_all.ensures.ok c.in_ok-put_tables.ensures.ok c.in_ok-give_all.ensures.ok
       c.saturating_add.ensures;
   count = number_each c.args.last _ c.args.old.now.clients c.in_ok-numbers.numbers.items c.requires c.in_ok-numbers.ensures.ok.given;
   why = λ s list first. tt;

@@ -3,7 +3,7 @@ use Rattle.cpg_node.specs.Nodes.{NodeValue}
 use Rattle.cpg_node.specs.Calls.{connected}
 use Rattle.cpg_serve.specs.Telling.{DeskValue, new_desk}
 use Rattle.cpg_serve.specs.Serving.{ServedValue, served_of, arrived}
-use Rattle.cpg_serve.specs.Stories.{StoryAt}
+use Rattle.cpg_serve.specs.Stories.{StoryAt, nothing_before}
 use Rattle.cpg_serve.proofs.Running.{begins}
 use Rattle.cpg_serve.proofs.served.Served.arrive.Goals as goal
 
@@ -15,5 +15,5 @@ returns-clause-begins c =
     let desks : c.push_reserved.new.self.items ≡ x.desks ++ new_desk g ∷ [] = cc in
     let is : arrived x c.args.pid c.args.cred ≡ served_of g c.connect.new.self c.push_reserved.new.self.items =
     ap (λ (n : NodeValue). served_of g n (x.desks ++ new_desk g ∷ [])) (sym node) ∙ ap (λ (ds : List DeskValue). served_of g c.connect.new.self ds) (sym desks) in
-    subst (λ (w : ServedValue). StoryAt (suc (length w.desks)) [] [] (served_of g c.connect.new.self c.push_reserved.new.self.items)) c.self.view_is
-    (subst (λ (y : ServedValue). StoryAt (suc (length x.desks)) [] [] y) is (begins c.args.pid c.args.cred x c.self.invariant))
+    subst (λ (w : ServedValue). StoryAt nothing_before (suc (length w.desks)) [] [] (served_of g c.connect.new.self c.push_reserved.new.self.items)) c.self.view_is
+    (subst (λ (y : ServedValue). StoryAt nothing_before (suc (length x.desks)) [] [] y) is (begins c.args.pid c.args.cred x c.self.invariant))
