@@ -175,25 +175,25 @@ gone_lost conn by x false e h =
     gone_stays conn x (parted x by) h refl (ended_other conn by x.node (open_client x.node by) (is_other by conn e)) (omega (arith, count)) (item_with_other x.desks by conn (new_desk x.greeting) (is_other by conn e))
 
 -- what one call leaves of a client that is gone
-abbrev Leaves : ℕ → Did → ServedValue → Type 0
+abbrev pub Leaves : ℕ → Did → ServedValue → Type 0
 Leaves conn did y = IsGone conn y × (heard_by conn did ≡ []) × (written_by conn did ≡ [])
 
-one : (conn : ℕ) (x y : ServedValue) (did : Did) → Goes x did y → IsGone conn x → Leaves conn did y
-one conn x y (Arrives pid cred) k h = (subst (IsGone conn) (sym k) (gone_arrived conn x pid cred h), refl, refl)
-one conn x y (Hears by bytes count stop) k h = let g = gone_heard conn by x y bytes count stop (eqb by conn) refl k h in (g.0, g.1, refl)
-one conn x y Frames k h = (gone_stays conn x y h k.greeting (ap (λ cs. item cs conn) k.clients) (omega (arith, ap (λ (cs : List Client). length cs) k.clients)) (ap (λ ds. item ds conn) k.desks), refl, refl)
-one conn x y Delivers k h = (subst (IsGone conn) (sym k) (record { ended = h.ended; known = h.known; empty = h.empty }), refl, refl)
-one conn x y (Tells by) k h = (gone_told conn by x y k.0 (eqb by conn) refl k.1 h, refl, refl)
-one conn x y (Writes by bytes) k h = let g = gone_written conn by x y bytes (eqb by conn) refl k h in (g.0, refl, g.1)
-one conn x y (Loses by) k h = (subst (IsGone conn) (sym k) (gone_lost conn by x (eqb by conn) refl h), refl, refl)
-one conn x y Nothing k h = (subst (IsGone conn) (sym k) h, refl, refl)
+pub gone_by : (conn : ℕ) (x y : ServedValue) (did : Did) → Goes x did y → IsGone conn x → Leaves conn did y
+gone_by conn x y (Arrives pid cred) k h = (subst (IsGone conn) (sym k) (gone_arrived conn x pid cred h), refl, refl)
+gone_by conn x y (Hears by bytes count stop) k h = let g = gone_heard conn by x y bytes count stop (eqb by conn) refl k h in (g.0, g.1, refl)
+gone_by conn x y Frames k h = (gone_stays conn x y h k.greeting (ap (λ cs. item cs conn) k.clients) (omega (arith, ap (λ (cs : List Client). length cs) k.clients)) (ap (λ ds. item ds conn) k.desks), refl, refl)
+gone_by conn x y Delivers k h = (subst (IsGone conn) (sym k) (record { ended = h.ended; known = h.known; empty = h.empty }), refl, refl)
+gone_by conn x y (Tells by) k h = (gone_told conn by x y k.0 (eqb by conn) refl k.1 h, refl, refl)
+gone_by conn x y (Writes by bytes) k h = let g = gone_written conn by x y bytes (eqb by conn) refl k h in (g.0, refl, g.1)
+gone_by conn x y (Loses by) k h = (subst (IsGone conn) (sym k) (gone_lost conn by x (eqb by conn) refl h), refl, refl)
+gone_by conn x y Nothing k h = (subst (IsGone conn) (sym k) h, refl, refl)
 
 -- ---- a run
 
 over : (conn : ℕ) (x y : ServedValue) (dids : List Did) → Run x dids y → IsGone conn x → IsGone conn y × (flat_map (heard_by conn) dids ≡ []) × (flat_map (written_by conn) dids ≡ [])
 over conn x y [] k h = (subst (IsGone conn) (sym k) h, refl, refl)
 over conn x y (did ∷ dids) k h =
-    let first = one conn x k.0 did k.1 h in
+    let first = gone_by conn x k.0 did k.1 h in
     let later = over conn k.0 y dids k.2 first.0 in
     (later.0, ap (λ (l : List ℕ). l ++ flat_map (heard_by conn) dids) first.1 ∙ later.1, ap (λ (l : List ℕ). l ++ flat_map (written_by conn) dids) first.2 ∙ later.2)
 

@@ -29,3 +29,4 @@ pub mod Moved
 pub mod Over
 pub mod Refused
 pub mod Unbegun
+pub mod Lives

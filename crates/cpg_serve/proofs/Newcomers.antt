@@ -22,7 +22,7 @@ told_grows : (by : ℕ) (x y : ServedValue) (result : Result Unit Refusal) (o : 
 told_grows by x y result None g = subst (Grows 0 x) (sym g.1) (record { desks = omega arith; clients = omega arith })
 told_grows by x y result (Some old) g = record { desks = omega (arith, ap (λ (l : List DeskValue). length l) g.others, length-with_item x.desks by g.new); clients = omega (arith, g.goes.count) }
 
-grows : (x y : ServedValue) (did : Did) → Goes x did y → Grows (arrives did) x y
+pub grows : (x y : ServedValue) (did : Did) → Goes x did y → Grows (arrives did) x y
 grows x y (Arrives pid cred) g = subst (Grows 1 x) (sym g) (record {
   desks = length-append x.desks (new_desk x.greeting ∷ []);
   clients = length-append x.node.clients (record { pid = pid; cred = cred; ended = false; taken = 0 } ∷ []);

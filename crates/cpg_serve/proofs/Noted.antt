@@ -159,7 +159,7 @@ pub taken_by : (x : NodeValue) (call : Call) (o : Option Client) → is_some o �
 taken_by x call None alive e = absurd cc
 taken_by x call (Some c) alive e = first_none (call_refusal call) (full_refusal x.ring) e
 
-all_records : (rs : List Record) → take (length rs) rs ≡ rs
+pub all_records : (rs : List Record) → take (length rs) rs ≡ rs
 all_records [] = refl
 all_records (r ∷ rs) = ap (λ (l : List Record). r ∷ l) (all_records rs)
 

@@ -132,7 +132,7 @@ written_own before conn asks written x y bytes h k =
 -- ---- one call
 
 -- what one call brings to a story
-abbrev Brings : Before → ℕ → List Ask → List ℕ → Did → ServedValue → Type 0
+abbrev pub Brings : Before → ℕ → List Ask → List ℕ → Did → ServedValue → Type 0
 Brings before conn asks written did y = (more : List Ask) × (heard_by conn did ≡ flat_map spelling more) × StoryAt before conn (asks ++ more) (written ++ written_by conn did) y
 
 nothing_more : (before : Before) (conn : ℕ) (asks : List Ask) (written : List ℕ) (did : Did) (y : ServedValue) → heard_by conn did ≡ [] → written_by conn did ≡ [] → StoryAt before conn asks written y → Brings before conn asks written did y
@@ -166,17 +166,17 @@ written_one : (before : Before) (conn by : ℕ) (asks : List Ask) (written : Lis
 written_one before conn by asks written x y bytes false e h k = subst (λ (w : List ℕ). StoryAt before conn asks w y) (sym (append-nil written)) (stays_written before conn by asks written x y bytes (is_other by conn e) h k)
 written_one before conn by asks written x y bytes true e h k = written_own before conn asks written x y bytes (subst (λ (n : ℕ). IsWritten n x bytes y) (eqb-true by conn e) h) k
 
-one : (before : Before) (conn : ℕ) (asks : List Ask) (written : List ℕ) (x y : ServedValue) (did : Did) → Goes x did y → IsKeptBy conn did → StoryAt before conn asks written x → Brings before conn asks written did y
-one before conn asks written x y (Arrives pid cred) h i k = nothing_more before conn asks written (Arrives pid cred) y refl refl (subst (λ (z : ServedValue). StoryAt before conn asks written z) (sym h) (stays_arrived before conn asks written x pid cred k))
-one before conn asks written x y (Hears by bytes count stop) h i k = heard_one before conn by asks written x y bytes count stop (eqb by conn) refl h k
-one before conn asks written x y Frames h i k = nothing_more before conn asks written Frames y refl refl (stays_framed before conn asks written x y h k)
-one before conn asks written x y Delivers h i k = nothing_more before conn asks written Delivers y refl refl (subst (λ (z : ServedValue). StoryAt before conn asks written z) (sym h) (story_of_delivery before conn asks written x k))
-one before conn asks written x y (Tells by) h i k = nothing_more before conn asks written (Tells by) y refl refl (told_one before conn by asks written x y h.0 (eqb by conn) refl h.1 k)
-one before conn asks written x y (Writes by bytes) h i k =
+pub one_call : (before : Before) (conn : ℕ) (asks : List Ask) (written : List ℕ) (x y : ServedValue) (did : Did) → Goes x did y → IsKeptBy conn did → StoryAt before conn asks written x → Brings before conn asks written did y
+one_call before conn asks written x y (Arrives pid cred) h i k = nothing_more before conn asks written (Arrives pid cred) y refl refl (subst (λ (z : ServedValue). StoryAt before conn asks written z) (sym h) (stays_arrived before conn asks written x pid cred k))
+one_call before conn asks written x y (Hears by bytes count stop) h i k = heard_one before conn by asks written x y bytes count stop (eqb by conn) refl h k
+one_call before conn asks written x y Frames h i k = nothing_more before conn asks written Frames y refl refl (stays_framed before conn asks written x y h k)
+one_call before conn asks written x y Delivers h i k = nothing_more before conn asks written Delivers y refl refl (subst (λ (z : ServedValue). StoryAt before conn asks written z) (sym h) (story_of_delivery before conn asks written x k))
+one_call before conn asks written x y (Tells by) h i k = nothing_more before conn asks written (Tells by) y refl refl (told_one before conn by asks written x y h.0 (eqb by conn) refl h.1 k)
+one_call before conn asks written x y (Writes by bytes) h i k =
     ([], refl, subst (λ (l : List Ask). StoryAt before conn l (written ++ written_by conn (Writes by bytes)) y) (sym (append-nil asks)) (written_one before conn by asks written x y bytes (eqb by conn) refl h k))
-one before conn asks written x y (Loses by) h i k = nothing_more before conn asks written (Loses by) y refl refl
+one_call before conn asks written x y (Loses by) h i k = nothing_more before conn asks written (Loses by) y refl refl
     (subst (λ (z : ServedValue). StoryAt before conn asks written z) (sym h) (stays before conn asks written x (parted x by) k (item_with_other x.desks by conn (new_desk x.greeting) i ∙ k.there) refl (quiet_ended conn by x.node (open_client x.node by) i)))
-one before conn asks written x y Nothing h i k = nothing_more before conn asks written Nothing y refl refl (subst (λ (z : ServedValue). StoryAt before conn asks written z) (sym h) k)
+one_call before conn asks written x y Nothing h i k = nothing_more before conn asks written Nothing y refl refl (subst (λ (z : ServedValue). StoryAt before conn asks written z) (sym h) k)
 
 -- ---- a run
 
@@ -189,7 +189,7 @@ over before conn asks written x y [] h i k = (
       (subst (λ (w : List ℕ). StoryAt before conn (asks ++ []) w x) (sym (append-nil written)) (subst (λ (l : List Ask). StoryAt before conn l written x) (sym (append-nil asks)) k)),
 )
 over before conn asks written x y (did ∷ dids) h i k =
-    let first = one before conn asks written x h.0 did h.1 i.0 k in
+    let first = one_call before conn asks written x h.0 did h.1 i.0 k in
     let later = over before conn (asks ++ first.0) (written ++ written_by conn did) h.0 y dids h.2 i.1 first.2 in (
       first.0 ++ later.0,
       ap (λ (l : List ℕ). l ++ flat_map (heard_by conn) dids) first.1 ∙ ap (λ (l : List ℕ). flat_map spelling first.0 ++ l) later.1 ∙ sym (flat_map-append spelling first.0 later.0),

@@ -15,3 +15,4 @@ pub mod Meeting
 pub mod Settling
 pub mod Carrying
 pub mod Refusals
+pub mod Rings

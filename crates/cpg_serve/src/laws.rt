@@ -8,6 +8,7 @@ ghost use Rattle.cpg_serve.specs.Carrying.{EachGoesOver, NextKeepsAll};
 ghost use Rattle.cpg_serve.specs.Renewing.{RenewalKeepsAll, SeatsAreThere};
 ghost use Rattle.cpg_serve.specs.Runs.{AllThatIsTold, StoriesBegin, LostIsGone, NothingAfterTheEnd};
 ghost use Rattle.cpg_serve.specs.Orders.{VerdictsInOrder};
+ghost use Rattle.cpg_serve.specs.Rings.{LivesTell};
 ghost use Rattle.cpg_serve.specs.Meeting.{EvenBegins, StaysEven, AnswersInOrder, HonestInAWorld};
 
 use cpg_record::laws::each_entry_is_judged;
@@ -52,6 +53,12 @@ pub fn renewal_keeps_all()
     ensures keeps { RenewalKeepsAll }
     ensures seats { SeatsAreThere }
     ensures next { NextKeepsAll }
+{}
+
+/// The same over one ring after another: all bytes that a client was told, in whatever rings, are the spellings of
+/// what is due to it, one ring after another; so of a client that comes; and who is lost is told nothing more.
+pub fn all_that_rings_tell()
+    ensures { LivesTell }
 {}
 
 /// Each client that is there goes over to the next ring: by its new number it has its desk, and nothing is left to tell it.
