@@ -1,13 +1,15 @@
 //! What is done at a node with clients, one thing after another.
 
 ghost use Rattle.std.specs.Prelude.{◌≡◌, ◌≤◌, ◌+◌, [], length, vec_len, vec_capacity, IfOk, OnErr, IsOkUnless};
-ghost use Rattle.cpg_serve.specs.Deeds.{did_of, dids_of, IsOutcome, IsFrameOutcome, IsTellOutcome, AreDone};
-ghost use Rattle.cpg_serve.specs.Runs.{IsFramed, Tells, Goes, Run, AllThatIsToldOver, AllThatNewcomersAreToldOver, NothingAfterTheEndOver};
+ghost use Rattle.cpg_serve.specs.declared.deeds.Deed.TheVariants as deeds;
+ghost use Rattle.cpg_serve.specs.Deeds.{GoesAs, IsOutcome, IsFrameOutcome, IsTellOutcome, AreDone, AreServed};
+ghost use Rattle.cpg_serve.specs.Runs.{IsFramed, Tells, Goes};
 
 use crate::hearing::Heard;
 use crate::served::Served;
 use bytes::Bytes;
-use cpg_cred::{Cred, Refusal};
+use cpg_cred::{AcceptList, Cred, Refusal};
+use cpg_node::Settings;
 use std::marker::Model;
 
 /// What is to be done.
@@ -27,6 +29,10 @@ pub enum Deed<'a> {
     Write(u16, usize),
     /// A client's connection ends.
     Lose(u16),
+    /// A ring of one node turns by itself until nothing moves.
+    Settle,
+    /// The next ring of a ring of one node begins, by these settings and that list.
+    Renew(Settings, &'a AcceptList),
 }
 
 /// Frames that are to be sent.
@@ -52,14 +58,19 @@ pub enum Outcome {
     Wrote(Bytes),
     /// The client's connection ended.
     Lost,
-    /// Nothing was done, and why; a client that was to be told all may have been told some.
+    /// Nothing moves, and every client was told all.
+    Settled,
+    /// The next ring began; the new number of each connection, 0 where it ended.
+    Renewed(Vec<u16>),
+    /// It was not done, and why: nothing was, but a client that was to be told all may have been told some, and a ring
+    /// that was to come to rest may have moved.
     Refused(Refusal),
 }
 
 impl Served {
     /// Does that, and gives what came of it.
     pub fn does(&mut self, deed: &Deed<'_>) -> Outcome
-        ensures goes { Goes self.old (did_of deed.now result) self.new }
+        ensures goes { GoesAs self.old deed.now result self.new }
         ensures right { IsOutcome self.old deed.now result self.new }
     {
         match deed {
@@ -85,6 +96,30 @@ impl Served {
                 Ok(()) => Outcome::Lost,
                 Err(refusal) => Outcome::Refused(refusal),
             },
+            Deed::Settle => self.does_settle(),
+            Deed::Renew(settings, list) => self.does_renew(*settings, list),
+        }
+    }
+
+    /// Comes to rest, and gives what came of it.
+    fn does_settle(&mut self) -> Outcome
+        ensures goes { GoesAs self.old deeds.Settle result self.new }
+        ensures right { IsOutcome self.old deeds.Settle result self.new }
+    {
+        match self.settle() {
+            Ok(()) => Outcome::Settled,
+            Err(refusal) => Outcome::Refused(refusal),
+        }
+    }
+
+    /// Begins the next ring, and gives what came of it.
+    fn does_renew(&mut self, settings: Settings, list: &AcceptList) -> Outcome
+        ensures goes { GoesAs self.old (deeds.Renew settings list.entry) result self.new }
+        ensures right { IsOutcome self.old (deeds.Renew settings list.entry) result self.new }
+    {
+        match self.renew(settings, list) {
+            Ok(numbers) => Outcome::Renewed(numbers),
+            Err(refusal) => Outcome::Refused(refusal),
         }
     }
 
@@ -113,17 +148,11 @@ impl Served {
     /// Does all that, in order, and gives what came of each. Memory where there is no room to note what comes of them:
     /// then nothing was done.
     ///
-    /// Whatever is done, of whichever clients, in whatever order: each client is sent its answers and its inbox.
+    /// Whatever is done, of whichever clients, in whatever order, over one ring after another: each client is sent its
+    /// answers and its inboxes.
     pub fn serve(&mut self, deeds: &[Deed<'_>]) -> Result<Vec<Outcome>, Refusal>
         ensures count { IfOk result (λ outcomes. length outcomes.items ≡ length deeds.now) }
-        ensures done { IfOk result (λ outcomes. AreDone self.old deeds.now outcomes.items self.new) }
-        ensures run { IfOk result (λ outcomes. Run self.old (dids_of deeds.now outcomes.items) self.new) }
-        // What a client was told over the run, for as long as it is there.
-        ensures told { IfOk result (λ outcomes. AllThatIsToldOver self.old (dids_of deeds.now outcomes.items) self.new) }
-        // And of a client that comes in the run.
-        ensures newcomers { IfOk result (λ outcomes. AllThatNewcomersAreToldOver self.old (dids_of deeds.now outcomes.items) self.new) }
-        // A client that is gone is told nothing.
-        ensures after { IfOk result (λ outcomes. NothingAfterTheEndOver self.old (dids_of deeds.now outcomes.items) self.new) }
+        ensures served { IfOk result (λ outcomes. AreServed self.old deeds.now outcomes.items self.new) }
         ensures err { OnErr result (self.new ≡ self.old) }
         ensures memory { IsOkUnless result Refusal.Memory }
     {

@@ -8,7 +8,7 @@ loop-deed-preserved c =
     let before : List Outcome = c.loop-deed.outcomes.items in
     record {
       done = rw c.push_reserved.ensures.items
-          (next_done c.args.self.now c.loop-deed.self c.does.new.self c.args.deeds.now c.loop-deed.deed-index _ before c.does.result c.loop-deed-test.true c.loop-deed.invariant.done
+          (next_done c.args.self.now c.loop-deed.self c.does.new.self c.args.deeds.now c.loop-deed.deed-index c.deed-item.result before c.does.result c.loop-deed-test.true c.deed-item.is c.loop-deed.invariant.done
           c.does.ensures.goes c.does.ensures.right);
       room = omega arith;
     }
