@@ -13,16 +13,10 @@ use Rattle.cpg_serve.specs.Telling.{is_verdict}
 use Rattle.cpg_serve.specs.Asking.{call_of, owed_to}
 use Rattle.cpg_serve.specs.Stories.{Note, Made, Answered, Happened, ask_in, event_in, owed_in, IsPlain, IsRefused, IsNote}
 use Rattle.cpg_serve.specs.Verdicts.{verdict_in}
-use Rattle.cpg_serve.specs.Meeting.{verdicts, is_taken, calls_among, answered_in}
+use Rattle.cpg_serve.specs.Meeting.{verdicts, is_taken, calls_among, answered_in, made_in}
 
 pub verdicts_append : (one other : List Event) → verdicts (one ++ other) ≡ verdicts one + verdicts other
 verdicts_append one other = ap (λ (l : List Verdict). length l) (flat_map-append verdict_in one other) ∙ length-append (flat_map verdict_in one) (flat_map verdict_in other)
-
--- a call that was made, as it is owed
-abbrev pub made_in : Note → List Owed
-made_in (Made ask) = owed_to ask ∷ []
-made_in (Answered places ask tell) = []
-made_in (Happened event) = []
 
 abbrev pub mades : List Note → List Owed
 mades notes = flat_map made_in notes

@@ -27,17 +27,17 @@ use Rattle.cpg_serve.specs.Asking.{At, Turn, at_of, owed_to, call_of, goes_on, c
 use Rattle.cpg_serve.specs.Hearing.{AllTaken, asks_of}
 use Rattle.cpg_serve.specs.Coming.{left_of, rest_of, GoesOn}
 use Rattle.cpg_serve.specs.Serving.{ServedValue, with_node, arrived, parted, IsHeard, IsToldAt, IsCaughtUp, IsWritten}
-use Rattle.cpg_serve.specs.Stories.{IsQuiet, StoryAt, nothing_before, told_next}
+use Rattle.cpg_serve.specs.Stories.{IsQuiet, Before, StoryAt, told_next}
 use Rattle.cpg_serve.specs.Runs.{Did, Arrives, Hears, Frames, Delivers, Tells, Writes, Loses, Nothing, Goes, IsKeptBy, heard_by, written_by}
 use Rattle.cpg_serve.proofs.Growing.{inbox_delivered, left_delivered}
 use Rattle.cpg_serve.proofs.Noted.{refused_by, taken_by, is_there, rest_quiet, inbox_quiet}
 use Rattle.cpg_serve.proofs.Kept.{story_heard}
 use Rattle.cpg_serve.proofs.OneByOne.{all_leave}
 use Rattle.cpg_serve.proofs.Running.{quiet_same, quiet_all, quiet_ended, is_other, item_of, item_front, heard_front, over_run}
-use Rattle.cpg_serve.specs.Meeting.{verdicts, is_taken, calls_among, IsHonest, IsEven, StaysEven}
+use Rattle.cpg_serve.specs.Meeting.{verdicts, is_taken, calls_among, Counts, IsHonest, IsEven, StaysEven}
 use Rattle.cpg_serve.proofs.Counting.{verdicts_append, verdict_one}
 
-calls_append : (asks more : List Ask) → length (calls_among (asks ++ more)) ≡ length (calls_among asks) + length (calls_among more)
+pub calls_append : (asks more : List Ask) → length (calls_among (asks ++ more)) ≡ length (calls_among asks) + length (calls_among more)
 calls_append asks more = ap (λ (l : List Ask). length l) (filter-append (λ (ask : Ask). is_taken (call_of ask.want)) asks more) ∙ length-append (calls_among asks) (calls_among more)
 
 -- ---- an ask
@@ -70,7 +70,7 @@ asked_owed conn s turn (Some call) alive is goes = called_owed conn s turn.ask c
 quiet_one : (conn : ℕ) (s : At) (turn : Turn) → IsQuiet conn s.node (asked conn s turn).node
 quiet_one conn s turn = quiet_all conn conn s (turn ∷ [])
 
-alive_after : (conn : ℕ) (x y : NodeValue) → IsQuiet conn x y → is_some (open_client x conn) ≡ true → is_some (open_client y conn) ≡ true
+pub alive_after : (conn : ℕ) (x y : NodeValue) → IsQuiet conn x y → is_some (open_client x conn) ≡ true → is_some (open_client y conn) ≡ true
 alive_after conn x y q h = ap (λ (o : Option Client). is_some (if_open o)) q.client ∙ h
 
 all_owed : (conn : ℕ) (s : At) (turns : List Turn) → is_some (open_client s.node conn) ≡ true → AllTaken conn s turns → length (asked_all conn s turns).desk.owed ≡ length s.desk.owed + length (calls_among (asks_of turns))
@@ -89,12 +89,12 @@ left_quiet conn x y d e next q =
     ∙ ap (λ (o : Option Client). option_to_list d.next ++ rest_of y conn (if_open o)) q.client
     ∙ ap (λ (l : List Event). option_to_list d.next ++ l) (rest_quiet conn x y (open_client x conn) (inbox_quiet conn x y q))
 
-even_quiet : (conn : ℕ) (asks : List Ask) (x z : ServedValue) (h : IsEven conn asks x) (e : DeskValue) → item z.desks conn ≡ Some e → e.owed ≡ h.0.owed → e.next ≡ h.0.next → IsQuiet conn x.node z.node → IsEven conn asks z
-even_quiet conn asks x z h e there owed next q =
+even_quiet : (before : Before) (b : Counts) (conn : ℕ) (asks : List Ask) (x z : ServedValue) (h : IsEven b conn asks x) (e : DeskValue) → item z.desks conn ≡ Some e → e.owed ≡ h.0.owed → e.next ≡ h.0.next → IsQuiet conn x.node z.node → IsEven b conn asks z
+even_quiet before b conn asks x z h e there owed next q =
     let a : length e.owed ≡ length h.0.owed = ap (λ (l : List Owed). length l) owed in
-    let b : verdicts (inbox_of z.node conn) ≡ verdicts (inbox_of x.node conn) = ap verdicts (inbox_quiet conn x.node z.node q) in
+    let inbox_is : verdicts (inbox_of z.node conn) ≡ verdicts (inbox_of x.node conn) = ap verdicts (inbox_quiet conn x.node z.node q) in
     let c : verdicts (left_of conn (at_of z.node e)) ≡ verdicts (left_of conn (at_of x.node h.0)) = ap verdicts (left_quiet conn x.node z.node h.0 e next q) in
-    (e, there, omega (arith, a, b, c, h.2))
+    (e, there, omega (arith, a, inbox_is, c, h.2))
 
 -- ---- what is told
 
@@ -110,8 +110,8 @@ fold_owed owed [] h = omega arith
 fold_owed owed (e ∷ es) h =
     fold_step (is_verdict e) owed es (verdicts (e ∷ es)) (verdicts_append (e ∷ []) es ∙ ap (λ (n : ℕ). n + verdicts es) (verdict_one e)) h (fold_owed (owed_after owed e) es)
 
-even_told : (conn : ℕ) (asks : List Ask) (x z : ServedValue) (h : IsEven conn asks x) (e : DeskValue) → IsHonest conn asks x → item z.desks conn ≡ Some e → GoesOn conn (at_of x.node h.0) (at_of z.node e) → IsEven conn asks z
-even_told conn asks x z h e honest there g =
+even_told : (before : Before) (b : Counts) (conn : ℕ) (asks : List Ask) (x z : ServedValue) (h : IsEven b conn asks x) (e : DeskValue) → IsHonest b conn asks x → item z.desks conn ≡ Some e → GoesOn conn (at_of x.node h.0) (at_of z.node e) → IsEven b conn asks z
+even_told before b conn asks x z h e honest there g =
     let old : List Event = left_of conn (at_of x.node h.0) in
     let new : List Event = left_of conn (at_of z.node e) in
     let parts : verdicts old ≡ verdicts g.first + verdicts new = ap verdicts g.left ∙ verdicts_append g.first new in
@@ -121,36 +121,36 @@ even_told conn asks x z h e honest there g =
     let owed : length e.owed ≡ length (fold owed_after h.0.owed g.first) = ap (λ (l : List Owed). length l) g.owed in
     (e, there, omega (arith, h.2, parts, inbox_same, left, owed))
 
-even_delivered : (conn : ℕ) (asks : List Ask) (written : List ℕ) (x : ServedValue) → StoryAt nothing_before conn asks written x → IsEven conn asks x → IsEven conn asks (with_node x (node_after_delivery x.node))
-even_delivered conn asks written x k h =
+even_delivered : (before : Before) (b : Counts) (conn : ℕ) (asks : List Ask) (written : List ℕ) (x : ServedValue) → StoryAt before conn asks written x → IsEven b conn asks x → IsEven b conn asks (with_node x (node_after_delivery x.node))
+even_delivered before b conn asks written x k h =
     let c = item_of (item x.node.clients conn) k.story.alive in
     let o = is_there (open_client x.node conn) k.story.alive in
     let more : List Event = told_next x.node conn in
     let a : verdicts (inbox_of (node_after_delivery x.node) conn) ≡ verdicts (inbox_of x.node conn) + verdicts more = ap verdicts (inbox_delivered x.node conn) ∙ verdicts_append (inbox_of x.node conn) more in
-    let b : verdicts (left_of conn (at_of (node_after_delivery x.node) h.0)) ≡ verdicts (left_of conn (at_of x.node h.0)) + verdicts more =
+    let left_is : verdicts (left_of conn (at_of (node_after_delivery x.node) h.0)) ≡ verdicts (left_of conn (at_of x.node h.0)) + verdicts more =
     ap verdicts (left_delivered x.node conn h.0 o.0 o.1 k.story.counted) ∙ verdicts_append (left_of conn (at_of x.node h.0)) more in
-    (h.0, h.1, omega (arith, h.2, a, b))
+    (h.0, h.1, omega (arith, h.2, a, left_is))
 
 -- ---- one call
 
-abbrev Brings : ℕ → List Ask → List ℕ → Did → ServedValue → Type 0
-Brings conn asks written did z = (more : List Ask) × (heard_by conn did ≡ flat_map spelling more) × StoryAt nothing_before conn (asks ++ more) (written ++ written_by conn did) z × IsEven conn (asks ++ more) z
+abbrev pub Brings : Before → Counts → ℕ → List Ask → List ℕ → Did → ServedValue → Type 0
+Brings before b conn asks written did z = (more : List Ask) × (heard_by conn did ≡ flat_map spelling more) × StoryAt before conn (asks ++ more) (written ++ written_by conn did) z × IsEven b conn (asks ++ more) z
 
-none_spelled : (more : List Ask) → [] ≡ flat_map spelling more → more ≡ []
+pub none_spelled : (more : List Ask) → [] ≡ flat_map spelling more → more ≡ []
 none_spelled [] e = refl
 none_spelled (ask ∷ more) e = absurd cc
 
 -- where nothing is heard of the client
-unheard : (conn : ℕ) (asks : List Ask) (written : List ℕ) (x z : ServedValue) (did : Did) → Goes x did z → IsKeptBy conn did → heard_by conn did ≡ [] → StoryAt nothing_before conn asks written x → IsEven conn asks z → Brings conn asks written did z
-unheard conn asks written x z did goes kept none k even =
-    let s = over_run x z (did ∷ []) (z, goes, refl) nothing_before conn asks written (kept, tt) k in
+pub unheard : (before : Before) (b : Counts) (conn : ℕ) (asks : List Ask) (written : List ℕ) (x z : ServedValue) (did : Did) → Goes x did z → IsKeptBy conn did → heard_by conn did ≡ [] → StoryAt before conn asks written x → IsEven b conn asks z → Brings before b conn asks written did z
+unheard before b conn asks written x z did goes kept none k even =
+    let s = over_run x z (did ∷ []) (z, goes, refl) before conn asks written (kept, tt) k in
     let nothing : s.0 ≡ [] = none_spelled s.0 (sym (append-nil (heard_by conn did) ∙ none) ∙ s.1) in
-    let same : List Ask → List ℕ → Type 0 = λ more bytes. StoryAt nothing_before conn (asks ++ more) (written ++ bytes) z in
-    ([], none, subst (λ (b : List ℕ). same [] b) (append-nil (written_by conn did)) (subst (λ (m : List Ask). same m (written_by conn did ++ [])) nothing s.2), subst (λ (l : List Ask). IsEven conn l z) (sym (append-nil asks)) even)
+    let same : List Ask → List ℕ → Type 0 = λ more bytes. StoryAt before conn (asks ++ more) (written ++ bytes) z in
+    ([], none, subst (λ (w : List ℕ). same [] w) (append-nil (written_by conn did)) (subst (λ (m : List Ask). same m (written_by conn did ++ [])) nothing s.2), subst (λ (l : List Ask). IsEven b conn l z) (sym (append-nil asks)) even)
 
-heard_own : (conn : ℕ) (asks : List Ask) (written : List ℕ) (x z : ServedValue) (bytes : List ℕ) (count : ℕ) (stop : Stop) → IsHeard conn x bytes count stop z → StoryAt nothing_before conn asks written x → IsEven conn asks x
-    → (more : List Ask) × (take count bytes ≡ flat_map spelling more) × StoryAt nothing_before conn (asks ++ more) (written ++ []) z × IsEven conn (asks ++ more) z
-heard_own conn asks written x z bytes count stop g k h =
+pub heard_own : (before : Before) (b : Counts) (conn : ℕ) (asks : List Ask) (written : List ℕ) (x z : ServedValue) (bytes : List ℕ) (count : ℕ) (stop : Stop) → IsHeard conn x bytes count stop z → StoryAt before conn asks written x → IsEven b conn asks x
+    → (more : List Ask) × (take count bytes ≡ flat_map spelling more) × StoryAt before conn (asks ++ more) (written ++ []) z × IsEven b conn (asks ++ more) z
+heard_own before b conn asks written x z bytes count stop g k h =
     let turns : List Turn = g.did.so.turns in
     let more : List Ask = asks_of turns in
     let same : g.old ≡ h.0 = same_Some g.old h.0 (sym g.there ∙ h.1) in
@@ -159,86 +159,86 @@ heard_own conn asks written x z bytes count stop g k h =
     let next : g.new.next ≡ h.0.next = ap (λ (t : At). t.desk.next) g.did.so.done ∙ (all_leave conn (at_of x.node g.old) turns).next ∙ ap (λ (d : DeskValue). d.next) same in
     let owed : length g.new.owed ≡ length h.0.owed + length (calls_among more) =
     ap (λ (t : At). length t.desk.owed) g.did.so.done ∙ all_owed conn (at_of x.node g.old) turns g.alive g.did.so.taken ∙ ap (λ (d : DeskValue). length d.owed + length (calls_among more)) same in
-    let b : verdicts (inbox_of z.node conn) ≡ verdicts (inbox_of x.node conn) = ap verdicts (inbox_quiet conn x.node z.node q) in
+    let inbox_is : verdicts (inbox_of z.node conn) ≡ verdicts (inbox_of x.node conn) = ap verdicts (inbox_quiet conn x.node z.node q) in
     let c : verdicts (left_of conn (at_of z.node g.new)) ≡ verdicts (left_of conn (at_of x.node h.0)) = ap verdicts (left_quiet conn x.node z.node h.0 g.new next q) in
-    let after : StoryAt nothing_before conn (asks ++ more) written z = story_heard nothing_before conn asks written x z bytes count stop g k in (
+    let after : StoryAt before conn (asks ++ more) written z = story_heard before conn asks written x z bytes count stop g k in (
       more,
       heard_front bytes (flat_map spelling more) count g.did.so.parts,
-      subst (λ (w : List ℕ). StoryAt nothing_before conn (asks ++ more) w z) (sym (append-nil written)) after,
-      (g.new, there, omega (arith, h.2, owed, b, c, calls_append asks more)),
+      subst (λ (w : List ℕ). StoryAt before conn (asks ++ more) w z) (sym (append-nil written)) after,
+      (g.new, there, omega (arith, h.2, owed, inbox_is, c, calls_append asks more)),
     )
 
-heard_other : (conn by : ℕ) (asks : List Ask) (x z : ServedValue) (bytes : List ℕ) (count : ℕ) (stop : Stop) → conn ≢ by → IsHeard by x bytes count stop z → IsEven conn asks x → IsEven conn asks z
-heard_other conn by asks x z bytes count stop is g h =
-    even_quiet conn asks x z h h.0 (ap (λ ds. item ds conn) g.others ∙ item_with_other x.desks by conn g.new is ∙ h.1) refl refl
+pub heard_other : (before : Before) (b : Counts) (conn by : ℕ) (asks : List Ask) (x z : ServedValue) (bytes : List ℕ) (count : ℕ) (stop : Stop) → conn ≢ by → IsHeard by x bytes count stop z → IsEven b conn asks x → IsEven b conn asks z
+heard_other before b conn by asks x z bytes count stop is g h =
+    even_quiet before b conn asks x z h h.0 (ap (λ ds. item ds conn) g.others ∙ item_with_other x.desks by conn g.new is ∙ h.1) refl refl
     (subst (λ (n : NodeValue). IsQuiet conn x.node n) (sym (ap (λ (t : At). t.node) g.did.so.done)) (quiet_all conn by (at_of x.node g.old) g.did.so.turns))
 
-heard_one : (conn by : ℕ) (asks : List Ask) (written : List ℕ) (x z : ServedValue) (bytes : List ℕ) (count : ℕ) (stop : Stop) (b : Bool) → eqb by conn ≡ b → IsHeard by x bytes count stop z → StoryAt nothing_before conn asks written x → IsEven conn asks x
-    → (more : List Ask) × (cond b (take count bytes) [] ≡ flat_map spelling more) × StoryAt nothing_before conn (asks ++ more) (written ++ []) z × IsEven conn (asks ++ more) z
-heard_one conn by asks written x z bytes count stop true e g k h = heard_own conn asks written x z bytes count stop (subst (λ (n : ℕ). IsHeard n x bytes count stop z) (eqb-true by conn e) g) k h
-heard_one conn by asks written x z bytes count stop false e g k h =
-    subst (λ (b : Bool). (more : List Ask) × (cond b (take count bytes) [] ≡ flat_map spelling more) × StoryAt nothing_before conn (asks ++ more) (written ++ []) z × IsEven conn (asks ++ more) z) e
-    (unheard conn asks written x z (Hears by bytes count stop) g tt (rw e refl) k (heard_other conn by asks x z bytes count stop (is_other by conn e) g h))
+heard_one : (before : Before) (b : Counts) (conn by : ℕ) (asks : List Ask) (written : List ℕ) (x z : ServedValue) (bytes : List ℕ) (count : ℕ) (stop : Stop) (test : Bool) → eqb by conn ≡ test → IsHeard by x bytes count stop z → StoryAt before conn asks written x → IsEven b conn asks x
+    → (more : List Ask) × (cond test (take count bytes) [] ≡ flat_map spelling more) × StoryAt before conn (asks ++ more) (written ++ []) z × IsEven b conn (asks ++ more) z
+heard_one before b conn by asks written x z bytes count stop true e g k h = heard_own before b conn asks written x z bytes count stop (subst (λ (n : ℕ). IsHeard n x bytes count stop z) (eqb-true by conn e) g) k h
+heard_one before b conn by asks written x z bytes count stop false e g k h =
+    subst (λ (test : Bool). (more : List Ask) × (cond test (take count bytes) [] ≡ flat_map spelling more) × StoryAt before conn (asks ++ more) (written ++ []) z × IsEven b conn (asks ++ more) z) e
+    (unheard before b conn asks written x z (Hears by bytes count stop) g tt (rw e refl) k (heard_other before b conn by asks x z bytes count stop (is_other by conn e) g h))
 
-told_other : (conn by : ℕ) (asks : List Ask) (x z : ServedValue) (result : Result Unit Refusal) (o : Option DeskValue) → conn ≢ by → IsCaughtUp by x o result z → IsEven conn asks x → IsEven conn asks z
-told_other conn by asks x z result None is g h = subst (IsEven conn asks) (sym g.1) h
-told_other conn by asks x z result (Some old) is g h =
-    even_quiet conn asks x z h h.0 (ap (λ ds. item ds conn) g.others ∙ item_with_other x.desks by conn g.new is ∙ h.1) refl refl
+told_other : (before : Before) (b : Counts) (conn by : ℕ) (asks : List Ask) (x z : ServedValue) (result : Result Unit Refusal) (o : Option DeskValue) → conn ≢ by → IsCaughtUp by x o result z → IsEven b conn asks x → IsEven b conn asks z
+told_other before b conn by asks x z result None is g h = subst (IsEven b conn asks) (sym g.1) h
+told_other before b conn by asks x z result (Some old) is g h =
+    even_quiet before b conn asks x z h h.0 (ap (λ ds. item ds conn) g.others ∙ item_with_other x.desks by conn g.new is ∙ h.1) refl refl
     (record { records = rw g.goes.ring refl; node = ap (λ r. r.node) g.goes.ring; client = g.goes.others conn is })
 
-told_own : (conn : ℕ) (asks : List Ask) (x z : ServedValue) (result : Result Unit Refusal) (h : IsEven conn asks x) → IsHonest conn asks x → IsToldAt conn x h.0 result z → IsEven conn asks z
-told_own conn asks x z result h honest g = even_told conn asks x z h g.new honest (ap (λ ds. item ds conn) g.others ∙ item_with_same x.desks conn g.new h.0 h.1) g.goes
+told_own : (before : Before) (b : Counts) (conn : ℕ) (asks : List Ask) (x z : ServedValue) (result : Result Unit Refusal) (h : IsEven b conn asks x) → IsHonest b conn asks x → IsToldAt conn x h.0 result z → IsEven b conn asks z
+told_own before b conn asks x z result h honest g = even_told before b conn asks x z h g.new honest (ap (λ ds. item ds conn) g.others ∙ item_with_same x.desks conn g.new h.0 h.1) g.goes
 
-told_one : (conn by : ℕ) (asks : List Ask) (x z : ServedValue) (result : Result Unit Refusal) (b : Bool) → eqb by conn ≡ b → IsCaughtUp by x (item x.desks by) result z → (h : IsEven conn asks x) → IsHonest conn asks x → IsEven conn asks z
-told_one conn by asks x z result true e g h honest =
-    told_own conn asks x z result h honest (subst (λ (o : Option DeskValue). IsCaughtUp conn x o result z) h.1 (subst (λ (n : ℕ). IsCaughtUp n x (item x.desks n) result z) (eqb-true by conn e) g))
-told_one conn by asks x z result false e g h honest = told_other conn by asks x z result (item x.desks by) (is_other by conn e) g h
+told_one : (before : Before) (b : Counts) (conn by : ℕ) (asks : List Ask) (x z : ServedValue) (result : Result Unit Refusal) (test : Bool) → eqb by conn ≡ test → IsCaughtUp by x (item x.desks by) result z → (h : IsEven b conn asks x) → IsHonest b conn asks x → IsEven b conn asks z
+told_one before b conn by asks x z result true e g h honest =
+    told_own before b conn asks x z result h honest (subst (λ (o : Option DeskValue). IsCaughtUp conn x o result z) h.1 (subst (λ (n : ℕ). IsCaughtUp n x (item x.desks n) result z) (eqb-true by conn e) g))
+told_one before b conn by asks x z result false e g h honest = told_other before b conn by asks x z result (item x.desks by) (is_other by conn e) g h
 
-written_one : (conn by : ℕ) (asks : List Ask) (x z : ServedValue) (bytes : List ℕ) (b : Bool) → eqb by conn ≡ b → IsWritten by x bytes z → IsEven conn asks x → IsEven conn asks z
-written_one conn by asks x z bytes true e g h =
+written_one : (before : Before) (b : Counts) (conn by : ℕ) (asks : List Ask) (x z : ServedValue) (bytes : List ℕ) (test : Bool) → eqb by conn ≡ test → IsWritten by x bytes z → IsEven b conn asks x → IsEven b conn asks z
+written_one before b conn by asks x z bytes true e g h =
     let own : IsWritten conn x bytes z = subst (λ (n : ℕ). IsWritten n x bytes z) (eqb-true by conn e) g in
     let same : own.old ≡ h.0 = same_Some own.old h.0 (sym own.there ∙ h.1) in
     let new : DeskValue = wrote own.old (length bytes) in
-    even_quiet conn asks x z h new (ap (λ (v : ServedValue). item v.desks conn) own.after ∙ item_with_same x.desks conn new own.old own.there)
+    even_quiet before b conn asks x z h new (ap (λ (v : ServedValue). item v.desks conn) own.after ∙ item_with_same x.desks conn new own.old own.there)
     (ap (λ (d : DeskValue). d.owed) same) (ap (λ (d : DeskValue). d.next) same) (subst (λ (v : ServedValue). IsQuiet conn x.node v.node) (sym own.after) (quiet_same conn x.node))
-written_one conn by asks x z bytes false e g h =
-    even_quiet conn asks x z h h.0 (ap (λ (v : ServedValue). item v.desks conn) g.after ∙ item_with_other x.desks by conn (wrote g.old (length bytes)) (is_other by conn e) ∙ h.1) refl refl
+written_one before b conn by asks x z bytes false e g h =
+    even_quiet before b conn asks x z h h.0 (ap (λ (v : ServedValue). item v.desks conn) g.after ∙ item_with_other x.desks by conn (wrote g.old (length bytes)) (is_other by conn e) ∙ h.1) refl refl
     (subst (λ (v : ServedValue). IsQuiet conn x.node v.node) (sym g.after) (quiet_same conn x.node))
 
-even_arrived : (conn : ℕ) (asks : List Ask) (written : List ℕ) (x : ServedValue) (pid : ℕ) (cred : Cred) → StoryAt nothing_before conn asks written x → IsEven conn asks x → IsEven conn asks (arrived x pid cred)
-even_arrived conn asks written x pid cred k h =
+even_arrived : (before : Before) (b : Counts) (conn : ℕ) (asks : List Ask) (written : List ℕ) (x : ServedValue) (pid : ℕ) (cred : Cred) → StoryAt before conn asks written x → IsEven b conn asks x → IsEven b conn asks (arrived x pid cred)
+even_arrived before b conn asks written x pid cred k h =
     let c = item_of (item x.node.clients conn) k.story.alive in
-    even_quiet conn asks x (arrived x pid cred) h h.0 (item_front x.desks (new_desk x.greeting ∷ []) conn h.0 h.1 ∙ h.1) refl refl
+    even_quiet before b conn asks x (arrived x pid cred) h h.0 (item_front x.desks (new_desk x.greeting ∷ []) conn h.0 h.1 ∙ h.1) refl refl
     (record { records = refl; node = refl; client = item_front x.node.clients _ conn c.0 c.1 })
 
-one : (conn : ℕ) (asks : List Ask) (written : List ℕ) (x z : ServedValue) (did : Did) → Goes x did z → IsKeptBy conn did → StoryAt nothing_before conn asks written x → IsEven conn asks x → IsHonest conn asks x → Brings conn asks written did z
-one conn asks written x z (Arrives pid cred) g i k h honest = unheard conn asks written x z (Arrives pid cred) g i refl k (subst (IsEven conn asks) (sym g) (even_arrived conn asks written x pid cred k h))
-one conn asks written x z (Hears by bytes count stop) g i k h honest = heard_one conn by asks written x z bytes count stop (eqb by conn) refl g k h
-one conn asks written x z Frames g i k h honest = unheard conn asks written x z Frames g i refl k
-    (even_quiet conn asks x z h h.0 (ap (λ ds. item ds conn) g.desks ∙ h.1) refl refl (record { records = g.records; node = g.number; client = ap (λ cs. item cs conn) g.clients }))
-one conn asks written x z Delivers g i k h honest = unheard conn asks written x z Delivers g i refl k (subst (IsEven conn asks) (sym g) (even_delivered conn asks written x k h))
-one conn asks written x z (Tells by) g i k h honest = unheard conn asks written x z (Tells by) g i refl k (told_one conn by asks x z g.0 (eqb by conn) refl g.1 h honest)
-one conn asks written x z (Writes by bytes) g i k h honest = unheard conn asks written x z (Writes by bytes) g i refl k (written_one conn by asks x z bytes (eqb by conn) refl g h)
-one conn asks written x z (Loses by) g i k h honest = unheard conn asks written x z (Loses by) g i refl k
-    (subst (IsEven conn asks) (sym g) (even_quiet conn asks x (parted x by) h h.0 (item_with_other x.desks by conn (new_desk x.greeting) i ∙ h.1) refl refl (quiet_ended conn by x.node (open_client x.node by) i)))
-one conn asks written x z Nothing g i k h honest = unheard conn asks written x z Nothing g i refl k (subst (IsEven conn asks) (sym g) h)
+pub even_by : (before : Before) (b : Counts) (conn : ℕ) (asks : List Ask) (written : List ℕ) (x z : ServedValue) (did : Did) → Goes x did z → IsKeptBy conn did → StoryAt before conn asks written x → IsEven b conn asks x → IsHonest b conn asks x → Brings before b conn asks written did z
+even_by before b conn asks written x z (Arrives pid cred) g i k h honest = unheard before b conn asks written x z (Arrives pid cred) g i refl k (subst (IsEven b conn asks) (sym g) (even_arrived before b conn asks written x pid cred k h))
+even_by before b conn asks written x z (Hears by bytes count stop) g i k h honest = heard_one before b conn by asks written x z bytes count stop (eqb by conn) refl g k h
+even_by before b conn asks written x z Frames g i k h honest = unheard before b conn asks written x z Frames g i refl k
+    (even_quiet before b conn asks x z h h.0 (ap (λ ds. item ds conn) g.desks ∙ h.1) refl refl (record { records = g.records; node = g.number; client = ap (λ cs. item cs conn) g.clients }))
+even_by before b conn asks written x z Delivers g i k h honest = unheard before b conn asks written x z Delivers g i refl k (subst (IsEven b conn asks) (sym g) (even_delivered before b conn asks written x k h))
+even_by before b conn asks written x z (Tells by) g i k h honest = unheard before b conn asks written x z (Tells by) g i refl k (told_one before b conn by asks x z g.0 (eqb by conn) refl g.1 h honest)
+even_by before b conn asks written x z (Writes by bytes) g i k h honest = unheard before b conn asks written x z (Writes by bytes) g i refl k (written_one before b conn by asks x z bytes (eqb by conn) refl g h)
+even_by before b conn asks written x z (Loses by) g i k h honest = unheard before b conn asks written x z (Loses by) g i refl k
+    (subst (IsEven b conn asks) (sym g) (even_quiet before b conn asks x (parted x by) h h.0 (item_with_other x.desks by conn (new_desk x.greeting) i ∙ h.1) refl refl (quiet_ended conn by x.node (open_client x.node by) i)))
+even_by before b conn asks written x z Nothing g i k h honest = unheard before b conn asks written x z Nothing g i refl k (subst (IsEven b conn asks) (sym g) h)
 
 -- ---- a run
 
 pub stays_even : StaysEven
-stays_even conn asks written x y [] run i k h honest = (
+stays_even before b conn asks written x y [] run i k h honest = (
   [],
   refl,
-  subst (λ (z : ServedValue). StoryAt nothing_before conn (asks ++ []) (written ++ []) z) (sym run)
-      (subst (λ (w : List ℕ). StoryAt nothing_before conn (asks ++ []) w x) (sym (append-nil written)) (subst (λ (l : List Ask). StoryAt nothing_before conn l written x) (sym (append-nil asks)) k)),
-  subst (λ (z : ServedValue). IsEven conn (asks ++ []) z) (sym run) (subst (λ (l : List Ask). IsEven conn l x) (sym (append-nil asks)) h),
+  subst (λ (z : ServedValue). StoryAt before conn (asks ++ []) (written ++ []) z) (sym run)
+      (subst (λ (w : List ℕ). StoryAt before conn (asks ++ []) w x) (sym (append-nil written)) (subst (λ (l : List Ask). StoryAt before conn l written x) (sym (append-nil asks)) k)),
+  subst (λ (z : ServedValue). IsEven b conn (asks ++ []) z) (sym run) (subst (λ (l : List Ask). IsEven b conn l x) (sym (append-nil asks)) h),
 )
-stays_even conn asks written x y (did ∷ dids) run i k h honest =
-    let first = one conn asks written x run.0 did run.1 i.0 k h honest.0 in
-    let later = stays_even conn (asks ++ first.0) (written ++ written_by conn did) run.0 y dids run.2 i.1 first.2 first.3 (honest.1 first.0 first.1) in (
+stays_even before b conn asks written x y (did ∷ dids) run i k h honest =
+    let first = even_by before b conn asks written x run.0 did run.1 i.0 k h honest.0 in
+    let later = stays_even before b conn (asks ++ first.0) (written ++ written_by conn did) run.0 y dids run.2 i.1 first.2 first.3 (honest.1 first.0 first.1) in (
       first.0 ++ later.0,
       ap (λ (l : List ℕ). l ++ flat_map (heard_by conn) dids) first.1 ∙ ap (λ (l : List ℕ). flat_map spelling first.0 ++ l) later.1 ∙ sym (flat_map-append spelling first.0 later.0),
-      subst (λ (l : List Ask). StoryAt nothing_before conn l (written ++ flat_map (written_by conn) (did ∷ dids)) y) (append_assoc asks first.0 later.0)
-          (subst (λ (w : List ℕ). StoryAt nothing_before conn ((asks ++ first.0) ++ later.0) w y) (append_assoc written (written_by conn did) (flat_map (written_by conn) dids)) later.2),
-      subst (λ (l : List Ask). IsEven conn l y) (append_assoc asks first.0 later.0) later.3,
+      subst (λ (l : List Ask). StoryAt before conn l (written ++ flat_map (written_by conn) (did ∷ dids)) y) (append_assoc asks first.0 later.0)
+          (subst (λ (w : List ℕ). StoryAt before conn ((asks ++ first.0) ++ later.0) w y) (append_assoc written (written_by conn did) (flat_map (written_by conn) dids)) later.2),
+      subst (λ (l : List Ask). IsEven b conn l y) (append_assoc asks first.0 later.0) later.3,
     )

@@ -139,7 +139,7 @@ over_life before conn asks written x y (Does did ∷ steps) life kept k =
       joined (before_next before (renewals steps) later.1) (number_over conn steps) asks first.0 later.0 written (written_by conn did) (written_over conn steps) y later.4,
     )
 over_life before conn asks written x y (Moves ∷ steps) life kept k =
-    let first = moved_story before conn asks written x life.0 life.1 k in
+    let first = moved_story before conn asks written x life.0 life.1.0 k in
     let later = over_life before conn (asks ++ first.0) (written ++ []) life.0 y steps life.2 kept.1 first.2 in (
       first.0 ++ later.0,
       later.1,
@@ -149,7 +149,7 @@ over_life before conn asks written x y (Moves ∷ steps) life kept k =
     )
 over_life before conn asks written x y (Renews r ∷ steps) life kept k =
     let number : ℕ = number_at r.numbers conn in
-    let first = moved_story before conn asks written x r.ended life.1.0 k in
+    let first = moved_story before conn asks written x r.ended life.1.0.0 k in
     let told = next_story before conn (asks ++ first.0) (written ++ []) r life.1.1 first.2 in
     let next : Before = record { notes = before.notes ++ first.2.story.notes; places = places_of r } in
     let story : StoryAt next number (asks ++ first.0) (written ++ []) life.0 = subst (λ (z : ServedValue). StoryAt next number (asks ++ first.0) (written ++ []) z) (sym life.1.2) told.1 in
@@ -173,9 +173,9 @@ grown n count x y g h = record { desks = omega (arith, g.desks, h.desks); client
 
 so_many : (count : ℕ) (x y : ServedValue) (step : Step) → GoesBy x step y → AreSoMany count x → AreSoMany (count_by count step) y
 so_many count x y (Does did) go h = grown (arrives did) count x y (grows x y did go) h
-so_many count x y Moves go h = subst (λ (n : ℕ). AreSoMany n y) (omega arith) (grown 0 count x y (own_grows x y go.0 go.1 go.2) h)
+so_many count x y Moves go h = subst (λ (n : ℕ). AreSoMany n y) (omega arith) (grown 0 count x y (own_grows x y go.0.0 go.0.1 go.0.2) h)
 so_many count x y (Renews r) go h =
-    let ended : AreSoMany (count + 0) r.ended = grown 0 count x r.ended (own_grows x r.ended go.0.0 go.0.1 go.0.2) h in
+    let ended : AreSoMany (count + 0) r.ended = grown 0 count x r.ended (own_grows x r.ended go.0.0.0 go.0.0.1 go.0.0.2) h in
     let renewed = go.1.1.2 in
     let many : length r.next.desks ≡ length r.next.node.clients = as_many go.1.1.0 go.1.1.1 r.numbers r.ended.node r.next.node r.ended.desks r.next.desks r.next.greeting ended.clients renewed.node renewed.desks in
     subst (AreSoMany (length r.next.desks)) (sym go.2) (record { desks = refl; clients = many })
@@ -223,9 +223,9 @@ record Leaves (conn : ℕ) (step : Step) (y : ServedValue) : Type 0 where
 
 gone_in : (conn : ℕ) (x y : ServedValue) (step : Step) → GoesBy x step y → IsGone conn x → Leaves conn step y
 gone_in conn x y (Does did) go h = let g = gone_by conn x y did go h in record { gone = g.0; heard = g.1; written = g.2 }
-gone_in conn x y Moves go h = record { gone = (nothing_after x y go.0 go.2 conn h).0; heard = refl; written = refl }
+gone_in conn x y Moves go h = record { gone = (nothing_after x y go.0.0 go.0.2 conn h).0; heard = refl; written = refl }
 gone_in conn x y (Renews r) go h =
-    let ended : IsGone conn r.ended = (nothing_after x r.ended go.0.0 go.0.2 conn h).0 in
+    let ended : IsGone conn r.ended = (nothing_after x r.ended go.0.0.0 go.0.0.2 conn h).0 in
     record { gone = subst (λ (n : ℕ). IsGone n y) (sym (no_number conn r go.1 ended)) (gone_nobody y); heard = refl; written = refl }
 
 gone_over : (conn : ℕ) (x y : ServedValue) (steps : List Step) → Life x steps y → IsGone conn x → IsGone (number_over conn steps) y × (heard_over conn steps ≡ []) × (written_over conn steps ≡ [])

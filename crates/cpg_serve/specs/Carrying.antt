@@ -30,7 +30,7 @@ use Rattle.cpg_serve.specs.Asking.{at_of}
 use Rattle.cpg_serve.specs.Coming.{IsCounted, left_of, rest_of}
 use Rattle.cpg_serve.specs.Serving.{ServedValue, greeting_of}
 use Rattle.cpg_serve.specs.Renewing.{Root, Seat, TableOf, all_inserts, bare, held_by, renewal, seat_entry}
-use Rattle.cpg_serve.specs.Settling.{IsAlike, IsLone, IsStill, MovesTo, ToldAll}
+use Rattle.cpg_serve.specs.Settling.{IsAlike, IsLone, IsStill, MovesOn, ToldAll}
 
 -- the new numbers of connections: of those that are open, in their order, the ones after n; of one that ended 0
 abbrev pub numbered : ℕ → List Client → List ℕ
@@ -291,4 +291,4 @@ IsAtRest x = IsStill x.node × ((conn : ℕ) → conn ≤ MOST_CONNECTIONS → T
 
 -- first the ring came to rest, then the next one began
 abbrev pub ComesToNext : Settings → Listed → List ℕ → ServedValue → ServedValue → Type 0
-ComesToNext s list numbers x y = (z : ServedValue) × MovesTo x z × IsAtRest z × IsRenewed s list numbers z y
+ComesToNext s list numbers x y = (z : ServedValue) × MovesOn x z × IsAtRest z × IsRenewed s list numbers z y

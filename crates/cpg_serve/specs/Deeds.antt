@@ -20,7 +20,7 @@ use Rattle.cpg_serve.specs.declared.deeds.Outcome.{Outcome}
 use Rattle.cpg_serve.specs.declared.deeds.Outcome.TheVariants as outcomes
 use Rattle.cpg_serve.specs.Serving.{ServedValue, IsAway, IsCaughtUp, IsUnwritten, out_of}
 use Rattle.cpg_serve.specs.Runs.{Did, Arrives, Hears, Frames, Delivers, Tells, Writes, Loses, Nothing, Goes}
-use Rattle.cpg_serve.specs.Settling.{IsBrisk, IsLone, MovesTo, StaysLone, WhyMoving}
+use Rattle.cpg_serve.specs.Settling.{IsBrisk, IsLone, MovesOn, StaysLone, WhyMoving}
 use Rattle.cpg_serve.specs.Carrying.{ComesToNext, IsAtRest}
 use Rattle.cpg_serve.specs.Refusals.{WhyNotRenewed}
 use Rattle.cpg_serve.specs.Rings.{Step, Does, Moves, Renews, Life, EachLifeTells}
@@ -39,8 +39,8 @@ did_of deed outcome = Nothing
 -- So it went: by a call; or the ring moved by itself, and it may be that the next one took its place.
 abbrev pub GoesAs : ServedValue → Deed → Outcome → ServedValue → Type 0
 GoesAs x (deeds.Renew settings list) (outcomes.Renewed numbers) y = ComesToNext settings list.now numbers.items x y
-GoesAs x (deeds.Renew settings list) outcome y = MovesTo x y
-GoesAs x deeds.Settle outcome y = MovesTo x y
+GoesAs x (deeds.Renew settings list) outcome y = MovesOn x y
+GoesAs x deeds.Settle outcome y = MovesOn x y
 GoesAs x deed outcome y = Goes x (did_of deed outcome) y
 
 -- the step of a life that this is

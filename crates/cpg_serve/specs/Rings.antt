@@ -10,7 +10,7 @@ use Rattle.cpg_ask.specs.Spelling.{spelling}
 use Rattle.cpg_serve.specs.Serving.{ServedValue}
 use Rattle.cpg_serve.specs.Stories.{Note, Before, StoryAt, IsToldIn, nothing_before}
 use Rattle.cpg_serve.specs.Runs.{Did, Arrives, Goes, IsGone, IsKeptBy, arrives, heard_by, written_by}
-use Rattle.cpg_serve.specs.Settling.{MovesTo}
+use Rattle.cpg_serve.specs.Settling.{MovesOn}
 use Rattle.cpg_serve.specs.Carrying.{IsAtRest, IsRenewed, number_at}
 
 -- a ring as it ended, the next one as it began, and the new number of each connection
@@ -30,8 +30,8 @@ IsRenewal r = IsAtRest r.ended × ((s : Settings) × (list : Listed) × IsRenewe
 
 abbrev pub GoesBy : ServedValue → Step → ServedValue → Type 0
 GoesBy x (Does did) y = Goes x did y
-GoesBy x Moves y = MovesTo x y
-GoesBy x (Renews r) y = MovesTo x r.ended × IsRenewal r × (y ≡ r.next)
+GoesBy x Moves y = MovesOn x y
+GoesBy x (Renews r) y = MovesOn x r.ended × IsRenewal r × (y ≡ r.next)
 
 -- one step after another
 abbrev pub Life : ServedValue → List Step → ServedValue → Type 0

@@ -73,6 +73,10 @@ IsOwnMove _ = ⊥
 abbrev pub MovesTo : ServedValue → ServedValue → Type 0
 MovesTo x y = (dids : List Did) × AllByRecursion IsOwnMove dids × Run x dids y
 
+-- and a ring of one node that heard no other's frame stays one
+abbrev pub MovesOn : ServedValue → ServedValue → Type 0
+MovesOn x y = MovesTo x y × StaysLone x.node.ring y.node.ring
+
 -- the same of the node, whoever its clients are
 abbrev pub NodeMovesTo : NodeValue → NodeValue → Type 0
 NodeMovesTo x y = (greeting : Greeting) (desks : List DeskValue) → MovesTo (served_of greeting x desks) (served_of greeting y desks)

@@ -250,6 +250,7 @@ impl Served {
         ensures ok { IfOk result (λ numbers. ComesToNext settings list.now numbers.items self.old self.new) }
         ensures count { IfOk result (λ numbers. length numbers.items ≡ length self.old.desks) }
         ensures err { OnErr result (MovesTo self.old self.new) }
+        ensures lone { OnErr result (StaysLone self.old.node.ring self.new.node.ring) }
         // In a ring of one node that heard no other's frame: why it did not come to rest, or the next one does not begin.
         ensures why { (t : Token) (placed : List Entry) → IsLone self.old.node.ring t placed → IfErr result (λ why. WhyNotRenewed settings list.now self.old self.new why) }
     {

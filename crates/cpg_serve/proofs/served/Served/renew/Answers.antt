@@ -2,7 +2,7 @@ use Rattle.std.proofs.Common.{◌≡◌, ℕ, Vec, inr, rules, subst, sym}
 use Rattle.std.proofs.lemmas.Result.{IfErr-weaker, IfOk-weaker, on_err_weaker}
 use Rattle.cpg_serve.specs.Carrying.{ComesToNext, IsRenewed}
 use Rattle.cpg_serve.specs.Serving.{ServedValue}
-use Rattle.cpg_serve.specs.Settling.{MovesTo}
+use Rattle.cpg_serve.specs.Settling.{MovesTo, StaysLone}
 use Rattle.cpg_serve.specs.Refusals.{WhyNotBegun, WhyNotRenewed}
 use Rattle.cpg_serve.proofs.Refused.{err_both}
 use Rattle.cpg_serve.proofs.Unbegun.{not_at_rest}
@@ -12,10 +12,13 @@ pub returns-clause-ok : goal.returns-clause-ok
 returns-clause-ok c =
     IfOk-weaker c.begin_next.result (λ numbers. IsRenewed c.args.settings c.args.list.now numbers.items c.settle.new.self c.begin_next.new.self)
     (λ numbers. ComesToNext c.args.settings c.args.list.now numbers.items c.args.self.now c.begin_next.new.self)
-    (λ numbers renewed. (c.settle.new.self, c.settle.ensures.moves, (c.in_ok-settle.ensures.still, c.in_ok-settle.ensures.told), renewed)) c.begin_next.ensures.ok
+    (λ numbers renewed. (c.settle.new.self, (c.settle.ensures.moves, c.settle.ensures.lone), (c.in_ok-settle.ensures.still, c.in_ok-settle.ensures.told), renewed)) c.begin_next.ensures.ok
 
 pub returns-clause-err : goal.returns-clause-err
 returns-clause-err c = on_err_weaker c.begin_next.result (λ same. subst (MovesTo c.args.self.now) (sym same) c.settle.ensures.moves) c.begin_next.ensures.err
+
+pub returns-clause-lone : goal.returns-clause-lone
+returns-clause-lone c = on_err_weaker c.begin_next.result (λ same. subst (λ (y : ServedValue). StaysLone c.args.self.now.node.ring y.node.ring) (sym same) c.settle.ensures.lone) c.begin_next.ensures.err
 
 pub returns-in_err-settle-clause-why : goal.returns-in_err-settle-clause-why
 returns-in_err-settle-clause-why c = λ t placed is.
