@@ -30,3 +30,4 @@ pub mod Over
 pub mod Refused
 pub mod Unbegun
 pub mod Lives
+pub mod Known

@@ -31,6 +31,7 @@ use Rattle.cpg_serve.specs.Carrying.{AreCounted, AreLetIn, AreOfOne, HasNumber, 
 use Rattle.cpg_serve.proofs.Begun.{root_still}
 use Rattle.cpg_serve.proofs.Carried.{next_keeps_all}
 use Rattle.cpg_serve.proofs.Coming.{open_is}
+use Rattle.cpg_serve.proofs.Known.{next_within}
 use Rattle.cpg_serve.proofs.Lone.{delivered_is, lone_new}
 use Rattle.cpg_serve.proofs.Running.{within}
 use Rattle.cpg_serve.proofs.Turns.{none_next}
@@ -224,6 +225,7 @@ next_of_parts s list x y numbers seats one few in_it nums has held closed begun 
   lets_in = closed.lets_in;
   entries = next_entries seats root (records_of x);
   begun = begun;
+  known = subst (λ (n : ℕ). AllByRecursion (λ (e : Entry). e.conn ≤ n) (next_entries seats root (records_of x))) (sym count) (next_within x.clients seats root (memberships (records_of x)) (records_of x) refl held);
   keeps = keeps_of (delivered_entries x.ring.state) x.clients seats y has held begun;
   renumbers = nums;
   clients = closed.clients;
@@ -231,6 +233,9 @@ next_of_parts s list x y numbers seats one few in_it nums has held closed begun 
   counted = closed.counted;
   given = given;
 }
+  where
+    count : length y.clients ≡ suc (length (living x.clients))
+    count = sym (length_mapped anew y.clients) ∙ ap (λ (l : List Client). length l) closed.clients ∙ ap suc (length_mapped anew (living x.clients))
 
 closed_still : (s : Settings) (list : Listed) (cs : List Client) (most : ℕ) (x y : NodeValue) → HaveGiven most x y → IsClosed s list cs x → IsClosed s list cs y
 closed_still s list cs most x y h k = record {

@@ -118,6 +118,10 @@ pub record IsBegun (x : NodeValue) (entries : List Entry) : Type 0 where
   pub hop : token.hop ≤ length entries
   pub lone : IsLone x.ring token entries
 
+-- the entry is of a connection that the node gave out
+abbrev pub IsKnown : NodeValue → Entry → Type 0
+IsKnown x e = e.conn ≤ length x.clients
+
 -- a client that took nothing yet
 abbrev pub anew : Client → Client
 anew c = record { pid = c.pid; cred = c.cred; ended = c.ended; taken = 0 }
@@ -251,6 +255,7 @@ pub record IsNext (s : Settings) (list : Listed) (numbers : List ℕ) (x y : Nod
   pub let_in : AreLetIn list x.clients
   pub entries : List Entry
   pub begun : IsBegun y entries
+  pub known : AllByRecursion (IsKnown y) entries
   pub keeps : KeepsAll x.clients (records_of x) (records_of y)
   pub renumbers : numbers ≡ numbered 1 x.clients
   pub clients : map anew y.clients ≡ own_client ∷ map anew (living x.clients)
