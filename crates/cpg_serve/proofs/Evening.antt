@@ -46,7 +46,7 @@ refused_owed : (conn : ℕ) (s : At) (owed : Owed) (call : Call) (why : Refusal)
 refused_owed conn s owed call refusal.QueueFull = refl
 refused_owed conn s owed call _ = refl
 
-one_call : (ask : Ask) (b : Bool) → is_taken (call_of ask.want) ≡ b → length (calls_among (ask ∷ [])) ≡ cond b 1 0
+pub one_call : (ask : Ask) (b : Bool) → is_taken (call_of ask.want) ≡ b → length (calls_among (ask ∷ [])) ≡ cond b 1 0
 one_call ask true e = rw e refl
 one_call ask false e = rw e refl
 
@@ -67,7 +67,7 @@ asked_owed : (conn : ℕ) (s : At) (turn : Turn) (o : Option Call) → is_some (
 asked_owed conn s turn None alive is goes = let none : length (calls_among (turn.ask ∷ [])) ≡ 0 = one_call turn.ask false (ap is_taken is) in omega (arith, none)
 asked_owed conn s turn (Some call) alive is goes = called_owed conn s turn.ask call (submit_refusal s.node conn call) alive is refl goes
 
-quiet_one : (conn : ℕ) (s : At) (turn : Turn) → IsQuiet conn s.node (asked conn s turn).node
+pub quiet_one : (conn : ℕ) (s : At) (turn : Turn) → IsQuiet conn s.node (asked conn s turn).node
 quiet_one conn s turn = quiet_all conn conn s (turn ∷ [])
 
 pub alive_after : (conn : ℕ) (x y : NodeValue) → IsQuiet conn x y → is_some (open_client x conn) ≡ true → is_some (open_client y conn) ≡ true

@@ -31,3 +31,4 @@ pub mod Refused
 pub mod Unbegun
 pub mod Lives
 pub mod Known
+pub mod Entered

@@ -20,7 +20,7 @@ use Rattle.cpg_serve.specs.Coming.{left_of}
 use Rattle.cpg_serve.specs.Serving.{ServedValue, arrived}
 use Rattle.cpg_serve.specs.Stories.{Note, ask_in, owed_in, tells_in, Before, IsToldIn, StoryAt, nothing_before}
 use Rattle.cpg_serve.specs.Runs.{Did, Arrives, Hears, Frames, Delivers, Tells, Writes, Loses, Nothing, Goes, Run, IsGone, IsKeptBy, arrives, heard_by, written_by}
-use Rattle.cpg_serve.specs.Settling.{IsOwnMove, MovesTo}
+use Rattle.cpg_serve.specs.Settling.{IsOwnMove, MovesOn}
 use Rattle.cpg_serve.specs.Carrying.{anew, greeted, number_at, number_in, numbered}
 use Rattle.cpg_serve.specs.Rings.{Renewal, Step, Does, Moves, Renews, IsRenewal, GoesBy, Life, number_by, number_over, IsKeptOver, heard_in, heard_over, written_in, written_over, renewals, places_of, AreToldIn, before_next, IsToldOver, AllThatIsToldInLife, count_by, count_over, next_comer, AllThatNewcomersAreToldInLife, NothingAfterTheEndInLife, EachLifeTells, LivesTell}
 use Rattle.cpg_serve.proofs.Coming.{open_is}
@@ -33,21 +33,21 @@ use Rattle.cpg_serve.proofs.Running.{begins, one_call, over_run, within}
 
 -- ---- a ring that moves by itself
 
-own_kept : (conn : ℕ) (dids : List Did) → AllByRecursion IsOwnMove dids → AllByRecursion (IsKeptBy conn) dids
+pub own_kept : (conn : ℕ) (dids : List Did) → AllByRecursion IsOwnMove dids → AllByRecursion (IsKeptBy conn) dids
 own_kept conn [] h = tt
 own_kept conn (Frames ∷ dids) h = (tt, own_kept conn dids h.1)
 own_kept conn (Delivers ∷ dids) h = (tt, own_kept conn dids h.1)
 own_kept conn (Tells by ∷ dids) h = (tt, own_kept conn dids h.1)
 own_kept conn (_ ∷ dids) h = absurd h.0
 
-own_written : (conn : ℕ) (dids : List Did) → AllByRecursion IsOwnMove dids → flat_map (written_by conn) dids ≡ []
+pub own_written : (conn : ℕ) (dids : List Did) → AllByRecursion IsOwnMove dids → flat_map (written_by conn) dids ≡ []
 own_written conn [] h = refl
 own_written conn (Frames ∷ dids) h = own_written conn dids h.1
 own_written conn (Delivers ∷ dids) h = own_written conn dids h.1
 own_written conn (Tells by ∷ dids) h = own_written conn dids h.1
 own_written conn (_ ∷ dids) h = absurd h.0
 
-own_heard : (conn : ℕ) (dids : List Did) → AllByRecursion IsOwnMove dids → flat_map (heard_by conn) dids ≡ []
+pub own_heard : (conn : ℕ) (dids : List Did) → AllByRecursion IsOwnMove dids → flat_map (heard_by conn) dids ≡ []
 own_heard conn [] h = refl
 own_heard conn (Frames ∷ dids) h = own_heard conn dids h.1
 own_heard conn (Delivers ∷ dids) h = own_heard conn dids h.1
@@ -58,7 +58,7 @@ then_grow : (x y z : ServedValue) → Grows 0 x y → Grows 0 y z → Grows 0 x 
 then_grow x y z g h = record { desks = omega (arith, g.desks, h.desks); clients = omega (arith, g.clients, h.clients) }
 
 -- as many clients and desks as before
-own_grows : (x y : ServedValue) (dids : List Did) → AllByRecursion IsOwnMove dids → Run x dids y → Grows 0 x y
+pub own_grows : (x y : ServedValue) (dids : List Did) → AllByRecursion IsOwnMove dids → Run x dids y → Grows 0 x y
 own_grows x y [] h run = subst (Grows 0 x) (sym run) (record { desks = omega arith; clients = omega arith })
 own_grows x y (Frames ∷ dids) h run = then_grow x run.0 y (grows x run.0 Frames run.1) (own_grows run.0 y dids h.1 run.2)
 own_grows x y (Delivers ∷ dids) h run = then_grow x run.0 y (grows x run.0 Delivers run.1) (own_grows run.0 y dids h.1 run.2)
@@ -68,7 +68,7 @@ own_grows x y (_ ∷ dids) h run = absurd h.0
 -- ---- the next ring
 
 -- the ring told the client all, and its story goes on at the next one
-next_story : (before : Before) (conn : ℕ) (asks : List Ask) (written : List ℕ) (r : Renewal) → IsRenewal r → (k : StoryAt before conn asks written r.ended)
+pub next_story : (before : Before) (conn : ℕ) (asks : List Ask) (written : List ℕ) (r : Renewal) → IsRenewal r → (k : StoryAt before conn asks written r.ended)
     → IsToldIn conn before.places r.ended.greeting r.ended.node [] k.story.notes × StoryAt (record { notes = before.notes ++ k.story.notes; places = places_of r }) (number_at r.numbers conn) asks written r.next
 next_story before conn asks written r is k =
     let c = is_there (open_client r.ended.node conn) k.story.alive in
@@ -103,75 +103,113 @@ next_story before conn asks written r is k =
       },
     )
 
--- ---- a client that stays
+-- ---- one step after another
+
+-- what is said of a client along its life
+abbrev pub Said : Type 1
+Said = Before → ℕ → List Ask → List ℕ → ServedValue → Type 0
+
+-- it goes on, where this was heard of the client and that was written to it
+abbrev pub GoesOnBy : Said → Before → ℕ → List Ask → List ℕ → List ℕ → List ℕ → ServedValue → Type 0
+GoesOnBy P before conn asks written heard wrote y = (more : List Ask) × (heard ≡ flat_map spelling more) × P before conn (asks ++ more) (written ++ wrote) y
+
+-- Each step of that kind leaves it so.
+pub record Lasts (P : Said) (Q : Step → Type 0) : Type 0 where
+  pub does : (before : Before) (conn : ℕ) (asks : List Ask) (written : List ℕ) (x y : ServedValue) (did : Did) → Goes x did y → Q (Does did) → IsKeptBy conn did → P before conn asks written x
+      → GoesOnBy P before conn asks written (heard_by conn did) (written_by conn did) y
+  pub moves : (before : Before) (conn : ℕ) (asks : List Ask) (written : List ℕ) (x y : ServedValue) → MovesOn x y → P before conn asks written x → GoesOnBy P before conn asks written [] [] y
+  pub renews : (before : Before) (conn : ℕ) (asks : List Ask) (written : List ℕ) (r : Renewal) → IsRenewal r → P before conn asks written r.ended
+      → (notes : List Note) × IsToldIn conn before.places r.ended.greeting r.ended.node [] notes × P (record { notes = before.notes ++ notes; places = places_of r }) (number_at r.numbers conn) asks written r.next
 
 -- what was heard and written of late comes behind what was before
-pub joined : (before : Before) (conn : ℕ) (asks more later : List Ask) (written wrote last : List ℕ) (y : ServedValue) → StoryAt before conn ((asks ++ more) ++ later) ((written ++ wrote) ++ last) y → StoryAt before conn (asks ++ (more ++ later)) (written ++ (wrote ++ last)) y
-joined before conn asks more later written wrote last y k =
-    subst (λ (l : List Ask). StoryAt before conn l (written ++ (wrote ++ last)) y) (append_assoc asks more later)
-    (subst (λ (w : List ℕ). StoryAt before conn ((asks ++ more) ++ later) w y) (append_assoc written wrote last) k)
+joined : (P : Said) (before : Before) (conn : ℕ) (asks more later : List Ask) (written wrote last : List ℕ) (y : ServedValue) → P before conn ((asks ++ more) ++ later) ((written ++ wrote) ++ last) y → P before conn (asks ++ (more ++ later)) (written ++ (wrote ++ last)) y
+joined P before conn asks more later written wrote last y k =
+    subst (λ (l : List Ask). P before conn l (written ++ (wrote ++ last)) y) (append_assoc asks more later)
+    (subst (λ (w : List ℕ). P before conn ((asks ++ more) ++ later) w y) (append_assoc written wrote last) k)
 
 heard_both : (heard later : List ℕ) (more rest : List Ask) → heard ≡ flat_map spelling more → later ≡ flat_map spelling rest → heard ++ later ≡ flat_map spelling (more ++ rest)
 heard_both heard later more rest h k = ap (λ (l : List ℕ). l ++ later) h ∙ ap (λ (l : List ℕ). flat_map spelling more ++ l) k ∙ sym (flat_map-append spelling more rest)
 
--- what a ring's own moves bring to a story
-moved_story : (before : Before) (conn : ℕ) (asks : List Ask) (written : List ℕ) (x y : ServedValue) → MovesTo x y → StoryAt before conn asks written x → (more : List Ask) × ([] ≡ flat_map spelling more) × StoryAt before conn (asks ++ more) (written ++ []) y
-moved_story before conn asks written x y moves k =
-    let s = over_run x y moves.0 moves.2 before conn asks written (own_kept conn moves.0 moves.1) k in
-    (s.0, sym (own_heard conn moves.0 moves.1) ∙ s.1, subst (λ (w : List ℕ). StoryAt before conn (asks ++ s.0) (written ++ w) y) (own_written conn moves.0 moves.1) s.2)
+-- what is said of it after all of them
+abbrev pub IsSaidOver : Said → Before → ℕ → List Ask → List ℕ → List Step → ServedValue → Type 0
+IsSaidOver P before conn asks written steps y = (more : List Ask) × (past : List (List Note)) × (heard_over conn steps ≡ flat_map spelling more) × AreToldIn conn before.places (renewals steps) past
+    × P (before_next before (renewals steps) past) (number_over conn steps) (asks ++ more) (written ++ written_over conn steps) y
 
-over_life : (before : Before) (conn : ℕ) (asks : List Ask) (written : List ℕ) (x y : ServedValue) (steps : List Step) → Life x steps y → IsKeptOver conn steps → StoryAt before conn asks written x → IsToldOver before conn asks written steps y
-over_life before conn asks written x y [] life kept k = (
+pub over_steps : (P : Said) (Q : Step → Type 0) → Lasts P Q → (before : Before) (conn : ℕ) (asks : List Ask) (written : List ℕ) (x y : ServedValue) (steps : List Step) → Life x steps y → AllByRecursion Q steps → IsKeptOver conn steps
+    → P before conn asks written x → IsSaidOver P before conn asks written steps y
+over_steps P Q lasts before conn asks written x y [] life q kept k = (
   [],
   [],
   refl,
   tt,
-  subst (λ (z : ServedValue). StoryAt before conn (asks ++ []) (written ++ []) z) (sym life)
-      (subst (λ (w : List ℕ). StoryAt before conn (asks ++ []) w x) (sym (append-nil written)) (subst (λ (l : List Ask). StoryAt before conn l written x) (sym (append-nil asks)) k)),
+  subst (λ (z : ServedValue). P before conn (asks ++ []) (written ++ []) z) (sym life)
+      (subst (λ (w : List ℕ). P before conn (asks ++ []) w x) (sym (append-nil written)) (subst (λ (l : List Ask). P before conn l written x) (sym (append-nil asks)) k)),
 )
-over_life before conn asks written x y (Does did ∷ steps) life kept k =
-    let first = one_call before conn asks written x life.0 did life.1 kept.0 k in
-    let later = over_life before conn (asks ++ first.0) (written ++ written_by conn did) life.0 y steps life.2 kept.1 first.2 in (
+over_steps P Q lasts before conn asks written x y (Does did ∷ steps) life q kept k =
+    let first = lasts.does before conn asks written x life.0 did life.1 q.0 kept.0 k in
+    let later = over_steps P Q lasts before conn (asks ++ first.0) (written ++ written_by conn did) life.0 y steps life.2 q.1 kept.1 first.2 in (
       first.0 ++ later.0,
       later.1,
       heard_both (heard_by conn did) (heard_over conn steps) first.0 later.0 first.1 later.2,
       later.3,
-      joined (before_next before (renewals steps) later.1) (number_over conn steps) asks first.0 later.0 written (written_by conn did) (written_over conn steps) y later.4,
+      joined P (before_next before (renewals steps) later.1) (number_over conn steps) asks first.0 later.0 written (written_by conn did) (written_over conn steps) y later.4,
     )
-over_life before conn asks written x y (Moves ∷ steps) life kept k =
-    let first = moved_story before conn asks written x life.0 life.1.0 k in
-    let later = over_life before conn (asks ++ first.0) (written ++ []) life.0 y steps life.2 kept.1 first.2 in (
+over_steps P Q lasts before conn asks written x y (Moves ∷ steps) life q kept k =
+    let first = lasts.moves before conn asks written x life.0 life.1 k in
+    let later = over_steps P Q lasts before conn (asks ++ first.0) (written ++ []) life.0 y steps life.2 q.1 kept.1 first.2 in (
       first.0 ++ later.0,
       later.1,
       heard_both [] (heard_over conn steps) first.0 later.0 first.1 later.2,
       later.3,
-      joined (before_next before (renewals steps) later.1) (number_over conn steps) asks first.0 later.0 written [] (written_over conn steps) y later.4,
+      joined P (before_next before (renewals steps) later.1) (number_over conn steps) asks first.0 later.0 written [] (written_over conn steps) y later.4,
     )
-over_life before conn asks written x y (Renews r ∷ steps) life kept k =
+over_steps P Q lasts before conn asks written x y (Renews r ∷ steps) life q kept k =
     let number : ℕ = number_at r.numbers conn in
-    let first = moved_story before conn asks written x r.ended life.1.0.0 k in
-    let told = next_story before conn (asks ++ first.0) (written ++ []) r life.1.1 first.2 in
-    let next : Before = record { notes = before.notes ++ first.2.story.notes; places = places_of r } in
-    let story : StoryAt next number (asks ++ first.0) (written ++ []) life.0 = subst (λ (z : ServedValue). StoryAt next number (asks ++ first.0) (written ++ []) z) (sym life.1.2) told.1 in
-    let later = over_life next number (asks ++ first.0) (written ++ []) life.0 y steps life.2 kept.1 story in (
+    let first = lasts.moves before conn asks written x r.ended life.1.0 k in
+    let told = lasts.renews before conn (asks ++ first.0) (written ++ []) r life.1.1 first.2 in
+    let next : Before = record { notes = before.notes ++ told.0; places = places_of r } in
+    let story : P next number (asks ++ first.0) (written ++ []) life.0 = subst (λ (z : ServedValue). P next number (asks ++ first.0) (written ++ []) z) (sym life.1.2) told.2 in
+    let later = over_steps P Q lasts next number (asks ++ first.0) (written ++ []) life.0 y steps life.2 q.1 kept.1 story in (
       first.0 ++ later.0,
-      first.2.story.notes ∷ later.1,
+      told.0 ∷ later.1,
       heard_both [] (heard_over number steps) first.0 later.0 first.1 later.2,
-      (told.0, later.3),
-      joined (before_next next (renewals steps) later.1) (number_over number steps) asks first.0 later.0 written [] (written_over number steps) y later.4,
+      (told.1, later.3),
+      joined P (before_next next (renewals steps) later.1) (number_over number steps) asks first.0 later.0 written [] (written_over number steps) y later.4,
     )
+
+-- ---- a client that stays
+
+-- what a ring's own moves bring to a story
+moved_story : (before : Before) (conn : ℕ) (asks : List Ask) (written : List ℕ) (x y : ServedValue) → MovesOn x y → StoryAt before conn asks written x → GoesOnBy StoryAt before conn asks written [] [] y
+moved_story before conn asks written x y moves k =
+    let s = over_run x y moves.0.0 moves.0.2 before conn asks written (own_kept conn moves.0.0 moves.0.1) k in
+    (s.0, sym (own_heard conn moves.0.0 moves.0.1) ∙ s.1, subst (λ (w : List ℕ). StoryAt before conn (asks ++ s.0) (written ++ w) y) (own_written conn moves.0.0 moves.0.1) s.2)
+
+stories_last : Lasts StoryAt (λ step. Unit {0})
+stories_last = record {
+  does = λ before conn asks written x y did go any kept k. one_call before conn asks written x y did go kept k;
+  moves = moved_story;
+  renews = λ before conn asks written r is k. let next = next_story before conn asks written r is k in (k.story.notes, next.0, next.1);
+}
+
+any_steps : (steps : List Step) → AllByRecursion (λ (step : Step). Unit {0}) steps
+any_steps [] = tt
+any_steps (step ∷ steps) = (tt, any_steps steps)
+
+over_life : (before : Before) (conn : ℕ) (asks : List Ask) (written : List ℕ) (x y : ServedValue) (steps : List Step) → Life x steps y → IsKeptOver conn steps → StoryAt before conn asks written x → IsToldOver before conn asks written steps y
+over_life before conn asks written x y steps life kept k = over_steps StoryAt (λ step. Unit {0}) stories_last before conn asks written x y steps life (any_steps steps) kept k
 
 -- ---- a client that comes
 
 -- as many desks as connections, and so many of them
-record AreSoMany (count : ℕ) (x : ServedValue) : Type 0 where
+pub record AreSoMany (count : ℕ) (x : ServedValue) : Type 0 where
   pub desks : length x.desks ≡ count
   pub clients : length x.desks ≡ length x.node.clients
 
 grown : (n count : ℕ) (x y : ServedValue) → Grows n x y → AreSoMany count x → AreSoMany (count + n) y
 grown n count x y g h = record { desks = omega (arith, g.desks, h.desks); clients = omega (arith, g.desks, g.clients, h.clients) }
 
-so_many : (count : ℕ) (x y : ServedValue) (step : Step) → GoesBy x step y → AreSoMany count x → AreSoMany (count_by count step) y
+pub so_many : (count : ℕ) (x y : ServedValue) (step : Step) → GoesBy x step y → AreSoMany count x → AreSoMany (count_by count step) y
 so_many count x y (Does did) go h = grown (arrives did) count x y (grows x y did go) h
 so_many count x y Moves go h = subst (λ (n : ℕ). AreSoMany n y) (omega arith) (grown 0 count x y (own_grows x y go.0.0 go.0.1 go.0.2) h)
 so_many count x y (Renews r) go h =

@@ -16,3 +16,4 @@ pub mod Settling
 pub mod Carrying
 pub mod Refusals
 pub mod Rings
+pub mod Alone
