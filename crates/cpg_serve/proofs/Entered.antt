@@ -25,7 +25,7 @@ use Rattle.cpg_serve.proofs.Noted.{is_there, refused_by, taken_by}
 
 -- ---- whose entries they are
 
-own_both : (conn : ℕ) (one other : List Entry) → length (own_entries (conn_at 1 conn) (one ++ other)) ≡ length (own_entries (conn_at 1 conn) one) + length (own_entries (conn_at 1 conn) other)
+pub own_both : (conn : ℕ) (one other : List Entry) → length (own_entries (conn_at 1 conn) (one ++ other)) ≡ length (own_entries (conn_at 1 conn) one) + length (own_entries (conn_at 1 conn) other)
 own_both conn one other =
     ap (λ (l : List Entry). length l) (filter-append (λ (e : Entry). is_conn (conn_at 1 conn) (conn_of e)) one other) ∙ length-append (own_entries (conn_at 1 conn) one) (own_entries (conn_at 1 conn) other)
 
@@ -69,7 +69,7 @@ pub record Enters (by : ℕ) (x y : NodeValue) (count : ℕ) : Type 0 where
   pub many : length new ≡ count
   pub node : y.ring.node ≡ x.ring.node
 
-pub enters_none : (by : ℕ) (x y : NodeValue) → y.ring.state.waiting ≡ x.ring.state.waiting → y.ring.node ≡ x.ring.node → Enters by x y 0
+abbrev pub enters_none : (by : ℕ) (x y : NodeValue) → y.ring.state.waiting ≡ x.ring.state.waiting → y.ring.node ≡ x.ring.node → Enters by x y 0
 enters_none by x y same node = record { new = []; waits = same ∙ sym (append-nil x.ring.state.waiting); each = tt; many = refl; node = node }
 
 entry_node : (x : NodeValue) (by : ℕ) (op : Op) (o : Option Client) → (with_entry x by op o).ring.node ≡ x.ring.node
@@ -122,9 +122,5 @@ enters_all by s (turn ∷ turns) alive h =
     subst (Enters by s.node (asked_all by s (turn ∷ turns)).node) (sym (calls_append (turn.ask ∷ []) (asks_of turns)))
     (enters_then by s.node (asked by s turn).node (asked_all by (asked by s turn) turns).node (length (calls_among (turn.ask ∷ []))) (length (calls_among (asks_of turns))) first later)
 
-pub enters_end : (by : ℕ) (x : NodeValue) (o : Option Client) → open_client x by ≡ o → (n : ℕ) × Enters by x (ended_by x by o) n
-enters_end by x None e = (0, enters_none by x x refl refl)
-enters_end by x (Some c) e = (1, ended (enters_one by x Gone c (Some c) refl))
-  where
-    ended : Enters by x (with_entry x by Gone (Some c)) 1 → Enters by x (ended_by x by (Some c)) 1
-    ended h = record { new = h.new; waits = h.waits; each = h.each; many = h.many; node = h.node }
+pub enters_end : (by : ℕ) (x : NodeValue) (c : Client) → Enters by x (ended_by x by (Some c)) 1
+enters_end by x c = let h = enters_one by x Gone c (Some c) refl in record { new = h.new; waits = h.waits; each = h.each; many = h.many; node = h.node }

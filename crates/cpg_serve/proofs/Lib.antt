@@ -32,3 +32,4 @@ pub mod Unbegun
 pub mod Lives
 pub mod Known
 pub mod Entered
+pub mod Alone

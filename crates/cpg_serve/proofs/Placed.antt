@@ -32,7 +32,7 @@ reached_all w (e ∷ es) h = reached_all (happens w e) es (reached_on w e h)
 
 -- ---- the entries of a connection
 
-entries_own : (rs : List Record) (conn : ConnId) → map (λ (r : Record). r.entry) (own_records rs conn) ≡ own_entries conn (map (λ (r : Record). r.entry) rs)
+pub entries_own : (rs : List Record) (conn : ConnId) → map (λ (r : Record). r.entry) (own_records rs conn) ≡ own_entries conn (map (λ (r : Record). r.entry) rs)
 entries_own [] conn = refl
 entries_own (r ∷ rs) conn = by (is_conn conn (conn_of r.entry)) (entries_own rs conn)
   where

@@ -134,7 +134,7 @@ lone_ended : (x : NodeValue) (by : ℕ) (o : Option Client) (t : Token) (placed 
 lone_ended x by None t placed h = h
 lone_ended x by (Some c) t placed h = lone_entry x by Gone (Some c) t placed h
 
-lone_goes : (x y : ServedValue) (did : Did) → Goes x did y → IsFrameless did → (t : Token) (placed : List Entry) → IsLone x.node.ring t placed → IsLone y.node.ring t placed
+pub lone_goes : (x y : ServedValue) (did : Did) → Goes x did y → IsFrameless did → (t : Token) (placed : List Entry) → IsLone x.node.ring t placed → IsLone y.node.ring t placed
 lone_goes x y (Arrives pid cred) g own t placed h = subst (λ (z : ServedValue). IsLone z.node.ring t placed) (sym g) h
 lone_goes x y (Hears by bytes count stop) g own t placed h =
     subst (λ (s : At). IsLone s.node.ring t placed) (sym g.did.so.done) (lone_heard by (at_of x.node g.old) g.did.so.turns t placed h)

@@ -8,6 +8,7 @@ ghost use Rattle.cpg_serve.specs.Carrying.{EachGoesOver, NextKeepsAll};
 ghost use Rattle.cpg_serve.specs.Renewing.{RenewalKeepsAll, SeatsAreThere};
 ghost use Rattle.cpg_serve.specs.Runs.{AllThatIsTold, StoriesBegin, LostIsGone, NothingAfterTheEnd};
 ghost use Rattle.cpg_serve.specs.Orders.{VerdictsInOrder};
+ghost use Rattle.cpg_serve.specs.Alone.{LoneRingsAnswer};
 ghost use Rattle.cpg_serve.specs.Rings.{LivesTell};
 ghost use Rattle.cpg_serve.specs.Meeting.{EvenBegins, StaysEven, AnswersInOrder, HonestInAWorld};
 
@@ -98,4 +99,12 @@ pub fn verdicts_answer_their_calls()
     ensures honest { HonestInAWorld }
 {
     verdicts_in_order();
+}
+
+/// Over any life of rings of one node that hear nothing but their own tokens: the k-th verdict that a client is told, in
+/// all rings together, is the answer to its k-th call.
+pub fn rings_of_one_answer_calls()
+    ensures { LoneRingsAnswer }
+{
+    each_entry_is_judged();
 }
