@@ -73,7 +73,7 @@ quiet_one conn s turn = quiet_all conn conn s (turn ∷ [])
 pub alive_after : (conn : ℕ) (x y : NodeValue) → IsQuiet conn x y → is_some (open_client x conn) ≡ true → is_some (open_client y conn) ≡ true
 alive_after conn x y q h = ap (λ (o : Option Client). is_some (if_open o)) q.client ∙ h
 
-all_owed : (conn : ℕ) (s : At) (turns : List Turn) → is_some (open_client s.node conn) ≡ true → AllTaken conn s turns → length (asked_all conn s turns).desk.owed ≡ length s.desk.owed + length (calls_among (asks_of turns))
+pub all_owed : (conn : ℕ) (s : At) (turns : List Turn) → is_some (open_client s.node conn) ≡ true → AllTaken conn s turns → length (asked_all conn s turns).desk.owed ≡ length s.desk.owed + length (calls_among (asks_of turns))
 all_owed conn s [] alive h = omega arith
 all_owed conn s (turn ∷ turns) alive h =
     let first : length (asked conn s turn).desk.owed ≡ length s.desk.owed + length (calls_among (turn.ask ∷ [])) = asked_owed conn s turn (call_of turn.ask.want) alive refl h.1 in
@@ -83,7 +83,7 @@ all_owed conn s (turn ∷ turns) alive h =
 
 -- ---- what is quiet
 
-left_quiet : (conn : ℕ) (x y : NodeValue) (d e : DeskValue) → e.next ≡ d.next → IsQuiet conn x y → left_of conn (at_of y e) ≡ left_of conn (at_of x d)
+pub left_quiet : (conn : ℕ) (x y : NodeValue) (d e : DeskValue) → e.next ≡ d.next → IsQuiet conn x y → left_of conn (at_of y e) ≡ left_of conn (at_of x d)
 left_quiet conn x y d e next q =
     ap (λ (o : Option Event). option_to_list o ++ rest_of y conn (open_client y conn)) next
     ∙ ap (λ (o : Option Client). option_to_list d.next ++ rest_of y conn (if_open o)) q.client
@@ -148,7 +148,7 @@ unheard before b conn asks written x z did goes kept none k even =
     let same : List Ask → List ℕ → Type 0 = λ more bytes. StoryAt before conn (asks ++ more) (written ++ bytes) z in
     ([], none, subst (λ (w : List ℕ). same [] w) (append-nil (written_by conn did)) (subst (λ (m : List Ask). same m (written_by conn did ++ [])) nothing s.2), subst (λ (l : List Ask). IsEven b conn l z) (sym (append-nil asks)) even)
 
-pub heard_own : (before : Before) (b : Counts) (conn : ℕ) (asks : List Ask) (written : List ℕ) (x z : ServedValue) (bytes : List ℕ) (count : ℕ) (stop : Stop) → IsHeard conn x bytes count stop z → StoryAt before conn asks written x → IsEven b conn asks x
+abbrev pub heard_own : (before : Before) (b : Counts) (conn : ℕ) (asks : List Ask) (written : List ℕ) (x z : ServedValue) (bytes : List ℕ) (count : ℕ) (stop : Stop) → IsHeard conn x bytes count stop z → StoryAt before conn asks written x → IsEven b conn asks x
     → (more : List Ask) × (take count bytes ≡ flat_map spelling more) × StoryAt before conn (asks ++ more) (written ++ []) z × IsEven b conn (asks ++ more) z
 heard_own before b conn asks written x z bytes count stop g k h =
     let turns : List Turn = g.did.so.turns in

@@ -33,3 +33,4 @@ pub mod Lives
 pub mod Known
 pub mod Entered
 pub mod Alone
+pub mod Answered

@@ -15,6 +15,7 @@ use Rattle.cpg_ask.specs.Spelling.{spelling}
 use Rattle.cpg_ask.specs.Tells.{tell_bytes}
 use Rattle.cpg_ask.specs.declared.greetings.Greeting.{Greeting}
 use Rattle.cpg_serve.specs.declared.desks.Owed.{Owed}
+use Rattle.cpg_serve.specs.Telling.{DeskValue}
 use Rattle.cpg_serve.specs.Asking.{at_of}
 use Rattle.cpg_serve.specs.Coming.{left_of}
 use Rattle.cpg_serve.specs.Serving.{ServedValue, arrived}
@@ -67,21 +68,33 @@ own_grows x y (_ ∷ dids) h run = absurd h.0
 
 -- ---- the next ring
 
--- the ring told the client all, and its story goes on at the next one
-pub next_story : (before : Before) (conn : ℕ) (asks : List Ask) (written : List ℕ) (r : Renewal) → IsRenewal r → (k : StoryAt before conn asks written r.ended)
-    → IsToldIn conn before.places r.ended.greeting r.ended.node [] k.story.notes × StoryAt (record { notes = before.notes ++ k.story.notes; places = places_of r }) (number_at r.numbers conn) asks written r.next
+-- The ring told the client all, and its story goes on at the next one, where nothing is left to tell it.
+pub record GoesToNext (before : Before) (conn : ℕ) (asks : List Ask) (written : List ℕ) (r : Renewal) (k : StoryAt before conn asks written r.ended) : Type 0 where
+  pub told : IsToldIn conn before.places r.ended.greeting r.ended.node [] k.story.notes
+  pub story : StoryAt (record { notes = before.notes ++ k.story.notes; places = places_of r }) (number_at r.numbers conn) asks written r.next
+  pub owed : story.desk.owed ≡ k.desk.owed
+  pub left : left_of (number_at r.numbers conn) (at_of r.next.node story.desk) ≡ []
+
+-- at rest it was told all
+pub told_at_rest : (conn : ℕ) (r : Renewal) (d : DeskValue) → IsRenewal r → is_some (open_client r.ended.node conn) ≡ true → item r.ended.desks conn ≡ Some d → left_of conn (at_of r.ended.node d) ≡ []
+told_at_rest conn r d is alive there =
+    let c = is_there (open_client r.ended.node conn) alive in
+    let low = within r.ended.node.clients conn c.0 (open_is (item r.ended.node.clients conn) c.0 c.1).0 in
+    is.0.1 conn (omega (arith, low, is.1.2.node.few)) d there
+
+pub next_story : (before : Before) (conn : ℕ) (asks : List Ask) (written : List ℕ) (r : Renewal) → IsRenewal r → (k : StoryAt before conn asks written r.ended) → GoesToNext before conn asks written r k
 next_story before conn asks written r is k =
     let c = is_there (open_client r.ended.node conn) k.story.alive in
     let renewed = is.1.2 in
-    let low = within r.ended.node.clients conn c.0 (open_is (item r.ended.node.clients conn) c.0 c.1).0 in
-    let told : left_of conn (at_of r.ended.node k.desk) ≡ [] = is.0.1 conn (omega (arith, low, renewed.node.few)) k.desk k.there in
-    let over = each_goes_over is.1.0 is.1.1 r.numbers r.ended r.next conn c.0 k.desk renewed (is.0.1 conn (omega (arith, low, renewed.node.few))) c.1 k.there in
+    let told : (d : DeskValue) → item r.ended.desks conn ≡ Some d → left_of conn (at_of r.ended.node d) ≡ [] = λ d there. told_at_rest conn r d is k.story.alive there in
+    let over = each_goes_over is.1.0 is.1.1 r.numbers r.ended r.next conn c.0 k.desk renewed told c.1 k.there in
     let number : ℕ = number_at r.numbers conn in
     let past : List Note = before.notes ++ k.story.notes in
-    let rs : List Record = records_of r.next.node in (
-      subst (λ (l : List Event). IsToldIn conn before.places r.ended.greeting r.ended.node l k.story.notes) told
-          (subst (λ (g : Greeting). IsToldIn conn before.places g r.ended.node (left_of conn (at_of r.ended.node k.desk)) k.story.notes) k.greeting k.story.now),
-      record {
+    let rs : List Record = records_of r.next.node in
+    record {
+      told = subst (λ (l : List Event). IsToldIn conn before.places r.ended.greeting r.ended.node l k.story.notes) (told k.desk k.there)
+          (subst (λ (g : Greeting). IsToldIn conn before.places g r.ended.node (left_of conn (at_of r.ended.node k.desk)) k.story.notes) k.greeting k.story.now);
+      story = record {
         desk = greeted r.next.greeting k.desk;
         there = over.desk;
         greeting = refl;
@@ -100,8 +113,10 @@ next_story before conn asks written r is k =
           alive = sym (some_mapped anew (open_client r.next.node number)) ∙ ap is_some over.client;
           told = k.story.told ∙ ap (λ (l : List Note). flat_map tell_bytes (tells_in [] l)) (sym (append-nil past));
         };
-      },
-    )
+      };
+      owed = refl;
+      left = over.told;
+    }
 
 -- ---- one step after another
 
@@ -189,7 +204,7 @@ stories_last : Lasts StoryAt (λ step. Unit {0})
 stories_last = record {
   does = λ before conn asks written x y did go any kept k. one_call before conn asks written x y did go kept k;
   moves = moved_story;
-  renews = λ before conn asks written r is k. let next = next_story before conn asks written r is k in (k.story.notes, next.0, next.1);
+  renews = λ before conn asks written r is k. let next = next_story before conn asks written r is k in (k.story.notes, next.told, next.story);
 }
 
 any_steps : (steps : List Step) → AllByRecursion (λ (step : Step). Unit {0}) steps

@@ -24,8 +24,8 @@ pub use deeds::{Deed, Frames, Outcome};
 pub use desks::{Desk, Owed};
 pub use hearing::{Heard, Stop};
 pub use laws::{
-    all_that_is_told, all_that_rings_tell, clients_go_over, delivery_tells, hears_as_its_own, nothing_after_the_end, renewal_keeps_all,
-    rings_of_one_stay_so, stories_go_on, verdicts_answer_their_calls, verdicts_are_its_own,
-    verdicts_in_order,
+    all_that_is_told, all_that_rings_tell, clients_go_over, delivery_tells, hears_as_its_own,
+    nothing_after_the_end, renewal_keeps_all, rings_of_one_answer_calls, rings_of_one_stay_so,
+    stories_go_on, verdicts_answer_their_calls, verdicts_are_its_own, verdicts_in_order,
 };
 pub use served::Served;
