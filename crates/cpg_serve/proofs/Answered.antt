@@ -38,7 +38,7 @@ use Rattle.cpg_serve.proofs.Counting.{told, verdicts_append}
 use Rattle.cpg_serve.proofs.Entered.{Enters, IsBy, all_own, by_other, none_own, own_both}
 use Rattle.cpg_serve.proofs.Evening.{calls_append, even_by, heard_other, heard_own, none_spelled, stays_even, unheard}
 use Rattle.cpg_serve.proofs.Growing.{inbox_delivered, records_delivered}
-use Rattle.cpg_serve.proofs.Lives.{AreSoMany, GoesOnBy, Lasts, next_story, told_at_rest, over_steps, own_heard, own_kept, own_written, so_many}
+use Rattle.cpg_serve.proofs.Lives.{AreSoMany, GoesOnBy, Lasts, next_story, told_at_rest, over_steps, own_kept, own_silent, so_many}
 use Rattle.cpg_serve.proofs.Matched.{all_made, answers_in_order, even_begins, even_notes}
 use Rattle.cpg_serve.proofs.Noted.{all_records}
 use Rattle.cpg_serve.proofs.Running.{begins, is_other, quiet_all, quiet_ended}
@@ -204,8 +204,8 @@ module _ (each : EachEntryIsJudged) where
       ap (λ (l : List Entry). length (own_entries (conn_at 1 conn) l)) (stays.entries ∙ append-nil (entries_in x st.alone)) in
       let end : IsHonest b conn asks z = honest b conn asks z stays.alone (omega (arith, same, st.own)) in
       let s = stays_even before b conn asks written x z go.0.0 go.0.2 (own_kept conn go.0.0 go.0.1) st.story st.even (honest_run b conn asks x z go.0.0 go.0.2 end) in
-      let silent : [] ≡ flat_map spelling s.0 = sym (own_heard conn go.0.0 go.0.1) ∙ s.1 in
-      let story : StoryAt before conn (asks ++ s.0) (written ++ []) z = subst (λ (w : List ℕ). StoryAt before conn (asks ++ s.0) (written ++ w) z) (own_written conn go.0.0 go.0.1) s.2 in
+      let silent : [] ≡ flat_map spelling s.0 = sym (own_silent conn go.0.0 go.0.1).0 ∙ s.1 in
+      let story : StoryAt before conn (asks ++ s.0) (written ++ []) z = subst (λ (w : List ℕ). StoryAt before conn (asks ++ s.0) (written ++ w) z) (own_silent conn go.0.0 go.0.1).1 s.2 in
       (s.0, silent, standing before b conn asks s.0 written [] x z st stays.alone [] stays.entries (sym (nothing_asked s.0 silent)) (grown_run x z go.0.0 go.0.2) story s.3)
 
   -- ---- the next ring

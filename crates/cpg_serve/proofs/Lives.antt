@@ -41,19 +41,13 @@ own_kept conn (Delivers ∷ dids) h = (tt, own_kept conn dids h.1)
 own_kept conn (Tells by ∷ dids) h = (tt, own_kept conn dids h.1)
 own_kept conn (_ ∷ dids) h = absurd h.0
 
-pub own_written : (conn : ℕ) (dids : List Did) → AllByRecursion IsOwnMove dids → flat_map (written_by conn) dids ≡ []
-own_written conn [] h = refl
-own_written conn (Frames ∷ dids) h = own_written conn dids h.1
-own_written conn (Delivers ∷ dids) h = own_written conn dids h.1
-own_written conn (Tells by ∷ dids) h = own_written conn dids h.1
-own_written conn (_ ∷ dids) h = absurd h.0
-
-pub own_heard : (conn : ℕ) (dids : List Did) → AllByRecursion IsOwnMove dids → flat_map (heard_by conn) dids ≡ []
-own_heard conn [] h = refl
-own_heard conn (Frames ∷ dids) h = own_heard conn dids h.1
-own_heard conn (Delivers ∷ dids) h = own_heard conn dids h.1
-own_heard conn (Tells by ∷ dids) h = own_heard conn dids h.1
-own_heard conn (_ ∷ dids) h = absurd h.0
+-- nothing is heard of anybody, and nothing is written
+pub own_silent : (conn : ℕ) (dids : List Did) → AllByRecursion IsOwnMove dids → (flat_map (heard_by conn) dids ≡ []) × (flat_map (written_by conn) dids ≡ [])
+own_silent conn [] h = (refl, refl)
+own_silent conn (Frames ∷ dids) h = own_silent conn dids h.1
+own_silent conn (Delivers ∷ dids) h = own_silent conn dids h.1
+own_silent conn (Tells by ∷ dids) h = own_silent conn dids h.1
+own_silent conn (_ ∷ dids) h = absurd h.0
 
 then_grow : (x y z : ServedValue) → Grows 0 x y → Grows 0 y z → Grows 0 x z
 then_grow x y z g h = record { desks = omega (arith, g.desks, h.desks); clients = omega (arith, g.clients, h.clients) }
@@ -198,7 +192,7 @@ over_steps P Q lasts before conn asks written x y (Renews r ∷ steps) life q ke
 moved_story : (before : Before) (conn : ℕ) (asks : List Ask) (written : List ℕ) (x y : ServedValue) → MovesOn x y → StoryAt before conn asks written x → GoesOnBy StoryAt before conn asks written [] [] y
 moved_story before conn asks written x y moves k =
     let s = over_run x y moves.0.0 moves.0.2 before conn asks written (own_kept conn moves.0.0 moves.0.1) k in
-    (s.0, sym (own_heard conn moves.0.0 moves.0.1) ∙ s.1, subst (λ (w : List ℕ). StoryAt before conn (asks ++ s.0) (written ++ w) y) (own_written conn moves.0.0 moves.0.1) s.2)
+    (s.0, sym (own_silent conn moves.0.0 moves.0.1).0 ∙ s.1, subst (λ (w : List ℕ). StoryAt before conn (asks ++ s.0) (written ++ w) y) (own_silent conn moves.0.0 moves.0.1).1 s.2)
 
 stories_last : Lasts StoryAt (λ step. Unit {0})
 stories_last = record {

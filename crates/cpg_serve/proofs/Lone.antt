@@ -113,6 +113,21 @@ lone_refused x t placed why h e =
 abbrev pub delivered_by : Bool → NodeState → RingOutcome
 delivered_by held r = if held then (after_delivery r, []) else (r, [])
 
+-- what waits, and how much is delivered, may be other
+pub lone_kept : (x : RingNode) (t : Token) (placed waiting : List Entry) (delivered : ℕ) → delivered ≤ t.seq → IsLone x t placed → IsLone (with_state x (record x.state { waiting = waiting; delivered = delivered })) t placed
+lone_kept x t placed waiting delivered few h = record {
+  one = h.one;
+  node = h.node;
+  last = h.last;
+  ring = h.ring;
+  hop = h.hop;
+  seq = h.seq;
+  held = h.held;
+  agrees = h.agrees;
+  within = h.within;
+  delivered = few;
+}
+
 pub lone_delivered : (x : RingNode) (t : Token) (placed : List Entry) → IsLone x t placed → IsLone (with_state x (deliver x.state).0) t placed
 lone_delivered x t placed h = by_next (get x.state.held (suc x.state.delivered)) refl
   where
@@ -120,18 +135,7 @@ lone_delivered x t placed h = by_next (get x.state.held (suc x.state.delivered))
     by_next None e = h
     by_next (Some entry) e =
         let w = item_within placed (suc x.state.delivered) entry (h.agrees (suc x.state.delivered) entry e) in
-        record {
-          one = h.one;
-          node = h.node;
-          last = h.last;
-          ring = h.ring;
-          hop = h.hop;
-          seq = h.seq;
-          held = h.held;
-          agrees = h.agrees;
-          within = h.within;
-          delivered = omega (arith, w.1, h.seq);
-        }
+        lone_kept x t placed x.state.waiting (suc x.state.delivered) (omega (arith, w.1, h.seq)) h
 
 -- where nothing is to be delivered, all that has a place was
 pub all_delivered : (x : RingNode) (t : Token) (placed : List Entry) → IsLone x t placed → next_entry x.state ≡ None → x.state.delivered ≡ t.seq

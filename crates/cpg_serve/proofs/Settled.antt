@@ -12,7 +12,7 @@ use Rattle.cpg_ring.specs.Rings.{RingNode}
 use Rattle.cpg_ring.specs.Worlds.{item, with_item}
 use Rattle.cpg_ring.proofs.Lists.{item_with_same, item_with_other, length-with_item}
 use Rattle.cpg_node.specs.declared.connections.Client.{Client}
-use Rattle.cpg_node.specs.Nodes.{NodeValue, delivered_entries, if_open, open_client}
+use Rattle.cpg_node.specs.Nodes.{NodeValue, delivered_entries, entry_by, if_open, open_client}
 use Rattle.cpg_node.specs.Calls.{ended_by, submit_refusal, with_entry}
 use Rattle.cpg_entry.specs.declared.calls.Call.{Call}
 use Rattle.cpg_entry.specs.declared.calls.Op.{Op}
@@ -26,7 +26,7 @@ use Rattle.cpg_serve.specs.Serving.{ServedValue, IsCaughtUp}
 use Rattle.cpg_serve.specs.Stories.{IsQuiet}
 use Rattle.cpg_serve.specs.Runs.{Did, Arrives, Hears, Frames, Delivers, Tells, Writes, Loses, Nothing, Goes}
 use Rattle.cpg_serve.specs.Settling.{IsLone, IsFrameless, IsStill, LoneStays, StaysLone, MovesTo, ToldAll}
-use Rattle.cpg_serve.proofs.Lone.{delivered_is, lone_delivered}
+use Rattle.cpg_serve.proofs.Lone.{delivered_is, lone_delivered, lone_kept}
 use Rattle.cpg_serve.proofs.Noted.{rest_quiet, inbox_quiet}
 use Rattle.cpg_serve.proofs.Running.{within}
 use Rattle.cpg_serve.proofs.Turns.{moves_none, moves_one, moves_then, none_next}
@@ -104,18 +104,7 @@ all_placed x y stays still t placed h =
 
 pub lone_entry : (x : NodeValue) (by : ℕ) (op : Op) (o : Option Client) (t : Token) (placed : List Entry) → IsLone x.ring t placed → IsLone (with_entry x by op o).ring t placed
 lone_entry x by op None t placed h = h
-lone_entry x by op (Some c) t placed h = record {
-  one = h.one;
-  node = h.node;
-  last = h.last;
-  ring = h.ring;
-  hop = h.hop;
-  seq = h.seq;
-  held = h.held;
-  agrees = h.agrees;
-  within = h.within;
-  delivered = h.delivered;
-}
+lone_entry x by op (Some c) t placed h = lone_kept x.ring t placed (x.ring.state.waiting ++ entry_by x by c op ∷ []) x.ring.state.delivered h.delivered h
 
 lone_called : (by : ℕ) (s : At) (owed : Owed) (call : Call) (o : Option Refusal) (t : Token) (placed : List Entry) → IsLone s.node.ring t placed → IsLone (called_by by s owed call o).node.ring t placed
 lone_called by s owed call None t placed h = lone_entry s.node by (Act call) (open_client s.node by) t placed h

@@ -58,23 +58,25 @@ abbrev pub IsKeptOver : ℕ → List Step → Type 0
 IsKeptOver conn [] = Unit {0}
 IsKeptOver conn (step ∷ steps) = IsKeptIn conn step × IsKeptOver (number_by conn step) steps
 
+-- what the steps have of it, one after another
+abbrev pub bytes_over : (ℕ → Step → List ℕ) → ℕ → List Step → List ℕ
+bytes_over part conn [] = []
+bytes_over part conn (step ∷ steps) = part conn step ++ bytes_over part (number_by conn step) steps
+
 abbrev pub heard_in : ℕ → Step → List ℕ
 heard_in conn (Does did) = heard_by conn did
 heard_in conn _ = []
-
--- the bytes that were heard of it
-abbrev pub heard_over : ℕ → List Step → List ℕ
-heard_over conn [] = []
-heard_over conn (step ∷ steps) = heard_in conn step ++ heard_over (number_by conn step) steps
 
 abbrev pub written_in : ℕ → Step → List ℕ
 written_in conn (Does did) = written_by conn did
 written_in conn _ = []
 
--- the bytes that were written to it
+-- the bytes that were heard of it, and those that were written to it
+abbrev pub heard_over : ℕ → List Step → List ℕ
+heard_over conn steps = bytes_over heard_in conn steps
+
 abbrev pub written_over : ℕ → List Step → List ℕ
-written_over conn [] = []
-written_over conn (step ∷ steps) = written_in conn step ++ written_over (number_by conn step) steps
+written_over conn steps = bytes_over written_in conn steps
 
 -- ---- the rings that ended
 
