@@ -10,6 +10,7 @@ mod forms;
 mod gathering;
 mod inboxes;
 mod judging;
+mod near;
 mod output;
 mod scripts;
 mod texts;
