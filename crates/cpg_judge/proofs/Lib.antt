@@ -10,7 +10,6 @@ pub mod Passing
 pub mod Places
 pub mod Reading
 pub mod Shown
-pub mod Staying
 pub mod Telling
 pub mod Told
 pub mod Whole

@@ -31,16 +31,6 @@ fn is_upto(places: &[u32], index: usize, last: u32) -> bool
     }
 }
 
-/// Whether the place stands there among the places.
-fn stands_at(places: &[u32], index: usize, place: u32) -> bool
-    ensures { result ≡ true → slice_get places.now index ≡ Some place }
-{
-    match places.get(index) {
-        None => false,
-        Some(there) => *there == place,
-    }
-}
-
 /// How many of a group's places come up to the last one, where so many come up to one before it. Most often
 /// that is none or one more; else they are searched by halving.
 #[inline(always)]
@@ -110,16 +100,6 @@ impl<'a> Told<'a> {
         ensures { (records : List Record) (after last : ℕ) → IsPast records last self.now → passed ≡ count_at records self.now.group after → after ≤ last → last ≤ length records → result.now ≡ told_between records self.now.group after last }
     {
         self.text.range(passed, self.passed)
-    }
-
-    /// Whether the last of the passed places is that one.
-    fn ends_at(&self, place: u32) -> bool
-        ensures { result ≡ true → slice_get self.now.places (self.now.passed - 1) ≡ Some place }
-    {
-        if self.passed == 0 {
-            return false;
-        }
-        stands_at(self.places, self.passed - 1, place)
     }
 
     /// What the next place tells the group.
@@ -344,32 +324,6 @@ impl<'a> Inbox<'a> {
     /// group, where the connection hears it.
     #[inline(always)]
     pub(crate) fn own_line(
-        &self,
-        before: &Option<Told<'a>>,
-        after: &Option<Told<'a>>,
-        place: u32,
-    ) -> &'a [u8]
-        requires before { IfSome before.now (IsPast (judged self.now.entries) (place - 1)) }
-        requires after { IfSome after.now (IsPast (judged self.now.entries) place) }
-        requires heard { IsHeard (judged self.now.entries) self.now.conn place after.now }
-        requires own { Makes (judged self.now.entries) self.now.conn place }
-        requires place { (1 ≤ place) × (place ≤ length (judged self.now.entries)) }
-        ensures { result.now ≡ concat (drop 1 (lines_at (judged self.now.entries) self.now.conn place)) }
-    {
-        match after {
-            None => self.own_line_apart(before, after, place),
-            Some(heard) => {
-                if heard.ends_at(place) {
-                    heard.latest()
-                } else {
-                    self.own_line_apart(before, after, place)
-                }
-            }
-        }
-    }
-
-    /// The same, found by the record of the place.
-    fn own_line_apart(
         &self,
         before: &Option<Told<'a>>,
         after: &Option<Told<'a>>,

@@ -122,6 +122,3 @@ pub loop-place-smaller : goal.loop-place-smaller
 loop-place-smaller g c =
     let next = own_next (judged c.args.inbox.now.entries) c.args.inbox.now.conn c.loop-place.after c.in-Some.place (found (judged c.args.inbox.now.entries) c.args.inbox.now.conn c.loop-place.after c.loop-place.count (Some c.in-Some.place) c.loop-place.invariant.counted c.in-Some.ensures) in
     omega (arith, next.above, next.within)
-
-pub own_line-line-requires-clause-heard : goal.own_line-line-requires-clause-heard
-own_line-line-requires-clause-heard g c = c.told_after-told.ensures
