@@ -38,6 +38,13 @@ impl Handle {
         }
     }
 
+    /// Whether it is open.
+    pub(crate) fn is_open(&self) -> bool
+        ensures { IsTrue result ↔ IsSome (self.now).slot.held }
+    {
+        self.live
+    }
+
     /// Takes the endpoint out, if the handle is open, which then is closed.
     pub(crate) fn take(&mut self, alloc: Global) -> Option<Box<Endpoint>>
         ensures found { MatchOption result (self.old.slot.held ≡ None) (λ boxed. self.old.slot.held ≡ Some boxed.value) }
