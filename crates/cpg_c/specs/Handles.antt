@@ -23,6 +23,13 @@ AtHandle (Some e) status (Some new) says = says e new
 abbrev pub SeenAt : {A : Type 0} → Option A → ℕ → Option A → (A → Type 0) → Type 0
 SeenAt old status new says = AtHandle old status new (λ e after. (after ≡ e) × says e)
 
+-- An endpoint that was opened is kept, where there is room for it; or the status says why there is none.
+abbrev pub IsKept : Result EndpointValue ℕ → ℕ → Option EndpointValue → Type 0
+IsKept (Ok e) status (Some kept) = (status ≡ OK) × (kept ≡ e)
+IsKept (Ok e) status None = status ≡ number Memory
+IsKept (Err why) status (Some kept) = ⊥
+IsKept (Err why) status None = status ≡ why
+
 -- Open: Busy where the handle is open already, which stays so; else an endpoint of a new node is in it, or the status says why not.
 abbrev pub IsOpenedAt : Setup → Listed → Option EndpointValue → ℕ → Option EndpointValue → Type 0
 IsOpenedAt setup list (Some e) status new = (status ≡ BUSY) × (new ≡ Some e)

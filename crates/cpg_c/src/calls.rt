@@ -36,12 +36,7 @@ pub extern "C" fn cpgring_connect(
 pub extern "C" fn cpgring_join(alloc: Global, handle: &mut Handle, conn: u16, group: &[u8]) -> u32
     ensures { AtHandle handle.old.slot.held result handle.new.slot.held (λ e new. IsCopied e conn (calls.Join group.now) result new) }
 {
-    let Some(mut boxed) = handle.take(alloc) else {
-        return CLOSED;
-    };
-    let status = boxed.join(conn, group);
-    *handle = Handle::of(boxed);
-    status
+    handle.call(alloc, |endpoint| endpoint.join(conn, group))
 }
 
 /// Asks to leave the connection's group.
@@ -49,12 +44,7 @@ pub extern "C" fn cpgring_join(alloc: Global, handle: &mut Handle, conn: u16, gr
 pub extern "C" fn cpgring_leave(alloc: Global, handle: &mut Handle, conn: u16) -> u32
     ensures { AtHandle handle.old.slot.held result handle.new.slot.held (λ e new. IsSubmitted e conn calls.Leave result new) }
 {
-    let Some(mut boxed) = handle.take(alloc) else {
-        return CLOSED;
-    };
-    let status = boxed.leave(conn);
-    *handle = Handle::of(boxed);
-    status
+    handle.call(alloc, |endpoint| endpoint.leave(conn))
 }
 
 /// Asks to send a message to the connection's group.
@@ -62,12 +52,7 @@ pub extern "C" fn cpgring_leave(alloc: Global, handle: &mut Handle, conn: u16) -
 pub extern "C" fn cpgring_send(alloc: Global, handle: &mut Handle, conn: u16, message: &[u8]) -> u32
     ensures { AtHandle handle.old.slot.held result handle.new.slot.held (λ e new. IsCopied e conn (calls.Send message.now) result new) }
 {
-    let Some(mut boxed) = handle.take(alloc) else {
-        return CLOSED;
-    };
-    let status = boxed.send(conn, message);
-    *handle = Handle::of(boxed);
-    status
+    handle.call(alloc, |endpoint| endpoint.send(conn, message))
 }
 
 /// Asks to put a rule into a group's table, at that index.
@@ -82,12 +67,7 @@ pub extern "C" fn cpgring_insert(
 ) -> u32
     ensures { AtHandle handle.old.slot.held result handle.new.slot.held (λ e new. IsInserted e conn group.now index (rule_of line.now) result new) }
 {
-    let Some(mut boxed) = handle.take(alloc) else {
-        return CLOSED;
-    };
-    let status = boxed.insert(conn, group, index, line);
-    *handle = Handle::of(boxed);
-    status
+    handle.call(alloc, |endpoint| endpoint.insert(conn, group, index, line))
 }
 
 /// Asks to take the rule of that id out of a group's table.
@@ -101,12 +81,7 @@ pub extern "C" fn cpgring_remove(
 ) -> u32
     ensures { AtHandle handle.old.slot.held result handle.new.slot.held (λ e new. IsCopied e conn (calls.Remove group.now id) result new) }
 {
-    let Some(mut boxed) = handle.take(alloc) else {
-        return CLOSED;
-    };
-    let status = boxed.remove(conn, group, id);
-    *handle = Handle::of(boxed);
-    status
+    handle.call(alloc, |endpoint| endpoint.remove(conn, group, id))
 }
 
 /// Ends a connection.
@@ -114,10 +89,5 @@ pub extern "C" fn cpgring_remove(
 pub extern "C" fn cpgring_disconnect(alloc: Global, handle: &mut Handle, conn: u16) -> u32
     ensures { AtHandle handle.old.slot.held result handle.new.slot.held (λ e new. IsDisconnected e conn result new) }
 {
-    let Some(mut boxed) = handle.take(alloc) else {
-        return CLOSED;
-    };
-    let status = boxed.disconnect(conn);
-    *handle = Handle::of(boxed);
-    status
+    handle.call(alloc, |endpoint| endpoint.disconnect(conn))
 }

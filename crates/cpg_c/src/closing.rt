@@ -14,13 +14,11 @@ use std::alloc::Global;
 pub extern "C" fn cpgring_close(alloc: Global, handle: &mut Handle) -> u32
     ensures { IsEmptied handle.old.slot.held result handle.new.slot.held }
 {
-    match handle.take(alloc) {
-        Some(boxed) => {
-            drop(boxed);
-            OK
-        }
-        None => CLOSED,
-    }
+    let Some(boxed) = handle.take(alloc) else {
+        return CLOSED;
+    };
+    drop(boxed);
+    OK
 }
 
 /// Closes a handle, and leaves its memory to be freed piece by piece to another one, which is open.

@@ -15,12 +15,7 @@ use std::alloc::Global;
 pub extern "C" fn cpgring_frame(alloc: Global, handle: &mut Handle, bytes: &[u8]) -> u32
     ensures { AtHandle handle.old.slot.held result handle.new.slot.held (λ e new. IsFrameStatus e bytes.now result new) }
 {
-    let Some(mut boxed) = handle.take(alloc) else {
-        return CLOSED;
-    };
-    let status = boxed.frame(bytes);
-    *handle = Handle::of(boxed);
-    status
+    handle.call(alloc, |endpoint| endpoint.frame(bytes))
 }
 
 /// The last token that the node sent is to be handed over again.
@@ -28,12 +23,7 @@ pub extern "C" fn cpgring_frame(alloc: Global, handle: &mut Handle, bytes: &[u8]
 pub extern "C" fn cpgring_timer(alloc: Global, handle: &mut Handle) -> u32
     ensures { AtHandle handle.old.slot.held result handle.new.slot.held (λ e new. IsTimerStatus e result new) }
 {
-    let Some(mut boxed) = handle.take(alloc) else {
-        return CLOSED;
-    };
-    let status = boxed.timer();
-    *handle = Handle::of(boxed);
-    status
+    handle.call(alloc, |endpoint| endpoint.timer())
 }
 
 /// The node hears the last token that it sent, and what it answers is handed over to nobody.
@@ -41,12 +31,7 @@ pub extern "C" fn cpgring_timer(alloc: Global, handle: &mut Handle) -> u32
 pub extern "C" fn cpgring_turn(alloc: Global, handle: &mut Handle) -> u32
     ensures { AtHandle handle.old.slot.held result handle.new.slot.held (λ e new. IsTurnStatus e result new) }
 {
-    let Some(mut boxed) = handle.take(alloc) else {
-        return CLOSED;
-    };
-    let status = boxed.turn();
-    *handle = Handle::of(boxed);
-    status
+    handle.call(alloc, |endpoint| endpoint.turn())
 }
 
 /// Hands the next frame over, with its length and to whom it goes.

@@ -37,12 +37,7 @@ impl Process {
     pub(crate) fn of_maker(entry: &Entry) -> Process
         ensures { result ≡ record { node = entry.now.node; conn = entry.now.conn; pid = entry.now.pid; cause = 0 } }
     {
-        Process {
-            node: u32::from(entry.node.get()),
-            conn: u32::from(entry.conn),
-            pid: entry.pid,
-            cause: 0,
-        }
+        Process::of(&Member::of(entry))
     }
 
     /// A member that left or joined.
@@ -55,10 +50,8 @@ impl Process {
             Cause::Join => 3,
         };
         Process {
-            node: u32::from(moved.member.node.get()),
-            conn: u32::from(moved.member.conn),
-            pid: moved.member.pid,
             cause,
+            ..Process::of(&moved.member)
         }
     }
 

@@ -1,9 +1,8 @@
 //! Where the joins stand of those who are members.
 
-ghost use Rattle.std.specs.Prelude.{◌≡◌, ◌≤◌, ◌<◌, ◌++◌, ◌&&◌, ◌∷◌, List, length, reverse, OnOk, IfOk, IsOkUnless};
+ghost use Rattle.std.specs.Prelude.{◌≡◌, ◌≤◌, ◌<◌, ◌++◌, ◌∷◌, List, length, reverse, OnOk, IfOk, IsOkUnless};
 ghost use Rattle.cpg_record.specs.declared.records.Record.{Record as RecordValue};
 ghost use Rattle.cpg_record.specs.Judging.{most_places};
-ghost use Rattle.cpg_record.specs.Membership.{is_allowed, is_end};
 ghost use Rattle.cpg_embed.specs.Seats.{seats_one, seat_at, seats_from, seats_of, seat_in, AreEnded, AreSeated, IsSeat};
 
 use crate::endpoints::Endpoint;
@@ -33,22 +32,7 @@ impl Model for Seats {
 fn seats_one(past: &Record) -> bool
     ensures { result ≡ seats_one past.now }
 {
-    past.verdict.is_allowed()
-        && match &past.entry.op {
-            Op::Act(Call::Join(_)) => true,
-            _ => false,
-        }
-}
-
-/// Whether the record takes its connection out of its group.
-fn ends_one(past: &Record) -> bool
-    ensures { result ≡ (is_allowed past.now.verdict && is_end past.now.entry.op) }
-{
-    past.verdict.is_allowed()
-        && match &past.entry.op {
-            Op::Act(Call::Leave) | Op::Gone => true,
-            _ => false,
-        }
+    past.verdict.is_allowed() && matches!(&past.entry.op, Op::Act(Call::Join(_)))
 }
 
 /// Puts the record's place last, where the record is an allowed join of a connection that is not among those.
@@ -72,7 +56,7 @@ fn put_ended(ended: &mut IndexSet<ConnId>, past: &Record) -> Result<(), Refusal>
     ensures ok { OnOk result ((later : List RecordValue) → AreEnded ended.old.keys later → AreEnded ended.new.keys (past.now ∷ later)) }
     ensures memory { IsOkUnless result Refusal.Memory }
 {
-    if ends_one(past) {
+    if past.verdict.is_allowed() && matches!(&past.entry.op, Op::Act(Call::Leave) | Op::Gone) {
         ended.insert(ConnId::of(&past.entry))?;
     }
     Ok(())

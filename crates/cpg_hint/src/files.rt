@@ -4,10 +4,10 @@
 
 ghost use Rattle.std.specs.Prelude.{◌≡◌, ◌++◌, OnOk, IfOk, IsOkUnless, option_map};
 ghost use Rattle.cpg_text.specs.Lines.{lines_of};
-ghost use Rattle.cpg_hint.specs.Files.{account_end, conf_phrase, file_flaw, file_flaw_at, file_hint, from_number, group_phrase, marked_end, name_expected, user_phrase};
+ghost use Rattle.cpg_hint.specs.Files.{account_end, conf_phrase, file_flaw, file_hint, from_number, group_phrase, marked_end, user_phrase};
 
 use crate::marks::put_marked;
-use crate::parts::{flaw_end, flaw_line, flaw_phrase, is_uid, put_flaw_text};
+use crate::parts::{Flaw, flaw_end, flaw_line, flaw_phrase, is_uid};
 use crate::places::place_in;
 use crate::told::line_at;
 use cpg_accept::admit::File;
@@ -27,80 +27,68 @@ pub fn file_hint(
     ensures memory { IsOkUnless result Refusal.Memory }
 {
     let mut hint = Vec::new(alloc);
-    if let Some(number) = flaw_line(refusal, Some(text)) {
-        put_flaw_at(alloc, &mut hint, file, text, refusal, number)?;
-    }
-    Ok(hint)
-}
-
-/// Puts what is told of the line of that number in the file at the hint's end.
-fn put_flaw_at(
-    alloc: Global,
-    hint: &mut Vec<u8>,
-    file: File,
-    text: &[u8],
-    refusal: Refusal,
-    number: u32,
-) -> Result<(), Refusal>
-    ensures ok { OnOk result (hint.new.items ≡ hint.old.items ++ file_flaw_at file refusal (lines_of text.now) (Some number)) }
-    ensures memory { IsOkUnless result Refusal.Memory }
-{
+    let Some(number) = flaw_line(refusal, Some(text)) else {
+        return Ok(hint);
+    };
     match line_at(number, Lines::of(text)) {
-        None => Ok(()),
-        Some(line) => put_flaw(alloc, hint, file, refusal, u64::from(number), line),
-    }
-}
-
-/// Puts what is told of a line of the file at the hint's end.
-fn put_flaw(
-    alloc: Global,
-    hint: &mut Vec<u8>,
-    file: File,
-    refusal: Refusal,
-    number: u64,
-    line: &[u8],
-) -> Result<(), Refusal>
-    ensures ok { OnOk result (hint.new.items ≡ hint.old.items ++ file_flaw file refusal number line.now) }
-    ensures memory { IsOkUnless result Refusal.Memory }
-{
-    let stands = trim(line);
-    match file {
-        File::Conf(_) => {
-            let phrase = conf_phrase(refusal, stands);
-            put_end(alloc, hint, number, line, flaw_end(refusal, stands), phrase)
-        }
-        File::Names => put_flaw_text(alloc, hint, true, refusal, number, line),
-        File::Passwd => {
-            let (end, phrase) = (account_end(refusal, stands), user_phrase(refusal));
-            put_end(alloc, hint, number, line, end, phrase)
-        }
-        File::Group => {
-            let (end, phrase) = (account_end(refusal, stands), group_phrase(refusal));
-            put_end(alloc, hint, number, line, end, phrase)
+        None => Ok(hint),
+        Some(line) => {
+            let flaw = Flaw {
+                refusal,
+                number: u64::from(number),
+                line,
+            };
+            flaw.put_in_file(alloc, &mut hint, file)?;
+            Ok(hint)
         }
     }
 }
 
-/// Puts the line of that number, with a mark where that end of it begins, at the hint's end.
-fn put_end(
-    alloc: Global,
-    hint: &mut Vec<u8>,
-    number: u64,
-    line: &[u8],
-    end: &[u8],
-    phrase: &str,
-) -> Result<(), Refusal>
-    ensures ok { OnOk result (hint.new.items ≡ hint.old.items ++ marked_end number line.now end.now phrase.now) }
-    ensures memory { IsOkUnless result Refusal.Memory }
-{
-    put_marked(
-        alloc,
-        hint,
-        number,
-        line,
-        place_in(line, end),
-        phrase.as_bytes(),
-    )
+impl Flaw<'_> {
+    /// Puts what is told of a line of the file at the hint's end.
+    fn put_in_file(&self, alloc: Global, hint: &mut Vec<u8>, file: File) -> Result<(), Refusal>
+        ensures ok { OnOk result (hint.new.items ≡ hint.old.items ++ file_flaw file (self.now).refusal (self.now).number (self.now).line.now) }
+        ensures memory { IsOkUnless result Refusal.Memory }
+    {
+        let (refusal, stands) = (self.refusal, trim(self.line));
+        match file {
+            File::Conf(_) => {
+                let phrase = conf_phrase(refusal, stands);
+                self.put_end(alloc, hint, flaw_end(refusal, stands), phrase)
+            }
+            File::Names => self.put_in_part(alloc, hint, true),
+            File::Passwd => {
+                let (end, phrase) = (account_end(refusal, stands), user_phrase(refusal));
+                self.put_end(alloc, hint, end, phrase)
+            }
+            File::Group => {
+                let (end, phrase) = (account_end(refusal, stands), group_phrase(refusal));
+                self.put_end(alloc, hint, end, phrase)
+            }
+        }
+    }
+
+    /// Puts the line, with a mark where that end of it begins, at the hint's end.
+    fn put_end(
+        &self,
+        alloc: Global,
+        hint: &mut Vec<u8>,
+        end: &[u8],
+        phrase: &str,
+    ) -> Result<(), Refusal>
+        ensures ok { OnOk result (hint.new.items ≡ hint.old.items ++ marked_end (self.now).number (self.now).line.now end.now phrase.now) }
+        ensures memory { IsOkUnless result Refusal.Memory }
+    {
+        let place = place_in(self.line, end);
+        put_marked(
+            alloc,
+            hint,
+            self.number,
+            self.line,
+            place,
+            phrase.as_bytes(),
+        )
+    }
 }
 
 /// What is wanted in a trimmed line of a conf file.
@@ -111,19 +99,13 @@ fn conf_phrase(refusal: Refusal, line: &[u8]) -> &'static str
         Refusal::Unclosed => {
             "a line } further on: this section is not closed before the file ends"
         }
-        Refusal::UnknownName(_) => name_expected(is_uid(line)),
+        Refusal::UnknownName(_) if is_uid(line) => {
+            "VALUE: a number, or a NAME that the file of --names or --passwd has"
+        }
+        Refusal::UnknownName(_) => {
+            "VALUE: a number, or a NAME that the file of --names or --group has"
+        }
         _ => flaw_phrase(refusal, line),
-    }
-}
-
-/// What is wanted of a name.
-fn name_expected(user: bool) -> &'static str
-    ensures { result.now ≡ name_expected user }
-{
-    if user {
-        "VALUE: a number, or a NAME that the file of --names or --passwd has"
-    } else {
-        "VALUE: a number, or a NAME that the file of --names or --group has"
     }
 }
 

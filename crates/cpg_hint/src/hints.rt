@@ -8,7 +8,7 @@ ghost use Rattle.cpg_hint.specs.Hints.{command_hint, has_head, hint_text, or_roo
 ghost use Rattle.cpg_hint.specs.Told.{line_at};
 
 use crate::kinds::ScriptKind;
-use crate::parts::{is_head, put_part};
+use crate::parts::{is_head, part_at, put_part};
 use crate::patterns::Expected;
 use crate::told::{line_at, put_mismatch};
 use crate::words::{Mismatch, first_mismatch};
@@ -29,7 +29,11 @@ pub fn hint_of(
 {
     let mut text = Vec::new(alloc);
     match (fault.part, fault.refusal) {
-        (Some(part), refusal) => put_part(alloc, &mut text, part, script, refusal)?,
+        (Some(part), refusal) => {
+            if let Some(start) = part_at(part, script) {
+                put_part(alloc, &mut text, &start, refusal)?;
+            }
+        }
         (None, Refusal::BadCommand(number)) => {
             put_command(alloc, &mut text, kind, script, number)?;
         }

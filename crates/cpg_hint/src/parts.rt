@@ -6,7 +6,7 @@ ghost use Rattle.std.specs.Prelude.{◌≡◌, ◌++◌, nat_lt, length, None, O
 ghost use Rattle.cpg_text.specs.Lines.{lines_left, lines_of, words_of};
 ghost use Rattle.cpg_conf.specs.Lines.{line_of, opened};
 ghost use Rattle.cpg_accept.specs.Parts.{is_head};
-ghost use Rattle.cpg_hint.specs.Parts.{begun_at, colon_of, depth_after, flaw_end, flaw_line, flaw_phrase, flaw_text, is_uid, name_phrase, offset_hint, open_line, opened_by, or_whole, part_hint, turn_of, value_behind};
+ghost use Rattle.cpg_hint.specs.Parts.{begun_at, colon_of, depth_after, flaw_end, flaw_line, flaw_phrase, flaw_text, is_uid, offset_hint, open_line, opened_by, or_whole, turn_of, value_behind};
 ghost use Rattle.cpg_hint.specs.Reasons.{why_no_naming};
 ghost use Rattle.cpg_hint.specs.Steps.{begun_seen};
 ghost use Rattle.cpg_hint.specs.Told.{line_at};
@@ -31,25 +31,16 @@ pub struct PartStart<'a> {
     pub after: Option<&'a [u8]>,
 }
 
-/// Puts what is told of a fault of the part of that number at the text's end.
-pub fn put_part(
-    alloc: Global,
-    text: &mut Vec<u8>,
-    part: u32,
-    script: &[u8],
-    refusal: Refusal,
-) -> Result<(), Refusal>
-    ensures ok { OnOk result (text.new.items ≡ text.old.items ++ part_hint refusal (begun_at part 1 (lines_of script.now))) }
-    ensures memory { IsOkUnless result Refusal.Memory }
-{
-    match part_at(part, script) {
-        None => Ok(()),
-        Some(start) => put_flaw(alloc, text, &start, refusal),
-    }
+/// A line with a fault: the fault, and the line's number.
+#[derive(Debug, Clone, Copy)]
+pub struct Flaw<'a> {
+    pub refusal: Refusal,
+    pub number: u64,
+    pub line: &'a [u8],
 }
 
 /// Puts what is told of a fault of the part at the text's end.
-fn put_flaw(
+pub fn put_part(
     alloc: Global,
     text: &mut Vec<u8>,
     start: &PartStart<'_>,
@@ -64,28 +55,35 @@ fn put_flaw(
     let number = u64::from(start.number) + u64::from(offset);
     match line_at(offset, Lines { rest: start.after }) {
         None => Ok(()),
-        Some(line) => put_flaw_text(alloc, text, start.names, refusal, number, line),
+        Some(line) => {
+            let flaw = Flaw {
+                refusal,
+                number,
+                line,
+            };
+            flaw.put_in_part(alloc, text, start.names)
+        }
     }
 }
 
-/// Puts what is told of a line of a names part, or of a conf part, at the text's end.
-pub fn put_flaw_text(
-    alloc: Global,
-    text: &mut Vec<u8>,
-    names: bool,
-    refusal: Refusal,
-    number: u64,
-    line: &[u8],
-) -> Result<(), Refusal>
-    ensures ok { OnOk result (text.new.items ≡ text.old.items ++ flaw_text names refusal number line.now) }
-    ensures memory { IsOkUnless result Refusal.Memory }
-{
-    if names {
-        put_mismatch(alloc, text, 0, number, line, mismatch_naming(trim(line)))
-    } else {
-        let place = place_in(line, flaw_end(refusal, trim(line)));
-        let phrase = flaw_phrase(refusal, trim(line));
-        put_marked(alloc, text, number, line, place, phrase.as_bytes())
+impl Flaw<'_> {
+    /// Puts what is told of a line of a names part, or of a conf part, at the text's end.
+    pub fn put_in_part(&self, alloc: Global, text: &mut Vec<u8>, names: bool) -> Result<(), Refusal>
+        ensures ok { OnOk result (text.new.items ≡ text.old.items ++ flaw_text names (self.now).refusal (self.now).number (self.now).line.now) }
+        ensures memory { IsOkUnless result Refusal.Memory }
+    {
+        let Flaw {
+            refusal,
+            number,
+            line,
+        } = *self;
+        if names {
+            put_mismatch(alloc, text, 0, number, line, mismatch_naming(trim(line)))
+        } else {
+            let place = place_in(line, flaw_end(refusal, trim(line)));
+            let phrase = flaw_phrase(refusal, trim(line));
+            put_marked(alloc, text, number, line, place, phrase.as_bytes())
+        }
     }
 }
 
@@ -105,7 +103,7 @@ fn mismatch_naming(line: &[u8]) -> Mismatch
 }
 
 /// The part of that number.
-fn part_at(part: u32, script: &[u8]) -> Option<PartStart<'_>>
+pub fn part_at(part: u32, script: &[u8]) -> Option<PartStart<'_>>
     ensures { option_map begun_seen result ≡ begun_at part 1 (lines_of script.now) }
 {
     let mut left = part;
@@ -278,18 +276,12 @@ pub fn flaw_phrase(refusal: Refusal, line: &[u8]) -> &'static str
         Refusal::Unclosed => "a line } further on: this section is not closed before the part ends",
         Refusal::BadItem(_) => "KEY: uid or gid, as this section is uidgid",
         Refusal::BadValue(_) => "VALUE: a number from 0 to 4294967295, or a name",
-        Refusal::UnknownName(_) => name_phrase(is_uid(line)),
+        Refusal::UnknownName(_) if is_uid(line) => {
+            "VALUE: a number, or a NAME that a line user NAME N of the names part has"
+        }
+        Refusal::UnknownName(_) => {
+            "VALUE: a number, or a NAME that a line group NAME N of the names part has"
+        }
         _ => "a line NAME {, KEY: VALUE, or }",
-    }
-}
-
-/// What is wanted of a name.
-fn name_phrase(user: bool) -> &'static str
-    ensures { result.now ≡ name_phrase user }
-{
-    if user {
-        "VALUE: a number, or a NAME that a line user NAME N of the names part has"
-    } else {
-        "VALUE: a number, or a NAME that a line group NAME N of the names part has"
     }
 }

@@ -2,10 +2,10 @@
 
 ghost use Rattle.std.specs.Prelude.{◌≡◌, ◌++◌, ◌∷◌, [], codes, decimal, OnOk, IsOkUnless};
 ghost use Rattle.cpg_print.specs.Events.{cause_text};
-ghost use Rattle.cpg_json.specs.Events.{event_fields, inbox_json, move_object, moves_field, told_fields};
+ghost use Rattle.cpg_json.specs.Events.{event_fields, inbox_json, move_object, told_fields};
 ghost use Rattle.cpg_json.specs.Objects.{after_comma, field, more, number};
 ghost use Rattle.cpg_json.specs.Calls.{group_field, message_fields};
-ghost use Rattle.cpg_json.specs.Records.{members_field, process_array};
+ghost use Rattle.cpg_json.specs.Records.{process_array};
 ghost use Rattle.cpg_json.specs.Tails.{front_of, tail_of};
 
 use crate::arrays::{Item, put_array};
@@ -73,7 +73,9 @@ pub fn put_event_fields(line: &mut Vec<u8>, event: &Event) -> Result<(), Refusal
             joined,
         } => {
             put_told_group(line, *place, "change", group.as_slice())?;
-            put_changes(line, members.as_slice(), left.as_slice(), joined.as_slice())
+            put_array(line, "members", members.as_slice())?;
+            put_array(line, "left", left.as_slice())?;
+            put_array(line, "joined", joined.as_slice())
         }
         Event::RulesChanged { place, group } => {
             put_told_group(line, *place, "rules", group.as_slice())
@@ -122,21 +124,6 @@ fn put_sender(line: &mut Vec<u8>, node: NodeId, pid: u32) -> Result<(), Refusal>
 {
     put_name(line, "sender")?;
     put_process(line, (node, pid))
-}
-
-/// Puts the members of a group after a change, those who left and those who joined, at the line's end.
-fn put_changes(
-    line: &mut Vec<u8>,
-    members: &[Member],
-    left: &[Move],
-    joined: &[Move],
-) -> Result<(), Refusal>
-    ensures ok { OnOk result (line.new.items ≡ line.old.items ++ more (members_field members.now ∷ moves_field (codes "left") left.now ∷ moves_field (codes "joined") joined.now ∷ [])) }
-    ensures memory { IsOkUnless result Refusal.Memory }
-{
-    put_array(line, "members", members)?;
-    put_array(line, "left", left)?;
-    put_array(line, "joined", joined)
 }
 
 /// A move of a member.

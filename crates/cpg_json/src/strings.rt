@@ -133,18 +133,10 @@ pub(crate) fn put_hex(line: &mut Vec<u8>, bytes: &[u8]) -> Result<(), Refusal>
     ensures memory { IsOkUnless result Refusal.Memory }
 {
     put(line, "\"")?;
-    put_hex_bytes(line, bytes)?;
-    put(line, "\"")
-}
-
-fn put_hex_bytes(line: &mut Vec<u8>, bytes: &[u8]) -> Result<(), Refusal>
-    ensures ok { OnOk result (line.new.items ≡ line.old.items ++ flat_map hex_byte bytes.now) }
-    ensures memory { IsOkUnless result Refusal.Memory }
-{
     for byte in bytes {
         put_hex_byte(line, *byte)?;
     }
-    Ok(())
+    put(line, "\"")
 }
 
 fn put_hex_byte(line: &mut Vec<u8>, byte: u8) -> Result<(), Refusal>

@@ -56,7 +56,8 @@ fn put_why(line: &mut Vec<u8>, cited: &Cited, place: u32, decided: &Decided) -> 
     let Some(past) = cited.record(place) else {
         return Ok(());
     };
-    put_judged(line, "why", cited, place, past)?;
+    put_kind(line, "why")?;
+    put_judged(line, cited, place, past)?;
     put_by(line, decided.name())?;
     put_facts(line, cited, past, decided)?;
     put(line, "}")?;
@@ -71,7 +72,8 @@ fn put_made(line: &mut Vec<u8>, cited: &Cited, place: u32) -> Result<(), Refusal
     let Some(past) = cited.record(place) else {
         return Ok(());
     };
-    put_judged(line, "entry", cited, place, past)?;
+    put_kind(line, "entry")?;
+    put_judged(line, cited, place, past)?;
     put_end(line)
 }
 
@@ -93,17 +95,10 @@ fn put_made_by(line: &mut Vec<u8>, cited: &Cited, place: u32, entry: &Entry) -> 
     put_whole_call(line, &entry.op)
 }
 
-/// Puts the front of an object of that kind: an entry, and its verdict.
-fn put_judged(
-    line: &mut Vec<u8>,
-    kind: &str,
-    cited: &Cited,
-    place: u32,
-    past: &Record,
-) -> Result<(), Refusal>
+/// Puts the front of an object behind its kind: an entry, and its verdict.
+fn put_judged(line: &mut Vec<u8>, cited: &Cited, place: u32, past: &Record) -> Result<(), Refusal>
     ensures { IsOkUnless result Refusal.Memory }
 {
-    put_kind(line, kind)?;
     put_number(line, "place", u64::from(place))?;
     put_made_by(line, cited, place, &past.entry)?;
     put_verdict(line, past.verdict)
@@ -323,7 +318,8 @@ fn put_stand(line: &mut Vec<u8>, cited: &Cited, stand: &Stand) -> Result<(), Ref
     let Some(past) = cited.record(stand.place) else {
         return Ok(());
     };
-    put_judged(line, "to", cited, stand.place, past)?;
+    put_kind(line, "to")?;
+    put_judged(line, cited, stand.place, past)?;
     put_name(line, "told")?;
     put(
         line,

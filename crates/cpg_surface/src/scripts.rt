@@ -9,46 +9,34 @@ use std::io::{Read, Write};
 use std::sync::Wait;
 use std::time::Clock;
 
-pub fn judge<R: Read, W: Write>(
-    alloc: Global,
-    reader: &mut R,
-    writer: &mut W,
-) -> Result<(), Fault> {
-    judge_script(alloc, reader, writer)
+/// Where a script is read from, and what it prints written to.
+pub struct Streams<'a, R, W> {
+    pub alloc: Global,
+    pub reader: &'a mut R,
+    pub writer: &'a mut W,
 }
 
-pub fn accept<R: Read, W: Write>(
-    alloc: Global,
-    reader: &mut R,
-    writer: &mut W,
-) -> Result<(), Fault> {
-    accept_script(alloc, reader, writer)
-}
+impl<R: Read, W: Write> Streams<'_, R, W> {
+    pub fn judge(&mut self) -> Result<(), Fault> {
+        judge_script(self.alloc, self.reader, self.writer)
+    }
 
-pub fn run<R: Read, W: Write>(
-    alloc: Global,
-    reader: &mut R,
-    writer: &mut W,
-    world: &mut World,
-) -> Result<(), Fault> {
-    run_script(alloc, reader, writer, world)
-}
+    pub fn accept(&mut self) -> Result<(), Fault> {
+        accept_script(self.alloc, self.reader, self.writer)
+    }
 
-/// Runs a script of sessions.
-pub fn sessions<B, H, R, W>(
-    rt: &H,
-    alloc: Global,
-    reader: &mut R,
-    writer: &mut W,
-    cluster: &Cluster<B, PassAll>,
-) -> Result<(), Fault>
-where
-    B: HistoryName,
-    H: Wait + Clock,
-    R: Read,
-    W: Write,
-{
-    cluster_script(rt, alloc, reader, writer, cluster)
+    pub fn run(&mut self, world: &mut World) -> Result<(), Fault> {
+        run_script(self.alloc, self.reader, self.writer, world)
+    }
+
+    /// Runs a script of sessions.
+    pub fn sessions<B, H>(&mut self, rt: &H, cluster: &Cluster<B, PassAll>) -> Result<(), Fault>
+    where
+        B: HistoryName,
+        H: Wait + Clock,
+    {
+        cluster_script(rt, self.alloc, self.reader, self.writer, cluster)
+    }
 }
 
 /// The part that a fault is of, and what it is.

@@ -10,68 +10,49 @@ use cpg_group::{Event, Names, Processes};
 use cpg_wire::Call;
 use std::sync::Wait;
 
-pub fn connect<B: HistoryName, R: Wait>(
-    rt: &R,
-    cluster: &Cluster<B, PassAll>,
-    node: NodeId,
-    pid: u32,
-    cred: Cred,
-) -> Result<Session<B>, Refusal>
-    requires { node ≤ cluster.now.nodes }
-{
-    cluster.connect(rt, node, pid, cred)
+/// A running cluster, with the handle that its calls wait by.
+#[derive(Clone, Copy)]
+pub struct Live<'a, B: HistoryName, R> {
+    pub rt: &'a R,
+    pub cluster: &'a Cluster<B, PassAll>,
 }
 
-pub fn submit<B: HistoryName, R: Wait>(
-    rt: &R,
-    cluster: &Cluster<B, PassAll>,
-    session: &mut Session<B>,
-    call: Call,
-) -> Result<(), Refused<Call>>
-    requires { session.old.who.id.node ≤ cluster.now.nodes }
-{
-    cluster.submit(rt, session, call)
-}
+impl<B: HistoryName, R: Wait> Live<'_, B, R> {
+    pub fn connect(&self, node: NodeId, pid: u32, cred: Cred) -> Result<Session<B>, Refusal>
+        requires { node ≤ self.now.cluster.now.nodes }
+    {
+        self.cluster.connect(self.rt, node, pid, cred)
+    }
 
-pub fn take<B: HistoryName, R: Wait>(
-    rt: &R,
-    cluster: &Cluster<B, PassAll>,
-    session: &mut Session<B>,
-) -> Result<Option<Event>, Refusal>
-    requires { session.old.who.id.node ≤ cluster.now.nodes }
-{
-    cluster.take(rt, session)
-}
+    pub fn submit(&self, session: &mut Session<B>, call: Call) -> Result<(), Refused<Call>>
+        requires { session.old.who.id.node ≤ self.now.cluster.now.nodes }
+    {
+        self.cluster.submit(self.rt, session, call)
+    }
 
-pub fn list<B: HistoryName, R: Wait>(
-    rt: &R,
-    cluster: &Cluster<B, PassAll>,
-    session: &mut Session<B>,
-    group: &[u8],
-) -> Result<Processes, Refusal>
-    requires { session.old.who.id.node ≤ cluster.now.nodes }
-{
-    cluster.list(rt, session, group)
-}
+    pub fn take(&self, session: &mut Session<B>) -> Result<Option<Event>, Refusal>
+        requires { session.old.who.id.node ≤ self.now.cluster.now.nodes }
+    {
+        self.cluster.take(self.rt, session)
+    }
 
-pub fn groups<B: HistoryName, R: Wait>(
-    rt: &R,
-    cluster: &Cluster<B, PassAll>,
-    session: &mut Session<B>,
-) -> Result<Names, Refusal>
-    requires { session.old.who.id.node ≤ cluster.now.nodes }
-{
-    cluster.groups(rt, session)
-}
+    pub fn list(&self, session: &mut Session<B>, group: &[u8]) -> Result<Processes, Refusal>
+        requires { session.old.who.id.node ≤ self.now.cluster.now.nodes }
+    {
+        self.cluster.list(self.rt, session, group)
+    }
 
-pub fn close<B: HistoryName, R: Wait>(
-    rt: &R,
-    cluster: &Cluster<B, PassAll>,
-    session: Session<B>,
-) -> Result<(), Refused<Session<B>>>
-    requires { session.who.id.node ≤ cluster.now.nodes }
-{
-    cluster.close(rt, session)
+    pub fn groups(&self, session: &mut Session<B>) -> Result<Names, Refusal>
+        requires { session.old.who.id.node ≤ self.now.cluster.now.nodes }
+    {
+        self.cluster.groups(self.rt, session)
+    }
+
+    pub fn close(&self, session: Session<B>) -> Result<(), Refused<Session<B>>>
+        requires { session.who.id.node ≤ self.now.cluster.now.nodes }
+    {
+        self.cluster.close(self.rt, session)
+    }
 }
 
 pub fn seat<B: HistoryName>(session: &Session<B>) -> &Seat {

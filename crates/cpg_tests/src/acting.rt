@@ -48,17 +48,13 @@ struct Crew<B: HistoryName> {
     taken: Vec<Event>,
 }
 
-/// A session, where memory is not refused at each try.
-fn entered<B: HistoryName, R: Wait>(
-    rt: &R,
-    running: &Running<B, Stage>,
-    node: u8,
-    pid: u32,
-    uid: u32,
-) -> Result<Session<B>, Stop> {
+/// What comes of it, where memory is not refused at each try.
+fn tried<T, F: FnMut() -> Result<T, Refusal>>(mut act: F) -> Result<T, Stop>
+    requires { F.IsAlwaysCallable act }
+{
     for _ in 0..TRIES {
-        match connect(rt, running, node, pid, uid) {
-            Ok(session) => return Ok(session),
+        match act() {
+            Ok(done) => return Ok(done),
             Err(Refusal::Memory) => {}
             Err(refusal) => return Err(Stop::Refused(refusal)),
         }
@@ -74,25 +70,9 @@ fn crowds<B: HistoryName, R: Wait>(
     count: u32,
 ) -> Result<(), Stop> {
     for _ in 0..count {
-        drop(entered(rt, running, node, 40, 0)?);
+        drop(tried(|| connect(rt, running, node, 40, 0))?);
     }
     Ok(())
-}
-
-/// The session has seen what the other saw.
-fn tells<B: HistoryName>(
-    running: &Running<B, Stage>,
-    session: &mut Session<B>,
-    other: &Session<B>,
-) -> Result<(), Stop> {
-    for _ in 0..TRIES {
-        match running.tell(session, other.seat()) {
-            Ok(()) => return Ok(()),
-            Err(Refusal::Memory) => {}
-            Err(refusal) => return Err(Stop::Refused(refusal)),
-        }
-    }
-    Err(Stop::Refused(Refusal::Memory))
 }
 
 impl<B: HistoryName> Crew<B> {
@@ -113,7 +93,7 @@ impl<B: HistoryName> Crew<B> {
     ) -> Result<(), Stop> {
         let mut session = self.take_out(number)?;
         let told = match self.sessions.get(other) {
-            Some(Some(other)) => tells(running, &mut session, other),
+            Some(Some(other)) => tried(|| running.tell(&mut session, other.seat())),
             _ => Err(Stop::Wrong),
         };
         match self.sessions.get_mut(number) {
@@ -133,7 +113,7 @@ impl<B: HistoryName> Crew<B> {
     ) -> Result<(), Stop> {
         match step {
             Step::Enters(node, pid, uid) => {
-                let session = entered(rt, running, node, pid, uid)?;
+                let session = tried(|| connect(rt, running, node, pid, uid))?;
                 match self.sessions.push(Some(session)) {
                     Ok(()) => Ok(()),
                     Err(_) => Err(Stop::Refused(Refusal::Memory)),

@@ -70,21 +70,18 @@ pub fn settings_of(nodes: u8) -> Settings {
     }
 }
 
-/// A list that lets in users 0, 7 and 8.
-pub fn list_of(alloc: Global) -> Result<AcceptList, Refusal> {
-    let mut list = AcceptList::new(alloc);
-    list.add_uid(7)?;
-    list.add_uid(8)?;
-    Ok(list)
+/// What a cluster is started on.
+struct Ground {
+    settings: Settings,
+    board: Board,
+    list: AcceptList,
 }
 
-/// The test over a new cluster on that board, which is stopped.
+/// The test over a new cluster on that ground, which is stopped.
 fn played_on<B, G, P, R>(
     rt: R,
     alloc: Global,
-    settings: Settings,
-    board: Board,
-    list: &AcceptList,
+    ground: Ground,
     gate: G,
     play: &P,
 ) -> Result<(), Stop>
@@ -93,16 +90,22 @@ where
     G: Gate + Send + Sync + Drop + 'static,
     P: Play<G>,
     R: Threads + Wait + Clock + Copy + Send + 'static,
-    requires name { (board.cells ≡ B.cells) × (board.table ≡ B.table) × (new_world settings list.now ≡ B.start) }
+    requires name { (ground.board.cells ≡ B.cells) × (ground.board.table ≡ B.table) × (new_world ground.settings ground.list ≡ B.start) }
 {
-    let cluster = Cluster::<B, G>::start(rt, alloc, settings, board, list, gate)?;
+    let Ground {
+        settings,
+        board,
+        list,
+    } = ground;
+    let cluster = Cluster::<B, G>::start(rt, alloc, settings, board, &list, gate)?;
     let gone = play.goes(&rt, alloc, &cluster);
     let left = play.leaves(&rt, cluster.stop(&rt));
     gone?;
     holds(left)
 }
 
-/// Whether the test goes so over a new cluster of those settings, on a board of so many places.
+/// Whether the test goes so over a new cluster of those settings, on a board of so many places, which lets in users 0, 7
+/// and 8.
 pub fn plays<G, P, R>(
     rt: R,
     alloc: Global,
@@ -117,8 +120,15 @@ where
     R: Threads + Wait + Clock + Copy + Send + 'static,
 {
     let board = Board::new(alloc, places)?;
-    let list = list_of(alloc)?;
-    played_on::<Brand, G, P, R>(rt, alloc, settings, board, &list, gate, play)
+    let mut list = AcceptList::new(alloc);
+    list.add_uid(7)?;
+    list.add_uid(8)?;
+    let ground = Ground {
+        settings,
+        board,
+        list,
+    };
+    played_on::<Brand, G, P, R>(rt, alloc, ground, gate, play)
 }
 
 /// A session of the process and the user at the node of that number. Range: there is no such node.

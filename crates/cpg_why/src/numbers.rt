@@ -19,11 +19,5 @@ pub fn line_of(numbers: &[u32], place: u32) -> Option<u32>
 pub fn find_record(records: &[Record], place: u32) -> Option<&Record>
     ensures { option_copied result ≡ record_at records.now place }
 {
-    if place == 0 {
-        return None;
-    }
-    match records.get(place as usize - 1) {
-        None => None,
-        Some(past) => Some(past),
-    }
+    records.get((place as usize).checked_sub(1)?)
 }

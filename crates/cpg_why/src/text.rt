@@ -126,7 +126,10 @@ fn put_decided(
         Decided::Default(unruled) => put_unruled(text, past, unruled),
         Decided::Closed { since } => put_state(text, cited, past, " is in no group", *since),
         Decided::Joined { since } => put_state(text, cited, past, " is in a group", *since),
-        Decided::Twice { by, since } => put_twice(text, cited, past, by, *since),
+        Decided::Twice { by, since } => {
+            put_twice(text, past, by)?;
+            put_since(text, cited, *since)
+        }
         Decided::Full { members } => put_counted(
             text,
             past,
@@ -272,13 +275,7 @@ fn put_since(text: &mut Vec<u8>, cited: &Cited, since: Option<u32>) -> Result<()
 }
 
 /// Puts that the process of the record is a member by another connection.
-fn put_twice(
-    text: &mut Vec<u8>,
-    cited: &Cited,
-    past: &Record,
-    by: &ConnId,
-    since: Option<u32>,
-) -> Result<(), Refusal>
+fn put_twice(text: &mut Vec<u8>, past: &Record, by: &ConnId) -> Result<(), Refusal>
     ensures { IsOkUnless result Refusal.Memory }
 {
     put(text, ": ")?;
@@ -286,8 +283,7 @@ fn put_twice(
     put_byte(text, b'/')?;
     push_number(text, u64::from(past.entry.pid))?;
     put(text, " is a member by ")?;
-    put_conn(text, by)?;
-    put_since(text, cited, since)
+    put_conn(text, by)
 }
 
 /// Puts how many the group of the record has, between texts.

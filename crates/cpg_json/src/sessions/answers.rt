@@ -40,47 +40,48 @@ fn put_whose(text: &mut Vec<u8>, session: Option<u32>) -> Result<(), Refusal>
     }
 }
 
-/// Puts an object of its kind that says only whose it is.
-fn put_alone(
-    text: &mut Vec<u8>,
-    head: &[u8],
+/// What the objects of an answer begin with: a head, and the number of the session that it is for.
+#[derive(Clone, Copy)]
+struct Front<'a> {
+    head: &'a [u8],
     session: Option<u32>,
-    name: &str,
-) -> Result<(), Refusal>
-    ensures ok { OnOk result (text.new.items ≡ text.old.items ++ object_line (head_of name.now head.now ∷ whose session)) }
+}
+
+impl Front<'_> {
+    /// Puts the brace, the kind of an object, the head, and whose it is.
+    fn put(&self, text: &mut Vec<u8>, name: &str) -> Result<(), Refusal>
+        ensures ok { OnOk result (text.new.items ≡ text.old.items ++ codes "{" ++ head_of name.now (self.now).head.now ++ more (whose (self.now).session)) }
+        ensures memory { IsOkUnless result Refusal.Memory }
+    {
+        put_head(text, name, self.head)?;
+        put_whose(text, self.session)
+    }
+}
+
+/// Puts an object of its kind that says only whose it is.
+fn put_alone(text: &mut Vec<u8>, front: &Front<'_>, name: &str) -> Result<(), Refusal>
+    ensures ok { OnOk result (text.new.items ≡ text.old.items ++ object_line (head_of name.now (front.now).head.now ∷ whose (front.now).session)) }
     ensures memory { IsOkUnless result Refusal.Memory }
 {
-    put_head(text, name, head)?;
-    put_whose(text, session)?;
+    front.put(text, name)?;
     put_end(text)
 }
 
-fn put_opened(
-    text: &mut Vec<u8>,
-    head: &[u8],
-    session: Option<u32>,
-    number: usize,
-) -> Result<(), Refusal>
-    ensures ok { OnOk result (text.new.items ≡ text.old.items ++ reply_json head.now session (replies.Opened number)) }
+fn put_opened(text: &mut Vec<u8>, front: &Front<'_>, number: usize) -> Result<(), Refusal>
+    ensures ok { OnOk result (text.new.items ≡ text.old.items ++ reply_json (front.now).head.now (front.now).session (replies.Opened number)) }
     ensures memory { IsOkUnless result Refusal.Memory }
 {
-    put_head(text, "session", head)?;
+    put_head(text, "session", front.head)?;
     put_number(text, "session", number as u64)?;
     put_end(text)
 }
 
 #[tactic(auto, using(crate::proofs::Fields::more_append))]
-fn put_taken(
-    text: &mut Vec<u8>,
-    head: &[u8],
-    session: Option<u32>,
-    event: &Event,
-) -> Result<(), Refusal>
-    ensures ok { OnOk result (text.new.items ≡ text.old.items ++ reply_json head.now session (replies.Took event.now)) }
+fn put_taken(text: &mut Vec<u8>, front: &Front<'_>, event: &Event) -> Result<(), Refusal>
+    ensures ok { OnOk result (text.new.items ≡ text.old.items ++ reply_json (front.now).head.now (front.now).session (replies.Took event.now)) }
     ensures memory { IsOkUnless result Refusal.Memory }
 {
-    put_head(text, "event", head)?;
-    put_whose(text, session)?;
+    front.put(text, "event")?;
     put_event_fields(text, event)?;
     put_end(text)
 }
@@ -88,16 +89,14 @@ fn put_taken(
 #[tactic(auto, using(crate::proofs::Fields::more_append))]
 fn put_listing<T: Item>(
     text: &mut Vec<u8>,
-    head: &[u8],
-    session: Option<u32>,
+    front: &Front<'_>,
     name: &str,
     items: &[T],
 ) -> Result<(), Refusal>
-    ensures ok { OnOk result (text.new.items ≡ text.old.items ++ object_line (head_of name.now head.now ∷ whose session ++ field name.now (array (map T.printed items.now)) ∷ [])) }
+    ensures ok { OnOk result (text.new.items ≡ text.old.items ++ object_line (head_of name.now (front.now).head.now ∷ whose (front.now).session ++ field name.now (array (map T.printed items.now)) ∷ [])) }
     ensures memory { IsOkUnless result Refusal.Memory }
 {
-    put_head(text, name, head)?;
-    put_whose(text, session)?;
+    front.put(text, name)?;
     put_array(text, name, items)?;
     put_end(text)
 }
@@ -139,45 +138,32 @@ fn put_seat(text: &mut Vec<u8>, head: &[u8], board: &Board, seat: &Seat) -> Resu
 fn put_reply(
     text: &mut Vec<u8>,
     board: &Board,
-    head: &[u8],
-    session: Option<u32>,
+    front: &Front<'_>,
     reply: &Reply,
 ) -> Result<(), Refusal>
     requires { SeatsOn board.now.cells (Ok reply.now) }
-    ensures ok { OnOk result (text.new.items ≡ text.old.items ++ reply_json head.now session reply.now) }
+    ensures ok { OnOk result (text.new.items ≡ text.old.items ++ reply_json (front.now).head.now (front.now).session reply.now) }
     ensures memory { IsOkUnless result Refusal.Memory }
 {
     match reply {
-        Reply::Opened(number) => put_opened(text, head, session, *number),
-        Reply::Admitted => put_alone(text, head, session, "admitted"),
-        Reply::Took(event) => put_taken(text, head, session, event),
-        Reply::Nothing(_) => put_alone(text, head, session, "none"),
-        Reply::Members(processes) => put_listing(
-            text,
-            head,
-            session,
-            "members",
-            processes.as_slice(),
-        ),
-        Reply::Groups(names) => put_listing(text, head, session, "groups", names.as_slice()),
-        Reply::Audit(seat) => put_seat(text, head, board, seat),
-        Reply::Closed => put_alone(text, head, session, "closed"),
-        Reply::Safe(place) => put_safe(text, head, *place),
+        Reply::Opened(number) => put_opened(text, front, *number),
+        Reply::Admitted => put_alone(text, front, "admitted"),
+        Reply::Took(event) => put_taken(text, front, event),
+        Reply::Nothing(_) => put_alone(text, front, "none"),
+        Reply::Members(processes) => put_listing(text, front, "members", processes.as_slice()),
+        Reply::Groups(names) => put_listing(text, front, "groups", names.as_slice()),
+        Reply::Audit(seat) => put_seat(text, front.head, board, seat),
+        Reply::Closed => put_alone(text, front, "closed"),
+        Reply::Safe(place) => put_safe(text, front.head, *place),
     }
 }
 
 #[tactic(auto, using(crate::proofs::Fields::more_append))]
-fn put_refused(
-    text: &mut Vec<u8>,
-    head: &[u8],
-    session: Option<u32>,
-    why: Refusal,
-) -> Result<(), Refusal>
-    ensures ok { OnOk result (text.new.items ≡ text.old.items ++ object_line (head_of (codes "refused") head.now ∷ whose session ++ refusal_fields why)) }
+fn put_refused(text: &mut Vec<u8>, front: &Front<'_>, why: Refusal) -> Result<(), Refusal>
+    ensures ok { OnOk result (text.new.items ≡ text.old.items ++ object_line (head_of (codes "refused") (front.now).head.now ∷ whose (front.now).session ++ refusal_fields why)) }
     ensures memory { IsOkUnless result Refusal.Memory }
 {
-    put_head(text, "refused", head)?;
-    put_whose(text, session)?;
+    front.put(text, "refused")?;
     put_refusal(text, why)?;
     put_end(text)
 }
@@ -195,8 +181,9 @@ pub fn put_answer_json(
     ensures ok { OnOk result (text.new.items ≡ text.old.items ++ answer_json head.now session answer.now) }
     ensures memory { IsOkUnless result Refusal.Memory }
 {
+    let front = Front { head, session };
     match answer {
-        Ok(reply) => put_reply(text, board, head, session, reply),
-        Err(refusal) => put_refused(text, head, session, *refusal),
+        Ok(reply) => put_reply(text, board, &front, reply),
+        Err(refusal) => put_refused(text, &front, *refusal),
     }
 }
