@@ -1,12 +1,12 @@
 //! `%codec`: frames as bytes. Its rows also stand where no object could be made.
 
 use crate::player::{Plays, Row};
-use crate::printing::put_frame;
 use crate::spelling::put_spelled;
 use crate::words::{NO_COMMAND, are_same_packets, put_hex, put_number_line};
 use bytes::Bytes;
 use cpg_cred::Refusal;
 use cpg_entry::Frame;
+use cpg_step::put_frame;
 use cpg_text::{push_number, put};
 use cpg_wire::{decode, encode_data, encode_token};
 use std::alloc::Global;
@@ -119,6 +119,16 @@ fn is_sound(alloc: Global, bytes: &[u8]) -> Result<Option<bool>, Refusal> {
     }
 }
 
+fn byte_at(bytes: &[u8], place: usize) -> u8 {
+    bytes.get(place).copied().unwrap_or(0)
+}
+
+fn set_at(bytes: &mut [u8], place: usize, value: u8) {
+    if let Some(byte) = bytes.get_mut(place) {
+        *byte = value;
+    }
+}
+
 /// How many of what was tried spell nothing, a frame, and a frame that another encoding is given.
 #[derive(Clone, Copy, Default)]
 struct Tally {
@@ -144,87 +154,59 @@ impl Tally {
         }
         Ok(())
     }
-}
 
-/// Tries each proper front of the bytes.
-fn try_fronts(alloc: Global, tally: &mut Tally, bytes: &[u8]) -> Result<(), Refusal> {
-    for length in 0..bytes.len() {
-        tally.count(is_sound(alloc, &bytes[..length])?);
-    }
-    Ok(())
-}
-
-fn byte_at(bytes: &[u8], place: usize) -> u8 {
-    bytes.get(place).copied().unwrap_or(0)
-}
-
-fn set_at(bytes: &mut Vec<u8>, place: usize, value: u8) {
-    if let Some(byte) = bytes.get_mut(place) {
-        *byte = value;
-    }
-}
-
-/// Tries the bytes with the one of that place replaced by each other value.
-fn try_byte(
-    alloc: Global,
-    tally: &mut Tally,
-    bytes: &mut Vec<u8>,
-    place: usize,
-) -> Result<(), Refusal> {
-    let was = byte_at(bytes.as_slice(), place);
-    for value in 0..=255u8 {
-        if value != was {
-            set_at(bytes, place, value);
-            tally.count(is_sound(alloc, bytes.as_slice())?);
+    /// Tries each proper front of the bytes.
+    fn try_fronts(&mut self, alloc: Global, bytes: &[u8]) -> Result<(), Refusal> {
+        for length in 0..bytes.len() {
+            self.count(is_sound(alloc, &bytes[..length])?);
         }
+        Ok(())
     }
-    set_at(bytes, place, was);
-    Ok(())
-}
 
-/// Tries the bytes with that one and the next replaced by each pair of values.
-fn try_pair(
-    alloc: Global,
-    tally: &mut Tally,
-    bytes: &mut Vec<u8>,
-    place: usize,
-) -> Result<(), Refusal> {
-    let next = place.saturating_add(1);
-    let were = [
-        byte_at(bytes.as_slice(), place),
-        byte_at(bytes.as_slice(), next),
-    ];
-    for pair in 0..=u16::MAX {
-        let [one, other] = pair.to_be_bytes();
-        set_at(bytes, place, one);
-        set_at(bytes, next, other);
-        tally.count(is_sound(alloc, bytes.as_slice())?);
-    }
-    set_at(bytes, place, were[0]);
-    set_at(bytes, next, were[1]);
-    Ok(())
-}
-
-/// Tries the bytes as the command says.
-fn try_all(
-    alloc: Global,
-    tally: &mut Tally,
-    bytes: &mut Vec<u8>,
-    row: &Row<'_>,
-) -> Result<(), Refusal> {
-    if row.is("fronts") {
-        return try_fronts(alloc, tally, bytes.as_slice());
-    }
-    let is_pairs = row.is("pairs");
-    let last = bytes.len().saturating_sub(if is_pairs { 1 } else { 0 });
-    for place in 0..last {
-        if is_pairs {
-            try_pair(alloc, tally, bytes, place)?;
-        } else {
-            try_byte(alloc, tally, bytes, place)?;
+    /// Tries the bytes with the one of that place replaced by each other value.
+    fn try_byte(&mut self, alloc: Global, bytes: &mut [u8], place: usize) -> Result<(), Refusal> {
+        let was = byte_at(bytes, place);
+        for value in 0..=255u8 {
+            if value != was {
+                set_at(bytes, place, value);
+                self.count(is_sound(alloc, bytes)?);
+            }
         }
+        set_at(bytes, place, was);
+        Ok(())
     }
-    Ok(())
+
+    /// Tries the bytes with that one and the next replaced by each pair of values.
+    fn try_pair(&mut self, alloc: Global, bytes: &mut [u8], place: usize) -> Result<(), Refusal> {
+        let next = place.saturating_add(1);
+        let were = [byte_at(bytes, place), byte_at(bytes, next)];
+        for pair in 0..=u16::MAX {
+            let [one, other] = pair.to_be_bytes();
+            set_at(bytes, place, one);
+            set_at(bytes, next, other);
+            self.count(is_sound(alloc, bytes)?);
+        }
+        set_at(bytes, place, were[0]);
+        set_at(bytes, next, were[1]);
+        Ok(())
+    }
+
+    /// Tries the bytes as the command says.
+    fn try_all(&mut self, alloc: Global, bytes: &mut [u8], row: &Row<'_>) -> Result<(), Refusal> {
+        if row.is("fronts") {
+            return self.try_fronts(alloc, bytes);
+        }
+        let is_pairs = row.is("pairs");
+        let last = bytes.len().saturating_sub(if is_pairs { 1 } else { 0 });
+        for place in 0..last {
+            if is_pairs {
+                self.try_pair(alloc, bytes, place)?;
+            } else {
+                self.try_byte(alloc, bytes, place)?;
+            }
+        }
+        Ok(())
+    }
 }
 
 /// Makes the command of a frame's bytes.
@@ -249,7 +231,7 @@ fn make_of(
     }
     if row.is("fronts") || row.is("others") || row.is("pairs") {
         let mut tally = Tally::default();
-        try_all(alloc, &mut tally, bytes, row)?;
+        tally.try_all(alloc, bytes.as_mut_slice(), row)?;
         return tally.put(line);
     }
     Err(NO_COMMAND)

@@ -7,7 +7,7 @@ use crate::events::event_of;
 use crate::looks::put_server;
 use crate::nodes::{Server, Shared};
 use crate::player::{Plays, Row, given_back};
-use crate::printing;
+use crate::printing::put_reply;
 use crate::spelling::put_spelled;
 use crate::states::put_audits_of;
 use crate::tables::put_rules_of;
@@ -74,13 +74,6 @@ fn send(sent: &mut Vec<Bytes>, frames: Vec<Bytes>) -> usize {
         let _ = sent.push(frame);
     }
     count
-}
-
-/// Puts the line of the reply, which is let go.
-fn put_reply(line: &mut Vec<u8>, reply: Reply) -> Result<(), Refusal> {
-    let put = printing::put_reply(line, &reply);
-    drop(reply);
-    put
 }
 
 impl<B: BoardName> Crew<B> {
@@ -225,7 +218,7 @@ impl<B: BoardName> Crew<B> {
         let count = self.hear_sent(alloc, node, last)?;
         put_number_line(line, "sent", count as u64)?;
         let place = self.deliver_all(node, row.tries)?;
-        put_reply(line, Reply::Delivered(place))
+        put_reply(alloc, line, Reply::Delivered(place))
     }
 
     fn commit(&mut self, row: &Row<'_>) -> Result<Reply, Refusal> {
@@ -298,20 +291,20 @@ impl<B: BoardName> Crew<B> {
         let event = event_of(alloc, self.nodes, text)?;
         let reply = self.act(alloc, &event);
         drop(event);
-        put_reply(line, reply?)
+        put_reply(alloc, line, reply?)
     }
 }
 
 impl<B: BoardName> Plays for Crew<B> {
     fn make(&mut self, alloc: Global, line: &mut Vec<u8>, row: &Row<'_>) -> Result<(), Refusal> {
         if row.is("hear") {
-            return put_reply(line, self.hear_said(alloc, row)?);
+            return put_reply(alloc, line, self.hear_said(alloc, row)?);
         }
         if row.is("turn") {
             return self.turn(alloc, line, row);
         }
         if row.is("commit") {
-            return put_reply(line, self.commit(row)?);
+            return put_reply(alloc, line, self.commit(row)?);
         }
         if row.is("halt") {
             return self.halt(line, row);

@@ -1,9 +1,9 @@
-//! Frames and replies as `step` prints them.
+//! Packets, tokens and replies as `step` prints them.
 
-use crate::words::put_number_line;
 use cpg_cred::Refusal;
-use cpg_entry::{Frame, Packet, Token};
-use cpg_print::{node_number, put_entry, put_groups_line, put_members_line, put_took_line};
+use cpg_entry::{Packet, Token};
+use cpg_print::{node_number, put_entry};
+use cpg_step::put_answer;
 use cpg_text::{push_number, put, put_bytes};
 use cpg_world::Reply;
 use std::alloc::Global;
@@ -63,28 +63,10 @@ pub fn put_token(line: &mut Vec<u8>, token: &Token) -> Result<(), Refusal> {
     put(line, "\n")
 }
 
-pub fn put_frame(line: &mut Vec<u8>, frame: &Frame) -> Result<(), Refusal> {
-    match frame {
-        Frame::Packet(packet) => put_packet(line, packet),
-        Frame::Token(token) => put_token(line, token),
-    }
-}
-
-fn put_delivered(line: &mut Vec<u8>, place: Option<u32>) -> Result<(), Refusal> {
-    put(line, "delivered ")?;
-    put_number_or_none(line, place)?;
-    put(line, "\n")
-}
-
-pub fn put_reply(line: &mut Vec<u8>, reply: &Reply) -> Result<(), Refusal> {
-    match reply {
-        Reply::Connected(conn) => put_number_line(line, "connected", u64::from(*conn)),
-        Reply::Admitted => put(line, "admitted\n"),
-        Reply::Closed => put(line, "closed\n"),
-        Reply::Sent(count) => put_number_line(line, "sent", *count as u64),
-        Reply::Delivered(place) => put_delivered(line, *place),
-        Reply::Took(event) => put_took_line(line, event.as_ref()),
-        Reply::Members(processes) => put_members_line(line, processes.as_slice()),
-        Reply::Groups(names) => put_groups_line(line, names.as_slice()),
-    }
+/// Puts the line of the reply, which is let go.
+pub fn put_reply(alloc: Global, line: &mut Vec<u8>, reply: Reply) -> Result<(), Refusal> {
+    let answer = Ok(reply);
+    let put = put_answer(alloc, line, &answer);
+    drop(answer);
+    put
 }

@@ -70,19 +70,19 @@ fn put_places(line: &mut Vec<u8>, places: &[u32]) -> Result<(), Refusal> {
     Ok(())
 }
 
-/// Puts the members and the places of a group, by its last record.
+/// Puts the members and the places of a group.
 fn put_group_line(
     line: &mut Vec<u8>,
-    policy: &Policy,
-    record: &Record,
-    name: &Name,
+    name: &[u8],
+    members: &[Member],
+    places: &[u32],
 ) -> Result<(), Refusal> {
     put(line, "group ")?;
-    put_bytes(line, name.as_slice())?;
+    put_bytes(line, name)?;
     put(line, " members ")?;
-    put_members(line, record.members.as_slice())?;
+    put_members(line, members)?;
     put(line, " places")?;
-    put_places(line, policy.places_in(name.as_slice()))?;
+    put_places(line, places)?;
     put(line, "\n")
 }
 
@@ -94,8 +94,14 @@ fn put_each_group(line: &mut Vec<u8>, policy: &Policy) -> Result<(), Refusal> {
             break;
         };
         if let Some(name) = last_group(record, later) {
-            put_group_line(line, policy, record, name)?;
-            put_rules_of(line, policy.table(name.as_slice()))?;
+            let name = name.as_slice();
+            put_group_line(
+                line,
+                name,
+                record.members.as_slice(),
+                policy.places_in(name),
+            )?;
+            put_rules_of(line, policy.table(name))?;
         }
         rest = later;
     }

@@ -2,7 +2,7 @@
 
 use crate::events::event_of;
 use crate::player::{Plays, Row};
-use crate::printing::{put_debug, put_frame, put_reply};
+use crate::printing::{put_debug, put_reply};
 use crate::states::put_audits_of;
 use crate::tables::put_rules_of;
 use crate::words::{
@@ -10,7 +10,7 @@ use crate::words::{
 };
 use cpg_cred::Refusal;
 use cpg_node::Node;
-use cpg_print::put_refused_line;
+use cpg_step::{put_answer, put_frame};
 use cpg_text::{Lines, is_ignored};
 use cpg_wire::decode;
 use cpg_world::{Reply, World, WorldEvent};
@@ -32,18 +32,6 @@ fn put_look(line: &mut Vec<u8>, node: &Node, row: &Row<'_>, rest: &[u8]) -> Resu
     put_number_line(line, "safe", u64::from(node.safe()))
 }
 
-/// Puts the line of what an event was answered.
-fn put_answer(
-    alloc: Global,
-    line: &mut Vec<u8>,
-    answer: &Result<Reply, Refusal>,
-) -> Result<(), Refusal> {
-    match answer {
-        Ok(reply) => put_reply(line, reply),
-        Err(refusal) => put_refused_line(alloc, line, *refusal),
-    }
-}
-
 /// Puts the line of the frame that the bytes spell.
 fn put_spelled(alloc: Global, line: &mut Vec<u8>, bytes: &[u8]) -> Result<(), Refusal> {
     let frame = decode(alloc, bytes)?;
@@ -61,19 +49,16 @@ impl Worldly {
         Ok(Worldly { world: made? })
     }
 
-    fn step(&mut self, line: &mut Vec<u8>, event: WorldEvent) -> Result<(), Refusal> {
+    fn step(&mut self, event: WorldEvent) -> Result<Reply, Refusal> {
         if event.node().get() > self.world.nodes() {
             return Err(NO_COMMAND);
         }
-        let reply = self.world.step(event)?;
-        let put = put_reply(line, &reply);
-        drop(reply);
-        put
+        self.world.step(event)
     }
 
     fn step_said(&mut self, alloc: Global, line: &mut Vec<u8>, text: &[u8]) -> Result<(), Refusal> {
         let event = event_of(alloc, self.world.nodes(), text)?;
-        self.step(line, event)
+        put_reply(alloc, line, self.step(event)?)
     }
 
     /// The commands that look at a node.
