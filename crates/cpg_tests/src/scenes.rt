@@ -353,10 +353,8 @@ const MESSAGES: [Say; 5] = [
     Say::Text(b"4"),
 ];
 
-/// What the first of three members is told of their joins and of these messages by the third.
-const EVENTS: [Told; 9] = [
-    Told::Verdict(1, ALLOWED),
-    Told::Change(1, 1, 0, 1),
+/// What the first two of three members are told of the joins of the others and of these messages by the third.
+const EVENTS: [Told; 7] = [
     Told::Change(2, 2, 0, 1),
     Told::Change(3, 3, 0, 1),
     Told::Message(4, 1, 43, b'0'),
@@ -364,24 +362,11 @@ const EVENTS: [Told; 9] = [
     Told::Message(6, 1, 43, b'2'),
     Told::Message(7, 1, 43, b'3'),
     Told::Message(8, 1, 43, b'4'),
-];
-
-/// What the second one is told.
-const ONE_BY_ONE: [Told; 9] = [
-    Told::Verdict(2, ALLOWED),
-    Told::Change(2, 2, 0, 1),
-    Told::Change(3, 3, 0, 1),
-    Told::Message(4, 1, 43, b'0'),
-    Told::Message(5, 1, 43, b'1'),
-    Told::Message(6, 1, 43, b'2'),
-    Told::Message(7, 1, 43, b'3'),
-    Told::Message(8, 1, 43, b'4'),
-    Told::Nothing,
 ];
 
 /// The first takes in goes what the second takes one by one. A go is refused once the nodes are halted, and the events that
 /// were taken before stay.
-const GOES: [Step; 18] = [
+const GOES: [Step; 22] = [
     Step::Enters(1, 41, 0),
     Step::Enters(1, 42, 0),
     Step::Enters(1, 43, 0),
@@ -391,12 +376,16 @@ const GOES: [Step; 18] = [
     Step::Does(2, Deed::Together(&MESSAGES, None, 0)),
     Step::Does(2, Deed::Comes(Told::Verdict(8, ALLOWED))),
     Step::Does(0, Deed::Takes(0, Ok(0))),
+    Step::Does(0, Deed::Hears(Told::Verdict(1, ALLOWED))),
+    Step::Does(0, Deed::Hears(Told::Change(1, 1, 0, 1))),
     Step::Does(0, Deed::Takes(3, Ok(3))),
     Step::Does(0, Deed::Takes(3, Ok(3))),
-    Step::Does(0, Deed::Takes(3, Ok(3))),
+    Step::Does(0, Deed::Takes(3, Ok(1))),
     Step::Does(0, Deed::Takes(usize::MAX, Ok(0))),
     Step::Does(0, Deed::Took(&EVENTS)),
-    Step::Does(1, Deed::Now(&ONE_BY_ONE)),
+    Step::Does(1, Deed::Hears(Told::Verdict(2, ALLOWED))),
+    Step::Does(1, Deed::Now(&EVENTS)),
+    Step::Does(1, Deed::Now(&[Told::Nothing])),
     Step::Halts,
     Step::Does(0, Deed::Takes(1, Err(Refusal::Stopped))),
     Step::Does(0, Deed::Took(&EVENTS)),
