@@ -34,21 +34,19 @@ impl Gate for Always {
 }
 
 /// Starts a cluster of those settings over a board, which lets in whom the list lets in.
-pub fn start<B, G, R>(
+pub fn start<B, R>(
     rt: R,
     alloc: Global,
     settings: Settings,
     board: Board,
     list: &AcceptList,
-    gate: G,
-) -> Result<Cluster<B, G>, Refusal>
+) -> Result<Cluster<B, PassAll>, Refusal>
 where
     B: HistoryName + Send + Sync + 'static,
-    G: Gate + Send + Sync + Drop + 'static,
     R: Threads + Wait + Clock + Copy + Send + 'static,
     requires name { (board.cells ≡ B.cells) × (board.table ≡ B.table) × (new_world settings list.now ≡ B.start) }
 {
-    Cluster::<B, G>::start(rt, alloc, settings, board, list, gate)
+    Cluster::<B, PassAll>::start(rt, alloc, settings, board, list, PassAll)
 }
 
 pub fn halt<B: HistoryName, R: Wait>(rt: &R, cluster: &Cluster<B, PassAll>) {
