@@ -130,7 +130,6 @@ impl<'a> Told<'a> {
 pub(crate) struct Inbox<'a> {
     policy: &'a Policy,
     texts: &'a Texts,
-    near: usize,
     log: ConnectionLog<'a>,
 }
 
@@ -156,7 +155,6 @@ impl<'a> Inbox<'a> {
         Inbox {
             policy,
             texts,
-            near: texts.near(&conn),
             log: policy.log(conn),
         }
     }
@@ -199,7 +197,7 @@ impl<'a> Inbox<'a> {
         Told {
             group,
             places,
-            text: self.texts.of_near(group, self.near),
+            text: self.texts.of(group),
             passed: count_upto(places, after),
         }
     }

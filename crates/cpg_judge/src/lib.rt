@@ -10,7 +10,6 @@ mod forms;
 mod gathering;
 mod inboxes;
 mod judging;
-mod near;
 mod output;
 mod scripts;
 mod texts;

@@ -15,7 +15,6 @@ ghost use Rattle.cpg_record.specs.Places.{record_at};
 ghost use Rattle.cpg_print.specs.Records.{audit_line, members_text};
 ghost use Rattle.cpg_judge.specs.Texts.{kept_text, no_text, showing, told_text, with_place, AreShown, AreTexts, HoldsTexts, LacksText, StandsAllowed};
 
-use crate::near::Near;
 use cpg_cred::{NameHasher, Refusal};
 use cpg_entry::{Call, Name, Op};
 use cpg_group::Policy;
@@ -23,7 +22,7 @@ use cpg_print::{
     put_audit, put_audit_with, put_change_with, put_event, put_members, put_message_line,
     put_rules_line,
 };
-use cpg_record::{Cause, ConnId, Member, Move, Record};
+use cpg_record::{Cause, Member, Move, Record};
 use indexmap::IndexMap;
 use smallvec::SmallVec;
 use std::alloc::Global;
@@ -254,7 +253,8 @@ impl Text {
 pub struct Texts {
     kept: IndexMap<Name, Text, BuildHasherDefault<NameHasher>>,
     none: Text,
-    near: Near,
+    // Where the texts of the place before are kept. They are believed only where their group has the wanted name.
+    last: usize,
 }
 
 impl Model for Texts {
@@ -279,7 +279,7 @@ impl Texts {
         Ok(Texts {
             kept: IndexMap::with_hasher(alloc, BuildHasherDefault::new()),
             none: Text::new(alloc)?,
-            near: Near::new(alloc),
+            last: 0,
         })
     }
 
@@ -293,30 +293,14 @@ impl Texts {
         }
     }
 
-    /// Where the texts of the connection's latest group are kept, or any index.
+    /// The index at which the texts of the group of that name are kept. Those of the place before are looked at first,
+    /// as most places are of the same group as that one, and then no name is hashed.
     #[inline(always)]
-    pub(crate) fn near(&self, conn: &ConnId) -> usize {
-        self.near.of(conn)
-    }
-
-    /// The texts of the group of that name, looked for first at that index.
-    pub(crate) fn of_near(&self, name: &Name, near: usize) -> &Text
-        ensures { result.now ≡ kept_text self.now name.now }
-    {
-        match self.kept.get_index(near) {
-            Some((kept, text)) if *kept == *name => text,
-            _ => self.of(name),
-        }
-    }
-
-    /// The index at which the texts of the group of that name are kept. That one is looked at first, and then no name
-    /// is hashed.
-    #[inline(always)]
-    fn index_of(&self, name: &Name, near: usize) -> Option<usize>
+    fn index_of(&self, name: &Name) -> Option<usize>
         ensures { MatchOption result (LacksText self.now name.now) (λ index. slice_get (names_of self.now) index ≡ Some name.now) }
     {
-        match self.kept.get_index(near) {
-            Some((kept, _)) if *kept == *name => Some(near),
+        match self.kept.get_index(self.last) {
+            Some((kept, _)) if *kept == *name => Some(self.last),
             _ => match self.kept.get_full(name) {
                 Some((index, _, _)) => Some(index),
                 None => None,
@@ -344,8 +328,7 @@ impl Texts {
         let key = name.copy(alloc)?;
         let mut text = Text::with_room(alloc, placed.policy.places_in(name.as_slice()).len())?;
         text.put_place(lines, placed, name.as_slice())?;
-        let index = self.kept.len();
-        self.near.note(&ConnId::of(&placed.past.entry), index)?;
+        self.last = self.kept.len();
         self.kept.insert(key, text)?;
         Ok(())
     }
@@ -364,10 +347,9 @@ impl Texts {
         ensures line { OnOk result (lines.new.items ≡ lines.old.items ++ audit_line placed.now.place placed.now.past.now) }
         ensures memory { IsOkUnless result Refusal.Memory }
     {
-        let conn = ConnId::of(&placed.past.entry);
-        match self.index_of(name, self.near(&conn)) {
+        match self.index_of(name) {
             Some(index) => {
-                self.near.note(&conn, index)?;
+                self.last = index;
                 let (_, text) = self.kept.pair_mut(index);
                 text.put_place(lines, placed, name.as_slice())
             }

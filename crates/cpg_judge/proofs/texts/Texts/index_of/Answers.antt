@@ -11,8 +11,8 @@ use Rattle.cpg_judge.proofs.texts.Texts.index_of.Goals as goal
 pub returns-in-Some : goal.returns-in-Some
 returns-in-Some c =
     let same : c.in-Some.kept.now ≡ c.args.name.now = (bytes_eq-Decides c.in-Some.kept.now c.args.name.now).0 (sym c.eq.ensures ∙ c.if-eq.true) in
-    ap (λ (kept : KeptTexts). slice_get (names_of kept) c.args.near) (sym c.self.view_is)
-    ∙ key_at c.self.inside.kept.entries c.args.near c.in-Some.kept.now _ (sym c.in-Some.ensures.entry)
+    ap (λ (kept : KeptTexts). slice_get (names_of kept) c.self.inside.last) (sym c.self.view_is)
+    ∙ key_at c.self.inside.kept.entries c.self.inside.last c.in-Some.kept.now _ (sym c.in-Some.ensures.entry)
     ∙ ap Some same
 
 pub returns-in-Some-get_full : goal.returns-in-Some-get_full

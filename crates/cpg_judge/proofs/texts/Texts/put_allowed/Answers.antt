@@ -16,8 +16,8 @@ put_place-requires-clause-members c =
     let found = found_there c.args.name.now c.self.inside.kept.entries c.args.self.now c.self.view_is c.in-Some.index c.in-Some.ensures c.pair_mut-text.result.0.now c.pair_mut-text.result.1.now c.pair_mut-text.ensures.unique c.pair_mut-text.ensures.value in
     ap (λ (value : TextValue). (with_place c.args.placed.now.past.now (told_text (judged c.args.placed.now.policy.now) c.args.placed.now.place) value).members) (ap (found_or no_text) found) ∙ c.requires.members
 
-pub returns-in_ok-note-in-Some-clause-ok : goal.returns-in_ok-note-in-Some-clause-ok
-returns-in_ok-note-in-Some-clause-ok c =
+pub returns-in-Some-clause-ok : goal.returns-in-Some-clause-ok
+returns-in-Some-clause-ok c =
     let line = told_text (judged c.args.placed.now.policy.now) c.args.placed.now.place in
     let found = found_there c.args.name.now c.self.inside.kept.entries c.args.self.now c.self.view_is c.in-Some.index c.in-Some.ensures c.pair_mut-text.result.0.now c.pair_mut-text.result.1.now c.pair_mut-text.ensures.unique c.pair_mut-text.ensures.value in
     let set = set_there c.args.name.now c.self.inside.kept.entries c.args.self.now c.self.view_is c.in-Some.index c.in-Some.ensures c.pair_mut-text.result.0.now c.pair_mut-text.result.1.now c.pair_mut-text.ensures.unique c.pair_mut-text.ensures.value c.put_place.new.self in
