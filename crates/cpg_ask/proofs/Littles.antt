@@ -2,11 +2,12 @@
 use Rattle.std.proofs.Common.{◌≡◌, ℕ, zero, suc, ◌+◌, ◌*◌, ◌^◌, ◌<◌, ◌≤◌, false, ltb, List, [], ◌∷◌, ◌++◌, length, take, drop, Some, refl, sym, ap, subst, ◌∙◌, append-nil, length-append, take-append-drop, arith}
 use Rattle.std.proofs.Math.Nat.{mod-lt}
 use Rattle.std.proofs.lemmas.Bool.{le-ltb, ltb-false}
-use Rattle.std.proofs.lemmas.List.{length-take, nil_from_length, drop_at, take-append-le, drop-append-le}
+use Rattle.std.proofs.lemmas.List.{length-take, drop_at, take-append-le, drop-append-le}
 use Rattle.std.specs.Int.{byte_at, bytes_low_first}
 use Rattle.byteorder.specs.Endian.{little_from, little_number, little_bytes}
 use Rattle.byteorder.specs.Numbers.{little_from-cons, little_from-lt, little_from-take, little_from-append, little_number-reads_back, length-bytes_low_first}
-use Rattle.cpg_wire.proofs.Readers.{IsBytes, IsBytes-drop, IsBytes-take, IsBytes-rest, guard_some, some_is, Takes, ReadsBack}
+use Rattle.cpg_wire.proofs.Bytes.{same_bytes}
+use Rattle.cpg_wire.proofs.Readers.{IsBytes, IsBytes-drop, IsBytes-take, guard_some, some_is, Takes, ReadsBack}
 use Rattle.cpg_wire.specs.Reading.{text_at}
 use Rattle.cpg_ask.specs.Numbers.{little_at, IsU16, IsU32}
 
@@ -19,21 +20,16 @@ bytes_below place zero x i = omega arith
 bytes_below place (suc count) x zero = byte_below place x
 bytes_below place (suc count) x (suc i) = bytes_below (suc place) count x i
 
--- lists of as many bytes are alike where their numbers are
-same_bytes : (count : ℕ) (xs ys : List ℕ) → length xs ≡ count → length ys ≡ count → IsBytes xs → IsBytes ys → little_number count xs ≡ little_number count ys → xs ≡ ys
-same_bytes zero xs ys lx ly fx fy same = nil_from_length xs lx ∙ sym (nil_from_length ys ly)
-same_bytes (suc count) [] ys lx ly fx fy same = absurd (omega (arith, lx))
-same_bytes (suc count) (x ∷ xs) [] lx ly fx fy same = absurd (omega (arith, ly))
-same_bytes (suc count) (x ∷ xs) (y ∷ ys) lx ly fx fy same =
+-- a number with the lowest byte first has the first byte and the others' number
+same_parts : (count x y : ℕ) (xs ys : List ℕ) → IsBytes (x ∷ xs) → IsBytes (y ∷ ys) → little_number (suc count) (x ∷ xs) ≡ little_number (suc count) (y ∷ ys) → (x ≡ y) × (little_number count xs ≡ little_number count ys)
+same_parts count x y xs ys fx fy same =
     let rest_x = little_from-cons 0 count x xs in
     let rest_y = little_from-cons 0 count y ys in
     let whole : x + 256 * little_from 0 count xs ≡ y + 256 * little_from 0 count ys =
     sym (ap (λ (n : ℕ). x + 256 * n) rest_x) ∙ same ∙ ap (λ (n : ℕ). y + 256 * n) rest_y in
     let low_x : x < 256 = fx 0 in
     let low_y : y < 256 = fy 0 in
-    let low : x ≡ y = omega (arith, whole, low_x, low_y) in
-    let high : little_from 0 count xs ≡ little_from 0 count ys = omega (arith, whole, low_x, low_y) in
-    ap (λ (b : ℕ). b ∷ xs) low ∙ ap (λ (bs : List ℕ). y ∷ bs) (same_bytes count xs ys (omega (arith, lx)) (omega (arith, ly)) (IsBytes-rest x xs fx) (IsBytes-rest y ys fy) high)
+    (omega (arith, whole, low_x, low_y), omega (arith, whole, low_x, low_y))
 
 -- the bytes of the number in the first bytes are those bytes
 bytes_of_little : (count : ℕ) (bytes : List ℕ) → count ≤ length bytes → IsBytes bytes → little_bytes count (little_number count bytes) ≡ take count bytes
@@ -41,7 +37,7 @@ bytes_of_little count bytes long fits =
     let number = little_number count bytes in
     let back : little_number count (little_bytes count number) ≡ number =
     ap (little_number count) (sym (append-nil (little_bytes count number))) ∙ little_number-reads_back count number [] (little_from-lt 0 count bytes fits) in
-    same_bytes count (little_bytes count number) (take count bytes) (length-bytes_low_first 0 count number) (omega (arith, length-take count bytes)) (bytes_below 0 count number) (IsBytes-take count bytes fits)
+    same_bytes little_number same_parts count (little_bytes count number) (take count bytes) (length-bytes_low_first 0 count number) (omega (arith, length-take count bytes)) (bytes_below 0 count number) (IsBytes-take count bytes fits)
     (back ∙ sym (little_from-take 0 count count bytes (omega arith)))
 
 abbrev Found : Type 0

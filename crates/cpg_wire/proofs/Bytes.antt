@@ -29,12 +29,18 @@ same_high a b m r s low lower same =
     at_most le (inl lt) = let step : (b + 1) * m ≤ a * m = mul-le-mul_right m (omega arith) in absurd (omega (arith, step, add-mul b 1 m, same))
     at_most le (inr more) = omega arith
 
--- lists of as many bytes are alike where their numbers are
-same_bytes : (count : ℕ) (xs ys : List ℕ) → length xs ≡ count → length ys ≡ count → IsBytes xs → IsBytes ys → big_number count xs ≡ big_number count ys → xs ≡ ys
-same_bytes zero xs ys lx ly fx fy same = nil_from_length xs lx ∙ sym (nil_from_length ys ly)
-same_bytes (suc count) [] ys lx ly fx fy same = absurd (omega (arith, lx))
-same_bytes (suc count) (x ∷ xs) [] lx ly fx fy same = absurd (omega (arith, ly))
-same_bytes (suc count) (x ∷ xs) (y ∷ ys) lx ly fx fy same =
+-- lists of as many bytes are alike where their numbers are, if a number has the first byte and the others' number
+pub same_bytes : (number : ℕ → List ℕ → ℕ) → ((count x y : ℕ) (xs ys : List ℕ) → IsBytes (x ∷ xs) → IsBytes (y ∷ ys) → number (suc count) (x ∷ xs) ≡ number (suc count) (y ∷ ys) → (x ≡ y) × (number count xs ≡ number count ys)) → (count : ℕ) (xs ys : List ℕ) → length xs ≡ count → length ys ≡ count → IsBytes xs → IsBytes ys → number count xs ≡ number count ys → xs ≡ ys
+same_bytes number parts zero xs ys lx ly fx fy same = nil_from_length xs lx ∙ sym (nil_from_length ys ly)
+same_bytes number parts (suc count) [] ys lx ly fx fy same = absurd (omega (arith, lx))
+same_bytes number parts (suc count) (x ∷ xs) [] lx ly fx fy same = absurd (omega (arith, ly))
+same_bytes number parts (suc count) (x ∷ xs) (y ∷ ys) lx ly fx fy same =
+    let p = parts count x y xs ys fx fy same in
+    ap (λ (b : ℕ). b ∷ xs) p.0 ∙ ap (λ (bs : List ℕ). y ∷ bs) (same_bytes number parts count xs ys (omega (arith, lx)) (omega (arith, ly)) (IsBytes-rest x xs fx) (IsBytes-rest y ys fy) p.1)
+
+-- a number with the highest byte first has them
+same_parts : (count x y : ℕ) (xs ys : List ℕ) → IsBytes (x ∷ xs) → IsBytes (y ∷ ys) → big_number (suc count) (x ∷ xs) ≡ big_number (suc count) (y ∷ ys) → (x ≡ y) × (big_number count xs ≡ big_number count ys)
+same_parts count x y xs ys fx fy same =
     let rest_x = big_from-cons 0 count x xs in
     let rest_y = big_from-cons 0 count y ys in
     let low_x = big_from-lt 0 count xs (IsBytes-rest x xs fx) in
@@ -43,8 +49,7 @@ same_bytes (suc count) (x ∷ xs) (y ∷ ys) lx ly fx fy same =
     sym (ap (λ (n : ℕ). x * 256 ^ count + n) rest_x) ∙ same ∙ ap (λ (n : ℕ). y * 256 ^ count + n) rest_y in
     let high : x ≡ y = same_high x y (256 ^ count) (big_from 0 count xs) (big_from 0 count ys) low_x low_y whole in
     let shared : x * 256 ^ count ≡ y * 256 ^ count = ap (λ (n : ℕ). n * 256 ^ count) high in
-    let low : big_from 0 count xs ≡ big_from 0 count ys = omega (arith, whole, shared) in
-    ap (λ (b : ℕ). b ∷ xs) high ∙ ap (λ (bs : List ℕ). y ∷ bs) (same_bytes count xs ys (omega (arith, lx)) (omega (arith, ly)) (IsBytes-rest x xs fx) (IsBytes-rest y ys fy) low)
+    (high, omega (arith, whole, shared))
 
 -- the bytes of the number in the first bytes are those bytes
 pub bytes_of_number : (count : ℕ) (bytes : List ℕ) → count ≤ length bytes → IsBytes bytes → big_bytes count (big_number count bytes) ≡ take count bytes
@@ -52,5 +57,5 @@ bytes_of_number count bytes long fits =
     let number = big_number count bytes in
     let back : big_number count (big_bytes count number) ≡ number =
     ap (big_number count) (sym (append-nil (big_bytes count number))) ∙ big_number-reads_back count number [] (big_from-lt 0 count bytes fits) in
-    same_bytes count (big_bytes count number) (take count bytes) (length-bytes_high_first count number) (omega (arith, length-take count bytes)) (bytes_below count number) (IsBytes-take count bytes fits)
+    same_bytes big_number same_parts count (big_bytes count number) (take count bytes) (length-bytes_high_first count number) (omega (arith, length-take count bytes)) (bytes_below count number) (IsBytes-take count bytes fits)
     (back ∙ sym (big_from-take 0 count count bytes (omega arith)))

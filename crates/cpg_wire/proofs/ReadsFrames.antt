@@ -16,14 +16,14 @@ use Rattle.cpg_wire.specs.declared.codes.Version.{Version}
 use Rattle.cpg_wire.specs.declared.codes.Version.TheVariants.{One, Two}
 use Rattle.cpg_wire.specs.declared.codes.Kind.{Kind}
 use Rattle.cpg_wire.specs.declared.codes.Kind.TheVariants as kinds
-use Rattle.cpg_wire.specs.Codes.{version_code, version_of, kind_code, kind_of, versions, all_kinds}
+use Rattle.cpg_wire.specs.Codes.{form_of, version_code, version_of, kind_code, kind_of, versions, all_kinds}
 use Rattle.cpg_entry.specs.Ranges.{Within, IsPacket, IsToken, IsFrame}
 use Rattle.cpg_entry.specs.Widths.{IsU32, IsNode, PacketFits, TokenFits, FrameFits}
 use Rattle.cpg_wire.specs.Versions.{FitsOp, Fits}
 use Rattle.cpg_wire.specs.Spelling.{cred_bytes, op_bytes, packet_bytes, token_bytes, spelling, Spells}
 use Rattle.cpg_wire.specs.Reading.{◌>>=◌, number_at, u8_at, u32_at, form_at, op_at, sender_at, cred_at, packet_at, token_at, head_at, carried_at, frame_at, frame_of}
 use Rattle.cpg_wire.proofs.Readers.{IsBytes, bind_some, ReadsBack, reads1, reads2, reads3, reads4}
-use Rattle.cpg_wire.proofs.ReadsNumbers.{number_reads, u8_reads, form_reads, form_of_code}
+use Rattle.cpg_wire.proofs.ReadsNumbers.{number_reads, u8_reads, form_reads}
 use Rattle.cpg_wire.proofs.ReadsFields.{u32_reads, IsCred, cred_reads}
 use Rattle.cpg_wire.proofs.ReadsOps.{IsOpIn, op_reads}
 use Rattle.cpg_wire.proofs.ReadsTokens.{token_reads}
@@ -59,23 +59,13 @@ packet_reads v ring fits = reads4 ℕ (ℕ × ℕ × ℕ) Cred Op Packet
 
 -- ---- frames
 
-version_law : (byte : ℕ) (form : Version) → version_of byte ≡ Some form → version_code form ≡ byte
+version_reads : ReadsBack Version (form_at version_of) (λ form. version_code form ∷ []) (λ form. Unit {0})
 unfolding version_of
-version_law byte form e = form_of_code Version version_code versions byte form e
+version_reads = form_reads Version version_code versions (λ (form : Version). elim form as (λ form. form_of version_code versions (version_code form) ≡ Some form) [ One ↦ refl | Two ↦ refl ])
 
-version_back : (form : Version) → version_of (version_code form) ≡ Some form
-unfolding version_of
-version_back One = refl
-version_back Two = refl
-
-kind_law : (byte : ℕ) (form : Kind) → kind_of byte ≡ Some form → kind_code form ≡ byte
+kind_reads : ReadsBack Kind (form_at kind_of) (λ form. kind_code form ∷ []) (λ form. Unit {0})
 unfolding kind_of
-kind_law byte form e = form_of_code Kind kind_code all_kinds byte form e
-
-kind_back : (form : Kind) → kind_of (kind_code form) ≡ Some form
-unfolding kind_of
-kind_back kinds.Data = refl
-kind_back kinds.Token = refl
+kind_reads = form_reads Kind kind_code all_kinds (λ (form : Kind). elim form as (λ form. form_of kind_code all_kinds (kind_code form) ≡ Some form) [ kinds.Data ↦ refl | kinds.Token ↦ refl ])
 
 abbrev Head : Type 0
 Head = Version × Kind × ℕ
@@ -89,8 +79,8 @@ IsHead h = IsU32 h.2
 head_reads : ReadsBack Head head_at head_text IsHead
 unfolding head_at
 head_reads = reads4 ℕ Version Kind ℕ Head (u8_at MARK MARK) (λ n. n ∷ []) (Within MARK MARK) (u8_reads MARK MARK)
-    (form_at version_of) (λ x. version_code x ∷ []) (λ x. Unit {0}) (form_reads Version version_of version_code version_law version_back)
-    (form_at kind_of) (λ x. kind_code x ∷ []) (λ x. Unit {0}) (form_reads Kind kind_of kind_code kind_law kind_back)
+    (form_at version_of) (λ x. version_code x ∷ []) (λ x. Unit {0}) version_reads
+    (form_at kind_of) (λ x. kind_code x ∷ []) (λ x. Unit {0}) kind_reads
     (λ x. u32_at) (big_bytes 4) (λ x. IsU32) (λ x h. u32_reads)
     (λ m v k r. (v, k, r)) head_text IsHead
     (λ m v k r h i j l. let e : MARK ≡ m = omega (arith, h.0, h.1) in (ap (λ (n : ℕ). n ∷ version_code v ∷ kind_code k ∷ big_bytes 4 r) e, l))

@@ -10,29 +10,20 @@ use Rattle.cpg_entry.specs.declared.messages.TheConstants.{MOST_MESSAGE_BYTES}
 use Rattle.cpg_wire.specs.declared.codes.Version.{Version}
 use Rattle.cpg_wire.specs.declared.codes.OpCode.{OpCode}
 use Rattle.cpg_wire.specs.declared.codes.OpCode.TheVariants as codes
-use Rattle.cpg_wire.specs.Codes.{op_code, op_code_of, all_ops}
+use Rattle.cpg_wire.specs.Codes.{form_of, op_code, op_code_of, all_ops}
 use Rattle.cpg_entry.specs.Ranges.{Within, IsOp}
 use Rattle.cpg_entry.specs.Widths.{IsU32, OpFits}
 use Rattle.cpg_wire.specs.Versions.{FitsOp}
 use Rattle.cpg_wire.specs.Spelling.{name_bytes, message_bytes, rule_bytes, op_bytes}
 use Rattle.cpg_wire.specs.Reading.{u8_at, u32_at, form_at, name_at, message_at, rule_at, insert_at, remove_at, body_at, op_at}
 use Rattle.cpg_wire.proofs.Readers.{IsBytes, Takes, ReadsBack, reads1, reads2, reads3, reads_then}
-use Rattle.cpg_wire.proofs.ReadsNumbers.{u8_reads, form_reads, form_of_code}
+use Rattle.cpg_wire.proofs.ReadsNumbers.{u8_reads, form_reads}
 use Rattle.cpg_wire.proofs.ReadsFields.{u32_reads, name_reads, message_reads}
 use Rattle.cpg_wire.proofs.ReadsRules.{IsWhoIn, rule_reads}
 
-code_law : (byte : ℕ) (form : OpCode) → op_code_of byte ≡ Some form → op_code form ≡ byte
+code_reads : ReadsBack OpCode (form_at op_code_of) (λ form. op_code form ∷ []) (λ form. Unit {0})
 unfolding op_code_of
-code_law byte form e = form_of_code OpCode op_code all_ops byte form e
-
-code_back : (form : OpCode) → op_code_of (op_code form) ≡ Some form
-unfolding op_code_of
-code_back codes.Join = refl
-code_back codes.Leave = refl
-code_back codes.Send = refl
-code_back codes.Insert = refl
-code_back codes.Remove = refl
-code_back codes.Gone = refl
+code_reads = form_reads OpCode op_code all_ops (λ (form : OpCode). elim form as (λ form. form_of op_code all_ops (op_code form) ≡ Some form) [ codes.Join ↦ refl | codes.Leave ↦ refl | codes.Send ↦ refl | codes.Insert ↦ refl | codes.Remove ↦ refl | codes.Gone ↦ refl ])
 
 -- what may be spelled in that version
 abbrev pub IsOpIn : Version → Op → Type 0
@@ -126,6 +117,6 @@ op_parts v ops.Gone h = (codes.Gone, tt, tt)
 
 pub op_reads : (v : Version) → ReadsBack Op (op_at v) (op_bytes v) (IsOpIn v)
 unfolding op_at
-op_reads v = reads_then OpCode Op (form_at op_code_of) (λ k. op_code k ∷ []) (λ k. Unit {0}) (form_reads OpCode op_code_of op_code code_law code_back)
+op_reads v = reads_then OpCode Op (form_at op_code_of) (λ k. op_code k ∷ []) (λ k. Unit {0}) code_reads
     (body_at v) (body_bytes v) (IsBody v) (λ k h. body_reads v k) (op_bytes v) (IsOpIn v)
     (λ k o h i. op_joined v k o i) (λ o h. op_parts v o h)

@@ -14,46 +14,27 @@ use Rattle.cpg_wire.specs.declared.codes.Version.{Version}
 use Rattle.cpg_wire.specs.declared.codes.Version.TheVariants.{One, Two}
 use Rattle.cpg_wire.specs.declared.codes.Subject.{Subject}
 use Rattle.cpg_wire.specs.declared.codes.Subject.TheVariants as subjects
-use Rattle.cpg_wire.specs.Codes.{effect_code, effect_of, right_code, right_of, subject_code, subject_of, effects, all_rights, all_subjects}
+use Rattle.cpg_wire.specs.Codes.{effect_code, effect_of, form_of, right_code, right_of, subject_code, subject_of, effects, all_rights, all_subjects}
 use Rattle.cpg_entry.specs.Ranges.{Within}
 use Rattle.cpg_entry.specs.Widths.{most_u32, IsU32, IsNode, WhoFits}
 use Rattle.cpg_wire.specs.Versions.{HasRoom, given}
 use Rattle.cpg_wire.specs.Spelling.{condition_bytes, single_bytes, who_bytes, rule_bytes}
 use Rattle.cpg_wire.specs.Reading.{◌>>=◌, number_at, u8_at, u32_at, form_at, condition_at, conditions_at, value_at, single_at, who_at, rule_at}
 use Rattle.cpg_wire.proofs.Readers.{IsBytes, IsBytes-rest, bind_some, some_is, Takes, Takes-then, ReadsBack, reads1, reads3, reads_then}
-use Rattle.cpg_wire.proofs.ReadsNumbers.{number_reads, u8_reads, form_reads, form_of_code}
+use Rattle.cpg_wire.proofs.ReadsNumbers.{number_reads, u8_reads, form_reads}
 use Rattle.cpg_wire.proofs.ReadsFields.{u32_reads}
 
-effect_law : (byte : ℕ) (form : Effect) → effect_of byte ≡ Some form → effect_code form ≡ byte
+effect_reads : ReadsBack Effect (form_at effect_of) (λ form. effect_code form ∷ []) (λ form. Unit {0})
 unfolding effect_of
-effect_law byte form e = form_of_code Effect effect_code effects byte form e
+effect_reads = form_reads Effect effect_code effects (λ (form : Effect). elim form as (λ form. form_of effect_code effects (effect_code form) ≡ Some form) [ Allow ↦ refl | Deny ↦ refl ])
 
-effect_back : (form : Effect) → effect_of (effect_code form) ≡ Some form
-unfolding effect_of
-effect_back Allow = refl
-effect_back Deny = refl
-
-right_law : (byte : ℕ) (form : Right) → right_of byte ≡ Some form → right_code form ≡ byte
+right_reads : ReadsBack Right (form_at right_of) (λ form. right_code form ∷ []) (λ form. Unit {0})
 unfolding right_of
-right_law byte form e = form_of_code Right right_code all_rights byte form e
+right_reads = form_reads Right right_code all_rights (λ (form : Right). elim form as (λ form. form_of right_code all_rights (right_code form) ≡ Some form) [ rights.Join ↦ refl | rights.Send ↦ refl | rights.List ↦ refl | rights.Edit ↦ refl ])
 
-right_back : (form : Right) → right_of (right_code form) ≡ Some form
-unfolding right_of
-right_back rights.Join = refl
-right_back rights.Send = refl
-right_back rights.List = refl
-right_back rights.Edit = refl
-
-subject_law : (byte : ℕ) (form : Subject) → subject_of byte ≡ Some form → subject_code form ≡ byte
+subject_reads : ReadsBack Subject (form_at subject_of) (λ form. subject_code form ∷ []) (λ form. Unit {0})
 unfolding subject_of
-subject_law byte form e = form_of_code Subject subject_code all_subjects byte form e
-
-subject_back : (form : Subject) → subject_of (subject_code form) ≡ Some form
-unfolding subject_of
-subject_back subjects.Any = refl
-subject_back subjects.Uid = refl
-subject_back subjects.Gid = refl
-subject_back subjects.Node = refl
+subject_reads = form_reads Subject subject_code all_subjects (λ (form : Subject). elim form as (λ form. form_of subject_code all_subjects (subject_code form) ≡ Some form) [ subjects.Any ↦ refl | subjects.Uid ↦ refl | subjects.Gid ↦ refl | subjects.Node ↦ refl ])
 
 abbrev who_of : Option ℕ → Option ℕ → Option ℕ → Who
 who_of uid gid node = record { uid = uid; gid = gid; node = node }
@@ -229,7 +210,7 @@ chosen (Some u) (Some g) (Some m) h = absurd (omega (arith, h.1))
 
 single_reads : ReadsBack Who single_at (who_bytes One) (IsWhoIn One)
 unfolding single_at
-single_reads = reads_then Subject Who (form_at subject_of) (λ k. subject_code k ∷ []) (λ k. Unit {0}) (form_reads Subject subject_of subject_code subject_law subject_back)
+single_reads = reads_then Subject Who (form_at subject_of) (λ k. subject_code k ∷ []) (λ k. Unit {0}) subject_reads
     value_at (λ w. value_text w.uid w.gid w.node) (λ k w. IsValue k w.uid w.gid w.node) (λ k h. value_reads k) (who_bytes One) (IsWhoIn One)
     (λ k w h i. joined k w.uid w.gid w.node i) (λ w h. chosen w.uid w.gid w.node h)
 
@@ -240,8 +221,8 @@ who_reads Two = conditions_read
 pub rule_reads : (v : Version) → ReadsBack Rule (rule_at v) (rule_bytes v) (λ r. IsWhoIn v r.who)
 unfolding rule_at
 rule_reads v = reads3 Effect Right Who Rule
-    (form_at effect_of) (λ e. effect_code e ∷ []) (λ e. Unit {0}) (form_reads Effect effect_of effect_code effect_law effect_back)
-    (form_at right_of) (λ r. right_code r ∷ []) (λ r. Unit {0}) (form_reads Right right_of right_code right_law right_back)
+    (form_at effect_of) (λ e. effect_code e ∷ []) (λ e. Unit {0}) effect_reads
+    (form_at right_of) (λ r. right_code r ∷ []) (λ r. Unit {0}) right_reads
     (who_at v) (who_bytes v) (IsWhoIn v) (who_reads v)
     (λ e r w. record { effect = e; right = r; who = w }) (rule_bytes v) (λ r. IsWhoIn v r.who)
     (λ e r w h i j. (refl, j)) (λ r h. (r.effect, r.right, r.who, refl, tt, tt, h))
