@@ -2,7 +2,6 @@
 
 ghost use Rattle.std.specs.Prelude.{◌≡◌, ◌≤◌, ◌↔◌, ◌++◌, ◌∷◌, [], suc, length, None, Some, Option, IsSome, All, Ok, OnOk, OnErr, IfOk, IfErr, IfSome, MatchOption, IsOkUnless, option_map};
 ghost use Rattle.std.specs.Option.{option_copied};
-ghost use Rattle.cpg_entry.specs.declared.calls.Call.{Call as CallValue};
 ghost use Rattle.cpg_entry.specs.declared.frames.Frame.TheVariants as frames;
 ghost use Rattle.cpg_record.specs.Judging.{judged, most_places};
 ghost use Rattle.cpg_record.specs.RuleTables.{rules_of};
@@ -453,10 +452,11 @@ impl Node {
 
 /// The call of an entry that is one.
 fn call_in(entry: Entry) -> Call
-    ensures { (call : CallValue) → entry.op ≡ Op.Act call → result ≡ call }
+    requires { ¬ (entry.op ≡ Op.Gone) }
+    ensures { entry.op ≡ Op.Act result }
 {
     match entry.op {
         Op::Act(call) => call,
-        Op::Gone => Call::Leave,
+        Op::Gone => unreachable!(),
     }
 }
