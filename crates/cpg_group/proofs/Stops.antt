@@ -286,38 +286,34 @@ AreConnectionLogs-added old roomy new rs r conn w are absent same is put own =
     (ap keys_of grown ∙ conns_added old (conn_of r.entry) w absent)
     (λ q. ap (λ (kept : KeptLogs). kept_log kept q) grown ∙ log_added old (conn_of r.entry) q w absent)
 
--- ---- the log at the index of a connection
+-- ---- the log at the index of the record's maker
 
 module _ (logs : KeptLogs) (i : ℕ) (conn k : ConnId) (v : SmallVec Stop)
     (apart : IsDistinct is_conn (keys_of logs)) (at : slice_get logs i ≡ Some (k, v)) (here : slice_get (keys_of logs) i ≡ Some conn)
-    (rs : List Record) (are : AreConnectionLogs logs rs) where
-  meant : k ≡ conn
-  meant = ap (λ o. unwrap_or o conn) (sym (key_at logs i k v at) ∙ here)
+    (rs : List Record) (r : Record) (is : conn ≡ conn_of r.entry) (are : AreConnectionLogs logs rs) where
+  meant : k ≡ conn_of r.entry
+  meant = ap (λ o. unwrap_or o conn) (sym (key_at logs i k v at) ∙ here) ∙ is
 
-  found : lookup (is_conn conn) logs ≡ Some v
+  found : lookup (is_conn (conn_of r.entry)) logs ≡ Some v
   found = ap (λ c. lookup (is_conn c) logs) (sym meant) ∙ lookup_from_place is_conn-laws logs i k v apart at
 
-  set : (w : SmallVec Stop) → set_value_at logs i w ≡ set_value (is_conn conn) logs w
+  set : (w : SmallVec Stop) → set_value_at logs i w ≡ set_value (is_conn (conn_of r.entry)) logs w
   set w = set_at is_conn-laws logs i k v w apart at ∙ ap (λ c. set_value (is_conn c) logs w) meant
 
-  -- it is the connection's
-  pub log_there : IsConnectionLog rs conn v.items
-  log_there = subst (IsConnectionLog rs conn) (ap or_no_log found) (are.1 conn)
+  -- it is the maker's
+  pub log_there : IsConnectionLog rs (conn_of r.entry) v.items
+  log_there = subst (IsConnectionLog rs (conn_of r.entry)) (ap or_no_log found) (are.1 (conn_of r.entry))
 
-  -- the logs where the maker's was there, and is set
-  pub logs_set : (r : Record) (w : SmallVec Stop) → conn ≡ conn_of r.entry → IsConnectionLog (rs ++ r ∷ []) (conn_of r.entry) w.items → AreConnectionLogs (set_value_at logs i w) (rs ++ r ∷ [])
-  logs_set r w is own =
-      let there : is_some (lookup (is_conn (conn_of r.entry)) logs) ≡ true =
-      ap (λ (q : ConnId). is_some (lookup (is_conn q) logs)) (sym is) ∙ ap is_some found in
-      let grown : set_value_at logs i w ≡ set_value (is_conn (conn_of r.entry)) logs w =
-      set w ∙ ap (λ (q : ConnId). set_value (is_conn q) logs w) is in
+  -- the logs where it is set past the record
+  pub logs_set : (w : SmallVec Stop) → IsConnectionLog (rs ++ r ∷ []) (conn_of r.entry) w.items → AreConnectionLogs (set_value_at logs i w) (rs ++ r ∷ [])
+  logs_set w own =
       AreConnectionLogs-past logs (set_value_at logs i w) rs r w.items are own
-      (ap keys_of grown ∙ conns_set logs (conn_of r.entry) w there)
-      (λ q. ap (λ (kept : KeptLogs). kept_log kept q) grown ∙ log_set logs (conn_of r.entry) q w there)
+      (ap keys_of (set w) ∙ conns_set logs (conn_of r.entry) w (ap is_some found))
+      (λ q. ap (λ (kept : KeptLogs). kept_log kept q) (set w) ∙ log_set logs (conn_of r.entry) q w (ap is_some found))
 
-  -- and where it was set to the stops that it had
+  -- and where it is set to the stops that it had
   pub logs_same : (w : SmallVec Stop) → w.items ≡ v.items → AreConnectionLogs (set_value_at logs i w) rs
   logs_same w same = (
-    ap keys_of (set w) ∙ keys-set_value (is_conn conn) logs w ∙ are.0,
-    (λ q. subst (IsConnectionLog rs q) (sym (ap (λ (kept : KeptLogs). kept_log kept q) (set w) ∙ log_same logs conn q v w found same)) (are.1 q)),
+    ap keys_of (set w) ∙ keys-set_value (is_conn (conn_of r.entry)) logs w ∙ are.0,
+    (λ q. subst (IsConnectionLog rs q) (sym (ap (λ (kept : KeptLogs). kept_log kept q) (set w) ∙ log_same logs (conn_of r.entry) q v w found same)) (are.1 q)),
   )
