@@ -1,6 +1,5 @@
 pub mod Hearing
 pub mod Faults
 pub mod Answering
-pub mod Seating
 pub mod Turning
 pub mod Standing

@@ -9,8 +9,8 @@ use Rattle.std.specs.Str.{bytes_eq}
 use Rattle.std.specs.declared.vec.Vec.{Vec}
 use Rattle.std.proofs.lemmas.Map.Entries.{lookup_from_place}
 use Rattle.indexmap.specs.IndexMap.{set_value_at}
-use Rattle.cpg_record.specs.Named.{Named, named, names_of}
-use Rattle.cpg_record.proofs.Named.{found_alike, set_alike}
+use Rattle.cpg_record.specs.Named.{Named, found_or, kept_or, named, names_of}
+use Rattle.cpg_record.proofs.Named.{found_alike, kept_grown, kept_same, kept_set, set_alike}
 
 module _ {K X : Type 0} {eq : K → K → Bool} (laws : IsEquivalence eq) where
   apart_at : (q k : K) (v : X) (es : List (K × X)) (i : ℕ) → AllByRecursion (λ x. eq q x ≡ false) (keys_of es) → slice_get es i ≡ Some (k, v) → eq q k ≡ false
@@ -67,15 +67,33 @@ module _ {X Z : Type 0} (name : List ℕ) (es : List (Vec ℕ Z × X)) (kept : N
     spelled = ap (λ o. unwrap_or o name) (sym (name_at es i k v at) ∙ here_too)
 
     -- what stands at the index of a name is what is found for it
-    pub found_there : Some v ≡ lookup (bytes_eq name) kept
+    found_there : Some v ≡ lookup (bytes_eq name) kept
     found_there =
         sym (lookup_from_place (on_texts_equal (λ (key : Vec ℕ Z). key.items)) es i k v apart at)
         ∙ found_alike k.items es
         ∙ (λ j. lookup (bytes_eq (spelled j)) (same j))
 
     -- and what is set there is set for the name
-    pub set_there : (w : X) → named (set_value_at es i w) ≡ set_value (bytes_eq name) kept w
+    set_there : (w : X) → named (set_value_at es i w) ≡ set_value (bytes_eq name) kept w
     set_there w =
         ap named (set_at (on_texts_equal (λ (key : Vec ℕ Z). key.items)) es i k v w apart at)
         ∙ set_alike k.items es w
         ∙ (λ j. set_value (bytes_eq (spelled j)) (same j) w)
+
+    module _ (other : X) where
+      -- so what stands there is kept for the name
+      pub kept_there : v ≡ kept_or other kept name
+      kept_there = ap (found_or other) found_there
+
+      -- and what is set there for that name alone
+      pub kept_set_there : (w : X) (g : List ℕ) → kept_or other (named (set_value_at es i w)) g ≡ cond (bytes_eq name g) w (kept_or other kept g)
+      kept_set_there w g = ap (λ (names : Named X). kept_or other names g) (set_there w) ∙ kept_set other kept name w g (ap is_some (sym found_there))
+
+      -- what grew of it grew for that name alone
+      pub kept_grown_there : (w : X) (grow : X → X) → w ≡ grow v → (g : List ℕ) →
+          kept_or other (named (set_value_at es i w)) g ≡ cond (bytes_eq name g) (grow (kept_or other kept g)) (kept_or other kept g)
+      kept_grown_there w grow is g = kept_set_there w g ∙ kept_grown other kept name g v w grow kept_there is
+
+      -- and set as it was it changes nothing
+      pub kept_same_there : (w : X) → w ≡ v → (g : List ℕ) → kept_or other (named (set_value_at es i w)) g ≡ kept_or other kept g
+      kept_same_there w is g = kept_set_there w g ∙ kept_same other kept name g w (is ∙ kept_there)

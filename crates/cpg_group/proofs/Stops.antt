@@ -30,12 +30,13 @@ use Rattle.cpg_record.specs.Places.{places_of, record_at}
 use Rattle.cpg_record.specs.Steps.{group_after, group_by}
 use Rattle.cpg_record.proofs.Cuts.{low_below, quiet_since, quiet_from_start}
 use Rattle.cpg_record.proofs.Growing.{group_of_push, is_conn-true}
+use Rattle.cpg_record.proofs.Inboxes.{record_at_front}
 use Rattle.cpg_record.proofs.Nexts.{groups_stay}
 use Rattle.cpg_record.proofs.Positions.{places_from-push, sound}
 use Rattle.cpg_record.proofs.Lasting.{is_conn-itself}
 use Rattle.cpg_group.specs.declared.logs.Stop.{Stop}
 use Rattle.cpg_group.specs.ConnectionLogs.{group_at, join_after, join_by, joined_by, joined_in, kept_log, or_no_log, AreConnectionLogs, IsConnectionLog, KeptLogs, StandsBy}
-use Rattle.cpg_record.proofs.Named.{lookup-push, lookup-set}
+use Rattle.cpg_record.proofs.Named.{either_way, lookup-push, lookup-set}
 use Rattle.cpg_group.proofs.Placed.{key_at, set_at}
 
 abbrev pub place_of : Stop → ℕ
@@ -65,18 +66,12 @@ join_some rs conn log last k i stop are cut at stands =
 
 -- ---- one record more
 
-record_kept : (rs : List Record) (r : Record) (place : ℕ) → place ≤ length rs → record_at (rs ++ r ∷ []) place ≡ record_at rs place
-record_kept rs r zero h = refl
-record_kept [] r (suc i) h = absurd (omega arith)
-record_kept (s ∷ rs) r (suc zero) h = refl
-record_kept (s ∷ rs) r (suc (suc i)) h = record_kept rs r (suc i) (omega arith)
-
 record_last : (rs : List Record) (r : Record) → record_at (rs ++ r ∷ []) (suc (length rs)) ≡ Some r
 record_last [] r = refl
 record_last (s ∷ rs) r = record_last rs r
 
 group_kept : (rs : List Record) (r : Record) (place : ℕ) → place ≤ length rs → group_at (rs ++ r ∷ []) place ≡ group_at rs place
-group_kept rs r place h = ap joined_in (record_kept rs r place h)
+group_kept rs r place h = ap joined_in (record_at_front rs (r ∷ []) place (omega arith))
 
 all_taken : (rs : List Record) (r : Record) (place : ℕ) → place ≡ length rs + 1 → take place (rs ++ r ∷ []) ≡ rs ++ r ∷ []
 all_taken [] r zero h = absurd (omega arith)
@@ -229,33 +224,10 @@ pub is_conn-Decides : (a b : ConnId) → (is_conn a b ≡ true) ↔ (a ≡ b)
 is_conn-Decides a b = (is_conn-true a b, (λ same. subst (λ (c : ConnId). is_conn a c ≡ true) same (is_conn-itself a)))
 
 flipped : (a b : ConnId) → is_conn a b ≡ is_conn b a
-flipped a b = by_case (is_conn a b) (is_conn b a) refl refl
-  where
-    by_case : (x y : Bool) → is_conn a b ≡ x → is_conn b a ≡ y → x ≡ y
-    by_case true true p q = refl
-    by_case false false p q = refl
-    by_case true false p q =
-        let t : is_conn b a ≡ true = (is_conn-Decides b a).1 (sym ((is_conn-Decides a b).0 p)) in
-        absurd (cc)
-    by_case false true p q =
-        let t : is_conn a b ≡ true = (is_conn-Decides a b).1 (sym ((is_conn-Decides b a).0 q)) in
-        absurd (cc)
+flipped = either_way is_conn is_conn-Decides
 
 is_conn-laws : IsEquivalence is_conn
 is_conn-laws = record { refl = is_conn-itself; symm = flipped; congr = λ a b c same. ap (λ (conn : ConnId). is_conn conn c) ((is_conn-Decides a b).0 same) }
-
-module _ (kept : KeptLogs) (i : ℕ) (conn k : ConnId) (v : SmallVec Stop)
-    (apart : IsDistinct is_conn (keys_of kept)) (at : slice_get kept i ≡ Some (k, v)) (here : slice_get (keys_of kept) i ≡ Some conn) where
-  meant : k ≡ conn
-  meant = ap (λ o. unwrap_or o conn) (sym (key_at kept i k v at) ∙ here)
-
-  -- the log at the index of a connection is the one that is found for it
-  pub log_there : lookup (is_conn conn) kept ≡ Some v
-  log_there = ap (λ c. lookup (is_conn c) kept) (sym meant) ∙ lookup_from_place is_conn-laws kept i k v apart at
-
-  -- and what is set there is set for the connection
-  pub log_set_there : (w : SmallVec Stop) → set_value_at kept i w ≡ set_value (is_conn conn) kept w
-  log_set_there w = set_at is_conn-laws kept i k v w apart at ∙ ap (λ c. set_value (is_conn c) kept w) meant
 
 -- the connections stay where a log is set
 conns_set : (kept : KeptLogs) (conn : ConnId) (w : SmallVec Stop) → is_some (lookup (is_conn conn) kept) ≡ true →
@@ -271,29 +243,22 @@ conns_added kept conn w none =
     map-append (λ entry. entry.0) kept ((conn, w) ∷ [])
     ∙ ap (λ (b : Bool). cond b (keys_of kept) (keys_of kept ++ conn ∷ [])) (sym (ap is_some none) ∙ is_some-lookup (is_conn conn) kept)
 
--- and every other stays
-log_set : (kept : KeptLogs) (conn q : ConnId) (w : SmallVec Stop) → is_some (lookup (is_conn conn) kept) ≡ true →
-    kept_log (set_value (is_conn conn) kept w) q ≡ cond (is_conn q conn) w.items (kept_log kept q)
-log_set kept conn q w there =
-    ap or_no_log (lookup-set is_conn is_conn-Decides kept conn w q there)
-    ∙ by_case (is_conn conn q)
-    ∙ ap (λ (b : Bool). cond b w.items (kept_log kept q)) (flipped conn q)
+-- where a look-up finds one log anew, every other stays
+log_anew : (kept new : KeptLogs) (conn q : ConnId) (w : SmallVec Stop) → lookup (is_conn q) new ≡ cond (is_conn conn q) (Some w) (lookup (is_conn q) kept) →
+    kept_log new q ≡ cond (is_conn q conn) w.items (kept_log kept q)
+log_anew kept new conn q w found = ap or_no_log found ∙ by_case (is_conn conn q) ∙ ap (λ (b : Bool). cond b w.items (kept_log kept q)) (flipped conn q)
   where
     by_case : (b : Bool) → or_no_log (cond b (Some w) (lookup (is_conn q) kept)) ≡ cond b w.items (or_no_log (lookup (is_conn q) kept))
     by_case true = refl
     by_case false = refl
 
--- as it does where a log is added
+log_set : (kept : KeptLogs) (conn q : ConnId) (w : SmallVec Stop) → is_some (lookup (is_conn conn) kept) ≡ true →
+    kept_log (set_value (is_conn conn) kept w) q ≡ cond (is_conn q conn) w.items (kept_log kept q)
+log_set kept conn q w there = log_anew kept (set_value (is_conn conn) kept w) conn q w (lookup-set is_conn is_conn-Decides kept conn w q there)
+
 log_added : (kept : KeptLogs) (conn q : ConnId) (w : SmallVec Stop) → lookup (is_conn conn) kept ≡ None →
     kept_log (kept ++ (conn, w) ∷ []) q ≡ cond (is_conn q conn) w.items (kept_log kept q)
-log_added kept conn q w none =
-    ap or_no_log (lookup-push is_conn is_conn-Decides kept conn w q none)
-    ∙ by_case (is_conn conn q)
-    ∙ ap (λ (b : Bool). cond b w.items (kept_log kept q)) (flipped conn q)
-  where
-    by_case : (b : Bool) → or_no_log (cond b (Some w) (lookup (is_conn q) kept)) ≡ cond b w.items (or_no_log (lookup (is_conn q) kept))
-    by_case true = refl
-    by_case false = refl
+log_added kept conn q w none = log_anew kept (kept ++ (conn, w) ∷ []) conn q w (lookup-push is_conn is_conn-Decides kept conn w q none)
 
 -- what is set to the items that were there changes no log
 log_same : (kept : KeptLogs) (conn q : ConnId) (v w : SmallVec Stop) → lookup (is_conn conn) kept ≡ Some v → w.items ≡ v.items →
@@ -321,23 +286,34 @@ AreConnectionLogs-added old roomy new rs r conn w are absent same is put own =
     (ap keys_of grown ∙ conns_added old (conn_of r.entry) w absent)
     (λ q. ap (λ (kept : KeptLogs). kept_log kept q) grown ∙ log_added old (conn_of r.entry) q w absent)
 
--- the maker's was there, and is set
-pub AreConnectionLogs-set : (old new : KeptLogs) (rs : List Record) (r : Record) (conn : ConnId) (v w : SmallVec Stop) →
-    AreConnectionLogs old rs → lookup (is_conn conn) old ≡ Some v → conn ≡ conn_of r.entry →
-    new ≡ set_value (is_conn conn) old w → IsConnectionLog (rs ++ r ∷ []) (conn_of r.entry) w.items → AreConnectionLogs new (rs ++ r ∷ [])
-AreConnectionLogs-set old new rs r conn v w are found is put own =
-    let there : is_some (lookup (is_conn (conn_of r.entry)) old) ≡ true =
-    ap (λ (q : ConnId). is_some (lookup (is_conn q) old)) (sym is) ∙ ap is_some found in
-    let grown : new ≡ set_value (is_conn (conn_of r.entry)) old w =
-    put ∙ ap (λ (q : ConnId). set_value (is_conn q) old w) is in
-    AreConnectionLogs-past old new rs r w.items are own
-    (ap keys_of grown ∙ conns_set old (conn_of r.entry) w there)
-    (λ q. ap (λ (kept : KeptLogs). kept_log kept q) grown ∙ log_set old (conn_of r.entry) q w there)
+-- ---- the log at the index of the record's maker
 
--- one was set to the stops that it had
-pub AreConnectionLogs-same : (old new : KeptLogs) (rs : List Record) (conn : ConnId) (v w : SmallVec Stop) →
-    AreConnectionLogs old rs → lookup (is_conn conn) old ≡ Some v → new ≡ set_value (is_conn conn) old w → w.items ≡ v.items → AreConnectionLogs new rs
-AreConnectionLogs-same old new rs conn v w are found put same = (
-  ap keys_of put ∙ keys-set_value (is_conn conn) old w ∙ are.0,
-  (λ q. subst (IsConnectionLog rs q) (sym (ap (λ (kept : KeptLogs). kept_log kept q) put ∙ log_same old conn q v w found same)) (are.1 q)),
-)
+module _ (logs : KeptLogs) (i : ℕ) (conn k : ConnId) (v : SmallVec Stop)
+    (apart : IsDistinct is_conn (keys_of logs)) (at : slice_get logs i ≡ Some (k, v)) (here : slice_get (keys_of logs) i ≡ Some conn)
+    (rs : List Record) (r : Record) (is : conn ≡ conn_of r.entry) (are : AreConnectionLogs logs rs) where
+  meant : k ≡ conn_of r.entry
+  meant = ap (λ o. unwrap_or o conn) (sym (key_at logs i k v at) ∙ here) ∙ is
+
+  found : lookup (is_conn (conn_of r.entry)) logs ≡ Some v
+  found = ap (λ c. lookup (is_conn c) logs) (sym meant) ∙ lookup_from_place is_conn-laws logs i k v apart at
+
+  set : (w : SmallVec Stop) → set_value_at logs i w ≡ set_value (is_conn (conn_of r.entry)) logs w
+  set w = set_at is_conn-laws logs i k v w apart at ∙ ap (λ c. set_value (is_conn c) logs w) meant
+
+  -- it is the maker's
+  pub log_there : IsConnectionLog rs (conn_of r.entry) v.items
+  log_there = subst (IsConnectionLog rs (conn_of r.entry)) (ap or_no_log found) (are.1 (conn_of r.entry))
+
+  -- the logs where it is set past the record
+  pub logs_set : (w : SmallVec Stop) → IsConnectionLog (rs ++ r ∷ []) (conn_of r.entry) w.items → AreConnectionLogs (set_value_at logs i w) (rs ++ r ∷ [])
+  logs_set w own =
+      AreConnectionLogs-past logs (set_value_at logs i w) rs r w.items are own
+      (ap keys_of (set w) ∙ conns_set logs (conn_of r.entry) w (ap is_some found))
+      (λ q. ap (λ (kept : KeptLogs). kept_log kept q) (set w) ∙ log_set logs (conn_of r.entry) q w (ap is_some found))
+
+  -- and where it is set to the stops that it had
+  pub logs_same : (w : SmallVec Stop) → w.items ≡ v.items → AreConnectionLogs (set_value_at logs i w) rs
+  logs_same w same = (
+    ap keys_of (set w) ∙ keys-set_value (is_conn (conn_of r.entry)) logs w ∙ are.0,
+    (λ q. subst (IsConnectionLog rs q) (sym (ap (λ (kept : KeptLogs). kept_log kept q) (set w) ∙ log_same logs (conn_of r.entry) q v w found same)) (are.1 q)),
+  )

@@ -1,26 +1,17 @@
 -- the mark stands under the word
-use Rattle.std.proofs.Common.{◌≡◌, ℕ, zero, suc, Bool, true, false, cond, List, [], ◌∷◌, length, drop, refl, sym, ap, ◌∙◌, arith}
-use Rattle.std.proofs.lemmas.Bool.Decides.{nat_tests}
+use Rattle.std.proofs.Common.{◌≡◌, ℕ, zero, suc, Bool, true, false, List, [], ◌∷◌, drop, refl, sym, ap, ◌∙◌}
 use Rattle.std.proofs.lemmas.List.Splits.{slice_split-cons_no, slice_split-cons_yes}
-use Rattle.std.specs.Prelude.{nat_lt, if◌then◌else◌}
-use Rattle.std.specs.List.{filter, slice_split, onto_first}
+use Rattle.std.specs.Prelude.{if◌then◌else◌}
+use Rattle.std.specs.List.{slice_split, onto_first}
 use Rattle.cpg_text.specs.Lines.{is_blank, words_of}
 use Rattle.cpg_text.proofs.Blanks.{blank_skipped}
+use Rattle.cpg_print.proofs.Spacing.{kept, kept_begun}
 use Rattle.cpg_hint.specs.Places.{from_blank, from_word, from_word_at}
-
--- the pieces that are not empty
-abbrev kept : List (List ℕ) → List (List ℕ)
-kept pieces = filter (λ word. nat_lt 0 (length word)) pieces
-
-kept_first : (byte : ℕ) (word : List ℕ) (pieces : List (List ℕ)) → kept ((byte ∷ word) ∷ pieces) ≡ (byte ∷ word) ∷ kept pieces
-kept_first byte word pieces =
-    let has : nat_lt 0 (length (byte ∷ word)) ≡ true = grind (arith, nat_tests) in
-    ap (λ test. cond test ((byte ∷ word) ∷ kept pieces) (kept pieces)) has
 
 -- a byte more in front of a first piece that has one
 onto_two : (a b : ℕ) (pieces : List (List ℕ)) → drop 1 (kept (onto_first a (onto_first b pieces))) ≡ drop 1 (kept (onto_first b pieces))
 onto_two a b [] = refl
-onto_two a b (piece ∷ pieces) = ap (drop 1) (kept_first a (b ∷ piece) pieces) ∙ sym (ap (drop 1) (kept_first b piece pieces))
+onto_two a b (piece ∷ pieces) = ap (drop 1) (kept_begun a (b ∷ piece) pieces) ∙ sym (ap (drop 1) (kept_begun b piece pieces))
 
 -- what follows the first word, which begins with that byte
 behind_by : (a b : ℕ) (line : List ℕ) (blank : Bool) → is_blank b ≡ blank
@@ -28,7 +19,7 @@ behind_by : (a b : ℕ) (line : List ℕ) (blank : Bool) → is_blank b ≡ blan
     → words_of (from_blank (b ∷ line)) ≡ drop 1 (kept (onto_first a (slice_split is_blank (b ∷ line))))
 behind_by a b line true e h =
     ap (λ test. words_of (if test then b ∷ line else from_blank line)) e ∙ blank_skipped b line e
-    ∙ sym (ap (λ pieces. drop 1 (kept (onto_first a pieces))) (slice_split-cons_yes is_blank b line e) ∙ ap (drop 1) (kept_first a [] (slice_split is_blank line)))
+    ∙ sym (ap (λ pieces. drop 1 (kept (onto_first a pieces))) (slice_split-cons_yes is_blank b line e) ∙ ap (drop 1) (kept_begun a [] (slice_split is_blank line)))
 behind_by a b line false e h =
     ap (λ test. words_of (if test then b ∷ line else from_blank line)) e ∙ h
     ∙ sym (ap (λ pieces. drop 1 (kept (onto_first a pieces))) (slice_split-cons_no is_blank b line e) ∙ onto_two a b (slice_split is_blank line))

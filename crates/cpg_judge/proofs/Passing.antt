@@ -7,13 +7,9 @@ use Rattle.std.proofs.lemmas.List.{length-append, length-take-le, take_all}
 use Rattle.std.proofs.lemmas.Option.{slice_get_within}
 use Rattle.cpg_record.specs.declared.records.Record.{Record}
 use Rattle.cpg_record.specs.Places.{places_from, places_of}
+use Rattle.cpg_record.proofs.Inboxes.{slice_get_front}
 use Rattle.cpg_record.proofs.Positions.{sound}
 use Rattle.cpg_judge.proofs.Telling.{places_parted}
-
-slice_get_front : {X : Type 0} (xs ys : List X) (i : ℕ) → i < length xs → slice_get (xs ++ ys) i ≡ slice_get xs i
-slice_get_front [] ys i h = absurd (omega arith)
-slice_get_front (x ∷ xs) ys zero h = refl
-slice_get_front (x ∷ xs) ys (suc i) h = slice_get_front xs ys i (omega (arith, h))
 
 slice_get_behind : {X : Type 0} (xs ys : List X) (i : ℕ) → length xs ≤ i → slice_get (xs ++ ys) i ≡ slice_get ys (i - length xs)
 slice_get_behind [] ys i h = ap (slice_get ys) (omega arith)

@@ -1,46 +1,23 @@
 -- Seeking from a cursor on, and that cursors stay right while more is judged.
-use Rattle.std.proofs.Common.{get_or, ◌≡◌, ℕ, Bool, true, false, zero, suc, ◌+◌, ◌-◌, ◌<◌, ◌≤◌, List, [], ◌∷◌, ◌++◌, length, take, None, Result, Ok, Err, OnErr, refl, sym, ap, ◌∙◌, subst, arith, All, length-append}
+use Rattle.std.proofs.Common.{get_or, ◌≡◌, ℕ, Bool, true, false, zero, suc, ◌+◌, ◌-◌, ◌<◌, ◌≤◌, List, [], ◌∷◌, ◌++◌, length, None, Result, Ok, Err, OnErr, refl, sym, ap, ◌∙◌, subst, arith, All, length-append}
 use Rattle.std.specs.Prelude.{OnOk, IsSome, if◌then◌else◌}
-use Rattle.std.specs.List.{flat_map, range_with_len, slice_get}
-use Rattle.std.proofs.lemmas.List.{take-append-le}
+use Rattle.std.specs.List.{slice_get}
 use Rattle.std.proofs.lemmas.List.Sums.{fold-append}
 use Rattle.std.proofs.lemmas.Option.{slice_get_past}
 use Rattle.cpg_entry.specs.declared.entries.Entry.{Entry}
 use Rattle.cpg_record.specs.declared.connections.ConnId.{ConnId}
 use Rattle.cpg_record.specs.declared.events.Event.{Event}
 use Rattle.cpg_record.specs.declared.records.Record.{Record}
-use Rattle.cpg_record.specs.Events.{events, events_by}
+use Rattle.cpg_record.specs.Events.{events}
 use Rattle.cpg_record.specs.Judging.{judged, most_places, record_of, with_judgement}
-use Rattle.cpg_record.specs.Places.{record_at}
 use Rattle.cpg_record.proofs.Denials.{each_entry_is_judged}
 use Rattle.cpg_record.specs.Events.{inbox}
 use Rattle.cpg_record.specs.Nexts.{IsNextTold, TellsNoMore}
-use Rattle.cpg_record.proofs.Inboxes.{places_tell_at_most_two}
+use Rattle.cpg_record.proofs.Inboxes.{events_front, flat_same, places_tell_at_most_two}
 use Rattle.cpg_node.specs.Cursors.{IsCursor, told_up_to}
 use Rattle.cpg_group.specs.declared.nexts.Hint.{Hint}
 use Rattle.cpg_node.specs.declared.cursors.Cursor.{Cursor}
 use Rattle.cpg_node.proofs.Telling.{counted_before, quiet_to, told_at, told_count}
-
--- what holds of two functions at each number holds of what they give together
-flat_same : (f g : ℕ → List Event) (a n : ℕ) → ((p : ℕ) → a ≤ p → p < a + n → f p ≡ g p) → flat_map f (range_with_len a n) ≡ flat_map g (range_with_len a n)
-flat_same f g a zero h = refl
-flat_same f g a (suc n) h =
-    ap (λ l. l ++ flat_map f (range_with_len (a + 1) n)) (h a (omega arith) (omega arith))
-    ∙ ap (λ l. g a ++ l) (flat_same f g (a + 1) n (λ p low high. h p (omega arith) (omega arith)))
-
-slice_get_front : {X : Type 0} (xs ys : List X) (i : ℕ) → i < length xs → slice_get (xs ++ ys) i ≡ slice_get xs i
-slice_get_front [] ys i h = absurd (omega arith)
-slice_get_front (x ∷ xs) ys zero h = refl
-slice_get_front (x ∷ xs) ys (suc i) h = slice_get_front xs ys i (omega arith)
-
-record_at_front : (rs more : List Record) (p : ℕ) → p < 1 + length rs → record_at (rs ++ more) p ≡ record_at rs p
-record_at_front rs more zero h = refl
-record_at_front rs more (suc i) h = slice_get_front rs more i (omega arith)
-
-events_front : (rs more : List Record) (conn : ConnId) (p : ℕ) → 1 ≤ p → p < 1 + length rs → events (rs ++ more) p conn ≡ events rs p conn
-events_front rs more conn p low high =
-    ap (λ o. events_by p (take (p - 1) (rs ++ more)) conn o) (record_at_front rs more p high)
-    ∙ ap (λ before. events_by p before conn (record_at rs p)) (take-append-le (p - 1) rs more (omega arith))
 
 -- what places tell stays told while more is judged
 told_on : (rs more : List Record) (conn : ConnId) (n : ℕ) → n ≤ length rs → told_up_to (rs ++ more) conn n ≡ told_up_to rs conn n

@@ -1,5 +1,5 @@
 -- The events of an inbox, place by place.
-use Rattle.std.proofs.Common.{◌≡◌, ℕ, zero, suc, ◌+◌, ◌-◌, ◌<◌, ◌≤◌, List, [], ◌∷◌, ◌++◌, length, None, refl, sym, ap, ◌∙◌, subst, arith, slice_get, length-append, append-nil}
+use Rattle.std.proofs.Common.{◌≡◌, ℕ, zero, suc, ◌+◌, ◌-◌, ◌<◌, ◌≤◌, List, [], ◌∷◌, ◌++◌, length, None, sym, ap, ◌∙◌, subst, arith, slice_get, length-append, append-nil}
 use Rattle.std.specs.List.{flat_map, range_with_len}
 use Rattle.std.proofs.lemmas.Grind.{flat_map-append}
 use Rattle.std.proofs.lemmas.Option.{slice_get_past}
@@ -7,29 +7,9 @@ use Rattle.cpg_record.specs.declared.connections.ConnId.{ConnId}
 use Rattle.cpg_record.specs.declared.events.Event.{Event}
 use Rattle.cpg_record.specs.declared.records.Record.{Record}
 use Rattle.cpg_record.specs.Events.{events, inbox}
-
-range_split : (a m k : ℕ) → range_with_len a (m + k) ≡ range_with_len a m ++ range_with_len (a + m) k
-range_split a zero k = rw (zero_plus k) (ap (λ b. range_with_len b k) (sym (plus_zero a)))
-  where
-    zero_plus : (n : ℕ) → 0 + n ≡ n
-    zero_plus n = omega arith
-
-    plus_zero : (n : ℕ) → n + 0 ≡ n
-    plus_zero n = omega arith
-range_split a (suc m) k = rw (suc_plus m k) (ap (λ l. a ∷ l) (range_split (a + 1) m k ∙ ap (λ b. range_with_len (a + 1) m ++ range_with_len b k) (shift a m)))
-  where
-    suc_plus : (m k : ℕ) → suc m + k ≡ suc (m + k)
-    suc_plus m k = omega arith
-
-    shift : (a m : ℕ) → a + 1 + m ≡ a + suc m
-    shift a m = omega arith
+use Rattle.cpg_record.proofs.Inboxes.{range_split, slice_get_front}
 
 module _ {X : Type 0} where
-  get_left : (xs ys : List X) (k : ℕ) → k < length xs → slice_get (xs ++ ys) k ≡ slice_get xs k
-  get_left [] ys k h = absurd (omega arith)
-  get_left (x ∷ xs) ys zero h = refl
-  get_left (x ∷ xs) ys (suc k) h = get_left xs ys k (omega arith)
-
   get_right : (xs ys : List X) (j : ℕ) → slice_get (xs ++ ys) (length xs + j) ≡ slice_get ys j
   get_right [] ys j = ap (slice_get ys) (zero_plus j)
     where
@@ -50,7 +30,7 @@ told_item f n i j below within =
     ap (λ l. slice_get (flat_map f l) (length (flat_map f (range_with_len 1 i)) + j)) (ap (range_with_len 1) whole ∙ range_split 1 i (suc (n - (i + 1))))
     ∙ (ap (λ l. slice_get l (length (flat_map f (range_with_len 1 i)) + j)) (flat_map-append f (range_with_len 1 i) (range_with_len (1 + i) (suc (n - (i + 1)))))
     ∙ (get_right (flat_map f (range_with_len 1 i)) _ j
-    ∙ get_left (f (1 + i)) _ j within))
+    ∙ slice_get_front (f (1 + i)) _ j within))
   where
     whole : n ≡ i + suc (n - (i + 1))
     whole = omega arith

@@ -1,5 +1,5 @@
 -- a connection at the front of a line, read number by number
-use Rattle.std.proofs.Common.{◌≡◌, ℕ, suc, ◌+◌, ◌-◌, ◌<◌, ◌≤◌, List, [], ◌∷◌, ◌++◌, length, take, drop, get_or, Bool, true, false, ◌&&◌, not, nat_le, nat_lt, cond, if◌then◌else◌, Option, Some, None, option_map, refl, sym, ap, ◌∙◌, arith}
+use Rattle.std.proofs.Common.{◌≡◌, ℕ, suc, ◌+◌, ◌-◌, ◌<◌, ◌≤◌, List, [], ◌∷◌, ◌++◌, length, take, drop, get_or, Bool, true, false, ◌&&◌, not, nat_le, nat_lt, if◌then◌else◌, Option, Some, None, option_map, refl, sym, ap, ◌∙◌, arith}
 use Rattle.std.proofs.lemmas.Bool.Decides.{nat_tests}
 use Rattle.std.proofs.lemmas.List.{take_all, take-append-drop, length-drop, length-take}
 use Rattle.std.proofs.lemmas.List.Splits.{slice_split-cons_no, length-slice_split}
@@ -7,7 +7,7 @@ use Rattle.std.proofs.Math.Seq.{drop-cons}
 use Rattle.std.proofs.Math.Numerals.{suc-eq-add-one}
 use Rattle.std.specs.Char.{is_ascii_digit}
 use Rattle.std.specs.Prelude.{◌==◌}
-use Rattle.std.specs.List.{filter, list_all, onto_first, slice_split}
+use Rattle.std.specs.List.{list_all, onto_first, slice_split}
 use Rattle.cpg_cred.specs.declared.nodes.TheConstants.{MOST_NODES}
 use Rattle.cpg_entry.specs.declared.ranges.TheConstants.{MOST_CONNECTIONS}
 use Rattle.cpg_record.specs.declared.connections.ConnId.{ConnId}
@@ -15,16 +15,7 @@ use Rattle.cpg_text.specs.Lines.{is_blank, words_of}
 use Rattle.cpg_text.specs.Numbers.{is_number, value_of, number_in, first_number}
 use Rattle.cpg_text.specs.Words.{◌>>=◌}
 use Rattle.cpg_print.specs.Entries.{conn_in_limits, conn_in_parts, conn_of_word, first_conn}
-use Rattle.cpg_print.proofs.Spacing.{both, passes_also, cut_first}
-
--- the pieces that are not empty
-abbrev kept : List (List ℕ) → List (List ℕ)
-kept pieces = filter (λ word. nat_lt 0 (length word)) pieces
-
-kept_first : (byte : ℕ) (word : List ℕ) (pieces : List (List ℕ)) → kept ((byte ∷ word) ∷ pieces) ≡ (byte ∷ word) ∷ kept pieces
-kept_first byte word pieces =
-    let has : nat_lt 0 (length (byte ∷ word)) ≡ true = grind (arith, nat_tests) in
-    ap (λ test. cond test ((byte ∷ word) ∷ kept pieces) (kept pieces)) has
+use Rattle.cpg_print.proofs.Spacing.{both, cut_first, kept, kept_begun, passes_also}
 
 digit_is_no_blank : (byte : ℕ) → is_ascii_digit byte ≡ true → is_blank byte ≡ false
 digit_is_no_blank byte e = grind (arith, nat_tests)
@@ -47,7 +38,7 @@ first_dotted node nodes digit rest piece pieces digits is e =
     let dot : slice_split is_blank (46 ∷ digit ∷ rest) ≡ (46 ∷ digit ∷ piece) ∷ pieces =
     slice_split-cons_no is_blank 46 (digit ∷ rest) refl ∙ ap (onto_first 46) one in
     let all = digits_onto (node ∷ nodes) (46 ∷ digit ∷ rest) (46 ∷ digit ∷ piece) pieces digits dot in
-    (ap kept one ∙ kept_first digit piece pieces, ap kept all ∙ kept_first node (nodes ++ 46 ∷ digit ∷ piece) pieces)
+    (ap kept one ∙ kept_begun digit piece pieces, ap kept all ∙ kept_begun node (nodes ++ 46 ∷ digit ∷ piece) pieces)
 
 -- a number within narrower limits
 abbrev pub within : ℕ → ℕ → Option ℕ

@@ -37,7 +37,7 @@ no_blank : (byte : ℕ) → is_name_byte byte ≡ true → is_blank byte ≡ fal
 no_blank byte e = grind (arith, nat_tests)
 
 -- the pieces that are not empty
-abbrev kept : List (List ℕ) → List (List ℕ)
+abbrev pub kept : List (List ℕ) → List (List ℕ)
 kept pieces = filter (λ word. nat_lt 0 (length word)) pieces
 
 kept_first : (word : List ℕ) (pieces : List (List ℕ)) → nat_lt 0 (length word) ≡ true → kept (word ∷ pieces) ≡ word ∷ kept pieces
@@ -129,6 +129,10 @@ cut_none separator word e =
 
 some_bytes : (byte : ℕ) (more : List ℕ) → nat_lt 0 (length (byte ∷ more)) ≡ true
 some_bytes byte more = grind (arith, nat_tests)
+
+-- a piece that has a first byte is kept
+pub kept_begun : (byte : ℕ) (more : List ℕ) (pieces : List (List ℕ)) → kept ((byte ∷ more) ∷ pieces) ≡ (byte ∷ more) ∷ kept pieces
+kept_begun byte more pieces = kept_first (byte ∷ more) pieces (some_bytes byte more)
 
 -- the word has a first byte
 abbrev pub HasFirst : List ℕ → Type 0

@@ -242,12 +242,5 @@ hears_changes_exactly es c place g list left joined = (from_inbox, to_inbox)
         let said = change_says es place change.r c change.r.entry.op g left joined change.moves here in
         let group : change.r.group ≡ Some g = ap (λ (q : Record). q.group) (record_is es place change.r change.stands) ∙ said.0 in
         let after : change.r.members ≡ list = records_list_their_members es place change.r g change.stands group ∙ sym change.after in
-        hears (judged es) c (event.Change place g list left joined) (record {
-          place = place;
-          r = change.r;
-          g = g;
-          stands = change.stands;
-          group = group;
-          allowed = change.allowed;
-          says = said.1 ∙ ap (λ (l : List Member). Some (event.Change place g l left joined)) after;
-        })
+        hears (judged es) c (event.Change place g list left joined) place change.r g change.stands group change.allowed
+        (said.1 ∙ ap (λ (l : List Member). Some (event.Change place g l left joined)) after)

@@ -19,6 +19,11 @@ mapped f (Some x) n is =
 suc_is : (n : ℕ) → 1 + n ≡ suc n
 suc_is n = omega arith
 
+-- what can't be true is false
+unless : (b : Bool) → (b ≡ true → ⊥) → b ≡ false
+unless false never = refl
+unless true never = absurd (never refl)
+
 -- the places of a list are those of the records that pass
 module _ {X : Type 0} (f : X → ℕ) (xs : List X) (q : Record → Bool) (rs : List Record) (are : map f xs ≡ places_of q rs) where
   stands_at : (i : ℕ) (x : X) → slice_get xs i ≡ Some x → slice_get (places_of q rs) i ≡ Some (f x)
@@ -27,18 +32,19 @@ module _ {X : Type 0} (f : X → ℕ) (xs : List X) (q : Record → Bool) (rs : 
   later_above : (i k : ℕ) (x y : X) → slice_get xs i ≡ Some x → slice_get xs k ≡ Some y → i < k → f x < f y
   later_above i k x y a b h = ascending q 1 rs i k (f x) (f y) (stands_at i x a) (stands_at k y b) h
 
-  pub non_decreasing : IsNonDecreasingBy f xs
-  non_decreasing i j d low high = by_case (cases_lt i j)
+  not_above : (i k : ℕ) (x y : X) → slice_get xs i ≡ Some x → slice_get xs k ≡ Some y → i ≤ k → f x ≤ f y
+  not_above i k x y a b h = by_case (cases_lt i k)
     where
-      by_case : (i < j) ⊎ (j ≤ i) → f (get_or xs i d) ≤ f (get_or xs j d)
-      by_case (inl below) =
-          let above : f (get_or xs i d) < f (get_or xs j d) =
-          later_above i j (get_or xs i d) (get_or xs j d) (slice_get-get_or xs i d (omega arith)) (slice_get-get_or xs j d high) below in
-          omega (arith, above)
-      by_case (inr above) =
-          let same : i ≡ j = omega arith in
-          let alike : f (get_or xs i d) ≡ f (get_or xs j d) = ap (λ (k : ℕ). f (get_or xs k d)) same in
-          omega (arith, alike)
+      by_case : (i < k) ⊎ (k ≤ i) → f x ≤ f y
+      by_case (inl earlier) = omega (arith, later_above i k x y a b earlier)
+      by_case (inr later) =
+          let same : i ≡ k = omega arith in
+          let alike : Some x ≡ Some y = sym a ∙ ap (slice_get xs) same ∙ b in
+          let one : x ≡ y = cc in
+          omega (arith, ap f one)
+
+  pub non_decreasing : IsNonDecreasingBy f xs
+  non_decreasing i j d low high = not_above i j (get_or xs i d) (get_or xs j d) (slice_get-get_or xs i d (omega arith)) (slice_get-get_or xs j d high) low
 
   -- a record that passes has its place in the list
   pub listed : (n : ℕ) (r : Record) → slice_get rs n ≡ Some r → q r ≡ true → (i : ℕ) × (x : X) × (slice_get xs i ≡ Some x) × (f x ≡ 1 + n)
@@ -82,42 +88,22 @@ module _ {X : Type 0} (f : X → ℕ) (xs : List X) (q : Record → Bool) (rs : 
     -- no record passes above the last where nothing stands at the cut
     none_left : slice_get xs k ≡ None → (place : ℕ) (r : Record) → last < place → record_at rs place ≡ Some r → q r ≡ false
     none_left none zero r above is = absurd (omega arith)
-    none_left none (suc n) r above is = passing (q r) refl
-      where
-        past : (i : ℕ) (x : X) → slice_get xs i ≡ Some x → k ≤ i → ⊥
-        past i x at high =
-            let within = slice_get_within xs i x at in
-            let there : slice_get xs k ≡ Some (get_or xs k x) = slice_get-get_or xs k x (omega arith) in
-            absurd (cc)
-
-        passing : (b : Bool) → q r ≡ b → b ≡ false
-        passing false at = refl
-        passing true at =
-            let there = found_high n r (omega arith) is at in
-            absurd (past there.0 there.1 there.2 there.4)
+    none_left none (suc n) r above is =
+        unless (q r)
+        (λ passes.
+        let there = found_high n r (omega arith) is passes in
+        let within = slice_get_within xs there.0 there.1 there.2 in
+        let some : slice_get xs k ≡ Some (get_or xs k there.1) = slice_get-get_or xs k there.1 (omega (arith, within, there.4)) in
+        cc)
 
     -- and none between the last and what stands at the cut
     none_before : (y : X) → slice_get xs k ≡ Some y → (place : ℕ) (r : Record) → last < place → place < f y → record_at rs place ≡ Some r → q r ≡ false
     none_before y first zero r above below is = absurd (omega arith)
-    none_before y first (suc n) r above below is = passing (q r) refl
-      where
-        past : (i : ℕ) (x : X) → slice_get xs i ≡ Some x → f x ≡ 1 + n → k ≤ i → ⊥
-        past i x at here high = by_case (cases_lt k i)
-          where
-            by_case : (k < i) ⊎ (i ≤ k) → ⊥
-            by_case (inl later) = omega (arith, later_above k i y x first at later, here)
-            by_case (inr low) =
-                let same : i ≡ k = omega arith in
-                let alike : Some x ≡ Some y = sym at ∙ ap (slice_get xs) same ∙ first in
-                let one : x ≡ y = cc in
-                let value : f x ≡ f y = ap f one in
-                omega (arith, value, here)
-
-        passing : (b : Bool) → q r ≡ b → b ≡ false
-        passing false at = refl
-        passing true at =
-            let there = found_high n r (omega arith) is at in
-            absurd (past there.0 there.1 there.2 there.3 there.4)
+    none_before y first (suc n) r above below is =
+        unless (q r)
+        (λ passes.
+        let there = found_high n r (omega arith) is passes in
+        omega (arith, not_above k there.0 y there.1 first there.2 there.4, there.3))
 
     -- the first from the cut on is the next place
     pub next_found : IsNextOf q rs last (option_map f (slice_get xs k))
@@ -134,35 +120,19 @@ module _ {X : Type 0} (f : X → ℕ) (xs : List X) (q : Record → Bool) (rs : 
 
     -- up to the last, no record passes after what stands before the cut
     pub quiet_since : (i : ℕ) (y : X) → k ≡ suc i → slice_get xs i ≡ Some y → (n : ℕ) (r : Record) → f y ≤ n → n < last → slice_get rs n ≡ Some r → q r ≡ false
-    quiet_since i y at stands n r above below is = passing (q r) refl
-      where
-        past : (j : ℕ) (x : X) → slice_get xs j ≡ Some x → f x ≡ 1 + n → j < k → ⊥
-        past j x there here low = by_case (cases_lt j i)
-          where
-            by_case : (j < i) ⊎ (i ≤ j) → ⊥
-            by_case (inl earlier) = omega (arith, later_above j i x y there stands earlier, here)
-            by_case (inr high) =
-                let same : j ≡ i = omega arith in
-                let alike : Some x ≡ Some y = sym there ∙ ap (slice_get xs) same ∙ stands in
-                let one : x ≡ y = cc in
-                let value : f x ≡ f y = ap f one in
-                omega (arith, value, here)
-
-        passing : (b : Bool) → q r ≡ b → b ≡ false
-        passing false h = refl
-        passing true h =
-            let there = found_low n r (omega arith) is h in
-            absurd (past there.0 there.1 there.2 there.3 there.4)
+    quiet_since i y at stands n r above below is =
+        unless (q r)
+        (λ passes.
+        let there = found_low n r (omega arith) is passes in
+        omega (arith, not_above there.0 i there.1 y there.2 stands (omega (arith, there.4, at)), there.3))
 
     -- and none at all where nothing stands before it
     pub quiet_from_start : k ≡ 0 → (n : ℕ) (r : Record) → n < last → slice_get rs n ≡ Some r → q r ≡ false
-    quiet_from_start at n r below is = passing (q r) refl
-      where
-        passing : (b : Bool) → q r ≡ b → b ≡ false
-        passing false h = refl
-        passing true h =
-            let there = found_low n r (omega arith) is h in
-            absurd (omega (arith, there.4, at))
+    quiet_from_start at n r below is =
+        unless (q r)
+        (λ passes.
+        let there = found_low n r (omega arith) is passes in
+        omega (arith, there.4, at))
 
 map_itself : (o : Option ℕ) → option_map (λ (n : ℕ). n) o ≡ o
 map_itself None = refl

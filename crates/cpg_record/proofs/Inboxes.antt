@@ -18,7 +18,7 @@ use Rattle.cpg_record.specs.Receiving.{BeginsAs, InboxesOnlyGrow, PlacesTellAtMo
 
 -- ---- numbers from a on
 
-range_split : (a m k : ℕ) → range_with_len a (m + k) ≡ range_with_len a m ++ range_with_len (a + m) k
+pub range_split : (a m k : ℕ) → range_with_len a (m + k) ≡ range_with_len a m ++ range_with_len (a + m) k
 range_split a zero k =
     let none : 0 + k ≡ k = omega arith in
     let here : a + 0 ≡ a = omega arith in
@@ -29,7 +29,7 @@ range_split a (suc m) k =
     rw one (ap (λ l. a ∷ l) (range_split (a + 1) m k ∙ ap (λ b. range_with_len (a + 1) m ++ range_with_len b k) next))
 
 -- what holds of two functions at each number holds of what they give together
-flat_same : (f g : ℕ → List Event) (a n : ℕ) → ((p : ℕ) → a ≤ p → p < a + n → f p ≡ g p) → flat_map f (range_with_len a n) ≡ flat_map g (range_with_len a n)
+pub flat_same : (f g : ℕ → List Event) (a n : ℕ) → ((p : ℕ) → a ≤ p → p < a + n → f p ≡ g p) → flat_map f (range_with_len a n) ≡ flat_map g (range_with_len a n)
 flat_same f g a zero h = refl
 flat_same f g a (suc n) h =
     ap (λ l. l ++ flat_map f (range_with_len (a + 1) n)) (h a (omega arith) (omega arith))
@@ -37,16 +37,16 @@ flat_same f g a (suc n) h =
 
 -- ---- growing
 
-slice_get_front : {X : Type 0} (xs ys : List X) (i : ℕ) → i < length xs → slice_get (xs ++ ys) i ≡ slice_get xs i
+pub slice_get_front : {X : Type 0} (xs ys : List X) (i : ℕ) → i < length xs → slice_get (xs ++ ys) i ≡ slice_get xs i
 slice_get_front [] ys i h = absurd (omega arith)
 slice_get_front (x ∷ xs) ys zero h = refl
 slice_get_front (x ∷ xs) ys (suc i) h = slice_get_front xs ys i (omega arith)
 
-record_at_front : (rs more : List Record) (p : ℕ) → p < 1 + length rs → record_at (rs ++ more) p ≡ record_at rs p
+pub record_at_front : (rs more : List Record) (p : ℕ) → p < 1 + length rs → record_at (rs ++ more) p ≡ record_at rs p
 record_at_front rs more zero h = refl
 record_at_front rs more (suc i) h = slice_get_front rs more i (omega arith)
 
-events_front : (rs more : List Record) (conn : ConnId) (p : ℕ) → 1 ≤ p → p < 1 + length rs → events (rs ++ more) p conn ≡ events rs p conn
+pub events_front : (rs more : List Record) (conn : ConnId) (p : ℕ) → 1 ≤ p → p < 1 + length rs → events (rs ++ more) p conn ≡ events rs p conn
 events_front rs more conn p low high =
     ap (λ o. events_by p (take (p - 1) (rs ++ more)) conn o) (record_at_front rs more p high)
     ∙ ap (λ before. events_by p before conn (record_at rs p)) (take-append-le (p - 1) rs more (omega arith))

@@ -1,3 +1,4 @@
+pub mod Backwards
 pub mod Bounded
 pub mod Changed
 pub mod Cuts

@@ -5,9 +5,14 @@ use Rattle.std.specs.Cmp.Lexicographic.{pointwise}
 use Rattle.std.specs.Map.{lookup, set_value}
 use Rattle.std.specs.Str.{bytes_eq}
 use Rattle.std.specs.declared.vec.Vec.{Vec}
+use Rattle.std.proofs.lemmas.Bool.Decides.{same_from_decides, Decides-like}
 use Rattle.std.proofs.lemmas.List.{map-append}
 use Rattle.std.proofs.lemmas.Slice.Eq.{bytes_eq-Decides}
 use Rattle.cpg_record.specs.Named.{Named, named, found_or, kept_or}
+
+-- a test of sameness says the same either way
+pub either_way : {K : Type 0} (eq : K → K → Bool) → ((x y : K) → (eq x y ≡ true) ↔ (x ≡ y)) → (x y : K) → eq x y ≡ eq y x
+either_way eq decides x y = same_from_decides (eq x y) (eq y x) (decides x y) (Decides-like (eq y x) (λ same. sym same) (λ same. sym same) (decides y x))
 
 module _ {K X : Type 0} (eq : K → K → Bool) (decides : (x y : K) → (eq x y ≡ true) ↔ (x ≡ y)) where
   -- the value that is set at a key that is there is found for it, and nothing else changes
@@ -40,17 +45,7 @@ module _ {K X : Type 0} (eq : K → K → Bool) (decides : (x y : K) → (eq x y
   -- a new key at the end is found with its value, and nothing else changes
   pub lookup-push : (es : List (K × X)) (k : K) (w : X) (q : K) → lookup (eq k) es ≡ None →
       lookup (eq q) (es ++ (k, w) ∷ []) ≡ cond (eq k q) (Some w) (lookup (eq q) es)
-  lookup-push [] k w q none = by_case (eq k q) (eq q k) refl refl
-    where
-      by_case : (a b : Bool) → eq k q ≡ a → eq q k ≡ b → cond b (Some w) None ≡ cond a (Some w) None
-      by_case true true x y = refl
-      by_case false false x y = refl
-      by_case true false x y =
-          let t : eq q k ≡ true = (decides q k).1 (sym ((decides k q).0 x)) in
-          absurd (cc)
-      by_case false true x y =
-          let t : eq k q ≡ true = (decides k q).1 (sym ((decides q k).0 y)) in
-          absurd (cc)
+  lookup-push [] k w q none = ap (λ (b : Bool). cond b (Some w) None) (either_way eq decides q k)
   lookup-push (e ∷ es) k w q none = by_case (eq k e.0) (eq q e.0) (eq k q) refl refl refl (lookup-push es k w q) none
     where
       by_case : (a b c : Bool) → eq k e.0 ≡ a → eq q e.0 ≡ b → eq k q ≡ c →

@@ -22,23 +22,14 @@ use Rattle.cpg_record.specs.Steps.{group_after, group_by, members_by}
 use Rattle.cpg_record.proofs.Denials.{prefixes_are_judged_alike}
 use Rattle.cpg_record.proofs.Elsewhere.{elsewhere_of}
 use Rattle.cpg_record.proofs.Growing.{group_of_push, members_push}
+use Rattle.cpg_record.proofs.Named.{either_way}
 use Rattle.cpg_record.proofs.Once.{OneEach, one_from}
 use Rattle.cpg_record.proofs.Told.{each_by_those_before}
 use Rattle.cpg_record.proofs.Positions.{stays}
 
 -- names compare alike both ways
 pub same_either_way : (g h : List ℕ) → bytes_eq g h ≡ bytes_eq h g
-same_either_way g h = by_case (bytes_eq g h) (bytes_eq h g) refl refl
-  where
-    by_case : (a b : Bool) → bytes_eq g h ≡ a → bytes_eq h g ≡ b → a ≡ b
-    by_case true true x y = refl
-    by_case false false x y = refl
-    by_case true false x y =
-        let t : bytes_eq h g ≡ true = (bytes_eq-Decides h g).1 (sym ((bytes_eq-Decides g h).0 x)) in
-        absurd (cc)
-    by_case false true x y =
-        let t : bytes_eq g h ≡ true = (bytes_eq-Decides g h).1 (sym ((bytes_eq-Decides h g).0 y)) in
-        absurd (cc)
+same_either_way = either_way bytes_eq bytes_eq-Decides
 
 pub and_false : (b : Bool) → (b && false) ≡ false
 and_false true = refl

@@ -144,11 +144,7 @@ join_from rs grouped e g (Allowed basis) (says, outside, other, few) =
     let t : has_process e (members rs g) ≡ false = (not_so (has_process e (members rs g)) (member_already rs e g)).1 other in
     let f : leb MOST_MEMBERS (length (members rs g)) ≡ false = lt-leb MOST_MEMBERS (length (members rs g)) few in
     λ i. join_by (d i) (j i) (t i) (f i)
-join_from rs grouped e g (Denied reason.Default) is = absurd is
-join_from rs grouped e g (Denied reason.Closed) is = absurd is
-join_from rs grouped e g (Denied reason.Position) is = absurd is
-join_from rs grouped e g (Denied reason.TableFull) is = absurd is
-join_from rs grouped e g (Denied reason.Absent) is = absurd is
+join_from rs grouped e g _ is = absurd is
 
 -- ---- leaves
 
@@ -159,17 +155,7 @@ leave_is rs grouped e (Some g) is = (g, (grouped (conn_of e) g).1 is)
 leave_from : (rs : List Record) → Grouped rs → (e : Entry) (v : Verdict) → IsLeaveVerdict rs e v → leave_verdict (group_of rs (conn_of e)) ≡ v
 leave_from rs grouped e (Denied reason.Closed) outside = ap leave_verdict ((none_of rs grouped (conn_of e)).1 outside)
 leave_from rs grouped e (Allowed by.Free) (g, inside) = ap leave_verdict ((grouped (conn_of e) g).0 inside)
-leave_from rs grouped e (Allowed by.Root) is = absurd is
-leave_from rs grouped e (Allowed by.Default) is = absurd is
-leave_from rs grouped e (Allowed (by.Rule id)) is = absurd is
-leave_from rs grouped e (Denied (reason.Rule id)) is = absurd is
-leave_from rs grouped e (Denied reason.Default) is = absurd is
-leave_from rs grouped e (Denied reason.Joined) is = absurd is
-leave_from rs grouped e (Denied reason.Twice) is = absurd is
-leave_from rs grouped e (Denied reason.Full) is = absurd is
-leave_from rs grouped e (Denied reason.Position) is = absurd is
-leave_from rs grouped e (Denied reason.TableFull) is = absurd is
-leave_from rs grouped e (Denied reason.Absent) is = absurd is
+leave_from rs grouped e _ is = absurd is
 
 -- ---- sends
 
@@ -193,13 +179,7 @@ send_from rs grouped e (Denied (reason.Rule id)) (g, inside, says) =
 send_from rs grouped e (Allowed basis) (g, inside, says) =
     ap (send_verdict rs e) ((grouped (conn_of e) g).0 inside)
     ∙ ap (λ (d : Decision). decided d Allowed) (decides_so (rules_of rs g) right.Send (asker_of e) Allow basis says)
-send_from rs grouped e (Denied reason.Default) is = absurd is
-send_from rs grouped e (Denied reason.Joined) is = absurd is
-send_from rs grouped e (Denied reason.Twice) is = absurd is
-send_from rs grouped e (Denied reason.Full) is = absurd is
-send_from rs grouped e (Denied reason.Position) is = absurd is
-send_from rs grouped e (Denied reason.TableFull) is = absurd is
-send_from rs grouped e (Denied reason.Absent) is = absurd is
+send_from rs grouped e _ is = absurd is
 
 -- ---- the right to edit
 
@@ -274,11 +254,7 @@ insert_from rules e index (Allowed basis) (says, within, few) =
     let p : ltb (length rules) index ≡ false = le-ltb (length rules) index within in
     let f : leb MOST_RULES (length rules) ≡ false = lt-leb MOST_RULES (length rules) few in
     λ i. insert_by (d i) (p i) (f i)
-insert_from rules e index (Denied reason.Closed) is = absurd is
-insert_from rules e index (Denied reason.Joined) is = absurd is
-insert_from rules e index (Denied reason.Twice) is = absurd is
-insert_from rules e index (Denied reason.Full) is = absurd is
-insert_from rules e index (Denied reason.Absent) is = absurd is
+insert_from rules e index _ is = absurd is
 
 -- ---- removes
 
@@ -304,21 +280,13 @@ remove_from rules e id (Allowed basis) (says, has) =
     let d : edit_decision rules e ≡ decision.Allowed basis = edits_so rules e Allow basis says in
     let h : has_id id rules ≡ true = (has_rule rules id).1 has in
     λ i. remove_by (d i) (h i)
-remove_from rules e id (Denied reason.Closed) is = absurd is
-remove_from rules e id (Denied reason.Joined) is = absurd is
-remove_from rules e id (Denied reason.Twice) is = absurd is
-remove_from rules e id (Denied reason.Full) is = absurd is
-remove_from rules e id (Denied reason.Position) is = absurd is
-remove_from rules e id (Denied reason.TableFull) is = absurd is
+remove_from rules e id _ is = absurd is
 
 -- ---- ends of connections
 
 end_from : (v : Verdict) → IsEndVerdict v → Allowed by.Free ≡ v
 end_from (Allowed by.Free) is = refl
-end_from (Allowed by.Root) is = absurd is
-end_from (Allowed by.Default) is = absurd is
-end_from (Allowed (by.Rule id)) is = absurd is
-end_from (Denied why) is = absurd is
+end_from _ is = absurd is
 
 -- ---- all ops
 

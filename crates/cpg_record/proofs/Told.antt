@@ -127,15 +127,14 @@ heard rs c told is has =
     by_part place r stands (inl own) = absurd (no_answer place r c told is own)
     by_part place r stands (inr other) = heard_at rs c told place r stands (in_option (news place (records_before rs place) r c r.group) told other)
 
-pub hears : (rs : List Record) (c : ConnId) (told : Event) → Heard rs c told → Contains (inbox rs c) told
-hears rs c told h =
-    let says : news h.place (records_before rs h.place) h.r c h.r.group ≡ Some told =
-    ap (news h.place (records_before rs h.place) h.r c) h.group
-    ∙ ap (λ (b : Bool). cond b (news_by h.place (records_before rs h.place) h.r c h.g h.r.entry.op) None) h.allowed
-    ∙ h.says in
-    inbox_from_told rs c h.place h.r told h.stands
-    (Contains-append_right (answer h.place h.r c) (option_to_list (news h.place (records_before rs h.place) h.r c h.r.group)) told
-    (option_in (news h.place (records_before rs h.place) h.r c h.r.group) told says))
+pub hears : (rs : List Record) (c : ConnId) (told : Event) (place : ℕ) (r : Record) (g : List ℕ) → record_at rs place ≡ Some r → r.group ≡ Some g → is_allowed r.verdict ≡ true →
+    news_by place (records_before rs place) r c g r.entry.op ≡ Some told → Contains (inbox rs c) told
+hears rs c told place r g stands group allowed says =
+    let new : news place (records_before rs place) r c r.group ≡ Some told =
+    ap (news place (records_before rs place) r c) group ∙ ap (λ (b : Bool). cond b (news_by place (records_before rs place) r c g r.entry.op) None) allowed ∙ says in
+    inbox_from_told rs c place r told stands
+    (Contains-append_right (answer place r c) (option_to_list (news place (records_before rs place) r c r.group)) told
+    (option_in (news place (records_before rs place) r c r.group) told new))
 
 -- ---- messages
 
@@ -191,18 +190,11 @@ receives_exactly es c place g node pid message = (from_inbox, to_inbox)
         group_is es place sent.r sent.stands ∙ ap (entry_group (records_before (judged es) place) sent.r.entry) sent.sends
         ∙ (group_in_first es (place - 1) (conn_of sent.r.entry) g).0 sent.by_member in
         let here : is_member (records_before (judged es) place) c g ≡ true = (member_in_first es (place - 1) c g).0 inside in
-        hears (judged es) c (event.Message place g node pid message) (record {
-          place = place;
-          r = sent.r;
-          g = g;
-          stands = sent.stands;
-          group = group;
-          allowed = sent.allowed;
-          says = ap (news_by place (records_before (judged es) place) sent.r c g) sent.sends
-              ∙ ap (λ (b : Bool). cond b (Some (event.Message place g sent.r.entry.node sent.r.entry.pid message)) None) here
-              ∙ ap (λ (n : ℕ). Some (event.Message place g n sent.r.entry.pid message)) sent.by_node
-              ∙ ap (λ (n : ℕ). Some (event.Message place g node n message)) sent.by_process;
-        })
+        hears (judged es) c (event.Message place g node pid message) place sent.r g sent.stands group sent.allowed
+        (ap (news_by place (records_before (judged es) place) sent.r c g) sent.sends
+        ∙ ap (λ (b : Bool). cond b (Some (event.Message place g sent.r.entry.node sent.r.entry.pid message)) None) here
+        ∙ ap (λ (n : ℕ). Some (event.Message place g n sent.r.entry.pid message)) sent.by_node
+        ∙ ap (λ (n : ℕ). Some (event.Message place g node n message)) sent.by_process)
 
 -- ---- edits of tables
 
@@ -261,15 +253,7 @@ hears_edits_exactly es c place g = (from_inbox, to_inbox)
     to_inbox (edit, inside) =
         let here : is_member (records_before (judged es) place) c g ≡ true = (member_in_first es (place - 1) c g).0 inside in
         let said = edit_says place (records_before (judged es) place) edit.r c edit.r.entry.op g edit.edits here in
-        hears (judged es) c (event.RulesChanged place g) (record {
-          place = place;
-          r = edit.r;
-          g = g;
-          stands = edit.stands;
-          group = group_is es place edit.r edit.stands ∙ said.0;
-          allowed = edit.allowed;
-          says = said.1;
-        })
+        hears (judged es) c (event.RulesChanged place g) place edit.r g edit.stands (group_is es place edit.r edit.stands ∙ said.0) edit.allowed said.1
 
 -- ---- verdicts
 

@@ -1,17 +1,16 @@
 -- What one place more tells.
-use Rattle.std.proofs.Common.{◌≡◌, ℕ, zero, suc, ◌+◌, ◌-◌, ◌<◌, ◌≤◌, true, false, List, [], ◌∷◌, ◌++◌, length, take, drop, is_some, Option, Some, None, option_map, refl, sym, ap, ◌∙◌, arith, length-append, append-nil, append_assoc}
+use Rattle.std.proofs.Common.{◌≡◌, ℕ, suc, ◌+◌, ◌-◌, true, false, List, [], ◌∷◌, ◌++◌, length, drop, is_some, Option, Some, None, option_map, refl, sym, ap, ◌∙◌, arith, length-append, append-nil, append_assoc}
 use Rattle.std.specs.Prelude.{option_to_list}
-use Rattle.std.specs.List.{flat_map, range_with_len, slice_get}
-use Rattle.std.proofs.lemmas.List.{take-append-le, drop-append-le}
+use Rattle.std.specs.List.{flat_map, range_with_len}
+use Rattle.std.proofs.lemmas.List.{drop-append-le}
 use Rattle.std.proofs.lemmas.List.Sums.{fold_push}
-use Rattle.std.proofs.lemmas.Grind.{flat_map-append}
 use Rattle.cpg_entry.specs.declared.entries.Entry.{Entry}
 use Rattle.cpg_record.specs.declared.connections.ConnId.{ConnId}
 use Rattle.cpg_record.specs.declared.events.Event.{Event}
 use Rattle.cpg_record.specs.declared.records.Record.{Record}
-use Rattle.cpg_record.specs.Events.{events, events_by, inbox}
+use Rattle.cpg_record.specs.Events.{events, inbox}
 use Rattle.cpg_record.specs.Judging.{judged, record_of, with_judgement}
-use Rattle.cpg_record.specs.Places.{record_at}
+use Rattle.cpg_record.proofs.Inboxes.{events_front, flat_same}
 use Rattle.cpg_ring.specs.States.{NodeState}
 use Rattle.cpg_ring.specs.Moves.{next_entry}
 use Rattle.cpg_ring.specs.Worlds.{deliver}
@@ -19,52 +18,22 @@ use Rattle.cpg_node.specs.declared.connections.Client.{Client}
 use Rattle.cpg_node.specs.Nodes.{NodeValue, delivered_entries, records_of, inbox_of, conn_id, open_client}
 use Rattle.cpg_node.specs.Calls.{node_after_delivery, next_record}
 use Rattle.cpg_node.proofs.Keeping.{delivered_more}
+use Rattle.cpg_node.proofs.Telling.{told_more}
 use Rattle.cpg_serve.specs.Telling.{DeskValue}
 use Rattle.cpg_serve.specs.Asking.{at_of}
 use Rattle.cpg_serve.specs.Coming.{rest_of, left_of, IsCounted}
 use Rattle.cpg_serve.specs.Stories.{told_by, told_next}
 
--- ---- an inbox over one record more (the first five stand in cpg_record's proofs, where they are private)
-
-range_split : (a m k : ℕ) → range_with_len a (m + k) ≡ range_with_len a m ++ range_with_len (a + m) k
-range_split a zero k =
-    let none : 0 + k ≡ k = omega arith in
-    let here : a + 0 ≡ a = omega arith in
-    rw (none, here) refl
-range_split a (suc m) k =
-    let one : suc m + k ≡ suc (m + k) = omega arith in
-    let next : a + 1 + m ≡ a + suc m = omega arith in
-    rw one (ap (λ l. a ∷ l) (range_split (a + 1) m k ∙ ap (λ b. range_with_len (a + 1) m ++ range_with_len b k) next))
-
-flat_same : (f g : ℕ → List Event) (a n : ℕ) → ((p : ℕ) → a ≤ p → p < a + n → f p ≡ g p) → flat_map f (range_with_len a n) ≡ flat_map g (range_with_len a n)
-flat_same f g a zero h = refl
-flat_same f g a (suc n) h =
-    ap (λ l. l ++ flat_map f (range_with_len (a + 1) n)) (h a (omega arith) (omega arith))
-    ∙ ap (λ l. g a ++ l) (flat_same f g (a + 1) n (λ p low high. h p (omega arith) (omega arith)))
-
-pub slice_get_front : {X : Type 0} (xs ys : List X) (i : ℕ) → i < length xs → slice_get (xs ++ ys) i ≡ slice_get xs i
-slice_get_front [] ys i h = absurd (omega arith)
-slice_get_front (x ∷ xs) ys zero h = refl
-slice_get_front (x ∷ xs) ys (suc i) h = slice_get_front xs ys i (omega arith)
-
-record_at_front : (rs more : List Record) (p : ℕ) → p < 1 + length rs → record_at (rs ++ more) p ≡ record_at rs p
-record_at_front rs more zero h = refl
-record_at_front rs more (suc i) h = slice_get_front rs more i (omega arith)
-
-events_front : (rs more : List Record) (conn : ConnId) (p : ℕ) → 1 ≤ p → p < 1 + length rs → events (rs ++ more) p conn ≡ events rs p conn
-events_front rs more conn p low high =
-    ap (λ o. events_by p (take (p - 1) (rs ++ more)) conn o) (record_at_front rs more p high)
-    ∙ ap (λ before. events_by p before conn (record_at rs p)) (take-append-le (p - 1) rs more (omega arith))
+-- ---- an inbox over one record more
 
 pub inbox_push : (rs : List Record) (r : Record) (conn : ConnId) → inbox (rs ++ r ∷ []) conn ≡ inbox rs conn ++ events (rs ++ r ∷ []) (suc (length rs)) conn
 inbox_push rs r conn =
     let told : ℕ → List Event = λ p. events (rs ++ r ∷ []) p conn in
     let place : 1 + length rs ≡ suc (length rs) = omega arith in
     ap (λ n. flat_map told (range_with_len 1 n)) (length-append rs (r ∷ []))
-    ∙ ap (flat_map told) (range_split 1 (length rs) 1)
-    ∙ flat_map-append told (range_with_len 1 (length rs)) (range_with_len (1 + length rs) 1)
-    ∙ ap (λ l. l ++ flat_map told (range_with_len (1 + length rs) 1)) (flat_same told (λ p. events rs p conn) 1 (length rs) (events_front rs (r ∷ []) conn))
-    ∙ ap (λ l. inbox rs conn ++ l) (append-nil (told (1 + length rs)) ∙ ap told place)
+    ∙ told_more told (length rs)
+    ∙ ap (λ l. l ++ told (1 + length rs)) (flat_same told (λ p. events rs p conn) 1 (length rs) (events_front rs (r ∷ []) conn))
+    ∙ ap (λ p. inbox rs conn ++ told p) place
 
 -- ---- a delivery
 

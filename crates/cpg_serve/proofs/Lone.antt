@@ -1,5 +1,5 @@
 -- A ring of one node: what its token does.
-use Rattle.std.proofs.Common.{◌≡◌, ◌⊎◌, ◌<◌, ◌≤◌, ◌+◌, ◌*◌, ◌-◌, ℕ, zero, suc, Bool, true, false, not, ◌||◌, is_some, List, [], ◌∷◌, ◌++◌, length, take, drop, Option, Some, None, refl, sym, ap, subst, ◌∙◌, inl, inr, ⊎_elim, arith, append_assoc, length-append, true≢false, leb-true, ◌%◌, eqb, eq-eqb, if◌then◌else◌, ◌==◌, nat_lt, nat_le, le-ltb}
+use Rattle.std.proofs.Common.{◌≡◌, ◌⊎◌, ◌<◌, ◌≤◌, ◌+◌, ◌-◌, ℕ, zero, suc, Bool, true, false, not, ◌||◌, is_some, List, [], ◌∷◌, ◌++◌, length, take, drop, Option, Some, None, refl, sym, ap, ◌∙◌, ⊎_elim, arith, length-append, true≢false, leb-true, ◌%◌, eq-eqb, if◌then◌else◌, ◌==◌, nat_lt, nat_le, le-ltb}
 use Rattle.std.specs.FinMap.{get, get-empty, keys}
 use Rattle.std.specs.Ordering.{nat_cmp}
 use Rattle.std.specs.List.{filter_map, list_any}
@@ -11,20 +11,20 @@ use Rattle.cpg_entry.specs.declared.entries.Entry.{Entry}
 use Rattle.cpg_entry.specs.declared.frames.Token.{Token}
 use Rattle.cpg_ring.specs.States.{HeldPlaces, NodeState}
 use Rattle.cpg_ring.specs.declared.settings.Settings.{Settings}
-use Rattle.cpg_ring.specs.declared.settings.TheConstants.{BURST, WINDOW}
+use Rattle.cpg_ring.specs.declared.settings.TheConstants.{BURST}
 use Rattle.cpg_ring.specs.Laws.{AllHeld, NoneAbove}
 use Rattle.cpg_ring.specs.Visits.{node_of, is_past, burst_size, hold_all, up_to}
 use Rattle.cpg_ring.specs.Visits as visits
 use Rattle.cpg_ring.specs.Moves.{after_delivery, first_token, next_entry}
 use Rattle.cpg_ring.specs.Rings.{RingNode, new_ring_node, refusal_of, step_of, visited, with_state}
-use Rattle.cpg_ring.specs.Worlds.{RingOutcome, item, deliver}
+use Rattle.cpg_ring.specs.Worlds.{RingOutcome, deliver}
 use Rattle.cpg_node.specs.Nodes.{delivered_entries}
 use Rattle.cpg_world_laws.proofs.Growing.{delivered_are}
-use Rattle.cpg_ring.proofs.Holding.{Agrees, Burst, burst_holds}
+use Rattle.cpg_ring.proofs.Holding.{Burst, burst_holds}
 use Rattle.cpg_ring.proofs.Bursts.{burst_keeps, burst_has}
 use Rattle.cpg_ring.proofs.Keys.{above_none}
 use Rattle.cpg_ring.proofs.Lists.{item_within}
-use Rattle.cpg_serve.specs.Settling.{IsLone, TurnedTo, StaysLone, InTurns, IsBrisk}
+use Rattle.cpg_serve.specs.Settling.{IsLone}
 
 -- how many entries a turn places
 abbrev pub burst_of : RingNode → Token → ℕ
@@ -115,18 +115,8 @@ delivered_by held r = if held then (after_delivery r, []) else (r, [])
 
 -- what waits, and how much is delivered, may be other
 pub lone_kept : (x : RingNode) (t : Token) (placed waiting : List Entry) (delivered : ℕ) → delivered ≤ t.seq → IsLone x t placed → IsLone (with_state x (record x.state { waiting = waiting; delivered = delivered })) t placed
-lone_kept x t placed waiting delivered few h = record {
-  one = h.one;
-  node = h.node;
-  last = h.last;
-  ring = h.ring;
-  hop = h.hop;
-  seq = h.seq;
-  held = h.held;
-  agrees = h.agrees;
-  within = h.within;
-  delivered = few;
-}
+lone_kept x t placed waiting delivered few h =
+    record { one = h.one; node = h.node; last = h.last; ring = h.ring; hop = h.hop; seq = h.seq; held = h.held; agrees = h.agrees; within = h.within; delivered = few }
 
 pub lone_delivered : (x : RingNode) (t : Token) (placed : List Entry) → IsLone x t placed → IsLone (with_state x (deliver x.state).0) t placed
 lone_delivered x t placed h = by_next (get x.state.held (suc x.state.delivered)) refl

@@ -26,7 +26,7 @@ use Rattle.cpg_serve.specs.Coming.{rest_of}
 use Rattle.cpg_serve.specs.Serving.{ServedValue, arrived, parted, IsHeard, IsCaughtUp, IsWritten}
 use Rattle.cpg_serve.specs.Stories.{Before, IsStory, IsQuiet, StoryAt}
 use Rattle.cpg_serve.specs.Runs.{Did, Arrives, Hears, Frames, Delivers, Tells, Writes, Loses, Nothing, Run, IsFramed, Goes, IsKeptBy, heard_by, written_by, AllThatIsTold, StoriesBegin}
-use Rattle.cpg_serve.proofs.Growing.{slice_get_front}
+use Rattle.cpg_record.proofs.Inboxes.{slice_get_front}
 use Rattle.cpg_serve.proofs.Noted.{story_quiet}
 use Rattle.cpg_serve.proofs.Kept.{story_of_hearing, story_of_telling, story_of_delivery}
 

@@ -1,11 +1,6 @@
-use Rattle.std.proofs.Common.{sym, ap, subst, ◌∙◌}
-use Rattle.std.specs.Map.{lookup}
-use Rattle.cpg_record.specs.declared.connections.ConnId.{ConnId}
-use Rattle.cpg_record.specs.Connections.{conn_of, is_conn}
-use Rattle.cpg_group.specs.ConnectionLogs.{or_no_log, IsConnectionLog}
 use Rattle.cpg_record.proofs.Named.{on_ok, on_err}
 use Rattle.cpg_group.proofs.Placed.{within_keys}
-use Rattle.cpg_group.proofs.Stops.{AreConnectionLogs-same, AreConnectionLogs-set, log_there, log_set_there}
+use Rattle.cpg_group.proofs.Stops.{log_there, logs_same, logs_set}
 use Rattle.cpg_group.proofs.logs.ConnectionLogs.take_in.Goals as goal
 
 pub pair_mut-log-requires : goal.pair_mut-log-requires
@@ -13,25 +8,16 @@ pair_mut-log-requires c = within_keys c.args.self.now.kept.entries c.in-Some.ind
 
 pub lengthen-requires-clause-log : goal.lengthen-requires-clause-log
 lengthen-requires-clause-log c =
-    let kept = c.args.self.now.kept.entries in
-    let there = log_there kept c.in-Some.index c.of.result c.pair_mut-log.result.0.now c.pair_mut-log.result.1.now c.pair_mut-log.ensures.unique c.pair_mut-log.ensures.value c.in-Some.ensures in
-    let found = sym there ∙ ap (λ (conn : ConnId). lookup (is_conn conn) c.args.self.now.kept.entries) c.of.ensures in
-    subst (IsConnectionLog c.args.records.now (conn_of c.args.next.now.entry)) (sym (ap or_no_log found)) (c.requires.logs.1 (conn_of c.args.next.now.entry))
+    log_there c.args.self.now.kept.entries c.in-Some.index c.of.result c.pair_mut-log.result.0.now c.pair_mut-log.result.1.now c.pair_mut-log.ensures.unique c.pair_mut-log.ensures.value c.in-Some.ensures c.args.records.now c.args.next.now c.of.ensures c.requires.logs
 
 pub returns-in-Some-clause-longer : goal.returns-in-Some-clause-longer
 returns-in-Some-clause-longer c =
-    let kept = c.args.self.now.kept.entries in
-    let log = c.lengthen.new.log in
     on_ok c.lengthen.result
-    (AreConnectionLogs-set kept _ c.args.records.now c.args.next.now c.of.result c.pair_mut-log.result.1.now log
-    c.requires.logs (log_there kept c.in-Some.index c.of.result c.pair_mut-log.result.0.now c.pair_mut-log.result.1.now c.pair_mut-log.ensures.unique c.pair_mut-log.ensures.value c.in-Some.ensures) c.of.ensures (log_set_there kept c.in-Some.index c.of.result c.pair_mut-log.result.0.now c.pair_mut-log.result.1.now c.pair_mut-log.ensures.unique c.pair_mut-log.ensures.value c.in-Some.ensures log))
+    (logs_set c.args.self.now.kept.entries c.in-Some.index c.of.result c.pair_mut-log.result.0.now c.pair_mut-log.result.1.now c.pair_mut-log.ensures.unique c.pair_mut-log.ensures.value c.in-Some.ensures c.args.records.now c.args.next.now c.of.ensures c.requires.logs c.lengthen.new.log)
     c.lengthen.ensures.longer
 
 pub returns-in-Some-clause-same : goal.returns-in-Some-clause-same
 returns-in-Some-clause-same c =
-    let kept = c.args.self.now.kept.entries in
-    let log = c.lengthen.new.log in
     on_err c.lengthen.result
-    (AreConnectionLogs-same kept _ c.args.records.now c.of.result c.pair_mut-log.result.1.now log
-    c.requires.logs (log_there kept c.in-Some.index c.of.result c.pair_mut-log.result.0.now c.pair_mut-log.result.1.now c.pair_mut-log.ensures.unique c.pair_mut-log.ensures.value c.in-Some.ensures) (log_set_there kept c.in-Some.index c.of.result c.pair_mut-log.result.0.now c.pair_mut-log.result.1.now c.pair_mut-log.ensures.unique c.pair_mut-log.ensures.value c.in-Some.ensures log))
+    (logs_same c.args.self.now.kept.entries c.in-Some.index c.of.result c.pair_mut-log.result.0.now c.pair_mut-log.result.1.now c.pair_mut-log.ensures.unique c.pair_mut-log.ensures.value c.in-Some.ensures c.args.records.now c.args.next.now c.of.ensures c.requires.logs c.lengthen.new.log)
     c.lengthen.ensures.same
