@@ -99,12 +99,16 @@ added counted becomes e keeps_count stamps slots id me st owns s h len at small 
     )
 
 -- an event is added where it is counted
-pub adds : (e : WorldEvent) (slots id : ℕ) (me : Me ℕ View) (st : Step ℕ) → Owns me.0 (node_in e) → Allows (Rule true) slots id me 8 (λ n. (n + 1) % 2 ^ 64) (Adds true e st me)
-adds e = added true (λ n. (n + 1) % 2 ^ 64) e (λ words log count. counts words log e count) (λ words log count yes. ap (λ ws. slice_index ws 8) count)
+pub adds : {counted : Bool} → counted ≡ true → (e : WorldEvent) (slots id : ℕ) (me : Me ℕ View) (st : Step ℕ) → Owns me.0 (node_in e) → Allows (Rule counted) slots id me 8 (λ n. (n + 1) % 2 ^ 64) (Adds true e st me)
+adds is e slots id me st owns =
+    subst (λ counted. Allows (Rule counted) slots id me 8 (λ n. (n + 1) % 2 ^ 64) (Adds true e st me)) (sym is)
+    (added true (λ n. (n + 1) % 2 ^ 64) e (λ words log count. counts words log e count) (λ words log count yes. ap (λ ws. slice_index ws 8) count) slots id me st owns)
 
 -- an event is added where none is counted
-pub enters : (e : WorldEvent) (slots id : ℕ) (me : Me ℕ View) (st : Step ℕ) → Owns me.0 (node_in e) → Allows (Rule false) slots id me 8 (λ n. n) (Adds false e st me)
-enters e = added false (λ n. n) e (λ words log count. reads_middle words (length log) count) (λ words log count yes. absurd (true≢false (sym yes)))
+pub enters : {counted : Bool} → counted ≡ false → (e : WorldEvent) (slots id : ℕ) (me : Me ℕ View) (st : Step ℕ) → Owns me.0 (node_in e) → Allows (Rule counted) slots id me 8 (λ n. n) (Adds false e st me)
+enters not e slots id me st owns =
+    subst (λ counted. Allows (Rule counted) slots id me 8 (λ n. n) (Adds false e st me)) (sym not)
+    (added false (λ n. n) e (λ words log count. reads_middle words (length log) count) (λ words log count yes. absurd (true≢false (sym yes))) slots id me st owns)
 
 pub fronts : (counted : Bool) (id number : ℕ) (v : View) → Splits (Rule counted) id v v (front_of number v)
 fronts counted id number v s h at =
