@@ -1,4 +1,4 @@
-use Rattle.std.proofs.Common.{◌≡◌, ◌∙◌, false, [], Some, Ok, refl, sym, ap, subst, arith}
+use Rattle.std.proofs.Common.{◌≡◌, false, [], Some, Ok, refl, sym, ap, subst, arith}
 use Rattle.cpg_world_laws.specs.declared.events.WorldEvent.TheVariants.{Connect}
 use Rattle.cpg_world_laws.specs.declared.replies.Reply.TheVariants as reply
 use Rattle.cpg_station.specs.Admitting.{StopsAdmitting}

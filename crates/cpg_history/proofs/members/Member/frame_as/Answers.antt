@@ -1,6 +1,5 @@
 use Rattle.bytes.specs.declared.shared.Bytes.{Bytes}
 use Rattle.std.proofs.Common.{Vec, Global, ◌≡◌, ◌∙◌, length, true, All, Option, Some, Ok, IfSome, refl, sym, ap, subst, arith}
-use Rattle.cpg_wire.specs.Reading.{frame_of}
 use Rattle.cpg_ring.specs.States.{Frame}
 use Rattle.cpg_node.specs.Calls.{answers_to}
 use Rattle.cpg_node.specs.Answers.{IsFrameAnswer, CanBeSpelled}

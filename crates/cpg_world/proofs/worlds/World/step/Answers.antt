@@ -11,10 +11,11 @@ use Rattle.cpg_world.proofs.worlds.World.step.Goals as goal
 abbrev was : goal.After-self-1 → WorldValue
 was c = record { settings = c.self.inside.settings; list = c.self.inside.list; nodes = c.self.inside.nodes.items; sent = frames_of c.self.inside.sent.items }
 
--- the world after it
+-- the world after it, with those nodes
 abbrev now : goal.After-self-1 → List NodeValue → WorldValue
 now c nodes = record { settings = c.self.inside.settings; list = c.self.inside.list; nodes = nodes; sent = frames_of c.meet.new.sent.items }
 
+-- the step leads from the one to the other
 steps : (c : goal.After-self-1) → Stepped (was c) c.args.event c.meet.result (now c (set (was c).nodes (c.get.result - 1) c.meet.new.node))
 steps c =
     let e = c.args.event in
