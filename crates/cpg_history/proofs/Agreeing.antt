@@ -1,5 +1,5 @@
 -- A history leads to worlds that are reached, and to a list of agreed entries that only grows.
-use Rattle.std.proofs.Common.{◌≡◌, ℕ, zero, suc, ◌≤◌, List, [], ◌∷◌, ◌++◌, length, take, Option, Some, None, option_map, ⊎_elim, refl, sym, ap, ◌∙◌, subst, arith, append_assoc, length-append}
+use Rattle.std.proofs.Common.{◌≡◌, ℕ, zero, suc, ◌≤◌, List, [], ◌∷◌, ◌++◌, length, take, Option, Some, None, option_map, refl, sym, ap, ◌∙◌, subst, arith, append_assoc, length-append}
 use mathlib.Core.List.{IsPrefix}
 use Rattle.std.proofs.lemmas.List.{append-nil}
 use Rattle.cpg_record.specs.Judging.{judged}
@@ -12,10 +12,9 @@ use Rattle.cpg_world_laws.specs.Worlds.{WorldValue, NodeOutcome, moved, moves, n
 use Rattle.cpg_world_laws.specs.Claims.{IsAgreed, JudgeAlike}
 use Rattle.cpg_world_laws.proofs.Later.{judge_alike}
 use Rattle.cpg_ring.proofs.Growth.{agreed_grows}
-use Rattle.cpg_world_laws.proofs.Reached.{runs_on, same_settings, length-up_to, ring_reached}
+use Rattle.cpg_world_laws.proofs.Reached.{runs_on, same_settings, length-up_to, up_to_at, ring_reached}
 use Rattle.cpg_world_laws.proofs.Lists.{item_map}
-use Rattle.cpg_ring.proofs.Lists.{item_there, get_push_cases}
-use Rattle.std.proofs.lemmas.Option.{none-some}
+use Rattle.cpg_ring.proofs.Lists.{item_there}
 use Rattle.cpg_ring.specs.Visits.{up_to}
 use Rattle.cpg_history.specs.declared.histories.Beginning.{Beginning}
 use Rattle.cpg_history.specs.Histories.{first_world}
@@ -62,13 +61,6 @@ agreed_on law start xs ys x pre is =
 -- nodes that agree with the same frames judge alike
 pub judges_alike : PrefixesAreJudgedAlike → (w : WorldValue) (x y : NodeValue) → IsAgreed w.sent x → IsAgreed w.sent y → JudgeAlike x y
 judges_alike law w x y = judge_alike law w [] x y
-
-up_to_at : (n k i : ℕ) → item (up_to n) (suc k) ≡ Some i → i ≡ suc k
-up_to_at zero k i is = absurd (none-some i is)
-up_to_at (suc n) k i is = ⊎_elim
-    (λ before. up_to_at n k i before)
-    (λ (last : (k ≡ length (up_to n)) × (suc n ≡ i)). let a = last.0 in let b = last.1 in let l = length-up_to n in omega arith)
-    (get_push_cases (up_to n) (suc n) k i is)
 
 -- each node of a new world is new
 pub first_at : (b : Beginning) (n : ℕ) → 1 ≤ n → n ≤ b.settings.nodes → IsAt (first_world b) [] n (new_value b.settings n b.list)

@@ -12,7 +12,7 @@ use Rattle.cpg_world_laws.specs.declared.events.WorldEvent.{WorldEvent}
 use Rattle.cpg_board.specs.declared.words.View.{View}
 use Rattle.cpg_world_laws.specs.Worlds.{node_in}
 use Rattle.atomic_table.specs.Seated.{TableId}
-use Rattle.cpg_board.specs.Words.{is_counted, view, Owns, FitsHistory, spread, many_words, words_of}
+use Rattle.cpg_board.specs.Words.{is_counted, view, Owns, FitsHistory, Kept, spread, many_words, words_of}
 use Rattle.cpg_history.specs.Histories.{Adds, Looks, first_node, other_nodes, front_of, told, nobody, TellsCatch}
 use Rattle.cpg_history.proofs.Runs.{prefix_self, prefix_on}
 use Rattle.cpg_history.proofs.Resting.{rests_on, rests_before, rests_behind}
@@ -75,9 +75,10 @@ reads counted words n count = ap (λ ws. slice_set ws 0 (slice_index ws 0)) coun
 reads_middle : (words : List ℕ) (n : ℕ) → words ≡ words_of false n → slice_set words 8 (slice_index words 8) ≡ words_of false n
 reads_middle words n count = ap (λ ws. slice_set ws 8 (slice_index ws 8)) count
 
--- an event is added where it is counted
-pub adds : (e : WorldEvent) (slots id : ℕ) (me : Me ℕ View) (st : Step ℕ) → Owns me.0 (node_in e) → Allows (Rule true) slots id me 8 (λ n. (n + 1) % 2 ^ 64) (Adds true e st me)
-adds e slots id me st owns s h len at small =
+-- an event is added, where a step at the middle word keeps the count so
+added : (counted : Bool) (becomes : ℕ → ℕ) (e : WorldEvent) → ((words : List ℕ) (log : List WorldEvent) → words ≡ words_of counted (length log) → slice_set words 8 (becomes (slice_index words 8)) ≡ words_of counted (length (log ++ e ∷ [])))
+    → ((words : List ℕ) (log : List WorldEvent) → words ≡ words_of counted (length log) → counted ≡ true → slice_index words 8 ≡ length log % 2 ^ 64) → (slots id : ℕ) (me : Me ℕ View) (st : Step ℕ) → Owns me.0 (node_in e) → Allows (Rule counted) slots id me 8 becomes (Adds counted e st me)
+added counted becomes e keeps_count stamps slots id me st owns s h len at small =
     let v = me.0 in
     let log = h.log ++ e ∷ [] in
     let w = view v.from v.to log [] 0 in
@@ -89,35 +90,25 @@ adds e slots id me st owns s h len at small =
       record {
         log = log;
         seat = h.seat;
-        count = counts s.words h.log e h.count;
+        count = keeps_count s.words h.log h.count;
         each = each_after s.views (FitsHistory h.log h.seat) (FitsHistory log h.seat) id w h.each
             (record { seen = prefix_self log; also = (log, refl); own = λ n owns. ((mine.own n owns).0, rests_self n log) })
             (λ j u apart was. other_fits h.log e h.seat id j u here.0 apart was);
       },
-      (record { log = h.log; stamped = λ _. ap (λ ws. slice_index ws 8) h.count; before = mine.seen; also = mine.also; rests = here.1; after = refl }, refl, refl),
+      (record { log = h.log; stamped = stamps s.words h.log h.count; before = mine.seen; also = mine.also; rests = here.1; after = refl }, refl, refl),
     )
 
+-- an event is added where it is counted
+pub adds : {counted : Bool} → counted ≡ true → (e : WorldEvent) (slots id : ℕ) (me : Me ℕ View) (st : Step ℕ) → Owns me.0 (node_in e) → Allows (Rule counted) slots id me 8 (λ n. (n + 1) % 2 ^ 64) (Adds true e st me)
+adds is e slots id me st owns =
+    subst (λ counted. Allows (Rule counted) slots id me 8 (λ n. (n + 1) % 2 ^ 64) (Adds true e st me)) (sym is)
+    (added true (λ n. (n + 1) % 2 ^ 64) e (λ words log count. counts words log e count) (λ words log count yes. ap (λ ws. slice_index ws 8) count) slots id me st owns)
+
 -- an event is added where none is counted
-pub enters : (e : WorldEvent) (slots id : ℕ) (me : Me ℕ View) (st : Step ℕ) → Owns me.0 (node_in e) → Allows (Rule false) slots id me 8 (λ n. n) (Adds false e st me)
-enters e slots id me st owns s h len at small =
-    let v = me.0 in
-    let log = h.log ++ e ∷ [] in
-    let w = view v.from v.to log [] 0 in
-    let mine = h.each id v at in
-    let here = mine.own (node_in e) owns in (
-      w,
-      keeps,
-      tt,
-      record {
-        log = log;
-        seat = h.seat;
-        count = reads_middle s.words (length log) h.count;
-        each = each_after s.views (FitsHistory h.log h.seat) (FitsHistory log h.seat) id w h.each
-            (record { seen = prefix_self log; also = (log, refl); own = λ n owns. ((mine.own n owns).0, rests_self n log) })
-            (λ j u apart was. other_fits h.log e h.seat id j u here.0 apart was);
-      },
-      (record { log = h.log; stamped = λ counted. absurd (true≢false (sym counted)); before = mine.seen; also = mine.also; rests = here.1; after = refl }, refl, refl),
-    )
+pub enters : {counted : Bool} → counted ≡ false → (e : WorldEvent) (slots id : ℕ) (me : Me ℕ View) (st : Step ℕ) → Owns me.0 (node_in e) → Allows (Rule counted) slots id me 8 (λ n. n) (Adds false e st me)
+enters not e slots id me st owns =
+    subst (λ counted. Allows (Rule counted) slots id me 8 (λ n. n) (Adds false e st me)) (sym not)
+    (added false (λ n. n) e (λ words log count. reads_middle words (length log) count) (λ words log count yes. absurd (true≢false (sym yes))) slots id me st owns)
 
 pub fronts : (counted : Bool) (id number : ℕ) (v : View) → Splits (Rule counted) id v v (front_of number v)
 fronts counted id number v s h at =
@@ -189,22 +180,23 @@ next counted id v some_left s h at =
           (last_of rest (first_node v) u j now);
     }
 
+-- the count is read, and a pass has seen another beginning that fits
+rereads : (counted : Bool) (words : List ℕ) (views : List View) (h : Kept counted words views) (id : ℕ) (w : View) → FitsHistory h.log h.seat id w → Kept counted (slice_set words 0 (slice_index words 0)) (set views id w)
+rereads counted words views h id w fits = record {
+  log = h.log;
+  seat = h.seat;
+  count = reads counted words (length h.log) h.count;
+  each = each_after views (FitsHistory h.log h.seat) (FitsHistory h.log h.seat) id w h.each fits (λ j u apart was. was);
+}
+
 pub looks : (counted : Bool) (slots id : ℕ) (me : Me ℕ View) (st : Step ℕ) → Allows (Rule counted) slots id me 0 (λ n. n) (Looks st me)
 looks counted slots id me st s h len at small =
-    let v = me.0 in
-    let w = view v.from v.to h.log [] 0 in
-    let mine = h.each id v at in (
+    let mine = h.each id me.0 at in
+    let w = view me.0.from me.0.to h.log [] 0 in (
       w,
       keeps,
       tt,
-      record {
-        log = h.log;
-        seat = h.seat;
-        count = reads counted s.words (length h.log) h.count;
-        each = each_after s.views (FitsHistory h.log h.seat) (FitsHistory h.log h.seat) id w h.each
-            (record { seen = prefix_self h.log; also = (h.log, refl); own = λ n owns. ((mine.own n owns).0, rests_self n h.log) })
-            (λ j u apart was. was);
-      },
+      rereads counted s.words s.views h id w (record { seen = prefix_self h.log; also = (h.log, refl); own = λ n owns. ((mine.own n owns).0, rests_self n h.log) }),
       (record { before = mine.seen; also = mine.also; rests = λ n owns. (mine.own n owns).1; same = refl }, refl),
     )
 
@@ -212,18 +204,11 @@ looks counted slots id me st s h len at small =
 pub catches : (counted : Bool) (slots id : ℕ) (me : Me ℕ View) (st : Step ℕ) → IsPrefix me.0.seen me.0.also → Allows (Rule counted) slots id me 0 (λ n. n) (TellsCatch st me)
 catches counted slots id me st on s h len at small =
     let v = me.0 in
-    let w = view v.from v.to v.also [] 0 in
-    let mine = h.each id v at in (
+    let mine = h.each id v at in
+    let w = view v.from v.to v.also [] 0 in (
       w,
       keeps,
       tt,
-      record {
-        log = h.log;
-        seat = h.seat;
-        count = reads counted s.words (length h.log) h.count;
-        each = each_after s.views (FitsHistory h.log h.seat) (FitsHistory h.log h.seat) id w h.each
-            (record { seen = mine.also; also = (h.log, refl); own = λ n owns. let had = mine.own n owns in (had.0, rests_behind n v.seen v.also h.log on mine.also had.1) })
-            (λ j u apart was. was);
-      },
+      rereads counted s.words s.views h id w (record { seen = mine.also; also = (h.log, refl); own = λ n owns. let had = mine.own n owns in (had.0, rests_behind n v.seen v.also h.log on mine.also had.1) }),
       (record { rests = λ n owns. rests_before n v.seen v.also h.log on mine.also (mine.own n owns).1; same = refl }, refl),
     )

@@ -11,7 +11,7 @@ use Rattle.cpg_node.specs.declared.connections.Client.{Client}
 use Rattle.cpg_node.specs.Nodes.{NodeValue, records_of, inbox_of, asker_by, open_client, if_open}
 use Rattle.cpg_node.specs.Calls.{next_event, list_for}
 use Rattle.cpg_world_laws.specs.declared.events.WorldEvent.{WorldEvent}
-use Rattle.cpg_world_laws.specs.declared.events.WorldEvent.TheVariants.{Connect, Submit, Disconnect, Frame as Arrival, Timer, Deliver, Take, List as Listing, Groups}
+use Rattle.cpg_world_laws.specs.declared.events.WorldEvent.TheVariants.{Take, List as Listing, Groups}
 use Rattle.cpg_world_laws.specs.declared.replies.Reply.TheVariants as reply
 use Rattle.cpg_world_laws.specs.Worlds.{WorldValue}
 use Rattle.cpg_world_laws.specs.Replies.{Answer, take_answer, listing_answer, list_answer, IsGroupsReply, IsAnswerOf, IsReply}
@@ -61,14 +61,7 @@ ends_exactly w (Take n conn) a numbered answered = λ is_open. by_node is_open (
     by_node : a ≢ Err NoConnection → (o : Option NodeValue) → IsAnswerOf w.sent (Take n conn) o a → (a ≡ Ok (reply.Took None)) ↔ (had o conn ≡ inbox_at o conn)
     by_node is_open None answer = absurd answer
     by_node is_open (Some x) answer = by_client is_open x (open_client x conn) refl answer
-ends_exactly w (Connect n pid cred) a numbered answered = tt
-ends_exactly w (Submit n conn call) a numbered answered = tt
-ends_exactly w (Disconnect n conn) a numbered answered = tt
-ends_exactly w (Arrival n k) a numbered answered = tt
-ends_exactly w (Timer n) a numbered answered = tt
-ends_exactly w (Deliver n) a numbered answered = tt
-ends_exactly w (Listing n conn g) a numbered answered = tt
-ends_exactly w (Groups n conn) a numbered answered = tt
+ends_exactly w _ a numbered answered = tt
 
 denied_by : (r : Result (List (ℕ × ℕ)) By) (basis : By) → listing_answer r ≡ Err (Denied basis) → r ≡ Err basis
 denied_by (Ok list) basis h = absurd cc
@@ -150,10 +143,4 @@ lists_exactly laws w (Groups n conn) a numbered answered = by_node (item w.nodes
     by_node : (o : Option NodeValue) → IsAnswerOf w.sent (Groups n conn) o a → AtNode o (λ x. WhereOpen (open_client x conn) a (NamesGroupsTo x a))
     by_node None answer = absurd answer
     by_node (Some x) answer = by_client x (open_client x conn) answer
-lists_exactly laws w (Connect n pid cred) a numbered answered = tt
-lists_exactly laws w (Submit n conn call) a numbered answered = tt
-lists_exactly laws w (Disconnect n conn) a numbered answered = tt
-lists_exactly laws w (Arrival n k) a numbered answered = tt
-lists_exactly laws w (Timer n) a numbered answered = tt
-lists_exactly laws w (Deliver n) a numbered answered = tt
-lists_exactly laws w (Take n conn) a numbered answered = tt
+lists_exactly laws w _ a numbered answered = tt

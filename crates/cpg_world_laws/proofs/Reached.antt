@@ -95,7 +95,7 @@ pub length-up_to : (n : ℕ) → length (up_to n) ≡ n
 length-up_to zero = refl
 length-up_to (suc n) = let e = length-up_to n in let l = length-append (up_to n) (suc n ∷ []) in omega arith
 
-up_to_at : (n k i : ℕ) → item (up_to n) (suc k) ≡ Some i → i ≡ suc k
+pub up_to_at : (n k i : ℕ) → item (up_to n) (suc k) ≡ Some i → i ≡ suc k
 up_to_at zero k i is = absurd (none-some i is)
 up_to_at (suc n) k i is = ⊎_elim
     (λ before. up_to_at n k i before)

@@ -205,14 +205,7 @@ same_moves sent (Groups n conn) x other_kind = λ k. refl
 
 no_gift : (n conn : ℕ) (e : WorldEvent) (a : Answer) → ¬ IsTake e → gives n conn e a ≡ []
 no_gift n conn (Take m other) a other_kind = absurd (other_kind tt)
-no_gift n conn (Connect m pid cred) a other_kind = refl
-no_gift n conn (Submit m other call) a other_kind = refl
-no_gift n conn (Disconnect m other) a other_kind = refl
-no_gift n conn (Arrival m k) a other_kind = refl
-no_gift n conn (Timer m) a other_kind = refl
-no_gift n conn (Deliver m) a other_kind = refl
-no_gift n conn (Listing m other g) a other_kind = refl
-no_gift n conn (Groups m other) a other_kind = refl
+no_gift n conn _ a other_kind = refl
 
 -- what a node and its connection have after an event, where the connection had so much before
 record Step (x y : NodeValue) (conn : ℕ) (gift : List Event) : Type 0 where
@@ -277,14 +270,7 @@ AllWithin w = (n : ℕ) (x : NodeValue) → item w.nodes n ≡ Some x → TakenW
 
 gives_other : (n conn : ℕ) (e : WorldEvent) (a : Answer) → n ≢ node_in e → gives n conn e a ≡ []
 gives_other n conn (Take m other) a apart = ap (λ b. if b && (other == conn) then given_by a else []) (ne_eqb m n (λ e. apart (sym e)))
-gives_other n conn (Connect m pid cred) a apart = refl
-gives_other n conn (Submit m other call) a apart = refl
-gives_other n conn (Disconnect m other) a apart = refl
-gives_other n conn (Arrival m k) a apart = refl
-gives_other n conn (Timer m) a apart = refl
-gives_other n conn (Deliver m) a apart = refl
-gives_other n conn (Listing m other g) a apart = refl
-gives_other n conn (Groups m other) a apart = refl
+gives_other n conn _ a apart = refl
 
 -- what a Take gives its connection
 abbrev own_gift : ℕ → WorldEvent → NodeValue → List Event
@@ -293,14 +279,7 @@ own_gift conn _ x = []
 
 gift_is : (sent : List Frame) (conn : ℕ) (e : WorldEvent) (a : Answer) (x : NodeValue) → IsAnswerAt sent e x a → own_gift conn e x ≡ gives (node_in e) conn e a
 gift_is sent conn (Take m other) a x answer = ap (λ g. if other == conn then given_by g else []) (sym answer) ∙ sym (ap (λ b. if b && (other == conn) then given_by a else []) (eq-eqb m m refl))
-gift_is sent conn (Connect m pid cred) a x answer = refl
-gift_is sent conn (Submit m other call) a x answer = refl
-gift_is sent conn (Disconnect m other) a x answer = refl
-gift_is sent conn (Arrival m k) a x answer = refl
-gift_is sent conn (Timer m) a x answer = refl
-gift_is sent conn (Deliver m) a x answer = refl
-gift_is sent conn (Listing m other g) a x answer = refl
-gift_is sent conn (Groups m other) a x answer = refl
+gift_is sent conn _ a x answer = refl
 
 quiet_at : PrefixesAreJudgedAlike → (sent G : List Frame) (e : WorldEvent) (x : NodeValue) → ¬ IsTake e → IsAgreed sent x → IsAgreed (sent ++ G) (moves sent e x).0 → TakenWithin x → (conn : ℕ) → Step x (moves sent e x).0 conn []
 quiet_at law sent G e x other_kind before after within conn =

@@ -1,4 +1,4 @@
-use Rattle.std.proofs.Common.{◌≡◌, ◌∙◌, [], Some, Ok, refl, sym, ap, subst, arith}
+use Rattle.std.proofs.Common.{◌≡◌, false, [], Some, Ok, refl, sym, ap, subst, arith}
 use Rattle.cpg_world_laws.specs.declared.events.WorldEvent.TheVariants.{Connect}
 use Rattle.cpg_world_laws.specs.declared.replies.Reply.TheVariants as reply
 use Rattle.cpg_station.specs.Admitting.{StopsAdmitting}
@@ -12,7 +12,17 @@ use Rattle.cpg_history.proofs.Coming.{told_first, pen_after, is_member}
 use Rattle.cpg_history.proofs.Noting.{has_noted, recorded_quiet, unless_quiet}
 use Rattle.cpg_node.specs.Calls.{connect_refusal, connected}
 use Rattle.cpg_history.proofs.Serving.{no_spare, other_stops, refused_stays}
+use Rattle.cpg_history.proofs.members.Member.admit_as.Given as given
 use Rattle.cpg_history.proofs.members.Member.admit_as.Goals as goal
+use Rattle.cpg_history.proofs.members.Member.admit_as.Goals.{In-Ok}
+
+-- the member is the node that is asked for
+asked_for : (g : given.Over) → (c : In-Ok g) → c.args.node ≡ c.self.inside.id
+asked_for g c = omega (arith, c.if-get.false, c.get.ensures.value, c.get-2.ensures.value)
+
+-- it runs
+runs : (g : given.Over) → (c : In-Ok g) → c.self.inside.spare ≡ false
+runs g c = let m = c.self.inside in no_spare g.B.HistoryName.start m.id m.station m.spare m.pen c.self.invariant.0 c.in-Ok.ensures.station.0
 
 pub returns-then-get-clause-err : goal.returns-then-get-clause-err
 returns-then-get-clause-err g c =
@@ -22,11 +32,12 @@ returns-then-get-clause-err g c =
 
 pub invariant_of-self-in-Ok : goal.invariant_of-self-in-Ok
 invariant_of-self-in-Ok g c =
-    let own : c.args.node ≡ c.self.inside.id = omega (arith, c.if-get.false, c.get.ensures.value, c.get-2.ensures.value) in
+    let place = (goal.at.invariant_of-self-in-Ok g c).In-Ok in
+    let own = asked_for g place in
+    let not = runs g place in
     let start = g.B.HistoryName.start in
     let m = c.self.inside in
     let x = m.station.node in
-    let not = no_spare start m.id m.station m.spare m.pen c.self.invariant.0 c.in-Ok.ensures.station.0 in
     let event = Connect c.args.node c.args.pid c.args.cred in
     let after = pen_after start m.pen g.E.Happens.event event c.add-stamp.result m.id x c.add-stamp.new.pen.seen c.requires.event own (c.self.invariant.0.holds not) c.add-stamp.ensures.came c.add-stamp.new.pen c.admit.new.self.node refl c.add-stamp.ensures.pen
     (λ sent. connects_at sent c.args.node x c.admit.new.self.node c.args.pid c.args.cred c.in-Ok.ensures.room (ap (λ (u : StationValue). u.node) c.in-Ok.ensures.station.1)) in
@@ -45,13 +56,10 @@ invariant_of-self-in-Err g c =
 
 pub returns-in-Ok-clause-history : goal.returns-in-Ok-clause-history
 returns-in-Ok-clause-history g c =
-    let own : c.args.node ≡ c.self.inside.id = omega (arith, c.if-get.false, c.get.ensures.value, c.get-2.ensures.value) in
-    let start = g.B.HistoryName.start in
-    let m = c.self.inside in
-    let x = m.station.node in
-    let not = no_spare start m.id m.station m.spare m.pen c.self.invariant.0 c.in-Ok.ensures.station.0 in
-    let event = Connect c.args.node c.args.pid c.args.cred in
+    let place = (goal.at.returns-in-Ok-clause-history g c).In-Ok in
     let conn = c.in-Ok.who.id.conn in
-    subst (λ (f : FrontValue). Told start [] event (Ok (reply.Connected conn)) f.seen) (sym c.front-front.ensures.front)
-    (told_first start m.pen g.E.Happens.event event c.add-stamp.result m.id x c.add-stamp.new.pen.seen c.requires.event own (c.self.invariant.0.holds not) c.add-stamp.ensures.came (Ok (reply.Connected conn))
+    let event = Connect c.args.node c.args.pid c.args.cred in
+    let x = c.self.inside.station.node in
+    subst (λ (f : FrontValue). Told g.B.HistoryName.start [] event (Ok (reply.Connected conn)) f.seen) (sym c.front-front.ensures.front)
+    (told_first g.B.HistoryName.start c.self.inside.pen g.E.Happens.event event c.add-stamp.result c.self.inside.id x c.add-stamp.new.pen.seen c.requires.event (asked_for g place) (c.self.invariant.0.holds (runs g place)) c.add-stamp.ensures.came (Ok (reply.Connected conn))
     (λ sent. connects sent c.args.node x c.args.pid c.args.cred conn c.in-Ok.ensures.room c.in-Ok.ensures.number))

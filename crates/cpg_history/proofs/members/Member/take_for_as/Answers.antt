@@ -1,35 +1,21 @@
-use Rattle.std.proofs.Common.{Some, Ok, refl, sym, ap, subst}
+use Rattle.std.proofs.Common.{Some, Ok, refl, sym, ap}
 use Rattle.cpg_node.specs.Nodes.{open_client}
 use Rattle.cpg_station.specs.Stations.{StationValue}
 use Rattle.cpg_world_laws.specs.declared.events.WorldEvent.TheVariants.{Take}
 use Rattle.cpg_world_laws.specs.declared.replies.Reply.TheVariants as reply
-use Rattle.cpg_history.specs.Members.{Told}
 use Rattle.cpg_history.proofs.Answering.{takes}
 use Rattle.cpg_history.proofs.Called.{may_add, member_after, told_so}
 use Rattle.cpg_history.proofs.members.Member.take_for_as.Goals as goal
 
 pub add_for-stamp-requires : goal.add_for-stamp-requires
-add_for-stamp-requires g c =
-    let start = g.B.HistoryName.start in
-    let m = c.self.inside in
-    let who = c.args.who.now in
-    let heard = c.in_ok-taken.ensures.exact.0 in
-    may_add start m.id m.station c.take_for.new.self m.spare m.pen m.trace c.self.invariant who heard c.args.front.now g.E.Happens.event (Take who.id.node who.id.conn) c.requires.event refl
+add_for-stamp-requires g c = may_add g.B.HistoryName.start c.self.inside c.self.invariant c.args.who.now c.in_ok-taken.ensures.exact.0 c.requires.event refl
 
 pub invariant_of-self-2 : goal.invariant_of-self-2
 invariant_of-self-2 g c =
-    let start = g.B.HistoryName.start in
-    let m = c.self.inside in
-    let who = c.args.who.now in
-    let heard = c.in_ok-taken.ensures.exact.0 in
-    member_after start m.id m.station c.take_for.new.self m.spare m.pen m.trace c.self.invariant who heard c.args.front.now g.E.Happens.event (Take who.id.node who.id.conn) c.requires.event refl c.add_for-stamp.new.pen c.add_for-stamp.result c.add_for-stamp.ensures.came
-    c.note.new.self (Some (Take who.id.node who.id.conn)) c.add_for-stamp.ensures.pen (λ sent. sym (ap (λ (u : StationValue). u.node) c.in_ok-taken.ensures.ok)) (λ sent. refl) (λ log. refl) refl c.note.ensures
+    member_after g.B.HistoryName.start c.self.inside c.self.invariant c.args.who.now c.in_ok-taken.ensures.exact.0 c.requires.event refl c.args.front.now c.add_for-stamp.new.pen c.add_for-stamp.result c.add_for-stamp.ensures.came
+    c.take_for.new.self c.note.new.self (Some (Take c.args.who.now.id.node c.args.who.now.id.conn)) c.add_for-stamp.ensures.pen (λ sent. sym (ap (λ (u : StationValue). u.node) c.in_ok-taken.ensures.ok)) (λ sent. refl) (λ log. refl) refl c.note.ensures
 
 pub returns-clause-history : goal.returns-clause-history
 returns-clause-history g c =
-    let start = g.B.HistoryName.start in
-    let m = c.self.inside in
-    let who = c.args.who.now in
-    let heard = c.in_ok-taken.ensures.exact.0 in
-    subst (λ l. Told start c.args.front.now.seen (Take who.id.node who.id.conn) (Ok (reply.Took c.in_ok-taken.taken)) l) (sym c.add_for-stamp.ensures.front)
-    (told_so start m.id m.station c.take_for.new.self m.spare m.pen m.trace c.self.invariant who heard c.args.front.now g.E.Happens.event (Take who.id.node who.id.conn) c.requires.event refl c.add_for-stamp.new.pen c.add_for-stamp.result c.add_for-stamp.ensures.came (Ok (reply.Took c.in_ok-taken.taken)) (λ sent. takes m.station.node who.id.conn (open_client m.station.node who.id.conn) c.in_ok-taken.taken c.in_ok-taken.ensures.exact.1))
+    told_so g.B.HistoryName.start c.self.inside c.self.invariant c.args.who.now c.in_ok-taken.ensures.exact.0 c.requires.event refl c.args.front.now c.add_for-stamp.new.pen c.add_for-stamp.result c.add_for-stamp.ensures.came
+    c.add_for-stamp.ensures.front (Ok (reply.Took c.in_ok-taken.taken)) (λ sent. takes c.self.inside.station.node c.args.who.now.id.conn (open_client c.self.inside.station.node c.args.who.now.id.conn) c.in_ok-taken.taken c.in_ok-taken.ensures.exact.1)
