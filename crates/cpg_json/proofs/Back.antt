@@ -13,18 +13,16 @@ use Rattle.cpg_json.specs.Reading.{bytes_in, is_printable, string_of}
 use Rattle.cpg_json.specs.Strings.{hex_byte, is_plain, json_string, string_byte, string_char, text_string, unit_escape}
 
 -- a glyph is the digit that it was written for
-glyph_value : (d : ℕ) → d < 16 → digit_value (digit_glyph false d) ≡ d
-glyph_value d small = grind (arith, nat_tests)
+digit_back : (d : ℕ) → d < 16 → (digit_value (digit_glyph false d) ≡ d) × (nat_lt d 16 ≡ true)
+digit_back d small = (grind (arith, nat_tests), grind (arith, nat_tests))
 
 -- an escape stands for its byte
 escape_first : (most b : ℕ) (rest : List ℕ) → b < 256 → bytes_in (suc most) ((codes "\\u00" ++ hex_byte b) ++ rest) ≡ option_map (λ bytes. b ∷ bytes) (bytes_in most rest)
 escape_first most b rest small =
-    let high = glyph_value (b / 16) (omega arith) in
-    let low = glyph_value (b % 16) (omega arith) in
-    let one : nat_lt (b / 16) 16 ≡ true = grind (arith, nat_tests) in
-    let two : nat_lt (b % 16) 16 ≡ true = grind (arith, nat_tests) in
     let whole : 16 * (b / 16) + b % 16 ≡ b = omega arith in
-    rw (high, low, one, two, whole) refl
+    let high = digit_back (b / 16) (omega arith) in
+    let low = digit_back (b % 16) (omega arith) in
+    rw (high.0, low.0, high.1, low.1, whole) refl
 
 -- a plain byte stands for itself
 plain_first : (most b : ℕ) (rest : List ℕ) → is_plain b ≡ true → bytes_in (suc most) (b ∷ rest) ≡ option_map (λ bytes. b ∷ bytes) (bytes_in most rest)

@@ -37,10 +37,10 @@ last_between before i some =
     let one : i + 1 - before ≡ i - before + 1 = omega (arith, some) in
     ap (λ n. map decimal (range_with_len (before + 1) n)) one ∙ map-range_with_len_more decimal (before + 1) (i - before) (i + 1) (omega (arith, some))
 
-pub last_put : (before i : ℕ) (old text comma new : List ℕ) → before ≤ i → text ≡ old ++ more (map decimal (frames_between before i)) → comma ≡ text ++ codes ","
+pub last_put : {before i : ℕ} (old : List ℕ) {text comma new : List ℕ} → before ≤ i → text ≡ old ++ more (map decimal (frames_between before i)) → comma ≡ text ++ codes ","
     → new ≡ comma ++ decimal (i + 1) → new ≡ old ++ more (map decimal (frames_between before (i + 1)))
 unfolding after_comma
-last_put before i old text comma new some known first second =
+last_put {before} {i} old {text} some known first second =
     let item : List ℕ = after_comma (decimal (i + 1)) in
     second ∙ ap (λ l. l ++ decimal (i + 1)) first ∙ append_assoc text (codes ",") (decimal (i + 1))
     ∙ ap (λ l. l ++ item) known ∙ append_assoc old (more (map decimal (frames_between before i))) item

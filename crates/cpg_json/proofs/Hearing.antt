@@ -1,8 +1,9 @@
 -- What places tell a connection that made no entry at them: what they tell the group that it is in.
-use Rattle.std.proofs.Common.{◌≡◌, ◌≢◌, ℕ, zero, suc, ◌+◌, ◌-◌, ◌<◌, ◌≤◌, Bool, true, false, ◌||◌, cond, List, [], ◌∷◌, ◌++◌, length, map, take, drop, Option, Some, None, refl, sym, ap, subst, ◌∙◌, append-nil, append_assoc, arith}
+use Rattle.std.proofs.Common.{◌≡◌, ◌≢◌, ℕ, suc, ◌-◌, ◌≤◌, Bool, true, false, ◌||◌, cond, List, [], ◌∷◌, ◌++◌, length, map, take, drop, Option, Some, None, refl, sym, ap, subst, ◌∙◌, append-nil, append_assoc, arith}
 use Rattle.std.specs.Prelude.{◌↔◌, is_some, option_to_list}
-use Rattle.std.specs.List.{flat_map, range_with_len}
+use Rattle.std.specs.List.{flat_map}
 use Rattle.std.proofs.lemmas.List.{length-append, length-take-le, length-drop, take_all, take_at, drop_at}
+use Rattle.std.proofs.lemmas.List.Concat.{flat_map_single}
 use Rattle.std.proofs.lemmas.Option.{slice_get_within}
 use Rattle.cpg_record.specs.declared.connections.ConnId.{ConnId}
 use Rattle.cpg_record.specs.declared.events.Event.{Event}
@@ -12,11 +13,11 @@ use Rattle.cpg_record.specs.Events.{events, events_by, news}
 use Rattle.cpg_record.specs.Membership.{group_of}
 use Rattle.cpg_record.specs.Nexts.{acts_in, is_made_by, reaches}
 use Rattle.cpg_record.specs.Places.{places_from, places_of, record_at, records_before}
-use Rattle.cpg_record.proofs.Nexts.{groups_stay, tells_exactly}
+use Rattle.cpg_record.proofs.Nexts.{tells_exactly}
 use Rattle.cpg_record.proofs.Positions.{sound}
 use Rattle.cpg_group.specs.Telling.{told, told_from, told_in}
 use Rattle.cpg_judge.specs.Texts.{MakesNone}
-use Rattle.cpg_judge.proofs.Telling.{places_parted, record_there}
+use Rattle.cpg_judge.proofs.Telling.{none_there, places_parted, told_there}
 use Rattle.cpg_json.proofs.Told.{by_group, in_two}
 use Rattle.cpg_json.specs.Events.{event_json}
 use Rattle.cpg_json.specs.Steps.{lines_at, lines_between, ArePlaces}
@@ -50,63 +51,21 @@ lines_of_others rs conn place r is other =
 
 -- ---- places in a row
 
-module _ (rs : List Record) (conn : ConnId) (q : Record → Bool) where
-  abbrev TellsSo : ℕ → ℕ → Type 0
-  TellsSo after last = (place : ℕ) (r : Record) → after < place → place ≤ last → record_at rs place ≡ Some r → lines_at rs conn place ≡ cond (q r) (heard_line rs conn place ∷ []) []
+-- what a place tells those who hear it
+abbrev heard_at : List Record → ConnId → ℕ → List (List ℕ)
+heard_at rs conn place = heard_line rs conn place ∷ []
 
-  in_a_row : (after count : ℕ) → after + count ≤ length rs → TellsSo after (after + count) →
-      flat_map (lines_at rs conn) (range_with_len (after + 1) count) ≡ map (heard_line rs conn) (places_from q (suc after) (take count (drop after rs)))
-  in_a_row after zero within so = refl
-  in_a_row after (suc count) within so =
-      let there = record_there rs after (omega (arith, within)) in
-      let next : after + 1 ≡ suc after = omega arith in
-      let here : lines_at rs conn (after + 1) ≡ cond (q there.0) (heard_line rs conn (suc after) ∷ []) [] =
-      ap (lines_at rs conn) next ∙ so (suc after) there.0 (omega arith) (omega arith) there.1 in
-      let later : flat_map (lines_at rs conn) (range_with_len (suc after + 1) count) ≡ map (heard_line rs conn) (places_from q (suc (suc after)) (take count (drop (suc after) rs))) =
-      in_a_row (suc after) count (omega (arith, within)) (λ place r above below is. so place r (omega (arith, above)) (omega (arith, below)) is) in
-      let further : after + 1 + 1 ≡ suc after + 1 = omega arith in
-      ap (λ l. l ++ flat_map (lines_at rs conn) (range_with_len (after + 1 + 1) count)) here
-      ∙ ap (λ n. cond (q there.0) (heard_line rs conn (suc after) ∷ []) [] ++ flat_map (lines_at rs conn) (range_with_len n count)) further
-      ∙ ap (λ l. cond (q there.0) (heard_line rs conn (suc after) ∷ []) [] ++ l) later
-      ∙ by_case (q there.0)
-      ∙ ap (λ (l : List Record). map (heard_line rs conn) (places_from q (suc after) (take (suc count) l))) (sym there.2)
-    where
-      by_case : (b : Bool) → cond b (heard_line rs conn (suc after) ∷ []) [] ++ map (heard_line rs conn) (places_from q (suc (suc after)) (take count (drop (suc after) rs)))
-          ≡ map (heard_line rs conn) (cond b (suc after ∷ places_from q (suc (suc after)) (take count (drop (suc after) rs))) (places_from q (suc (suc after)) (take count (drop (suc after) rs))))
-      by_case true = refl
-      by_case false = refl
-
--- a connection that made no entry at them hears what places tell the group that it is in before them
-heard_between : (rs : List Record) (conn : ConnId) (after last : ℕ) → after ≤ last → last ≤ length rs → MakesNone rs conn after last →
-    lines_between rs conn after last ≡ map (heard_line rs conn) (places_from (reaches (group_of (take after rs) conn)) (suc after) (take (last - after) (drop after rs)))
-heard_between rs conn after last low within quiet =
-    let sum : after + (last - after) ≡ last = omega (arith, low) in
-    in_a_row rs conn (reaches (group_of (take after rs) conn)) after (last - after) (omega (arith, sum, within))
-    (λ place r above below is.
-    let other : is_made_by conn r ≡ false = quiet place r above (omega (arith, below, sum)) is in
-    let same : group_of (records_before rs place) conn ≡ group_of (take after rs) conn =
-    groups_stay rs conn after (place - 1) (omega (arith, above)) (λ n s from upto at. quiet (suc n) s (omega (arith, from)) (omega (arith, upto, below, sum)) at) in
-    lines_of_others rs conn place r is other
-    ∙ ap (λ (o : Option (List ℕ)). cond (reaches o r) (heard_line rs conn place ∷ []) []) same)
-
--- a connection that is in no group hears nothing
+-- a connection that made no entry at them, and is in no group, hears nothing
 pub heard_nothing : (rs : List Record) (conn : ConnId) (after last : ℕ) → after ≤ last → last ≤ length rs → MakesNone rs conn after last →
     group_of (take after rs) conn ≡ None → lines_between rs conn after last ≡ []
-heard_nothing rs conn after last low within quiet none =
-    heard_between rs conn after last low within quiet
-    ∙ ap (λ (o : Option (List ℕ)). map (heard_line rs conn) (places_from (reaches o) (suc after) (take (last - after) (drop after rs)))) none
-    ∙ ap (map (heard_line rs conn)) (nowhere (suc after) (take (last - after) (drop after rs)))
-  where
-    nowhere : (m : ℕ) (past : List Record) → places_from (reaches None) m past ≡ []
-    nowhere m [] = refl
-    nowhere m (r ∷ past) = nowhere (suc m) past
+heard_nothing rs conn = none_there rs conn (lines_at rs conn) (heard_at rs conn) (lines_of_others rs conn)
 
 -- one that is in a group hears what its places tell the group
 pub heard_in : (rs : List Record) (conn : ConnId) (g : List ℕ) (after last : ℕ) → after ≤ last → last ≤ length rs → MakesNone rs conn after last →
     Some g ≡ group_of (take after rs) conn → map (heard_line rs conn) (places_from (acts_in g) (suc after) (take (last - after) (drop after rs))) ≡ lines_between rs conn after last
 heard_in rs conn g after last low within quiet there =
-    ap (λ (o : Option (List ℕ)). map (heard_line rs conn) (places_from (reaches o) (suc after) (take (last - after) (drop after rs)))) there
-    ∙ sym (heard_between rs conn after last low within quiet)
+    sym (flat_map_single (heard_line rs conn) (places_from (acts_in g) (suc after) (take (last - after) (drop after rs))))
+    ∙ told_there rs conn (lines_at rs conn) (heard_at rs conn) (lines_of_others rs conn) after last low within quiet g (sym there)
 
 -- ---- the places of a group
 

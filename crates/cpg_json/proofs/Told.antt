@@ -20,7 +20,7 @@ use Rattle.cpg_record.specs.Places.{record_at, records_before}
 use Rattle.cpg_group.specs.Telling.{told, told_by, told_from, told_in}
 use Rattle.cpg_judge.specs.Texts.{with_text, HoldsTexts, TextValue}
 use Rattle.cpg_judge.proofs.Ends.{holds_more}
-use Rattle.cpg_json.proofs.Between.{numbers_parted}
+use Rattle.cpg_judge.proofs.Ranges.{numbers_parted}
 use Rattle.cpg_json.specs.Events.{event_fields, event_json}
 use Rattle.cpg_json.specs.Objects.{after_comma, kind, more, number}
 use Rattle.cpg_json.specs.Steps.{lines_at}

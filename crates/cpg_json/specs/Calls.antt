@@ -14,6 +14,7 @@ use Rattle.cpg_record.specs.declared.verdicts.Reason.TheVariants as reason
 use Rattle.cpg_record.specs.declared.verdicts.Verdict.{Verdict}
 use Rattle.cpg_record.specs.declared.verdicts.Verdict.TheVariants.{Allowed, Denied}
 use Rattle.cpg_print.specs.Rules.{effect_text, right_text}
+use Rattle.cpg_print.specs.Verdicts.{reason_text}
 use Rattle.cpg_json.specs.Objects.{field, maybe, number, object, word}
 use Rattle.cpg_json.specs.Strings.{hex_string, json_string, text_string}
 
@@ -69,17 +70,10 @@ by_fields by.Default = field (codes "by") (word (codes "default")) ∷ []
 by_fields by.Root = field (codes "by") (word (codes "root")) ∷ []
 by_fields by.Free = field (codes "by") (word (codes "free")) ∷ []
 
--- the name of a reason
+-- the name of a reason: as it is printed, but a rule's without its number
 abbrev pub reason_name : Reason → List ℕ
 reason_name (reason.Rule id) = codes "rule"
-reason_name reason.Default = codes "default"
-reason_name reason.Closed = codes "closed"
-reason_name reason.Joined = codes "joined"
-reason_name reason.Twice = codes "twice"
-reason_name reason.Full = codes "full"
-reason_name reason.Position = codes "position"
-reason_name reason.TableFull = codes "tablefull"
-reason_name reason.Absent = codes "absent"
+reason_name why = reason_text why
 
 -- the number of a reason's rule
 abbrev pub reason_rule : Reason → List (List ℕ)

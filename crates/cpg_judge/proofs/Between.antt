@@ -1,5 +1,5 @@
 -- the lines of places, one stretch after the other
-use Rattle.std.proofs.Common.{◌≡◌, ℕ, ◌+◌, ◌-◌, ◌<◌, ◌≤◌, zero, suc, Bool, true, false, List, [], ◌∷◌, ◌++◌, length, refl, ap, ◌∙◌, append-nil, zero-add, add-zero, arith, if◌then◌else◌}
+use Rattle.std.proofs.Common.{◌≡◌, ℕ, ◌+◌, ◌-◌, ◌<◌, ◌≤◌, zero, suc, Bool, true, false, List, [], ◌∷◌, ◌++◌, length, refl, ap, ◌∙◌, append-nil, arith, if◌then◌else◌}
 use Rattle.std.specs.List.{concat, flat_map, range_with_len}
 use Rattle.std.proofs.lemmas.List.Concat.{flat_map-append}
 use Rattle.std.proofs.lemmas.List.Folds.{concat-append}
@@ -12,14 +12,7 @@ use Rattle.cpg_judge.specs.Filtering.{event_kept, keeps_there, lines_at, told_li
 use Rattle.cpg_judge.specs.FilterSteps.{lines_between}
 use Rattle.cpg_judge.specs.Judging.{Form, told_at, told_upto}
 use Rattle.cpg_judge.specs.declared.filter.filters.Filter.{Filter}
-
--- numbers in a row, parted
-pub numbers_parted : (a m n : ℕ) → range_with_len a (m + n) ≡ range_with_len a m ++ range_with_len (a + m) n
-numbers_parted a zero n = rw (zero-add n, add-zero a) refl
-numbers_parted a (suc m) n =
-    let sum : suc m + n ≡ suc (m + n) = omega arith in
-    let next : a + suc m ≡ a + 1 + m = omega arith in
-    rw (sum, next) (ap (λ l. a ∷ l) (numbers_parted (a + 1) m n))
+use Rattle.cpg_judge.proofs.Ranges.{made_from_first, made_parted, numbers_parted}
 
 -- nothing, whether it is kept or not
 nothing_kept : (b : Bool) (none : List (List ℕ)) → none ≡ [] → (if b then none else []) ≡ []
@@ -51,19 +44,11 @@ module _ (f : Filter) (rs : List Record) (conn : ConnId) where
   -- the lines between two places, parted at one amid
   pub between_parted : (after amid last : ℕ) → after ≤ amid → amid ≤ last
       → lines_between f rs conn after last ≡ lines_between f rs conn after amid ++ lines_between f rs conn amid last
-  between_parted after amid last low high =
-      let sum : last - after ≡ (amid - after) + (last - amid) = omega (arith, low, high) in
-      let next : after + 1 + (amid - after) ≡ amid + 1 = omega (arith, low) in
-      ap (λ n. flat_map (lines_at f rs conn) (range_with_len (after + 1) n)) sum
-      ∙ ap (flat_map (lines_at f rs conn)) (numbers_parted (after + 1) (amid - after) (last - amid))
-      ∙ ap (λ n. flat_map (lines_at f rs conn) (range_with_len (after + 1) (amid - after) ++ range_with_len n (last - amid))) next
-      ∙ flat_map-append (lines_at f rs conn) (range_with_len (after + 1) (amid - after)) (range_with_len (amid + 1) (last - amid))
+  between_parted = made_parted (lines_at f rs conn)
 
   -- the lines of all places
   pub all_places : told_lines f rs conn ≡ lines_between f rs conn 0 (length rs)
-  all_places =
-      let all : length rs ≡ length rs - 0 = omega arith in
-      ap (λ n. flat_map (lines_at f rs conn) (range_with_len 1 n)) all
+  all_places = made_from_first (lines_at f rs conn) (length rs)
 
   quiet_range : (start count : ℕ) → ((place : ℕ) → start ≤ place → place < start + count → events rs place conn ≡ []) → flat_map (lines_at f rs conn) (range_with_len start count) ≡ []
   quiet_range start zero quiet = refl

@@ -8,6 +8,7 @@ pub mod Lined
 pub mod Own
 pub mod Passing
 pub mod Places
+pub mod Ranges
 pub mod Reading
 pub mod Shown
 pub mod Telling

@@ -19,6 +19,7 @@ use Rattle.cpg_record.proofs.Nexts.{groups_stay, hears_of_others, same_either_wa
 use Rattle.cpg_group.proofs.Counted.{places_from-append}
 use Rattle.cpg_group.specs.Telling.{told_by, told_in, told_from}
 use Rattle.cpg_print.specs.Events.{event_line}
+use Rattle.cpg_judge.proofs.Ranges.{made_between}
 use Rattle.cpg_judge.specs.Inboxes.{told_between}
 use Rattle.cpg_judge.specs.Texts.{lines_at, lines_between, told_lines, told_text, texts_upto, HoldsTexts, MakesNone, TextValue}
 
@@ -65,7 +66,7 @@ lines_of_case true o = refl
 lines_of_case false o = refl
 
 -- the lines of another's record
-pub lines_of_others : (rs : List Record) (conn : ConnId) (place : ℕ) (r : Record) → record_at rs place ≡ Some r → is_made_by conn r ≡ false →
+lines_of_others : (rs : List Record) (conn : ConnId) (place : ℕ) (r : Record) → record_at rs place ≡ Some r → is_made_by conn r ≡ false →
     lines_at rs conn place ≡ cond (reaches (group_of (records_before rs place) conn) r) (told_lines rs place) []
 lines_of_others rs conn place r is other =
     let before = records_before rs place in
@@ -82,44 +83,68 @@ record_there [] n h = absurd (omega arith)
 record_there (r ∷ rs) zero h = (r, refl, refl)
 record_there (r ∷ rs) (suc n) h = record_there rs n (omega (arith, h))
 
-module _ (rs : List Record) (conn : ConnId) (q : Record → Bool) where
+-- places that each make what they tell, or nothing
+module _ {A : Type 0} (rs : List Record) (at told : ℕ → List A) (q : Record → Bool) where
   abbrev TellsSo : ℕ → ℕ → Type 0
-  TellsSo after last = (place : ℕ) (r : Record) → after < place → place ≤ last → record_at rs place ≡ Some r → lines_at rs conn place ≡ cond (q r) (told_lines rs place) []
+  TellsSo after last = (place : ℕ) (r : Record) → after < place → place ≤ last → record_at rs place ≡ Some r → at place ≡ cond (q r) (told place) []
 
   in_a_row : (after count : ℕ) → after + count ≤ length rs → TellsSo after (after + count) →
-      flat_map (lines_at rs conn) (range_with_len (after + 1) count) ≡ flat_map (told_lines rs) (places_from q (suc after) (take count (drop after rs)))
+      flat_map at (range_with_len (after + 1) count) ≡ flat_map told (places_from q (suc after) (take count (drop after rs)))
   in_a_row after zero within so = refl
   in_a_row after (suc count) within so =
       let there = record_there rs after (omega (arith, within)) in
       let next : after + 1 ≡ suc after = omega arith in
-      let here : lines_at rs conn (after + 1) ≡ cond (q there.0) (told_lines rs (suc after)) [] =
-      ap (lines_at rs conn) next ∙ so (suc after) there.0 (omega arith) (omega arith) there.1 in
-      let later : flat_map (lines_at rs conn) (range_with_len (suc after + 1) count) ≡ flat_map (told_lines rs) (places_from q (suc (suc after)) (take count (drop (suc after) rs))) =
+      let here : at (after + 1) ≡ cond (q there.0) (told (suc after)) [] =
+      ap at next ∙ so (suc after) there.0 (omega arith) (omega arith) there.1 in
+      let later : flat_map at (range_with_len (suc after + 1) count) ≡ flat_map told (places_from q (suc (suc after)) (take count (drop (suc after) rs))) =
       in_a_row (suc after) count (omega (arith, within)) (λ place r above below is. so place r (omega (arith, above)) (omega (arith, below)) is) in
       let further : after + 1 + 1 ≡ suc after + 1 = omega arith in
-      ap (λ l. l ++ flat_map (lines_at rs conn) (range_with_len (after + 1 + 1) count)) here
-      ∙ ap (λ n. cond (q there.0) (told_lines rs (suc after)) [] ++ flat_map (lines_at rs conn) (range_with_len n count)) further
-      ∙ ap (λ l. cond (q there.0) (told_lines rs (suc after)) [] ++ l) later
-      ∙ by_case there.0 (q there.0)
-      ∙ ap (λ (l : List Record). flat_map (told_lines rs) (places_from q (suc after) (take (suc count) l))) (sym there.2)
+      ap (λ l. l ++ flat_map at (range_with_len (after + 1 + 1) count)) here
+      ∙ ap (λ n. cond (q there.0) (told (suc after)) [] ++ flat_map at (range_with_len n count)) further
+      ∙ ap (λ l. cond (q there.0) (told (suc after)) [] ++ l) later
+      ∙ by_case (q there.0)
+      ∙ ap (λ (l : List Record). flat_map told (places_from q (suc after) (take (suc count) l))) (sym there.2)
     where
-      by_case : (r : Record) (b : Bool) → cond b (told_lines rs (suc after)) [] ++ flat_map (told_lines rs) (places_from q (suc (suc after)) (take count (drop (suc after) rs)))
-          ≡ flat_map (told_lines rs) (cond b (suc after ∷ places_from q (suc (suc after)) (take count (drop (suc after) rs))) (places_from q (suc (suc after)) (take count (drop (suc after) rs))))
-      by_case r true = refl
-      by_case r false = refl
+      by_case : (b : Bool) → cond b (told (suc after)) [] ++ flat_map told (places_from q (suc (suc after)) (take count (drop (suc after) rs)))
+          ≡ flat_map told (cond b (suc after ∷ places_from q (suc (suc after)) (take count (drop (suc after) rs))) (places_from q (suc (suc after)) (take count (drop (suc after) rs))))
+      by_case true = refl
+      by_case false = refl
 
--- a connection that made no entry at them hears what places tell the group that it is in before them
-pub heard_between : (rs : List Record) (conn : ConnId) (after last : ℕ) → after ≤ last → last ≤ length rs → MakesNone rs conn after last →
-    lines_between rs conn after last ≡ flat_map (told_lines rs) (places_from (reaches (group_of (take after rs) conn)) (suc after) (take (last - after) (drop after rs)))
-heard_between rs conn after last low within quiet =
-    let sum : after + (last - after) ≡ last = omega (arith, low) in
-    in_a_row rs conn (reaches (group_of (take after rs) conn)) after (last - after) (omega (arith, sum, within))
-    (λ place r above below is.
-    let other : is_made_by conn r ≡ false = quiet place r above (omega (arith, below, sum)) is in
-    let same : group_of (records_before rs place) conn ≡ group_of (take after rs) conn =
-    groups_stay rs conn after (place - 1) (omega (arith, above)) (λ n s from upto at. quiet (suc n) s (omega (arith, from)) (omega (arith, upto, below, sum)) at) in
-    lines_of_others rs conn place r is other
-    ∙ ap (λ (o : Option (List ℕ)). cond (reaches o r) (told_lines rs place) []) same)
+-- places that make of another's record what they tell, where it reaches the connection's group, and else nothing
+abbrev pub OthersTell : {A : Type 0} → List Record → ConnId → (ℕ → List A) → (ℕ → List A) → Type 0
+OthersTell rs conn at told =
+    (place : ℕ) (r : Record) → record_at rs place ≡ Some r → is_made_by conn r ≡ false → at place ≡ cond (reaches (group_of (records_before rs place) conn) r) (told place) []
+
+module _ {A : Type 0} (rs : List Record) (conn : ConnId) (at told : ℕ → List A) (others : OthersTell rs conn at told)
+    (after last : ℕ) (low : after ≤ last) (within : last ≤ length rs) (quiet : MakesNone rs conn after last) where
+  -- a connection that made no entry at them hears what places tell the group that it is in before them
+  pub heard_there : made_between at after last ≡ flat_map told (places_from (reaches (group_of (take after rs) conn)) (suc after) (take (last - after) (drop after rs)))
+  heard_there =
+      let sum : after + (last - after) ≡ last = omega (arith, low) in
+      in_a_row rs at told (reaches (group_of (take after rs) conn)) after (last - after) (omega (arith, sum, within))
+      (λ place r above below is.
+      let other : is_made_by conn r ≡ false = quiet place r above (omega (arith, below, sum)) is in
+      let same : group_of (records_before rs place) conn ≡ group_of (take after rs) conn =
+      groups_stay rs conn after (place - 1) (omega (arith, above)) (λ n s from upto there. quiet (suc n) s (omega (arith, from)) (omega (arith, upto, below, sum)) there) in
+      others place r is other
+      ∙ ap (λ (o : Option (List ℕ)). cond (reaches o r) (told place) []) same)
+
+  -- one that is in no group hears nothing
+  pub none_there : group_of (take after rs) conn ≡ None → made_between at after last ≡ []
+  none_there none =
+      heard_there
+      ∙ ap (λ (o : Option (List ℕ)). flat_map told (places_from (reaches o) (suc after) (take (last - after) (drop after rs)))) none
+      ∙ ap (flat_map told) (nowhere (suc after) (take (last - after) (drop after rs)))
+    where
+      nowhere : (m : ℕ) (past : List Record) → places_from (reaches None) m past ≡ []
+      nowhere m [] = refl
+      nowhere m (r ∷ past) = nowhere (suc m) past
+
+  -- one that is in a group hears what its places tell the group
+  pub told_there : (g : List ℕ) → group_of (take after rs) conn ≡ Some g → flat_map told (places_from (acts_in g) (suc after) (take (last - after) (drop after rs))) ≡ made_between at after last
+  told_there g there =
+      ap (λ (o : Option (List ℕ)). flat_map told (places_from (reaches o) (suc after) (take (last - after) (drop after rs)))) (sym there)
+      ∙ sym heard_there
 
 -- ---- the places of a group
 
@@ -177,14 +202,7 @@ module _ (rs : List Record) (g : List ℕ) (after last : ℕ) (low : after ≤ l
 -- a connection that is in no group hears nothing
 pub heard_nothing : (rs : List Record) (conn : ConnId) (after last : ℕ) → after ≤ last → last ≤ length rs → MakesNone rs conn after last →
     group_of (take after rs) conn ≡ None → lines_between rs conn after last ≡ []
-heard_nothing rs conn after last low within quiet none =
-    heard_between rs conn after last low within quiet
-    ∙ ap (λ (o : Option (List ℕ)). flat_map (told_lines rs) (places_from (reaches o) (suc after) (take (last - after) (drop after rs)))) none
-    ∙ ap (flat_map (told_lines rs)) (nowhere (suc after) (take (last - after) (drop after rs)))
-  where
-    nowhere : (m : ℕ) (past : List Record) → places_from (reaches None) m past ≡ []
-    nowhere m [] = refl
-    nowhere m (r ∷ past) = nowhere (suc m) past
+heard_nothing rs conn = none_there rs conn (lines_at rs conn) (told_lines rs) (lines_of_others rs conn)
 
 -- what a cut of a group's texts holds, from the count of its places up to one to that up to another
 pub told_cut : (rs : List Record) (g : List ℕ) (after last : ℕ) (value : TextValue) (text : List ℕ) (from to : ℕ) → after ≤ last → last ≤ length rs →
@@ -202,5 +220,4 @@ told_cut rs g after last value text from to low within from_is to_is holds cut =
 pub heard_in : (rs : List Record) (conn : ConnId) (g : List ℕ) (after last : ℕ) → after ≤ last → last ≤ length rs → MakesNone rs conn after last →
     group_of (take after rs) conn ≡ Some g → told_between rs g after last ≡ concat (lines_between rs conn after last)
 heard_in rs conn g after last low within quiet there =
-    ap (λ (o : Option (List ℕ)). concat (flat_map (told_lines rs) (places_from (reaches o) (suc after) (take (last - after) (drop after rs))))) (sym there)
-    ∙ ap concat (sym (heard_between rs conn after last low within quiet))
+    ap concat (told_there rs conn (lines_at rs conn) (told_lines rs) (lines_of_others rs conn) after last low within quiet g there)
