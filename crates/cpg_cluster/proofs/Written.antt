@@ -14,15 +14,16 @@ use Rattle.cpg_cluster.specs.TraceScripts.{numbered, lines_of, script_text}
 pub nothing_yet : (a : Option (List ℕ)) (text : List ℕ) → AppendsFront a a text
 nothing_yet a text = record { front = []; rest = text; whole = refl; written = Appends-nil a }
 
--- a front of the second text, behind the first
-pub front_of_second : (a b c : Option (List ℕ)) (first second third : List ℕ) → Appends a b first → AppendsFront b c second → AppendsFront a c (first ++ second ++ third)
-front_of_second a b c first second third one two = record {
-  front = first ++ two.front;
-  rest = two.rest ++ third;
-  whole = ap (λ l. (first ++ l) ++ third) two.whole ∙ (ap (λ l. l ++ third) (sym (append_assoc first two.front two.rest)) ∙ append_assoc (first ++ two.front) two.rest third);
-  written = Appends-trans a b c first two.front one two.written;
+-- a front of the last text, behind the others
+pub front_of_last : (a b c : Option (List ℕ)) (before last : List ℕ) → Appends a b before → AppendsFront b c last → AppendsFront a c (before ++ last)
+front_of_last a b c before last one two = record {
+  front = before ++ two.front;
+  rest = two.rest;
+  whole = ap (λ l. before ++ l) two.whole ∙ sym (append_assoc before two.front two.rest);
+  written = Appends-trans a b c before two.front one two.written;
 }
 
+-- a front of a text is one of that text and more
 pub front_of_first : (a b : Option (List ℕ)) (first second : List ℕ) → AppendsFront a b first → AppendsFront a b (first ++ second)
 front_of_first a b first second one = record {
   front = one.front;
@@ -30,6 +31,10 @@ front_of_first a b first second one = record {
   whole = ap (λ l. l ++ second) one.whole ∙ append_assoc one.front one.rest second;
   written = one.written;
 }
+
+-- a front of the second text, behind the first
+pub front_of_second : (a b c : Option (List ℕ)) (first second third : List ℕ) → Appends a b first → AppendsFront b c second → AppendsFront a c (first ++ second ++ third)
+front_of_second a b c first second third one two = front_of_first a c (first ++ second) third (front_of_last a b c first second one two)
 
 -- the lines of entries behind entries
 pub lines_both : (script xs ys : List Recorded) → lines_of script (xs ++ ys) ≡ lines_of script xs ++ lines_of script ys
@@ -49,15 +54,6 @@ lines_around script i r at =
     append_assoc (lines_of script (take i script)) (event_line (numbered script r.source r.event)) (lines_of script (drop (suc i) script))
     ∙ (ap (λ l. lines_of script (take i script) ++ lines_of script l) (sym (drop_at script i r at))
     ∙ (sym (lines_both script (take i script) (drop i script)) ∙ ap (lines_of script) (take-append-drop i script)))
-
--- a front of the last text, behind the others
-pub front_of_last : (a b c : Option (List ℕ)) (before last : List ℕ) → Appends a b before → AppendsFront b c last → AppendsFront a c (before ++ last)
-front_of_last a b c before last one two = record {
-  front = before ++ two.front;
-  rest = two.rest;
-  whole = ap (λ l. before ++ l) two.whole ∙ sym (append_assoc before two.front two.rest);
-  written = Appends-trans a b c before two.front one two.written;
-}
 
 pub on_err : {A E : Type 0} (r : Result A E) (It : Type 0) → It → OnErr r It
 on_err (Ok a) It it = tt

@@ -7,7 +7,6 @@ use Rattle.cpg_cred.specs.declared.refusals.Refusal.{Refusal}
 use Rattle.cpg_cred.specs.declared.refusals.Refusal.TheVariants as refusal
 use Rattle.cpg_accept.specs.Accepting.{whole_fault}
 use Rattle.cpg_text.specs.declared.faults.Fault as script
-use Rattle.cpg_text.specs.Written.{WritesLate}
 use Rattle.cpg_ring.specs.declared.settings.Settings.{Settings}
 use Rattle.cpg_cluster.specs.declared.commands.Numbered.{Numbered}
 use Rattle.cpg_world_laws.specs.Worlds.{WorldValue, new_world}
@@ -20,7 +19,8 @@ use Rattle.cpg_console.specs.declared.failures.Failure.{Failure}
 use Rattle.cpg_console.specs.declared.failures.Failure.TheVariants.{BadWord, Fault, Missing}
 use Rattle.cpg_console.specs.Runs.{Clusters, ClustersAll, ClustersOf, ClustersUpTo, FailsLate}
 use Rattle.cpg_console.specs.Starting.{ClusterEnds, ClusterLeaves, IsNotStarted}
-use Rattle.cpg_console.proofs.NotStarted.{unless_started}
+use Rattle.cpg_console.proofs.NotStarted.{unless_known}
+use Rattle.cpg_console.proofs.Late.{run_late}
 
 no_memory : (printed : Printed) (start : WorldValue) (commands : Result (List Numbered) ℕ) (a : Option (List ℕ)) → cluster.Leaves printed start commands refusal.Memory a a
 no_memory printed start (Ok commands) a = (no_sessions, inl (Keeps-refl a, refl))
@@ -39,10 +39,9 @@ none_of_memory known printed s list refused failure a is e =
 -- nothing is written where there is no cluster
 pub none_clustered : (known : Option (List ℕ)) (printed : Printed) (s : Settings) (list : Option Listed) (failure : Failure) (a : Option (List ℕ)) → IsNotStarted s list failure
     → IfSome known (λ lines. Clusters printed s list lines (Some failure) a a)
-none_clustered None printed s list failure a h = tt
-none_clustered (Some lines) printed s list failure a h =
-    unless_started (λ l f. Clusters printed s l lines (Some f) a a) s list failure (refl, Keeps-refl a)
-    (λ l. (refl, no_memory printed (new_world s l) (commands_of_script s.nodes lines) a)) (λ l out. (refl, (out, Keeps-refl a))) h
+none_clustered known printed s list failure a =
+    unless_known (λ lines l f. Clusters printed s l lines (Some f) a a) known s list failure (λ lines. (refl, Keeps-refl a))
+    (λ lines l. (refl, no_memory printed (new_world s l) (commands_of_script s.nodes lines) a)) (λ lines l out. (refl, (out, Keeps-refl a)))
 
 no_range : (printed : Printed) (start : WorldValue) (commands : Result (List Numbered) ℕ) (a b : Option (List ℕ)) → cluster.Leaves printed start commands refusal.Range a b → ⊥
 no_range printed start (Ok commands) a b h = h.1
@@ -81,12 +80,5 @@ pub ends_clustered : (known : Option (List ℕ)) (printed : Printed) (s : Settin
 ends_clustered known printed s list made start None a b started named h = clustered known printed s list made start a b started named h
 ends_clustered known printed s list made start (Some failure) a b started named h = left_clustered known printed s list made start failure a b started named h
 
-late_of : (refused : Refusal) (a b : Option (List ℕ)) → cluster.EndsRunning refused a b → WritesLate refused a b
-late_of refusal.Read a b h = h
-late_of (refusal.BadCommand line) a b h = h
-late_of refusal.Write a b h = tt
-late_of refusal.Memory a b h = tt
-late_of _ a b h = absurd h
-
 pub part_late : (fault : script.Fault) (a b : Option (List ℕ)) → cluster.EndsRunning fault.refusal a b → FailsLate (Fault fault) a b
-part_late fault a b h = late_of fault.refusal a b h
+part_late fault a b h = run_late fault.refusal a b h

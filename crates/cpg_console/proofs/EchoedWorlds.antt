@@ -1,5 +1,5 @@
 -- what is written of a script whose run over a new world is echoed
-use Rattle.std.proofs.Common.{◌≡◌, ◌≤◌, ◌++◌, ◌∙◌, [], ℕ, List, length, Option, Some, None, Result, Ok, Err, OnOk, inl, inr, refl, sym, ap, subst, append-nil}
+use Rattle.std.proofs.Common.{◌≡◌, ◌≤◌, ◌++◌, ◌∙◌, [], ℕ, List, length, Option, Some, None, Result, Ok, Err, OnOk, refl, sym, ap, subst, append-nil}
 use Rattle.std.specs.Prelude.{IfSome}
 use Rattle.std.proofs.KnownBytes.{Keeps-refl}
 use Rattle.cpg_cred.specs.Listed.{Listed}
@@ -7,7 +7,6 @@ use Rattle.cpg_cred.specs.declared.refusals.Refusal.{Refusal}
 use Rattle.cpg_cred.specs.declared.refusals.Refusal.TheVariants as refusal
 use Rattle.cpg_text.specs.declared.streams.TheConstants.{MOST_BYTES}
 use Rattle.cpg_text.specs.declared.faults.Fault as script
-use Rattle.cpg_text.specs.Written.{WritesLate}
 use Rattle.cpg_ring.specs.declared.settings.Settings.{Settings}
 use Rattle.cpg_world_laws.specs.Worlds.{WorldValue, new_world}
 use Rattle.cpg_step.specs.declared.commands.Command.{Command}
@@ -19,26 +18,19 @@ use Rattle.cpg_console.specs.declared.failures.Failure.{Failure}
 use Rattle.cpg_console.specs.declared.failures.Failure.TheVariants.{Fault}
 use Rattle.cpg_console.specs.Runs.{Echoes, EchoesUpTo, FailsLate}
 use Rattle.cpg_console.specs.Starting.{IsStarted, IsNotStarted}
+use Rattle.cpg_console.proofs.NotStarted.{unless_known}
+use Rattle.cpg_console.proofs.Late.{gathered_late}
 
 no_memory : (commands : Result (List Command) ℕ) (numbers : List ℕ) (w : WorldValue) (a : Option (List ℕ)) → Leaves commands numbers refusal.Memory w a a
 no_memory (Ok commands) numbers w a = Keeps-refl a
 no_memory (Err bad) numbers w a = Keeps-refl a
 
-refused : (s : Settings) (list : Listed) (failure : Failure) (lines : List ℕ) (a : Option (List ℕ)) → IsNotStarted s (Some list) failure → Echoes s (Some list) lines (Some failure) a a
-refused s list failure lines a h = elim h [
-  | inl memory ↦ subst (λ (f : Failure). Echoes s (Some list) lines (Some f) a a) (sym memory) (refl, no_memory (commands_of_script s.nodes lines) (numbers_of lines) (new_world s list) a)
-  | inr range ↦ subst (λ (f : Failure). Echoes s (Some list) lines (Some f) a a) (sym range.0) (refl, (range.1, Keeps-refl a))
-]
-
-not_started : (s : Settings) (list : Option Listed) (failure : Failure) (lines : List ℕ) (a : Option (List ℕ)) → IsNotStarted s list failure → Echoes s list lines (Some failure) a a
-not_started s None failure lines a h = (ap (λ f. Some f) h, Keeps-refl a)
-not_started s (Some list) failure lines a h = refused s list failure lines a h
-
 -- nothing is written where there is no world
 pub none_echoed : (known : Option (List ℕ)) (s : Settings) (list : Option Listed) (failure : Failure) (a : Option (List ℕ)) → IsNotStarted s list failure
     → IfSome known (λ lines. Echoes s list lines (Some failure) a a)
-none_echoed None s list failure a h = tt
-none_echoed (Some lines) s list failure a h = not_started s list failure lines a h
+none_echoed known s list failure a =
+    unless_known (λ lines l f. Echoes s l lines (Some f) a a) known s list failure (λ lines. (refl, Keeps-refl a))
+    (λ lines l. (refl, no_memory (commands_of_script s.nodes lines) (numbers_of lines) (new_world s l) a)) (λ lines l out. (refl, (out, Keeps-refl a)))
 
 -- the whole script was run over the new world
 pub all_echoed : (known : Option (List ℕ)) (s : Settings) (list : Option Listed) (w : WorldValue) (a b : Option (List ℕ)) → IsStarted s list w
@@ -67,15 +59,8 @@ part_echoed None s (Some list) w fault a b e p h = tt
 part_echoed (Some lines) s (Some list) w fault a b e p h =
     (p, up_to s list lines fault.refusal a b (subst (λ (v : WorldValue). Leaves (commands_of_script v.settings.nodes lines) (numbers_of lines) fault.refusal v a b) e h))
 
-late_of : (refused : Refusal) (a b : Option (List ℕ)) → EndsEchoing refused a b → WritesLate refused a b
-late_of refusal.Read a b h = h
-late_of (refusal.BadCommand line) a b h = h
-late_of refusal.Write a b h = tt
-late_of refusal.Memory a b h = tt
-late_of _ a b h = absurd h
-
 pub echoed_late : (fault : script.Fault) (a b : Option (List ℕ)) → EndsEchoing fault.refusal a b → FailsLate (Fault fault) a b
-echoed_late fault a b h = late_of fault.refusal a b h
+echoed_late fault a b h = gathered_late fault.refusal a b h
 
 -- lines of a look that were put behind the echo that was kept
 pub look_echoed : {T E : Type 0} (r : Result T E) (target : ℕ → List ℕ) (old new words answer echo text : List ℕ) → words ≡ echo → answer ≡ text

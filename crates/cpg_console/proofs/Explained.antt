@@ -1,15 +1,15 @@
 -- what is told of what a new world delivered, and of one that is not there
-use Rattle.std.proofs.Common.{◌≡◌, ◌≤◌, ℕ, List, length, Option, Some, None, Result, Ok, Err, refl, sym, ap, subst, inl, inr}
+use Rattle.std.proofs.Common.{◌≡◌, ◌≤◌, ℕ, List, length, Option, Some, None, Result, Ok, Err, refl, sym, subst}
 use Rattle.std.specs.Prelude.{IfSome}
 use Rattle.std.proofs.KnownBytes.{Keeps-refl}
 use Rattle.cpg_cred.specs.Listed.{Listed}
 use Rattle.cpg_cred.specs.declared.refusals.Refusal.{Refusal}
 use Rattle.cpg_cred.specs.declared.refusals.Refusal.TheVariants as refusal
 use Rattle.cpg_text.specs.declared.streams.TheConstants.{MOST_BYTES}
-use Rattle.cpg_text.specs.Written.{WritesLate}
 use Rattle.cpg_ring.specs.declared.settings.Settings.{Settings}
 use Rattle.cpg_world_laws.specs.Worlds.{WorldValue, new_world}
 use Rattle.cpg_step.specs.declared.commands.Command.{Command}
+use Rattle.cpg_step.specs.Gathering.{EndsGathered}
 use Rattle.cpg_step.specs.Scripts.{commands_of_script}
 use Rattle.cpg_why.specs.declared.asking.Asked.{Asked}
 use Rattle.cpg_why.specs.declared.asking.WhyFault.{WhyFault}
@@ -20,26 +20,19 @@ use Rattle.cpg_why.specs.Explaining.{IsExplained, Leaves, LeavesBy}
 use Rattle.cpg_console.specs.declared.failures.Failure.{Failure}
 use Rattle.cpg_console.specs.Runs.{failure_of_delivered, FailsLate, TellsSteps, ToldUpTo}
 use Rattle.cpg_console.specs.Starting.{IsStarted, IsNotStarted}
+use Rattle.cpg_console.proofs.NotStarted.{unless_known}
+use Rattle.cpg_console.proofs.Late.{gathered_late}
 
 no_memory : (form : Form) (commands : Result (List Command) ℕ) (asked : Asked) (w : WorldValue) (a : Option (List ℕ)) → LeavesBy form commands asked refusal.Memory w a a w
 no_memory form (Ok commands) asked w a = (Keeps-refl a, (0, refl))
 no_memory form (Err bad) asked w a = (Keeps-refl a, refl)
 
-refused : (asked : Asked) (s : Settings) (list : Listed) (failure : Failure) (lines : List ℕ) (a : Option (List ℕ)) → IsNotStarted s (Some list) failure → TellsSteps asked s (Some list) lines (Some failure) a a
-refused asked s list failure lines a h = elim h [
-  | inl memory ↦ subst (λ (f : Failure). TellsSteps asked s (Some list) lines (Some f) a a) (sym memory) (refl, (new_world s list, no_memory plain (commands_of_script s.nodes lines) asked (new_world s list) a))
-  | inr range ↦ subst (λ (f : Failure). TellsSteps asked s (Some list) lines (Some f) a a) (sym range.0) (refl, (range.1, Keeps-refl a))
-]
-
-not_started : (asked : Asked) (s : Settings) (list : Option Listed) (failure : Failure) (lines : List ℕ) (a : Option (List ℕ)) → IsNotStarted s list failure → TellsSteps asked s list lines (Some failure) a a
-not_started asked s None failure lines a h = (ap (λ f. Some f) h, Keeps-refl a)
-not_started asked s (Some list) failure lines a h = refused asked s list failure lines a h
-
 -- nothing is written where there is no world
 pub none_told : (known : Option (List ℕ)) (asked : Asked) (s : Settings) (list : Option Listed) (failure : Failure) (a : Option (List ℕ)) → IsNotStarted s list failure
     → IfSome known (λ lines. TellsSteps asked s list lines (Some failure) a a)
-none_told None asked s list failure a h = tt
-none_told (Some lines) asked s list failure a h = not_started asked s list failure lines a h
+none_told known asked s list failure a =
+    unless_known (λ lines l f. TellsSteps asked s l lines (Some f) a a) known s list failure (λ lines. (refl, Keeps-refl a))
+    (λ lines l. (refl, (new_world s l, no_memory plain (commands_of_script s.nodes lines) asked (new_world s l) a))) (λ lines l out. (refl, (out, Keeps-refl a)))
 
 -- the whole script was run over the new world, and what is asked is told
 pub all_told : (known : Option (List ℕ)) (asked : Asked) (s : Settings) (list : Option Listed) (w world : WorldValue) (a b : Option (List ℕ)) → IsStarted s list w
@@ -75,15 +68,12 @@ part_told (Some lines) asked s (Some list) w world fault failure a b e is h =
     subst (λ (f : Failure). TellsSteps asked s (Some list) lines (Some f) a b) (sym is)
     (part asked s list lines fault world a b (subst (λ (v : WorldValue). Leaves plain (commands_of_script v.settings.nodes lines) asked fault v a b world) e h))
 
-late_by : (refused : Refusal) (a b : Option (List ℕ)) → EndsBy refused a b → WritesLate refused a b
-late_by refusal.Read a b h = h
-late_by (refusal.BadCommand line) a b h = h
-late_by refusal.Memory a b h = tt
-late_by refusal.Write a b h = tt
-late_by _ a b h = absurd h
+gathers_alike : (refused : Refusal) (a b : Option (List ℕ)) → EndsBy refused a b → EndsGathered refused a b
+gathers_alike refusal.Read a b h = h
+gathers_alike _ a b h = h
 
 late_of : (asked : Asked) (fault : WhyFault) (a b : Option (List ℕ)) → EndsWhy asked fault a b → FailsLate (failure_of_delivered fault) a b
-late_of asked (why.Script fault) a b h = late_by fault.refusal a b h.1
+late_of asked (why.Script fault) a b h = gathered_late fault.refusal a b (gathers_alike fault.refusal a b h.1)
 late_of asked (why.Missing what) a b h = h.1
 
 -- nothing was written before what is told was whole

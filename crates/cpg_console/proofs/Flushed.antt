@@ -1,5 +1,5 @@
 -- a flush changes nothing of what is written
-use Rattle.std.proofs.Common.{◌≡◌, ℕ, List, Bool, true, false, Option, Some, None, Result, Ok, Err, refl, sym, subst}
+use Rattle.std.proofs.Common.{◌≡◌, ℕ, List, Bool, true, false, Option, Some, None, Result, Ok, Err, refl, sym, ap, subst}
 use Rattle.std.specs.Prelude.{◌↔◌, OnOk, IfErr, IfSome}
 use Rattle.std.specs.Io.KnownBytes.{Keeps}
 use Rattle.std.proofs.KnownBytes.{Keeps-trans}
@@ -42,11 +42,21 @@ printed_late done flushed end a b c e h k =
     subst (λ (told : Option Failure). IfSome told (λ end. FailsLate end a c)) (sym e) (told_late done flushed a b c h k)
 
 -- a wrong word is told whatever a flush does
+pub word_stays : (P : Type 0) (flushed : Bool) (first end : Option Failure) → end ≡ failure_told flushed first
+    → (first ≡ Some failure.BadWord) ↔ P → (end ≡ Some failure.BadWord) ↔ P
+word_stays P flushed (Some failure.BadWord) end e h = ((λ is. h.0 refl), (λ wrong. e))
+word_stays P flushed (Some (failure.Missing what)) end e h = ((λ is. absurd (cc)), (λ wrong. let same = h.1 wrong in absurd (cc)))
+word_stays P true (Some (failure.Fault fault)) end e h = ((λ is. absurd (cc)), (λ wrong. let same = h.1 wrong in absurd (cc)))
+word_stays P false (Some (failure.Fault fault)) end e h = ((λ is. absurd (cc)), (λ wrong. let same = h.1 wrong in absurd (cc)))
+word_stays P true None end e h = ((λ is. absurd (cc)), (λ wrong. let same = h.1 wrong in absurd (cc)))
+word_stays P false None end e h = ((λ is. absurd (cc)), (λ wrong. let same = h.1 wrong in absurd (cc)))
+
+word_of : (done : Result (Unit {0}) Failure) → failure_of done ≡ Some failure.BadWord → done ≡ Err failure.BadWord
+word_of (Err failure.BadWord) is = refl
+word_of (Err (failure.Missing what)) is = absurd (cc)
+word_of (Err (failure.Fault fault)) is = absurd (cc)
+word_of (Ok done) is = absurd (cc)
+
 pub word_told : (run : Run) (done : Result (Unit {0}) Failure) (flushed : Bool) (end : Option Failure) → end ≡ failure_told flushed (failure_of done)
     → (done ≡ Err failure.BadWord) ↔ HasWrongWord run → (end ≡ Some failure.BadWord) ↔ HasWrongWord run
-word_told run (Err failure.BadWord) flushed end e h = ((λ is. h.0 refl), (λ wrong. e))
-word_told run (Err (failure.Fault fault)) false end e h = ((λ is. absurd (cc)), (λ wrong. let same = h.1 wrong in absurd (cc)))
-word_told run (Err (failure.Fault fault)) true end e h = ((λ is. absurd (cc)), (λ wrong. let same = h.1 wrong in absurd (cc)))
-word_told run (Err (failure.Missing what)) flushed end e h = ((λ is. absurd (cc)), (λ wrong. let same = h.1 wrong in absurd (cc)))
-word_told run (Ok done) false end e h = ((λ is. absurd (cc)), (λ wrong. let same = h.1 wrong in absurd (cc)))
-word_told run (Ok done) true end e h = ((λ is. absurd (cc)), (λ wrong. let same = h.1 wrong in absurd (cc)))
+word_told run done flushed end e h = word_stays (HasWrongWord run) flushed (failure_of done) end e ((λ is. h.0 (word_of done is)), (λ wrong. ap failure_of (h.1 wrong)))

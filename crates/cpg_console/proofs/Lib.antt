@@ -6,6 +6,7 @@ pub mod Clustered
 pub mod Audited
 pub mod Pictured
 pub mod NotStarted
+pub mod Late
 pub mod Started
 pub mod Worded
 pub mod Shelled

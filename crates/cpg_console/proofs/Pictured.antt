@@ -1,5 +1,5 @@
 -- what is written of a script whose run over a new world is drawn
-use Rattle.std.proofs.Common.{◌≡◌, ◌≤◌, ℕ, List, length, Option, Some, None, Result, Ok, Err, inl, inr, refl, sym, ap, subst}
+use Rattle.std.proofs.Common.{◌≡◌, ◌≤◌, ℕ, List, length, Option, Some, None, Result, Ok, Err, refl, subst}
 use Rattle.std.specs.Prelude.{IfSome}
 use Rattle.std.proofs.KnownBytes.{Keeps-refl}
 use Rattle.cpg_cred.specs.Listed.{Listed}
@@ -7,7 +7,6 @@ use Rattle.cpg_cred.specs.declared.refusals.Refusal.{Refusal}
 use Rattle.cpg_cred.specs.declared.refusals.Refusal.TheVariants as refusal
 use Rattle.cpg_text.specs.declared.streams.TheConstants.{MOST_BYTES}
 use Rattle.cpg_text.specs.declared.faults.Fault as script
-use Rattle.cpg_text.specs.Written.{WritesLate}
 use Rattle.cpg_ring.specs.declared.settings.Settings.{Settings}
 use Rattle.cpg_world_laws.specs.Worlds.{WorldValue, new_world}
 use Rattle.cpg_step.specs.declared.commands.Command.{Command}
@@ -20,6 +19,8 @@ use Rattle.cpg_console.specs.declared.failures.Failure.{Failure}
 use Rattle.cpg_console.specs.declared.failures.Failure.TheVariants.{Fault}
 use Rattle.cpg_console.specs.Runs.{Draws, DrawsUpTo, FailsLate, IsDrawn, LeavesDrawn}
 use Rattle.cpg_console.specs.Starting.{IsStarted, IsNotStarted}
+use Rattle.cpg_console.proofs.NotStarted.{unless_known}
+use Rattle.cpg_console.proofs.Late.{gathered_late}
 
 no_memory : (kind : Picture) (commands : Result (List Command) ℕ) (w : WorldValue) (a : Option (List ℕ)) → LeavesDrawn kind commands refusal.Memory w a a
 no_memory (picture.Svg x) (Ok commands) w a = Keeps-refl a
@@ -29,21 +30,12 @@ no_memory (picture.Lines x) (Err bad) w a = Keeps-refl a
 no_memory picture.Numbered (Ok commands) w a = Keeps-refl a
 no_memory picture.Numbered (Err bad) w a = Keeps-refl a
 
-refused : (kind : Picture) (s : Settings) (list : Listed) (failure : Failure) (lines : List ℕ) (a : Option (List ℕ)) → IsNotStarted s (Some list) failure → Draws kind s (Some list) lines (Some failure) a a
-refused kind s list failure lines a h = elim h [
-  | inl memory ↦ subst (λ (f : Failure). Draws kind s (Some list) lines (Some f) a a) (sym memory) (refl, no_memory kind (commands_of_script s.nodes lines) (new_world s list) a)
-  | inr range ↦ subst (λ (f : Failure). Draws kind s (Some list) lines (Some f) a a) (sym range.0) (refl, (range.1, Keeps-refl a))
-]
-
-not_started : (kind : Picture) (s : Settings) (list : Option Listed) (failure : Failure) (lines : List ℕ) (a : Option (List ℕ)) → IsNotStarted s list failure → Draws kind s list lines (Some failure) a a
-not_started kind s None failure lines a h = (ap (λ f. Some f) h, Keeps-refl a)
-not_started kind s (Some list) failure lines a h = refused kind s list failure lines a h
-
 -- nothing is drawn where there is no world
 pub none_drawn : (known : Option (List ℕ)) (kind : Picture) (s : Settings) (list : Option Listed) (failure : Failure) (a : Option (List ℕ)) → IsNotStarted s list failure
     → IfSome known (λ lines. Draws kind s list lines (Some failure) a a)
-none_drawn None kind s list failure a h = tt
-none_drawn (Some lines) kind s list failure a h = not_started kind s list failure lines a h
+none_drawn known kind s list failure a =
+    unless_known (λ lines l f. Draws kind s l lines (Some f) a a) known s list failure (λ lines. (refl, Keeps-refl a))
+    (λ lines l. (refl, no_memory kind (commands_of_script s.nodes lines) (new_world s l) a)) (λ lines l out. (refl, (out, Keeps-refl a)))
 
 -- the whole script was drawn over the new world
 pub all_drawn : (known : Option (List ℕ)) (kind : Picture) (s : Settings) (list : Option Listed) (w : WorldValue) (a b : Option (List ℕ)) → IsStarted s list w
@@ -79,17 +71,11 @@ part_drawn (Some lines) kind s (Some list) w fault a b e p h =
 -- lines with numbers end as pictures do
 pub ends_alike : (refused : Refusal) (a b : Option (List ℕ)) → EndsGathered refused a b → draw.EndsDrawing refused a b
 ends_alike refusal.Read a b h = h
-ends_alike (refusal.BadCommand line) a b h = h
-ends_alike refusal.Write a b h = h
-ends_alike refusal.Memory a b h = h
 ends_alike _ a b h = h
 
-late_of : (refused : Refusal) (a b : Option (List ℕ)) → draw.EndsDrawing refused a b → WritesLate refused a b
-late_of refusal.Read a b h = h
-late_of (refusal.BadCommand line) a b h = h
-late_of refusal.Write a b h = tt
-late_of refusal.Memory a b h = tt
-late_of _ a b h = absurd h
+gathers_alike : (refused : Refusal) (a b : Option (List ℕ)) → draw.EndsDrawing refused a b → EndsGathered refused a b
+gathers_alike refusal.Read a b h = h
+gathers_alike _ a b h = h
 
 pub drawn_late : (fault : script.Fault) (a b : Option (List ℕ)) → draw.EndsDrawing fault.refusal a b → FailsLate (Fault fault) a b
-drawn_late fault a b h = late_of fault.refusal a b h
+drawn_late fault a b h = gathered_late fault.refusal a b (gathers_alike fault.refusal a b h)

@@ -1,5 +1,6 @@
 -- what is left of a shell that finds no cluster, and of one that a fault ends
-use Rattle.std.proofs.Common.{◌≡◌, ℕ, List, [], Option, Some, None, refl, sym, subst}
+use Rattle.std.proofs.Common.{◌≡◌, ℕ, List, [], ◌++◌, Option, Some, None, refl, sym, subst}
+use Rattle.std.specs.Prelude.{IfSome}
 use Rattle.std.proofs.KnownBytes.{Appends-nil, Keeps-refl}
 use Rattle.cpg_cred.specs.Listed.{Listed}
 use Rattle.cpg_cred.specs.declared.refusals.Refusal.{Refusal}
@@ -17,23 +18,22 @@ use Rattle.cpg_console.proofs.NotStarted.{unless_started}
 use Rattle.cpg_console.specs.declared.failures.Failure.{Failure}
 use Rattle.cpg_console.specs.declared.failures.Failure.TheVariants.{BadWord, Fault, Missing}
 
+-- all lines are still to come
+abbrev later_of : Option (List ℕ) → List (List ℕ)
+later_of None = []
+later_of (Some bytes) = lines_of bytes
+
+all_later : (input : Option (List ℕ)) → IfSome input (λ bytes. lines_of bytes ≡ [] ++ later_of input)
+all_later None = tt
+all_later (Some bytes) = refl
+
 -- want of memory before the first line
 none_ended : (form : Printed) (start : WorldValue) (nodes : ℕ) (input : Option (List ℕ)) (a t : Option (List ℕ)) → IsEnded refusal.Memory form start nodes input a a t t
-none_ended form start nodes None a t = record {
+none_ended form start nodes input a t = record {
   before = [];
-  later = [];
+  later = later_of input;
   outcomes = [];
-  all = tt;
-  middle = a;
-  middle_errors = t;
-  shelled = record { came = tt; written = Appends-nil a; told = Appends-nil t };
-  left = (Keeps-refl a, Keeps-refl t);
-}
-none_ended form start nodes (Some bytes) a t = record {
-  before = [];
-  later = lines_of bytes;
-  outcomes = [];
-  all = refl;
+  all = all_later input;
   middle = a;
   middle_errors = t;
   shelled = record { came = tt; written = Appends-nil a; told = Appends-nil t };

@@ -1,5 +1,5 @@
 -- what is written of a script that is run over a new world, and of one that finds none
-use Rattle.std.proofs.Common.{◌≡◌, ◌≤◌, ℕ, List, length, Option, Some, None, Result, Ok, Err, inl, inr, refl, sym, ap, subst}
+use Rattle.std.proofs.Common.{◌≡◌, ◌≤◌, ℕ, List, length, Option, Some, None, Result, Ok, Err, inl, refl, subst}
 use Rattle.std.specs.Prelude.{IfSome}
 use Rattle.std.proofs.KnownBytes.{Keeps-refl}
 use Rattle.cpg_cred.specs.Listed.{Listed}
@@ -20,6 +20,7 @@ use Rattle.cpg_console.specs.declared.failures.Failure.{Failure}
 use Rattle.cpg_console.specs.declared.failures.Failure.TheVariants.{BadWord, Fault, Missing}
 use Rattle.cpg_console.specs.Runs.{FailsLate, IsRun, LeavesRun, Steps, StepsUpTo}
 use Rattle.cpg_console.specs.Starting.{IsStarted, IsNotStarted}
+use Rattle.cpg_console.proofs.NotStarted.{unless_known}
 
 no_memory : (form : Stepped) (numbers : List ℕ) (commands : Result (List Command) ℕ) (w : WorldValue) (a : Option (List ℕ)) → LeavesRun form numbers commands refusal.Memory w a a w
 no_memory Text numbers (Ok commands) w a = inl (Keeps-refl a, refl)
@@ -27,21 +28,12 @@ no_memory Text numbers (Err bad) w a = (Keeps-refl a, refl)
 no_memory (Json marks) numbers (Ok commands) w a = inl (Keeps-refl a, refl)
 no_memory (Json marks) numbers (Err bad) w a = (Keeps-refl a, refl)
 
-refused : (form : Stepped) (s : Settings) (list : Listed) (failure : Failure) (lines : List ℕ) (a : Option (List ℕ)) → IsNotStarted s (Some list) failure → Steps form s (Some list) lines (Some failure) a a
-refused form s list failure lines a h = elim h [
-  | inl memory ↦ subst (λ (f : Failure). Steps form s (Some list) lines (Some f) a a) (sym memory) (refl, (new_world s list, no_memory form (numbers_of lines) (commands_of_script s.nodes lines) (new_world s list) a))
-  | inr range ↦ subst (λ (f : Failure). Steps form s (Some list) lines (Some f) a a) (sym range.0) (refl, (range.1, Keeps-refl a))
-]
-
-not_started : (form : Stepped) (s : Settings) (list : Option Listed) (failure : Failure) (lines : List ℕ) (a : Option (List ℕ)) → IsNotStarted s list failure → Steps form s list lines (Some failure) a a
-not_started form s None failure lines a h = (ap (λ f. Some f) h, Keeps-refl a)
-not_started form s (Some list) failure lines a h = refused form s list failure lines a h
-
 -- nothing is written where there is no world
 pub none_stepped : (known : Option (List ℕ)) (form : Stepped) (s : Settings) (list : Option Listed) (failure : Failure) (a : Option (List ℕ)) → IsNotStarted s list failure
     → IfSome known (λ lines. Steps form s list lines (Some failure) a a)
-none_stepped None form s list failure a h = tt
-none_stepped (Some lines) form s list failure a h = not_started form s list failure lines a h
+none_stepped known form s list failure a =
+    unless_known (λ lines l f. Steps form s l lines (Some f) a a) known s list failure (λ lines. (refl, Keeps-refl a))
+    (λ lines l. (refl, (new_world s l, no_memory form (numbers_of lines) (commands_of_script s.nodes lines) (new_world s l) a))) (λ lines l out. (refl, (out, Keeps-refl a)))
 
 late_refl : (refused : Refusal) (a : Option (List ℕ)) → WritesLate refused a a
 late_refl refusal.Write a = tt
