@@ -8,23 +8,22 @@ use Rattle.cpg_ring.specs.declared.settings.Settings.{Settings}
 use Rattle.cpg_console.specs.declared.failures.Failure.{Failure}
 use Rattle.cpg_console.specs.declared.failures.Failure.TheVariants as failure
 use Rattle.cpg_console.specs.Runs.{failure_of, failure_told}
+use Rattle.cpg_console.proofs.Flushed.{word_stays}
 use Rattle.cpg_play.specs.declared.performing.Stage.{Stage}
 use Rattle.cpg_play.specs.declared.performing.Stage.TheVariants as stage
 use Rattle.cpg_play.specs.Playing.{IsPlayedOn, failure_played, wanted_played}
 
-word_by : (P : Type 0) (played : Result Bool Failure) (flushed : Bool) (end : Option Failure) → end ≡ failure_told flushed (failure_played played)
-    → (played ≡ Err failure.BadWord) ↔ P → (end ≡ Some failure.BadWord) ↔ P
-word_by P (Err failure.BadWord) flushed end e h = ((λ is. h.0 refl), (λ wrong. e))
-word_by P (Err (failure.Fault fault)) false end e h = ((λ is. absurd (cc)), (λ wrong. let same = h.1 wrong in absurd (cc)))
-word_by P (Err (failure.Fault fault)) true end e h = ((λ is. absurd (cc)), (λ wrong. let same = h.1 wrong in absurd (cc)))
-word_by P (Err (failure.Missing what)) flushed end e h = ((λ is. absurd (cc)), (λ wrong. let same = h.1 wrong in absurd (cc)))
-word_by P (Ok wanted) false end e h = ((λ is. absurd (cc)), (λ wrong. let same = h.1 wrong in absurd (cc)))
-word_by P (Ok wanted) true end e h = ((λ is. absurd (cc)), (λ wrong. let same = h.1 wrong in absurd (cc)))
+word_of : (played : Result Bool Failure) → failure_played played ≡ Some failure.BadWord → played ≡ Err failure.BadWord
+word_of (Err failure.BadWord) is = refl
+word_of (Err (failure.Missing what)) is = absurd (cc)
+word_of (Err (failure.Fault fault)) is = absurd (cc)
+word_of (Ok wanted) is = absurd (cc)
 
 -- a wrong word is told whatever a flush does
 pub word_played : (P : Type 0) (played : Result Bool Failure) (done : Result (Unit {0}) Failure) (flushed : Bool) (end : Option Failure) → failure_of done ≡ failure_played played
     → end ≡ failure_told flushed (failure_of done) → (played ≡ Err failure.BadWord) ↔ P → (end ≡ Some failure.BadWord) ↔ P
-word_played P played done flushed end same e h = word_by P played flushed end (e ∙ ap (failure_told flushed) same) h
+word_played P played done flushed end same e h =
+    word_stays P flushed (failure_of done) end e ((λ is. h.0 (word_of played (sym same ∙ is))), (λ wrong. same ∙ ap failure_played (h.1 wrong)))
 
 kept_by : (X : Type 0) (played : Result Bool Failure) (flushed : Bool) (end : Option Failure) → end ≡ failure_told flushed (failure_played played) → OnOk played X → end ≡ None → X
 kept_by X (Ok wanted) true end e h none = h
