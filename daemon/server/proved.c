@@ -22,6 +22,7 @@ enum { DEAD = 16384 /* connections that ended: with so many more than are open t
 
 struct peer {
     struct ucred who;
+    uint64_t number;  /* those that came before it have lower ones */
     struct user *user;
     int fd;
     uint16_t conn;    /* 0: it is not let in, and is told so once it greets */
@@ -44,6 +45,8 @@ static struct {
     struct peer **peers;
     size_t count, room, first; /* another one is heard first in each turn */
     size_t silent;             /* of whom no ask was heard */
+    size_t hung;               /* whose other end is closed */
+    uint64_t arrived;          /* how many ever came */
     uint32_t carried;          /* places with which the ring began */
     uint64_t heard;            /* bytes, in this ring */
     uint64_t renewals;
@@ -89,7 +92,7 @@ static struct peer *peer_new(int fd, struct ucred who) {
     struct user *user = user_get(who.uid);
     bool has_place = user && proved.count < limits.connections && user->connections < limits.user_connections && peers_have_room();
     struct peer *p = has_place ? calloc(1, sizeof *p) : NULL;
-    if (p) *p = (struct peer){.who = who, .user = user, .fd = fd, .came = now_ms(), .interest = EPOLLIN};
+    if (p) *p = (struct peer){.who = who, .number = ++proved.arrived, .user = user, .fd = fd, .came = now_ms(), .interest = EPOLLIN};
     if (!p || !watch(fd, EPOLL_CTL_ADD, EPOLLIN, p)) {
         if (user) user_put(user);
         free(p);
@@ -140,6 +143,7 @@ static void peer_speaks(struct peer *p) {
 
 static void peer_free(struct peer *p) {
     peer_speaks(p);
+    if (p->hung) proved.hung--;
     p->user->unread -= p->counted;
     p->user->connections--;
     user_put(p->user);
@@ -198,22 +202,33 @@ static void account(struct peer *p) {
 }
 
 static void hang(struct peer *p) {
-    if (!p->hung) watch(p->fd, EPOLL_CTL_DEL, 0, NULL); /* else it would say so again and again */
+    if (p->hung) return;
+    watch(p->fd, EPOLL_CTL_DEL, 0, NULL); /* else it would say so again and again */
     p->hung = true;
+    proved.hung++;
     bytes_free(&p->out);
 }
 
-static void read_some(struct peer *p) {
-    size_t held = bytes_held(&p->in);
-    if (p->hung || held >= READ_BELOW) return;
-    uint8_t *at = bytes_room(&p->in, MOST_IN - held);
+static void read_once(struct peer *p, size_t most) {
+    uint8_t *at = bytes_room(&p->in, most);
     if (!at) {
         p->gone = true;
         return;
     }
-    ssize_t got = recv(p->fd, at, MOST_IN - held, MSG_DONTWAIT);
+    ssize_t got = recv(p->fd, at, most, MSG_DONTWAIT);
     if (got > 0) p->in.end += (size_t)got;
     else if (got == 0 || (errno != EAGAIN && errno != EINTR)) hang(p);
+}
+
+static void read_some(struct peer *p) {
+    size_t held = bytes_held(&p->in);
+    if (!p->hung && held < READ_BELOW) read_once(p, MOST_IN - held);
+}
+
+/* Reads all that a client left whose other end is closed: its end comes behind that, and before what its process asks later. */
+static void read_out(struct peer *p) {
+    while (!p->hung && !p->gone && bytes_held(&p->in) < MOST_LEFT) read_once(p, MOST_IN);
+    hang(p);
 }
 
 /* How many bytes the socket took. */
@@ -262,10 +277,18 @@ static void turn_away(struct peer *p) {
     p->gone = true;
 }
 
+/* Whether an earlier connection of the process is about to end: that comes before what this one asks. */
+static bool is_behind(const struct peer *p) {
+    if (proved.hung == 0 || bytes_held(&p->in) == 0) return false;
+    for (size_t k = 0; k < proved.count; k++)
+        if (proved.peers[k]->hung && proved.peers[k]->number < p->number && proved.peers[k]->who.pid == p->who.pid) return true;
+    return false;
+}
+
 static void hear(struct peer *p) {
     size_t heard = 0;
     uint32_t why = CPGRING_HEARD_ALL;
-    if (p->gone || proved.stop_by || (!p->hung && bytes_held(&p->out) > limits.room)) return;
+    if (p->gone || proved.stop_by || (!p->hung && bytes_held(&p->out) > limits.room) || is_behind(p)) return;
     if (!p->conn) {
         turn_away(p);
     } else if (bytes_held(&p->in) > 0) {
@@ -345,7 +368,8 @@ static bool take_events(int wait) {
         else if (events[k].data.ptr == &proved.signals) take_signals();
         else {
             if (events[k].events & EPOLLOUT) write_held(p);
-            if (events[k].events & (EPOLLIN | EPOLLHUP | EPOLLERR)) read_some(p);
+            if (events[k].events & (EPOLLHUP | EPOLLERR)) read_out(p);
+            else if (events[k].events & EPOLLIN) read_some(p);
         }
     }
     return count > 0;

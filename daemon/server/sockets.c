@@ -16,7 +16,7 @@
 #include <sys/un.h>
 #include <unistd.h>
 
-enum { BACKLOG = 4096, MOST_LEFT = 8 << 20, PIECES = 128 /* of memory, in one write */ };
+enum { BACKLOG = 4096, PIECES = 128 /* of memory, in one write */ };
 
 /* ---- the lock ---- */
 

@@ -22,7 +22,7 @@ void sockets_close(struct sockets *s);
 struct client *sockets_accept(struct sockets *s, struct node *node, unsigned index, bool *more);
 
 /* Reads what came, where less than READ_BELOW bytes wait to be heard. */
-enum { MOST_IN = 128 << 10, READ_BELOW = 64 << 10 };
+enum { MOST_IN = 128 << 10, READ_BELOW = 64 << 10, MOST_LEFT = 8 << 20 };
 void client_read(struct client *c);
 /* The other end is closed: reads all that it left. */
 void client_read_out(struct client *c);
