@@ -227,7 +227,11 @@ static void read_some(struct peer *p) {
 
 /* Reads all that a client left whose other end is closed: its end comes behind that, and before what its process asks later. */
 static void read_out(struct peer *p) {
-    while (!p->hung && !p->gone && bytes_held(&p->in) < MOST_LEFT) read_once(p, MOST_IN);
+    size_t held;
+    do {
+        held = bytes_held(&p->in);
+        read_once(p, MOST_IN);
+    } while (!p->hung && bytes_held(&p->in) > held && bytes_held(&p->in) < MOST_LEFT);
     hang(p);
 }
 
