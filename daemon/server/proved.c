@@ -241,7 +241,7 @@ static size_t send_some(struct peer *p, const uint8_t *at, size_t len) {
     while (sent < len) {
         ssize_t put = send(p->fd, at + sent, len - sent, MSG_NOSIGNAL | MSG_DONTWAIT);
         if (put < 0 && errno == EINTR) continue;
-        if (put < 0 && errno != EAGAIN) hang(p);
+        if (put < 0 && errno != EAGAIN) read_out(p);
         if (put < 0) break;
         sent += (size_t)put;
     }

@@ -360,6 +360,24 @@ static void wakes(void) {
     EXPECT(cpg_finalize(shared), CS_OK);
 }
 
+/* ---- one connection after the other ---- */
+
+/* What an ended connection asked, and its end, come before the next join of its process, which is let in. */
+static void comes_back(void) {
+    enum { ASKS = 1000, LONG = 100 }; /* more than are heard at once */
+    static uint8_t asks[ASKS][sizeof(struct head) + LONG];
+    const struct head head = {LONG, ASK_SEND, 0};
+    const struct { struct head head; uint32_t words[2]; } hello = {{8, ASK_HELLO, 0}, {PROTOCOL_VERSION, 0}};
+    for (unsigned k = 0; k < ASKS; k++) memcpy(asks[k], &head, sizeof head);
+    for (unsigned k = 0; k < 20; k++) {
+        int fd = raw_dial();
+        EXPECT(send(fd, &hello, sizeof hello, MSG_NOSIGNAL), sizeof hello);
+        EXPECT(raw_ask(fd, ASK_JOIN, "back", 4), CS_OK); /* it does not wait to be greeted */
+        EXPECT(send(fd, asks, sizeof asks, MSG_NOSIGNAL), sizeof asks);
+        close(fd);
+    }
+}
+
 /* ---- no daemon, and one that says nothing ---- */
 
 static void no_daemon(void) {
@@ -405,6 +423,7 @@ int main(int count, char **words) {
     callbacks();
     threads();
     wakes();
+    comes_back();
     no_daemon();
     return finish("calls");
 }
