@@ -28,12 +28,12 @@ use Rattle.cpg_serve.specs.Serving.{ServedValue, IsCaughtUp, IsHeard, arrived}
 use Rattle.cpg_serve.specs.Stories.{Note, ask_in, event_in, Before, IsToldIn, StoryAt, nothing_before}
 use Rattle.cpg_serve.specs.Runs.{Did, Arrives, Hears, Frames, Delivers, Tells, Writes, Loses, Nothing, Goes, Run, IsKeptBy, heard_by, written_by}
 use Rattle.cpg_serve.specs.Settling.{IsFrameless, IsOwnMove, MovesOn}
-use Rattle.cpg_serve.specs.Carrying.{IsKnown, number_at}
+use Rattle.cpg_serve.specs.Carrying.{IsMade, IsOther, number_at}
 use Rattle.cpg_serve.specs.Meeting.{Counts, AreCounts, IsEven, IsHonest, IsHonestRun, calls_among, no_counts, verdicts}
 use Rattle.cpg_serve.specs.Orders.{conn_at, own_entries}
 use Rattle.cpg_serve.specs.Rings.{Renewal, Step, Does, Moves, Renews, IsRenewal, GoesBy, Life, IsKeptOver, next_comer, places_of, count_by, count_over}
 use Rattle.cpg_serve.specs.Alone.{HearsItself, IsAlone, IsAnsweredOver, LoneRingsAnswer}
-use Rattle.cpg_serve.proofs.Alone.{Adds, adds, alone_by, alone_does, alone_moves, alone_new, alone_next, entries_in, heard_enters, known_by, all_known, verdicts_all, verdicts_few, who}
+use Rattle.cpg_serve.proofs.Alone.{Adds, adds, alone_by, alone_does, alone_moves, alone_new, alone_next, alone_over, entries_in, heard_adds, heard_enters, verdicts_all, verdicts_few, who}
 use Rattle.cpg_serve.proofs.Counting.{told, verdicts_append}
 use Rattle.cpg_serve.proofs.Entered.{Enters, IsBy, all_own, by_other, none_own, own_both}
 use Rattle.cpg_serve.proofs.Evening.{calls_append, even_by, heard_other, heard_own, none_spelled, stays_even, unheard}
@@ -42,6 +42,7 @@ use Rattle.cpg_serve.proofs.Lives.{AreSoMany, GoesOnBy, Lasts, next_story, told_
 use Rattle.cpg_serve.proofs.Matched.{all_made, answers_in_order, even_begins, even_notes}
 use Rattle.cpg_serve.proofs.Noted.{all_records}
 use Rattle.cpg_serve.proofs.Running.{begins, is_other, quiet_all, quiet_ended}
+use Rattle.cpg_serve.proofs.There.{all_there}
 
 -- ---- records become more
 
@@ -144,7 +145,7 @@ module _ (each : EachEntryIsJudged) where
   does_other before b conn asks written x z did go f kept silent other st =
       let s = even_by before b conn asks written x z did go kept st.story st.even (honest b conn asks x st.alone st.own) in
       let h = adds x z did go f in
-      let stays = alone_does x z did st.alone go f h.count h.enters h.known in
+      let stays = alone_does x z did st.alone go f h in
       let mine : length (own_entries (conn_at 1 conn) h.enters.new) ≡ length (calls_among s.0) =
       none_own conn h.enters.new (by_other x.node.ring.node (who did) conn h.enters.new other h.enters.each) ∙ sym (nothing_asked s.0 (sym silent ∙ s.1)) in
       (s.0, s.1, standing before b conn asks s.0 written (written_by conn did) x z st stays.alone h.enters.new stays.entries mine (grown_by x z did go) s.2 s.3)
@@ -154,7 +155,7 @@ module _ (each : EachEntryIsJudged) where
   heard_itself before b conn asks written x z bytes count stop go st =
       let s = heard_own before b conn asks written x z bytes count stop go st.story st.even in
       let h = heard_enters conn x z bytes count stop go in
-      let stays = alone_does x z (Hears conn bytes count stop) st.alone go tt (length (calls_among (asks_of go.did.so.turns))) h (all_known x.node.ring.node conn x.node h.new (known_by conn x.node go.alive) h.each) in
+      let stays = alone_does x z (Hears conn bytes count stop) st.alone go tt (heard_adds conn x z bytes count stop go) in
       let mine : length (own_entries (conn_at 1 conn) h.new) ≡ length (calls_among (asks_of go.did.so.turns)) =
       all_own conn h.new (subst (λ (n : ℕ). AllByRecursion (IsBy n conn) h.new) st.alone.lone.node h.each) ∙ h.many in
       (s.0, s.1, standing before b conn asks s.0 written [] x z st stays.alone h.new stays.entries mine (grown_by x z (Hears conn bytes count stop) go) s.2 s.3)
@@ -271,16 +272,16 @@ module _ (each : EachEntryIsJudged) where
   comes count x y [] after pid cred many a f life = (x, many, a, subst (λ (z : ServedValue). Life z after y) life.1 life.2)
   comes count x y (step ∷ first) after pid cred many a f life = comes (count_by count step) life.0 y first after pid cred (so_many count x life.0 step life.1 many) (alone_by x life.0 step life.1 f.0 a) f.1 life.2
 
-  unknown : (conn : ℕ) (x : NodeValue) (es : List Entry) → length x.clients < conn → AllByRecursion (IsKnown x) es → AllByRecursion (λ (e : Entry). e.conn ≢ conn) es
+  unknown : (conn : ℕ) (x : NodeValue) (es : List Entry) → length x.clients < conn → AllByRecursion (IsMade x) es → AllByRecursion (IsOther conn) es
   unknown conn x [] past h = tt
-  unknown conn x (e ∷ es) past h = ((λ (same : e.conn ≡ conn). absurd (omega (arith, past, h.0, same))), unknown conn x es past h.1)
+  unknown conn x (e ∷ es) past h = ((λ (same : e.conn ≡ conn). absurd (omega (arith, past, h.0.known.1, same))), unknown conn x es past h.1)
 
   stands_first : (pid : ℕ) (cred : Cred) (z : ServedValue) → length z.desks ≡ length z.node.clients → IsAlone z → Answering nothing_before (suc (length z.desks)) [] [] (arrived z pid cred)
   stands_first pid cred z many a =
       let conn : ℕ = suc (length z.desks) in
       let h = adds z (arrived z pid cred) (Arrives pid cred) refl tt in
-      let stays = alone_does z (arrived z pid cred) (Arrives pid cred) a refl tt h.count h.enters h.known in
-      let old : length (own_entries (conn_at 1 conn) (entries_in z a)) ≡ 0 = none_own conn (entries_in z a) (unknown conn z.node (entries_in z a) (omega (arith, many)) a.known) in
+      let stays = alone_does z (arrived z pid cred) (Arrives pid cred) a refl tt h in
+      let old : length (own_entries (conn_at 1 conn) (entries_in z a)) ≡ 0 = none_own conn (entries_in z a) (unknown conn z.node (entries_in z a) (omega (arith, many)) a.own.made) in
       let new : length (own_entries (conn_at 1 conn) h.enters.new) ≡ 0 = none_own conn h.enters.new (by_other z.node.ring.node 0 conn h.enters.new (λ (same : 0 ≡ conn). absurd (omega (arith, same))) h.enters.each) in (
         no_counts,
         record {
@@ -298,6 +299,8 @@ module _ (each : EachEntryIsJudged) where
   pub lone_rings_answer : LoneRingsAnswer
   lone_rings_answer = record {
     begins = alone_new;
+    stays = λ x y steps a f life. alone_over x y steps life f a;
+    rest = all_there;
     answers = λ x y steps many a f life first after pid cred e kept.
         let cut : AllByRecursion HearsItself (first ++ Does (Arrives pid cred) ∷ after) = subst (AllByRecursion HearsItself) e f in
         let c = comes (length x.desks) x y first after pid cred (record { desks = refl; clients = many }) a cut (subst (λ (l : List Step). Life x l y) e life) in

@@ -6,6 +6,7 @@ use Rattle.std.proofs.lemmas.List.{map-append, take_more}
 use Rattle.std.proofs.lemmas.Option.{none-some, same_Some}
 use Rattle.cpg_cred.specs.declared.credentials.Cred.{Cred}
 use Rattle.cpg_cred.specs.Listed.{Listed}
+use Rattle.cpg_cred.specs.declared.refusals.Refusal.TheVariants.{NoConnection}
 use Rattle.cpg_rules.specs.declared.rules.Rule.{Rule}
 use Rattle.cpg_rules.specs.Tables.{Rules}
 use Rattle.cpg_entry.specs.declared.calls.Call.{Call}
@@ -24,11 +25,14 @@ use Rattle.cpg_node.specs.declared.connections.Client.{Client}
 use Rattle.cpg_node.specs.declared.connections.Connection.{Connection}
 use Rattle.cpg_node.specs.Answers.{connection_of}
 use Rattle.cpg_node.specs.Nodes.{NodeValue, conn_id, entry_by, if_open, open_client, records_of}
-use Rattle.cpg_node.specs.Calls.{connected, disconnected, ended_by, submitted, with_entry}
+use Rattle.cpg_node.specs.Calls.{call_refusal, connected, disconnected, ended_by, submit_refusal, submit_refusal_by, submitted, with_entry}
 use Rattle.cpg_ask.proofs.Mapped.{length_mapped}
 use Rattle.cpg_serve.specs.Renewing.{Root, Seat, TableOf, all_inserts, bare, held_by, inserts, root_entry, seat_entry}
 use Rattle.cpg_serve.specs.Settling.{HasTurned, IsAlike, IsBrisk, IsLone, IsStill}
-use Rattle.cpg_serve.specs.Carrying.{ConnectsBy, HasEntered, HasNumber, HasParted, HasPut, HaveConnected, HaveJoined, IsBegun, IsFresh, IsLetIn, IsRoot, anew, living, number_at, numbered, renumbered, table_of}
+use Rattle.cpg_serve.specs.Coming.{anew}
+use Rattle.cpg_serve.specs.Carrying.{ConnectsBy, HasEntered, HasNumber, HasParted, HasPut, HaveConnected, HaveJoined, IsBegun, IsFresh, IsLetIn, IsMade, IsRoot, living, number_at, numbered, renumbered, table_of}
+use Rattle.cpg_serve.proofs.Noted.{taken_by}
+use Rattle.cpg_serve.proofs.Owned.{all_both, from_one, made_before, made_by}
 use Rattle.cpg_serve.proofs.Settled.{lone_entry}
 use Rattle.cpg_serve.proofs.Turns.{alike_same, alike_then}
 
@@ -56,8 +60,14 @@ entry_clients : (x : NodeValue) (conn : ℕ) (op : Op) (o : Option Client) → (
 entry_clients x conn op None = refl
 entry_clients x conn op (Some c) = refl
 
-pub entered : (x w y : NodeValue) (conn : ℕ) (call : Call) → w ≡ submitted x conn call → HasTurned w y → IsStill y → IsBrisk w.ring y.ring → HasEntered conn (Act call) x y
-entered x w y conn call is turned still brisk = record {
+-- a call that was made is one that a node takes
+call_taken : (x : NodeValue) (call : Call) (o : Option Client) → submit_refusal_by x call o ≡ None → call_refusal call ≡ None
+call_taken x call None e = absurd (none-some NoConnection (sym e))
+call_taken x call (Some c) e = taken_by x call (Some c) refl e
+
+pub entered : (x w y : NodeValue) (conn : ℕ) (call : Call) → submit_refusal x conn call ≡ None → w ≡ submitted x conn call → HasTurned w y → IsStill y → IsBrisk w.ring y.ring → HasEntered conn (Act call) x y
+entered x w y conn call fits is turned still brisk = record {
+  taken = call_taken x call (open_client x conn) fits;
   alike = alike_then x w y (subst (IsAlike x) (sym is) (entry_alike x conn (Act call) (open_client x conn))) turned.alike;
   clients = turned.clients ∙ ap (λ (z : NodeValue). z.clients) is ∙ entry_clients x conn (Act call) (open_client x conn);
   begun = λ es c there b. begun_more x w y es (entry_by x conn c (Act call)) b.token b.still b.hop
@@ -192,14 +202,7 @@ connected_more old i next numbers number x y z is within h k =
 -- ---- members
 
 pub joined_none : (numbers : List ℕ) (x : NodeValue) → HaveJoined numbers [] x x
-joined_none numbers x = record { seats = []; held = refl; numbered = tt; alike = alike_same x; clients = refl; begun = λ es b. subst (IsBegun x) (sym (append-nil es)) b }
-
-has_number : (numbers : List ℕ) (conn : ℕ) (cs : List Client) (c : Client) → if_open (item cs (number_at numbers conn)) ≡ Some c → 1 ≤ number_at numbers conn
-has_number numbers conn cs c e = by_number (number_at numbers conn) e
-  where
-    by_number : (n : ℕ) → if_open (item cs n) ≡ Some c → 1 ≤ n
-    by_number zero e = absurd (none-some c e)
-    by_number (suc n) e = omega arith
+joined_none numbers x = record { seats = []; held = refl; numbered = tt; made = tt; alike = alike_same x; clients = refl; begun = λ es b. subst (IsBegun x) (sym (append-nil es)) b }
 
 joined_one : (numbers : List ℕ) (m : Membership) (x y : NodeValue) (c : Client) → open_client x (number_at numbers m.member.conn) ≡ Some c → c.pid ≡ m.member.pid → x.ring.node ≡ m.member.node
     → HasEntered (number_at numbers m.member.conn) (Act (Join m.group)) x y → HaveJoined numbers (m ∷ []) x y
@@ -210,7 +213,8 @@ joined_one numbers m x y c there pid node h =
     record {
       seats = seat ∷ [];
       held = refl;
-      numbered = (has_number numbers m.member.conn x.clients c there, tt);
+      numbered = (from_one x.clients (number_at numbers m.member.conn) c there, tt);
+      made = (subst (IsMade x) same (made_by x (number_at numbers m.member.conn) c (Act (Join m.group)) there h.taken), tt);
       alike = h.alike;
       clients = h.clients;
       begun = λ es b. subst (λ (e : Entry). IsBegun y (es ++ e ∷ [])) same (h.begun es c there b);
@@ -232,15 +236,13 @@ joined_at numbers m n g x y k is named found pid node h =
     joined_one numbers m x y c.0 (sym (ap (open_client x) is) ∙ c.1) (c.2 ∙ pid) (c.3 ∙ node)
     (subst (λ (i : ℕ). HasEntered i (Act (Join m.group)) x y) is (subst (λ (h : List ℕ). HasEntered n (Act (Join h)) x y) named h))
 
-all_append : (numbers : List ℕ) (all more : List Membership) → AllByRecursion (HasNumber numbers) all → AllByRecursion (HasNumber numbers) more → AllByRecursion (HasNumber numbers) (all ++ more)
-all_append numbers [] more h k = k
-all_append numbers (m ∷ all) more h k = (h.0, all_append numbers all more h.1 k)
-
 pub joined_then : (numbers : List ℕ) (all more : List Membership) (x y z : NodeValue) → HaveJoined numbers all x y → HaveJoined numbers more y z → HaveJoined numbers (all ++ more) x z
 joined_then numbers all more x y z h k = record {
   seats = h.seats ++ k.seats;
   held = map-append held_by h.seats k.seats ∙ ap (λ l. l ++ map held_by k.seats) h.held ∙ ap (λ l. map (renumbered numbers) all ++ l) k.held ∙ sym (map-append (renumbered numbers) all more);
-  numbered = all_append numbers all more h.numbered k.numbered;
+  numbered = all_both (HasNumber numbers) all more h.numbered k.numbered;
+  made = subst (AllByRecursion (IsMade x)) (sym (map-append seat_entry h.seats k.seats))
+      (all_both (IsMade x) (map seat_entry h.seats) (map seat_entry k.seats) h.made (made_before x y (map seat_entry k.seats) h.alike h.clients k.made));
   alike = alike_then x y z h.alike k.alike;
   clients = k.clients ∙ h.clients;
   begun = λ es b. subst (IsBegun z) (append_assoc es (map seat_entry h.seats) (map seat_entry k.seats) ∙ ap (λ l. es ++ l) (sym (map-append seat_entry h.seats k.seats))) (k.begun (es ++ map seat_entry h.seats) (h.begun es b));
@@ -253,13 +255,14 @@ joined_more numbers all i m x y z within is h k =
 -- ---- rules
 
 pub put_none : (root : Root) (x : NodeValue) → HasPut root [] x x
-put_none root x = record { alike = alike_same x; clients = refl; begun = λ es r b. subst (IsBegun x) (sym (append-nil es)) b }
+put_none root x = record { made = λ r. tt; alike = alike_same x; clients = refl; begun = λ es r b. subst (IsBegun x) (sym (append-nil es)) b }
 
 pub root_still : (root : Root) (x y : NodeValue) → IsAlike x y → y.clients ≡ x.clients → IsRoot root x → IsRoot root y
 root_still root x y alike clients h = (h.0 ∙ sym alike.number, (h.1.0, ap (λ (cs : List Client). if_open (item cs root.conn)) clients ∙ h.1.1))
 
 pub put_then : (root : Root) (early late : List Entry) (x y z : NodeValue) → HasPut root early x y → HasPut root late y z → HasPut root (early ++ late) x z
 put_then root early late x y z h k = record {
+  made = λ r. all_both (IsMade x) early late (h.made r) (made_before x y late h.alike h.clients (k.made (root_still root x y h.alike h.clients r)));
   alike = alike_then x y z h.alike k.alike;
   clients = k.clients ∙ h.clients;
   begun = λ es r b. subst (IsBegun z) (append_assoc es early late) (k.begun (es ++ early) (root_still root x y h.alike h.clients r) (h.begun es r b));
@@ -267,6 +270,7 @@ put_then root early late x y z h k = record {
 
 pub put_one : (root : Root) (group : List ℕ) (index at : ℕ) (rule : Rule) (x y : NodeValue) → at ≡ index → HasEntered root.conn (Act (Insert group at rule)) x y → HasPut root (root_entry root group index rule ∷ []) x y
 put_one root group index at rule x y is h = record {
+  made = λ r. (subst (IsMade x) (same r.0 r.1.0) (made_by x root.conn (record { pid = root.pid; cred = record { uid = 0; gid = 0 }; ended = false; taken = r.1.0 }) (Act (Insert group at rule)) r.1.1 h.taken), tt);
   alike = h.alike;
   clients = h.clients;
   begun = λ es r b. subst (λ (e : Entry). IsBegun y (es ++ e ∷ [])) (same r.0 r.1.0)

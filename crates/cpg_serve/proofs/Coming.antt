@@ -1,22 +1,23 @@
 -- What is told in the end stays, however far it was told.
-use Rattle.std.proofs.Common.{◌≡◌, ◌≢◌, ◌≤◌, ℕ, zero, suc, Bool, true, false, cond, is_some, List, [], ◌∷◌, ◌++◌, length, drop, Option, Some, None, refl, sym, ap, subst, ◌∙◌, append_assoc, append-nil}
+use Rattle.std.proofs.Common.{◌≡◌, ◌≢◌, ◌≤◌, ℕ, zero, suc, Bool, true, false, cond, is_some, List, [], ◌∷◌, ◌++◌, map, length, drop, set, Option, Some, None, refl, sym, ap, subst, ◌∙◌, append_assoc, append-nil}
 use Rattle.std.specs.Prelude.{option_to_list, option_map}
 use Rattle.std.specs.List.{flat_map, fold, slice_get}
 use Rattle.std.proofs.lemmas.Grind.{flat_map-append}
 use Rattle.std.proofs.lemmas.List.Sums.{fold-append}
 use Rattle.std.proofs.lemmas.Option.{none-some, same_Some, slice_get_within}
 use Rattle.cpg_ring.specs.Worlds.{item, with_item}
-use Rattle.cpg_ring.proofs.Lists.{item_with_same, item_with_other, length-with_item}
+use Rattle.cpg_ring.proofs.Lists.{item_with_same, item_with_other}
 use Rattle.cpg_record.specs.declared.events.Event.{Event}
 use Rattle.cpg_node.specs.declared.connections.Client.{Client}
 use Rattle.cpg_node.specs.Nodes.{NodeValue, inbox_of, open_client, if_open, asker_by}
-use Rattle.cpg_node.specs.Calls.{next_event, took, node_after_take, counted, with_client}
+use Rattle.cpg_node.specs.Calls.{next_event, node_after_take, counted, with_client}
 use Rattle.cpg_ask.specs.Tells.{Tell, tell_bytes}
+use Rattle.cpg_ask.proofs.Mapped.{length_mapped}
 use Rattle.cpg_serve.specs.declared.desks.Owed.{Owed}
 use Rattle.cpg_serve.specs.Answering.{asker_of}
 use Rattle.cpg_serve.specs.Telling.{DeskValue, tells, event_tell, owed_after, bytes_of, spelled}
 use Rattle.cpg_serve.specs.Asking.{At, at_of, IsAt}
-use Rattle.cpg_serve.specs.Coming.{rest_of, left_of, IsCounted, GoesOn, next_by, next_of, fetched}
+use Rattle.cpg_serve.specs.Coming.{anew, rest_of, left_of, IsCounted, GoesOn, next_by, next_of, fetched}
 
 -- ---- spelling the event that was taken
 
@@ -115,18 +116,27 @@ spelled_one conn x y d e f empty some h is =
           ∙ ap (λ (k : DeskValue). suc (length (left_of conn (at_of y k)))) (sym is),
     )
 
--- ---- as many connections as before
+-- ---- the same connections as before, but for what they took
 
-counted_count : (x : NodeValue) (conn : ℕ) (c : Client) (next : Option Event) → length (counted x conn c next).clients ≡ length x.clients
-counted_count x conn c None = refl
-counted_count x conn c (Some event) = length-with_item x.clients conn (record c { taken = suc c.taken })
+set_anew : (cs : List Client) (i : ℕ) (c k : Client) → slice_get cs i ≡ Some c → anew k ≡ anew c → map anew (set cs i k) ≡ map anew cs
+set_anew [] i c k at same = absurd (none-some c at)
+set_anew (d ∷ cs) zero c k at same = ap (λ (a : Client). a ∷ map anew cs) (same ∙ ap anew (sym (same_Some d c at)))
+set_anew (d ∷ cs) (suc i) c k at same = ap (λ (l : List Client). anew d ∷ l) (set_anew cs i c k at same)
 
-count_by : (x : NodeValue) (conn : ℕ) (o : Option Client) → length (node_after_take x conn o).clients ≡ length x.clients
-count_by x conn None = refl
-count_by x conn (Some c) = counted_count x conn c (next_event x conn c)
+with_anew : (cs : List Client) (conn : ℕ) (c k : Client) → item cs conn ≡ Some c → anew k ≡ anew c → map anew (with_item cs conn k) ≡ map anew cs
+with_anew cs zero c k at same = refl
+with_anew cs (suc i) c k at same = set_anew cs i c k at same
 
-pub took_count : (x : NodeValue) (conn : ℕ) → length (took x conn).clients ≡ length x.clients
-took_count x conn = count_by x conn (open_client x conn)
+pub counted_anew : (x : NodeValue) (conn : ℕ) (c : Client) (next : Option Event) → open_client x conn ≡ Some c → map anew (counted x conn c next).clients ≡ map anew x.clients
+counted_anew x conn c None found = refl
+counted_anew x conn c (Some event) found = with_anew x.clients conn c (record c { taken = suc c.taken }) (open_is (item x.clients conn) c found).0 refl
+
+took_anew : (x : NodeValue) (conn : ℕ) (o : Option Client) → open_client x conn ≡ o → map anew (node_after_take x conn o).clients ≡ map anew x.clients
+took_anew x conn None e = refl
+took_anew x conn (Some c) e = counted_anew x conn c (next_event x conn c) e
+
+pub goes_count : (conn : ℕ) (s t : At) → GoesOn conn s t → length t.node.clients ≡ length s.node.clients
+goes_count conn s t h = sym (length_mapped anew t.node.clients) ∙ ap (λ (l : List Client). length l) h.clients ∙ length_mapped anew s.node.clients
 
 -- ---- the client goes on as before
 
@@ -137,7 +147,7 @@ tells_then owed (e ∷ es) more =
     ∙ sym (append_assoc (option_to_list (event_tell (slice_get owed 0) e)) (tells (owed_after owed e) es) (tells (fold owed_after (owed_after owed e) es) more))
 
 pub goes_same : (conn : ℕ) (s : At) → GoesOn conn s s
-goes_same conn s = record { first = []; left = refl; owed = refl; out = sym (append-nil s.desk.out); ring = refl; count = refl; counted = λ h. h; asker = refl; greeting = refl; others = λ other h. refl }
+goes_same conn s = record { first = []; left = refl; owed = refl; out = sym (append-nil s.desk.out); ring = refl; clients = refl; counted = λ h. h; asker = refl; greeting = refl; others = λ other h. refl }
 
 pub goes_then : (conn : ℕ) (s t u : At) → GoesOn conn s t → GoesOn conn t u → GoesOn conn s u
 goes_then conn s t u h k =
@@ -151,7 +161,7 @@ goes_then conn s t u h k =
           ∙ ap (λ (o : List Owed). s.desk.out ++ (one ++ flat_map tell_bytes (tells o k.first))) h.owed
           ∙ ap (λ (l : List ℕ). s.desk.out ++ l) (sym (ap (flat_map tell_bytes) (tells_then s.desk.owed h.first k.first) ∙ flat_map-append tell_bytes (tells s.desk.owed h.first) (tells (fold owed_after s.desk.owed h.first) k.first)));
       ring = k.ring ∙ h.ring;
-      count = k.count ∙ h.count;
+      clients = k.clients ∙ h.clients;
       counted = λ c. k.counted (h.counted c);
       asker = k.asker ∙ h.asker;
       greeting = k.greeting ∙ h.greeting;
@@ -166,7 +176,7 @@ goes_by conn x d (Some event) e = record {
   owed = refl;
   out = ap (λ (l : List ℕ). d.out ++ l) (sym (flat_option (event_tell (slice_get d.owed 0) event) [] ∙ append-nil (bytes_of (event_tell (slice_get d.owed 0) event))));
   ring = refl;
-  count = refl;
+  clients = refl;
   counted = λ h. h;
   asker = refl;
   greeting = refl;
@@ -226,7 +236,7 @@ goes_took conn s e = record {
   owed = refl;
   out = sym (append-nil s.desk.out);
   ring = ring_by s.node conn (open_client s.node conn);
-  count = took_count s.node conn;
+  clients = took_anew s.node conn (open_client s.node conn) refl;
   counted = counted_by s.node conn (open_client s.node conn) refl;
   asker = asker_by_take s.node conn (open_client s.node conn) refl;
   greeting = refl;

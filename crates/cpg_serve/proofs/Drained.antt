@@ -1,12 +1,9 @@
 -- Connections take all that the ring tells them so far.
-use Rattle.std.proofs.Common.{◌≡◌, ◌≢◌, ◌⊎◌, ◌≤◌, ◌<◌, ℕ, zero, suc, Bool, true, false, is_some, List, [], ◌∷◌, ◌++◌, map, length, set, Option, Some, None, Ok, Err, Result, refl, sym, ap, subst, ◌∙◌, arith, ⊎_elim}
+use Rattle.std.proofs.Common.{◌≡◌, ◌≢◌, ◌⊎◌, ◌≤◌, ◌<◌, ℕ, zero, suc, Bool, true, false, is_some, List, [], ◌∷◌, ◌++◌, length, Option, Some, None, Ok, Err, Result, refl, sym, ap, subst, ◌∙◌, arith, ⊎_elim}
 use Rattle.std.specs.Prelude.{option_to_list}
-use Rattle.std.specs.List.{slice_get}
 use Rattle.std.proofs.lemmas.Bool.{cases_eq}
-use Rattle.std.proofs.lemmas.Option.{none-some, same_Some}
 use Rattle.cpg_record.specs.declared.events.Event.{Event}
 use Rattle.cpg_cred.specs.declared.refusals.Refusal.{Refusal}
-use Rattle.cpg_ring.specs.Worlds.{item, with_item}
 use Rattle.cpg_ring.proofs.Lists.{item_with_other}
 use Rattle.cpg_node.specs.declared.connections.Client.{Client}
 use Rattle.cpg_node.specs.Nodes.{NodeValue, if_open, open_client}
@@ -16,9 +13,9 @@ use Rattle.cpg_ask.specs.declared.greetings.Greeting.{Greeting}
 use Rattle.cpg_serve.specs.Telling.{new_desk}
 use Rattle.cpg_serve.specs.Asking.{at_of}
 use Rattle.cpg_serve.specs.Coming.{IsCounted, IsTold, next_by, next_of, rest_of}
-use Rattle.cpg_serve.specs.Carrying.{HasGiven, HasTaken, HaveGiven, anew, rest_for}
+use Rattle.cpg_serve.specs.Carrying.{HasGiven, HasTaken, HaveGiven, rest_for}
 use Rattle.cpg_serve.specs.Stories.{IsQuiet}
-use Rattle.cpg_serve.proofs.Coming.{counted_counted, fetched_left, none_left, open_is}
+use Rattle.cpg_serve.proofs.Coming.{counted_anew, counted_counted, fetched_left, none_left}
 use Rattle.cpg_serve.proofs.Noted.{inbox_quiet, rest_quiet}
 
 pub taken_none : (conn : ℕ) (x : NodeValue) → HasTaken conn x x
@@ -33,21 +30,12 @@ taken_then conn x y z h k = record {
   others = λ other apart. k.others other apart ∙ h.others other apart;
 }
 
-set_anew : (cs : List Client) (i : ℕ) (c k : Client) → slice_get cs i ≡ Some c → anew k ≡ anew c → map anew (set cs i k) ≡ map anew cs
-set_anew [] i c k at same = absurd (none-some c at)
-set_anew (d ∷ cs) zero c k at same = ap (λ (a : Client). a ∷ map anew cs) (same ∙ ap anew (sym (same_Some d c at)))
-set_anew (d ∷ cs) (suc i) c k at same = ap (λ (l : List Client). anew d ∷ l) (set_anew cs i c k at same)
-
-with_anew : (cs : List Client) (conn : ℕ) (c k : Client) → item cs conn ≡ Some c → anew k ≡ anew c → map anew (with_item cs conn k) ≡ map anew cs
-with_anew cs zero c k at same = refl
-with_anew cs (suc i) c k at same = set_anew cs i c k at same
-
 took_by : (conn : ℕ) (x : NodeValue) (c : Client) (next : Option Event) → open_client x conn ≡ Some c → next_event x conn c ≡ next → HasTaken conn x (counted x conn c next)
 took_by conn x c None e is = taken_none conn x
 took_by conn x c (Some event) e is = record {
   ring = refl;
   list = refl;
-  clients = with_anew x.clients conn c (record c { taken = suc c.taken }) (open_is (item x.clients conn) c e).0 refl;
+  clients = counted_anew x conn c (Some event) e;
   counted = counted_counted x conn c (Some event) e is;
   others = λ other apart. item_with_other x.clients conn other (record c { taken = suc c.taken }) apart;
 }

@@ -4,6 +4,7 @@ pub mod Growing
 pub mod Noted
 pub mod Kept
 pub mod Running
+pub mod Owned
 pub mod Gone
 pub mod Renewed
 pub mod Seated
@@ -30,7 +31,7 @@ pub mod Over
 pub mod Refused
 pub mod Unbegun
 pub mod Lives
-pub mod Known
 pub mod Entered
 pub mod Alone
+pub mod There
 pub mod Answered

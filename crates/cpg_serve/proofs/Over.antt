@@ -1,16 +1,17 @@
 -- Each client goes over to the next ring, with its desk.
 use Rattle.std.proofs.Common.{◌≡◌, ◌+◌, ℕ, zero, suc, Bool, true, false, not, List, [], ◌∷◌, ◌++◌, map, Option, Some, None, option_map, option_to_list, refl, sym, ap, ◌∙◌, arith, if◌then◌else◌}
 use Rattle.std.specs.List.{slice_get}
-use Rattle.std.proofs.lemmas.Option.{none-some, same_Some, slice_get-map}
+use Rattle.std.proofs.lemmas.Option.{none-some, slice_get-map}
 use Rattle.cpg_record.specs.declared.events.Event.{Event}
 use Rattle.cpg_ring.specs.Worlds.{item}
 use Rattle.cpg_node.specs.declared.connections.Client.{Client}
 use Rattle.cpg_node.specs.Nodes.{if_open, open_client}
 use Rattle.cpg_serve.specs.Telling.{DeskValue, new_desk}
-use Rattle.cpg_serve.specs.Coming.{rest_of}
-use Rattle.cpg_serve.specs.Carrying.{EachGoesOver, anew, greeted, kept_desks, living, number_at, number_in, numbered, own_client}
+use Rattle.cpg_serve.specs.Coming.{anew, rest_of}
+use Rattle.cpg_serve.specs.Carrying.{EachGoesOver, greeted, kept_desks, living, number_at, number_in, numbered, own_client}
 use Rattle.cpg_serve.proofs.Coming.{open_is}
 use Rattle.cpg_serve.proofs.Moved.{kept_first}
+use Rattle.cpg_serve.proofs.Owned.{open_anew}
 
 -- the place at which a client and its desk are among those that go over
 record AtPlace (numbers : List ℕ) (alive : List Client) (kept : List DeskValue) (n i : ℕ) (c : Client) (d : DeskValue) : Type 0 where
@@ -34,13 +35,6 @@ at_place n (k ∷ cs) (d0 ∷ ds) (suc i) c d e f = by_end k.ended (at_place n c
         → AtPlace (if b then 0 ∷ numbered n cs else suc n ∷ numbered (suc n) cs) (if not b then k ∷ living cs else living cs) (kept_desks (if b then 0 ∷ numbered n cs else suc n ∷ numbered (suc n) cs) (d0 ∷ ds)) n (suc i) c d
     by_end true h l = record { place = h.place; number = h.number; client = h.client; desk = h.desk }
     by_end false h l = record { place = suc l.place; number = omega (arith, l.number); client = l.client; desk = ap (λ (ks : List DeskValue). slice_get ks (suc l.place)) (kept_first n (numbered (suc n) cs) d0 ds) ∙ l.desk }
-
--- an open client is open where it is as that one, but for what it took
-pub open_anew : (o : Option Client) (c : Client) → c.ended ≡ false → option_map anew o ≡ Some (anew c) → option_map anew (if_open o) ≡ Some (anew c)
-open_anew None c alive e = absurd (none-some (anew c) e)
-open_anew (Some k) c alive e =
-    let same : anew k ≡ anew c = same_Some (anew k) (anew c) e in
-    ap (λ (b : Bool). option_map anew (if b then None else Some k)) (ap (λ (l : Client). l.ended) same ∙ alive) ∙ e
 
 nothing_taken : (o : Option Event) (rest : List Event) → option_to_list o ++ rest ≡ [] → o ≡ None
 nothing_taken None rest e = refl

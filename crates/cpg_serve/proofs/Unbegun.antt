@@ -2,7 +2,7 @@
 use Rattle.std.proofs.Common.{◌≡◌, ◌⊎◌, ◌<◌, ◌≤◌, ◌+◌, ℕ, zero, suc, Bool, true, false, not, List, [], ◌∷◌, ◌++◌, map, length, take, min, Option, Some, None, option_map, Ok, Err, Result, IfErr, refl, sym, ap, subst, ◌∙◌, inl, inr, ⊎_elim, arith, if◌then◌else◌}
 use Rattle.std.specs.List.{AllByRecursion, slice_get}
 use Rattle.std.proofs.Math.Seq.{take-length}
-use Rattle.std.proofs.lemmas.Option.{none-some, same_Some, slice_get-map}
+use Rattle.std.proofs.lemmas.Option.{none-some, slice_get-map}
 use Rattle.cpg_cred.specs.Listed.{Listed}
 use Rattle.cpg_cred.specs.declared.refusals.Refusal.{Refusal}
 use Rattle.cpg_cred.specs.declared.refusals.Refusal.TheVariants as refusal
@@ -21,13 +21,14 @@ use Rattle.cpg_node.specs.Nodes.{NodeValue, if_open, new_value, open_client, rec
 use Rattle.cpg_node.specs.Calls.{connect_refusal}
 use Rattle.cpg_ask.proofs.Mapped.{length_mapped}
 use Rattle.cpg_serve.specs.Renewing.{Root, all_inserts, held_by, seat_entry}
-use Rattle.cpg_serve.specs.Carrying.{AreLetIn, AreOfOne, HasPut, HaveConnected, HaveJoined, IsBegun, IsFirst, IsRoot, anew, living, number_at, number_in, numbered, renumbered, table_of, tables_in}
+use Rattle.cpg_serve.specs.Coming.{anew}
+use Rattle.cpg_serve.specs.Carrying.{AreLetIn, AreOfOne, HasPut, HaveConnected, HaveJoined, IsBegun, IsFirst, IsRoot, living, number_at, number_in, numbered, renumbered, table_of, tables_in}
 use Rattle.cpg_serve.specs.Serving.{ServedValue}
 use Rattle.cpg_serve.specs.Settling.{WhyMoving}
 use Rattle.cpg_serve.specs.Refusals.{HasName, IsHeld, IsNamed, IsSeated, WhyNotBegun, WhyNotConnected, WhyNotFirst, WhyNotJoined, WhyNotPut, WhyNotRenewed, WhyShort, entry_count, rule_count}
 use Rattle.cpg_serve.proofs.Begun.{connected_count}
 use Rattle.cpg_serve.proofs.Coming.{open_is}
-use Rattle.cpg_serve.proofs.Over.{open_anew}
+use Rattle.cpg_serve.proofs.Owned.{open_anew, open_back}
 use Rattle.cpg_serve.proofs.Refused.{put_grows, root_part_why}
 use Rattle.cpg_serve.proofs.Whole.{IsOpen, all_numbered, all_open, begun_ring, first_begun, first_open, is_root, open_still, root}
 
@@ -96,11 +97,6 @@ is_among n (k ∷ cs) (suc i) c e = by_end k.ended (is_among n cs i c e) (is_amo
     by_end : (b : Bool) → IsAmong (numbered n cs) (living cs) n i c → IsAmong (numbered (suc n) cs) (living cs) (suc n) i c → IsAmong (if b then 0 ∷ numbered n cs else suc n ∷ numbered (suc n) cs) (if not b then k ∷ living cs else living cs) n (suc i) c
     by_end true h l = record { place = h.place; number = h.number; client = h.client }
     by_end false h l = record { place = suc l.place; number = omega (arith, l.number); client = l.client }
-
--- what a client that is open but for what it took is
-open_back : (o : Option Client) (c : Client) → option_map anew o ≡ Some (anew c) → (d : Client) × (o ≡ Some d) × (d.pid ≡ c.pid)
-open_back None c e = absurd (none-some (anew c) e)
-open_back (Some d) c e = (d, refl, ap (λ (k : Client). k.pid) (same_Some (anew d) (anew c) e))
 
 -- it is open at the next ring's node, too
 still_open : (s : Settings) (list : Listed) (cs : List Client) (y : NodeValue) (conn : ℕ) (c : Client) → IsOpen s list cs y → if_open (item cs conn) ≡ Some c → option_map anew (open_client y (number_at (numbered 1 cs) conn)) ≡ Some (anew c)

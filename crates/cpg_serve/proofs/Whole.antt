@@ -1,12 +1,12 @@
 -- The node of the next ring, once all is done.
-use Rattle.std.proofs.Common.{◌≡◌, ◌≤◌, ◌<◌, ◌+◌, ◌-◌, ◌^◌, ◌⊎◌, inl, inr, min, ℕ, zero, suc, Bool, true, false, List, [], ◌∷◌, ◌++◌, map, length, take, drop, Option, Some, None, refl, sym, ap, subst, ◌∙◌, arith, ⊎_elim, not, if◌then◌else◌}
+use Rattle.std.proofs.Common.{◌≡◌, ◌≤◌, ◌<◌, ◌+◌, ◌-◌, ◌^◌, ◌⊎◌, inl, inr, min, ℕ, zero, suc, Bool, true, false, List, [], ◌∷◌, ◌++◌, map, length, take, drop, get_or, Option, Some, None, refl, sym, ap, subst, ◌∙◌, arith, ⊎_elim, not, if◌then◌else◌}
 use Rattle.std.specs.List.{AllByRecursion, slice_get}
 use Rattle.std.specs.FinMap.{get-empty}
 use Rattle.std.specs.Ordering.{nat_cmp}
 use Rattle.std.specs.Prelude.{option_map}
 use Rattle.std.proofs.lemmas.Bool.{cases_lt}
 use Rattle.std.proofs.Math.Seq.{take-length}
-use Rattle.std.proofs.lemmas.Option.{none-some, same_Some}
+use Rattle.std.proofs.lemmas.Option.{none-some, same_Some, slice_get-map, slice_get_cases}
 use Rattle.cpg_cred.specs.declared.credentials.Cred.{Cred}
 use Rattle.cpg_cred.specs.Listed.{Listed}
 use Rattle.cpg_entry.specs.declared.calls.Op.TheVariants.{Gone}
@@ -24,15 +24,15 @@ use Rattle.cpg_node.specs.declared.connections.Client.{Client}
 use Rattle.cpg_node.specs.Nodes.{NodeValue, delivered_entries, entry_by, if_open, inbox_of, new_value, open_client, records_of}
 use Rattle.cpg_node.specs.Calls.{connected}
 use Rattle.cpg_ask.proofs.Mapped.{length_mapped}
-use Rattle.cpg_serve.specs.Coming.{rest_of}
+use Rattle.cpg_serve.specs.Coming.{anew, rest_of}
 use Rattle.cpg_serve.specs.Renewing.{Root, Seat, all_inserts, held_by, renewal, seat_entry}
 use Rattle.cpg_serve.specs.Settling.{IsAlike, IsLone, IsStill}
-use Rattle.cpg_serve.specs.Carrying.{AreCounted, AreLetIn, AreOfOne, HasNumber, HasParted, HasPut, HasPutAll, HaveConnected, HaveGiven, HaveJoined, IsBegun, IsFirst, IsFresh, IsNext, IsRoot, KeepsAll, anew, living, next_entries, numbered, own_client, renumbered, rest_for, root_end, table_of, tables_in}
+use Rattle.cpg_serve.specs.Carrying.{AreCounted, AreItsOwn, AreLetIn, AreOfOne, HasNumber, HasParted, HasPut, HasPutAll, HaveConnected, HaveGiven, HaveJoined, IsBegun, IsFirst, IsFresh, IsMade, IsNext, IsRoot, KeepsAll, living, next_entries, numbered, own_client, renumbered, rest_for, root_end, table_of, tables_in}
 use Rattle.cpg_serve.proofs.Begun.{root_still}
 use Rattle.cpg_serve.proofs.Carried.{next_keeps_all}
 use Rattle.cpg_serve.proofs.Coming.{open_is}
-use Rattle.cpg_serve.proofs.Known.{next_within}
 use Rattle.cpg_serve.proofs.Lone.{delivered_is, lone_new}
+use Rattle.cpg_serve.proofs.Owned.{all_both, follows_end, follows_on, made_by, made_on, made_still, own_on, own_still}
 use Rattle.cpg_serve.proofs.Running.{within}
 use Rattle.cpg_serve.proofs.Turns.{none_next}
 
@@ -210,6 +210,61 @@ tables_put s list cs rs seats x y h k b = by_put k.0 (k.1 root refl) k.2
     by_put z put parted = root_gone s list cs (map seat_entry seats ++ all_inserts root (map (table_of rs) (tables_in rs))) z y
         (open_still s list cs x z put.alike put.clients h) parted (put.begun (map seat_entry seats) (is_root s list cs x h) b)
 
+-- ---- the entries with which the next ring begins
+
+living_alive : (cs : List Client) (i : ℕ) (c : Client) → slice_get (living cs) i ≡ Some c → c.ended ≡ false
+living_alive [] i c e = absurd (none-some c e)
+living_alive (k ∷ cs) i c e = by_end k.ended refl i e (λ j f. living_alive cs j c f)
+  where
+    by_end : (b : Bool) → k.ended ≡ b → (i : ℕ) → slice_get (if not b then k ∷ living cs else living cs) i ≡ Some c → ((j : ℕ) → slice_get (living cs) j ≡ Some c → c.ended ≡ false) → c.ended ≡ false
+    by_end true is i e later = later i e
+    by_end false is zero e later = subst (λ (m : Client). m.ended ≡ false) (same_Some k c e) is
+    by_end false is (suc i) e later = later i e
+
+open_alive : (cs : List Client) (i : ℕ) (c : Client) → slice_get (own_open ∷ living cs) i ≡ Some c → c.ended ≡ false
+open_alive cs zero c e = subst (λ (m : Client). m.ended ≡ false) (same_Some own_open c e) refl
+open_alive cs (suc i) c e = living_alive cs i c e
+
+-- all connections are open before the daemon's own ends
+none_closed : (s : Settings) (list : Listed) (cs : List Client) (x : NodeValue) (conn : ℕ) → IsOpen s list cs x → 1 ≤ conn → conn ≤ length x.clients → open_client x conn ≡ None → ⊥
+none_closed s list cs x zero h some low closed = omega (arith, some)
+none_closed s list cs x (suc i) h some low closed = ⊎_elim
+    (λ (there : (c : Client) × (i < length x.clients) × (slice_get x.clients i ≡ Some c) × (get_or x.clients i c ≡ c)). by_client there.0 there.2 (slice_get (own_open ∷ living cs) i) refl
+    (ap (option_map anew) (sym there.2) ∙ sym (slice_get-map anew x.clients i) ∙ ap (λ (l : List Client). slice_get l i) h.clients ∙ slice_get-map anew (own_open ∷ living cs) i))
+    (λ (past : (length x.clients ≤ i) × (slice_get x.clients i ≡ None)). omega (arith, past.0, low))
+    (slice_get_cases x.clients i).1
+  where
+    by_client : (c : Client) → slice_get x.clients i ≡ Some c → (o : Option Client) → slice_get (own_open ∷ living cs) i ≡ o → Some (anew c) ≡ option_map anew o → ⊥
+    by_client c there None is same = none-some (anew c) (sym same)
+    by_client c there (Some k) is same =
+        let alive : c.ended ≡ false = ap (λ (m : Client). m.ended) (same_Some (anew c) (anew k) same) ∙ open_alive cs i k is in
+        none-some c (sym closed ∙ ap if_open there ∙ ap (λ b. if b then None else Some c) alive)
+
+root_own : (s : Settings) (list : Listed) (cs : List Client) (es : List Entry) (x y : NodeValue) → IsOpen s list cs x → HasParted 1 x y → AreItsOwn x es → AreItsOwn y (es ++ root_end root ∷ [])
+root_own s list cs es x y h k own = by_root (is_root s list cs x h).1
+  where
+    by_root : ((taken : ℕ) × (open_client x 1 ≡ Some (own_at false taken))) → AreItsOwn y (es ++ root_end root ∷ [])
+    by_root r =
+        let end : List Entry = entry_by x 1 (own_at false r.0) Gone ∷ [] in
+        let f = follows_end 1 x y (own_at false r.0) r.1 (k.clients (own_at false r.0) r.1) k.alike.number in
+        subst (AreItsOwn y) (ended_entry r.0 es x h.number) (own_on x y es end f (made_on x y end end f (made_by x 1 (own_at false r.0) Gone r.1 tt, tt)) own)
+
+-- the next ring's own connections made them
+next_own : (s : Settings) (list : Listed) (cs : List Client) (rs : List Record) (seats : List Seat) (x y : NodeValue) → IsOpen s list cs x → HasPutAll rs x y → AllByRecursion (IsMade x) (map seat_entry seats) → AreItsOwn y (next_entries seats root rs)
+next_own s list cs rs seats x y h k made = by_put k.0 (k.1 root refl) k.2
+  where
+    puts : List Entry
+    puts = all_inserts root (map (table_of rs) (tables_in rs))
+
+    by_put : (z : NodeValue) → HasPut root puts x z → HasParted 1 z y → AreItsOwn y (next_entries seats root rs)
+    by_put z put parted =
+        let opened = open_still s list cs x z put.alike put.clients h in
+        let all = all_both (IsMade x) (map seat_entry seats) puts made (put.made (is_root s list cs x h)) in
+        root_own s list cs (map seat_entry seats ++ puts) z y opened parted
+        (record { made = made_still x z (map seat_entry seats ++ puts) put.alike put.clients all; ended = λ conn some low closed. absurd (none_closed s list cs z conn opened some low closed) })
+
+-- ---- the node of the next ring
+
 keeps_of : (es : List Entry) (cs : List Client) (seats : List Seat) (y : NodeValue) → AllByRecursion (HasNumber (numbered 1 cs)) (memberships (judged es)) → map held_by seats ≡ map (renumbered (numbered 1 cs)) (memberships (judged es))
     → IsBegun y (next_entries seats root (judged es)) → KeepsAll cs (judged es) (records_of y)
 keeps_of es cs seats y has held b =
@@ -217,15 +272,15 @@ keeps_of es cs seats y has held b =
 
 next_of_parts : (s : Settings) (list : Listed) (x y : NodeValue) (numbers : List ℕ) (seats : List Seat) → AreOfOne s → length x.clients ≤ MOST_CONNECTIONS → AreLetIn list x.clients → numbers ≡ numbered 1 x.clients → AllByRecursion (HasNumber (numbered 1 x.clients)) (memberships (records_of x))
     → map held_by seats ≡ map (renumbered (numbered 1 x.clients)) (memberships (records_of x)) → IsClosed s list x.clients y → IsBegun y (next_entries seats root (records_of x))
-    → ((conn : ℕ) → rest_for y conn ≡ []) → IsNext s list numbers x y
-next_of_parts s list x y numbers seats one few in_it nums has held closed begun given = record {
+    → AreItsOwn y (next_entries seats root (records_of x)) → ((conn : ℕ) → rest_for y conn ≡ []) → IsNext s list numbers x y
+next_of_parts s list x y numbers seats one few in_it nums has held closed begun own given = record {
   of_one = one;
   let_in = in_it;
   settings = closed.settings;
   lets_in = closed.lets_in;
   entries = next_entries seats root (records_of x);
   begun = begun;
-  known = subst (λ (n : ℕ). AllByRecursion (λ (e : Entry). e.conn ≤ n) (next_entries seats root (records_of x))) (sym count) (next_within x.clients seats root (memberships (records_of x)) (records_of x) refl held);
+  own = own;
   keeps = keeps_of (delivered_entries x.ring.state) x.clients seats y has held begun;
   renumbers = nums;
   clients = closed.clients;
@@ -233,9 +288,6 @@ next_of_parts s list x y numbers seats one few in_it nums has held closed begun 
   counted = closed.counted;
   given = given;
 }
-  where
-    count : length y.clients ≡ suc (length (living x.clients))
-    count = sym (length_mapped anew y.clients) ∙ ap (λ (l : List Client). length l) closed.clients ∙ ap suc (length_mapped anew (living x.clients))
 
 closed_still : (s : Settings) (list : Listed) (cs : List Client) (most : ℕ) (x y : NodeValue) → HaveGiven most x y → IsClosed s list cs x → IsClosed s list cs y
 closed_still s list cs most x y h k = record {
@@ -261,13 +313,16 @@ next_is s list x y0 y1 y2 y4 y5 last most numbers seen first few is conn same jo
     joined : HaveJoined numbers (memberships (records_of x)) y1 y2
     joined = subst (λ (l : List ℕ). HaveJoined l (memberships (records_of x)) y1 y2) same joins
 
-    by_numbers : AreLetIn list x.clients → numbers ≡ numbered 1 x.clients → IsClosed s list x.clients y4 × IsBegun y4 (next_entries joined.seats root (records_of x)) → IsNext s list numbers x y5
-    by_numbers in_it nums closed = next_of_parts s list x y5 numbers joined.seats first.0 (omega (arith, few, is)) in_it nums (subst (λ (l : List ℕ). AllByRecursion (HasNumber l) (memberships (records_of x))) nums joined.numbered)
+    by_numbers : AreLetIn list x.clients → numbers ≡ numbered 1 x.clients → IsClosed s list x.clients y4 × IsBegun y4 (next_entries joined.seats root (records_of x)) → AreItsOwn y4 (next_entries joined.seats root (records_of x)) → IsNext s list numbers x y5
+    by_numbers in_it nums closed own = next_of_parts s list x y5 numbers joined.seats first.0 (omega (arith, few, is)) in_it nums (subst (λ (l : List ℕ). AllByRecursion (HasNumber l) (memberships (records_of x))) nums joined.numbered)
         (joined.held ∙ ap (λ (l : List ℕ). map (renumbered l) (memberships (records_of x))) nums) (closed_still s list x.clients most y4 y5 given closed.0)
         (begun_ring y4 y5 (next_entries joined.seats root (records_of x)) given.ring closed.1)
+        (own_still y4 y5 (next_entries joined.seats root (records_of x)) (follows_on y4 y5 given.clients (ap (λ (r : RingNode). r.node) given.ring)) own)
         (none_more x y5 most (given.clients ∙ closed.0.clients) (closed_still s list x.clients most y4 y5 given closed.0).few (ends_at (length x.clients) last most is ends) given.given)
 
     by_connected : HaveConnected x.clients numbers y0 y1 → IsNext s list numbers x y5
-    by_connected h = by_numbers (subst (λ (l : Listed). AreLetIn l x.clients) (first_open s list y0 first).lets_in h.let_in) (all_numbered s list x.clients numbers y0 y1 (first_open s list y0 first) h)
-        (tables_put s list x.clients (records_of x) joined.seats y2 y4 (open_still s list x.clients y1 y2 joined.alike joined.clients (all_open s list x.clients numbers y0 y1 (first_open s list y0 first) h)) tables
-        (joined.begun [] (begun_ring y0 y1 [] h.ring (first_begun s list y0 first))))
+    by_connected h =
+        let opened : IsOpen s list x.clients y2 = open_still s list x.clients y1 y2 joined.alike joined.clients (all_open s list x.clients numbers y0 y1 (first_open s list y0 first) h) in
+        by_numbers (subst (λ (l : Listed). AreLetIn l x.clients) (first_open s list y0 first).lets_in h.let_in) (all_numbered s list x.clients numbers y0 y1 (first_open s list y0 first) h)
+        (tables_put s list x.clients (records_of x) joined.seats y2 y4 opened tables (joined.begun [] (begun_ring y0 y1 [] h.ring (first_begun s list y0 first))))
+        (next_own s list x.clients (records_of x) joined.seats y2 y4 opened tables (made_still y1 y2 (map seat_entry joined.seats) joined.alike joined.clients joined.made))

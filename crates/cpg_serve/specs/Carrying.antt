@@ -23,11 +23,11 @@ use Rattle.cpg_ring.specs.States.{IsSettings}
 use Rattle.cpg_ring.specs.Worlds.{item, with_item}
 use Rattle.cpg_node.specs.declared.connections.Client.{Client}
 use Rattle.cpg_node.specs.Nodes.{NodeValue, entry_by, new_value, open_client, records_of}
-use Rattle.cpg_node.specs.Calls.{connected}
+use Rattle.cpg_node.specs.Calls.{call_refusal, connected}
 use Rattle.cpg_ask.specs.declared.greetings.Greeting.{Greeting}
 use Rattle.cpg_serve.specs.Telling.{DeskValue, new_desk}
 use Rattle.cpg_serve.specs.Asking.{at_of}
-use Rattle.cpg_serve.specs.Coming.{IsCounted, left_of, rest_of}
+use Rattle.cpg_serve.specs.Coming.{IsCounted, anew, left_of, rest_of}
 use Rattle.cpg_serve.specs.Serving.{ServedValue, greeting_of}
 use Rattle.cpg_serve.specs.Renewing.{Root, Seat, TableOf, all_inserts, bare, held_by, renewal, seat_entry}
 use Rattle.cpg_serve.specs.Settling.{IsAlike, IsLone, IsStill, MovesOn, ToldAll}
@@ -118,13 +118,36 @@ pub record IsBegun (x : NodeValue) (entries : List Entry) : Type 0 where
   pub hop : token.hop ≤ length entries
   pub lone : IsLone x.ring token entries
 
--- the entry is of a connection that the node gave out
-abbrev pub IsKnown : NodeValue → Entry → Type 0
-IsKnown x e = e.conn ≤ length x.clients
+-- a call that a node takes, or an end
+abbrev pub IsTaken : Op → Type 0
+IsTaken (Act call) = call_refusal call ≡ None
+IsTaken Gone = Unit {0}
 
--- a client that took nothing yet
-abbrev pub anew : Client → Client
-anew c = record { pid = c.pid; cred = c.cred; ended = c.ended; taken = 0 }
+-- The node takes such an entry, and a connection of its own made it, as the process that it is while it is open.
+pub record IsMade (x : NodeValue) (e : Entry) : Type 0 where
+  pub taken : IsTaken e.op
+  pub node : e.node ≡ x.ring.node
+  pub known : (1 ≤ e.conn) × (e.conn ≤ length x.clients)
+  pub process : (c : Client) → open_client x e.conn ≡ Some c → c.pid ≡ e.pid
+
+-- the entry is not the connection's
+abbrev pub IsOther : ℕ → Entry → Type 0
+IsOther conn e = e.conn ≢ conn
+
+-- The last of the connection's entries is its end.
+pub record EndsIn (entries : List Entry) (conn : ℕ) : Type 0 where
+  pub before : List Entry
+  pub end : Entry
+  pub after : List Entry
+  pub cut : entries ≡ before ++ end ∷ after
+  pub own : end.conn ≡ conn
+  pub gone : end.op ≡ Gone
+  pub others : AllByRecursion (IsOther conn) after
+
+-- The node's own connections made all these entries, and each that ended has its end as the last of them.
+pub record AreItsOwn (x : NodeValue) (entries : List Entry) : Type 0 where
+  pub made : AllByRecursion (IsMade x) entries
+  pub ended : (conn : ℕ) → 1 ≤ conn → conn ≤ length x.clients → open_client x conn ≡ None → EndsIn entries conn
 
 -- it took nothing
 abbrev pub IsFresh : Client → Type 0
@@ -163,6 +186,7 @@ kept_desks _ _ = []
 
 -- The connection's entry was made, placed and delivered.
 pub record HasEntered (conn : ℕ) (op : Op) (x y : NodeValue) : Type 0 where
+  pub taken : IsTaken op
   pub alike : IsAlike x y
   pub clients : y.clients ≡ x.clients
   pub begun : (es : List Entry) (c : Client) → open_client x conn ≡ Some c → IsBegun x es → IsBegun y (es ++ entry_by x conn c op ∷ [])
@@ -193,6 +217,7 @@ pub record HaveJoined (numbers : List ℕ) (all : List Membership) (x y : NodeVa
   pub seats : List Seat
   pub held : map held_by seats ≡ map (renumbered numbers) all
   pub numbered : AllByRecursion (HasNumber numbers) all
+  pub made : AllByRecursion (IsMade x) (map seat_entry seats)
   pub alike : IsAlike x y
   pub clients : y.clients ≡ x.clients
   pub begun : (es : List Entry) → IsBegun x es → IsBegun y (es ++ map seat_entry seats)
@@ -203,6 +228,7 @@ IsRoot root x = (root.node ≡ x.ring.node) × ((taken : ℕ) × (open_client x 
 
 -- Entries of the daemon's own connection were made, placed and delivered.
 pub record HasPut (root : Root) (entries : List Entry) (x y : NodeValue) : Type 0 where
+  pub made : IsRoot root x → AllByRecursion (IsMade x) entries
   pub alike : IsAlike x y
   pub clients : y.clients ≡ x.clients
   pub begun : (es : List Entry) → IsRoot root x → IsBegun x es → IsBegun y (es ++ entries)
@@ -255,7 +281,7 @@ pub record IsNext (s : Settings) (list : Listed) (numbers : List ℕ) (x y : Nod
   pub let_in : AreLetIn list x.clients
   pub entries : List Entry
   pub begun : IsBegun y entries
-  pub known : AllByRecursion (IsKnown y) entries
+  pub own : AreItsOwn y entries
   pub keeps : KeepsAll x.clients (records_of x) (records_of y)
   pub renumbers : numbers ≡ numbered 1 x.clients
   pub clients : map anew y.clients ≡ own_client ∷ map anew (living x.clients)

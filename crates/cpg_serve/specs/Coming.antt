@@ -1,5 +1,5 @@
 -- What a node still has to tell a client, and all that the client is told in the end.
-use Rattle.std.specs.Prelude.{◌≡◌, ◌≢◌, ◌≤◌, ℕ, suc, Bool, true, false, List, [], ◌++◌, drop, length, Option, Some, None, option_to_list}
+use Rattle.std.specs.Prelude.{◌≡◌, ◌≢◌, ◌≤◌, ℕ, suc, Bool, true, false, List, [], ◌++◌, drop, length, map, Option, Some, None, option_to_list}
 use Rattle.std.specs.List.{flat_map, fold}
 use Rattle.cpg_ring.specs.Worlds.{item}
 use Rattle.cpg_record.specs.declared.events.Event.{Event}
@@ -41,6 +41,10 @@ IsTold false old new = new ≡ []
 abbrev pub IsCounted : ℕ → NodeValue → Type 0
 IsCounted conn x = (c : Client) → open_client x conn ≡ Some c → c.taken ≤ length (inbox_of x conn)
 
+-- a client that took nothing yet
+abbrev pub anew : Client → Client
+anew c = record { pid = c.pid; cred = c.cred; ended = c.ended; taken = 0 }
+
 -- The client was told the first events of what was left, and nothing else; the other connections are as they were.
 pub record GoesOn (conn : ℕ) (s t : At) : Type 0 where
   pub first : List Event
@@ -48,7 +52,7 @@ pub record GoesOn (conn : ℕ) (s t : At) : Type 0 where
   pub owed : t.desk.owed ≡ fold owed_after s.desk.owed first
   pub out : t.desk.out ≡ s.desk.out ++ flat_map tell_bytes (tells s.desk.owed first)
   pub ring : t.node.ring ≡ s.node.ring
-  pub count : length t.node.clients ≡ length s.node.clients
+  pub clients : map anew t.node.clients ≡ map anew s.node.clients
   pub counted : IsCounted conn s.node → IsCounted conn t.node
   pub asker : asker_of t.node conn ≡ asker_of s.node conn
   pub greeting : t.desk.greeting ≡ s.desk.greeting

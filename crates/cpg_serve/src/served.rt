@@ -17,6 +17,7 @@ ghost use Rattle.cpg_serve.specs.Telling.{new_desk};
 ghost use Rattle.cpg_serve.specs.Stories.{StoryAt, nothing_before};
 ghost use Rattle.cpg_serve.specs.Runs.{IsFramed};
 ghost use Rattle.cpg_serve.specs.Serving.{greeting_of, served_of, AreAsMany, with_node, arrived, parted, out_of, IsServedMade, IsAway, IsHeard, IsCaughtUp, IsWritten, IsUnwritten, AreWritten};
+ghost use Rattle.cpg_serve.specs.Alone.{IsAlone, LacksNone};
 ghost use Rattle.cpg_serve.specs.Carrying.{ComesToNext, HaveMoved, IsNext, IsRenewed};
 ghost use Rattle.cpg_serve.specs.Refusals.{WhyNotBegun, WhyNotRenewed};
 ghost use Rattle.cpg_serve.specs.Settling.{IsBrisk, IsLone, IsStill, MovesTo, StaysLone, ToldAll, WhyMoving};
@@ -253,6 +254,8 @@ impl Served {
         ensures lone { OnErr result (StaysLone self.old.node.ring self.new.node.ring) }
         // In a ring of one node that heard no other's frame: why it did not come to rest, or the next one does not begin.
         ensures why { (t : Token) (placed : List Entry) → IsLone self.old.node.ring t placed → IfErr result (λ why. WhyNotRenewed settings list.now self.old self.new why) }
+        // Where its own connections made all its entries, each member is one's process, and each group has a name.
+        ensures alone { IsAlone self.old → IfErr result LacksNone }
     {
         self.settle()?;
         self.begin_next(settings, list)

@@ -1,10 +1,12 @@
 use Rattle.std.proofs.Common.{◌≡◌, ℕ, Vec, inr, rules, subst, sym}
 use Rattle.std.proofs.lemmas.Result.{IfErr-weaker, IfOk-weaker, on_err_weaker}
+use Rattle.cpg_serve.specs.Alone.{LacksNone}
 use Rattle.cpg_serve.specs.Carrying.{ComesToNext, IsRenewed}
 use Rattle.cpg_serve.specs.Serving.{ServedValue}
 use Rattle.cpg_serve.specs.Settling.{MovesTo, StaysLone}
 use Rattle.cpg_serve.specs.Refusals.{WhyNotBegun, WhyNotRenewed}
 use Rattle.cpg_serve.proofs.Refused.{err_both}
+use Rattle.cpg_serve.proofs.There.{begun_lacks_none, moving_lacks_none}
 use Rattle.cpg_serve.proofs.Unbegun.{not_at_rest}
 use Rattle.cpg_serve.proofs.served.Served.renew.Goals as goal
 
@@ -24,6 +26,17 @@ pub returns-in_err-settle-clause-why : goal.returns-in_err-settle-clause-why
 returns-in_err-settle-clause-why c = λ t placed is.
     let why = not_at_rest c.args.settings c.args.list.now c.args.self.now c.settle.new.self _ (c.in_err-settle.ensures.why t placed is) in
     search rules
+
+pub returns-in_err-settle-clause-alone : goal.returns-in_err-settle-clause-alone
+returns-in_err-settle-clause-alone c = λ a.
+    let why = moving_lacks_none c.args.self.now.node.ring c.settle.new.self.node.ring _ (c.in_err-settle.ensures.why a.token a.placed a.lone) in
+    search rules
+
+pub returns-clause-alone : goal.returns-clause-alone
+returns-clause-alone c = λ a.
+    IfErr-weaker c.begin_next.result (λ why. WhyNotBegun c.args.settings c.args.list.now c.settle.new.self.node why) LacksNone
+    (λ why k. begun_lacks_none c.args.settings c.args.list.now c.args.self.now c.settle.new.self why a (c.settle.ensures.moves, c.settle.ensures.lone) c.in_ok-settle.ensures.still k)
+    c.begin_next.ensures.why
 
 pub returns-clause-why : goal.returns-clause-why
 returns-clause-why c = λ t placed is.
