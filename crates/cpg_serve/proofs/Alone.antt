@@ -26,16 +26,15 @@ use Rattle.cpg_serve.specs.Telling.{DeskValue}
 use Rattle.cpg_serve.specs.Asking.{At, at_of}
 use Rattle.cpg_serve.specs.Hearing.{asks_of}
 use Rattle.cpg_serve.specs.Serving.{ServedValue, IsCaughtUp, IsHeard, alone}
-use Rattle.cpg_serve.specs.Coming.{anew}
 use Rattle.cpg_serve.specs.Runs.{Did, Arrives, Hears, Frames, Delivers, Tells, Writes, Loses, Nothing, Goes, Run}
 use Rattle.cpg_serve.specs.Settling.{IsFrameless, IsLone, IsOwnMove, IsStill, MovesOn}
-use Rattle.cpg_serve.specs.Carrying.{AreItsOwn, IsMade}
+use Rattle.cpg_serve.specs.Carrying.{AreItsOwn, IsMade, anew}
 use Rattle.cpg_serve.specs.Meeting.{Counts, IsHonest, calls_among, verdicts}
 use Rattle.cpg_serve.specs.Orders.{conn_at, own_entries}
 use Rattle.cpg_serve.specs.Verdicts.{own_records}
 use Rattle.cpg_serve.specs.Rings.{Renewal, Step, Does, Moves, Renews, GoesBy, IsRenewal, Life}
 use Rattle.cpg_serve.specs.Alone.{HearsItself, IsAlone}
-use Rattle.cpg_serve.proofs.Coming.{open_is}
+use Rattle.cpg_serve.proofs.Coming.{goes_taken, open_is}
 use Rattle.cpg_serve.proofs.Entered.{Enters, IsBy, IsFit, by_other, enters_all, enters_end, enters_none, own_both}
 use Rattle.cpg_serve.proofs.JudgedOnce.{verdicts_are_its_own}
 use Rattle.cpg_serve.proofs.Lone.{delivered_by, delivered_is, lone_new, split_at}
@@ -125,7 +124,7 @@ heard_adds by x z bytes count stop g = record {
 
 told_adds : (by : ℕ) (x z : ServedValue) (result : Result Unit Refusal) (o : Option DeskValue) → IsCaughtUp by x o result z → Adds 0 x.node z.node
 told_adds by x z result None g = subst (λ (v : ServedValue). Adds 0 x.node v.node) (sym g.1) (adds_same 0 x.node)
-told_adds by x z result (Some old) g = adds_none 0 x.node z.node (ap (λ (r : RingNode). r.state.waiting) g.goes.ring) (follows_on x.node z.node g.goes.clients (ap (λ (r : RingNode). r.node) g.goes.ring))
+told_adds by x z result (Some old) g = adds_none 0 x.node z.node (ap (λ (r : RingNode). r.state.waiting) (goes_taken g.goes).ring) (follows_on x.node z.node (goes_taken g.goes).clients (ap (λ (r : RingNode). r.node) (goes_taken g.goes).ring))
 
 pub adds : (x z : ServedValue) (did : Did) → Goes x did z → IsFrameless did → Adds (who did) x.node z.node
 adds x z (Arrives pid cred) g f = subst (λ (v : ServedValue). Adds 0 x.node v.node) (sym g) (adds_none 0 x.node (connected x.node pid cred) refl (follows_come x.node pid cred))
@@ -163,7 +162,7 @@ alone_does x z did a g f h =
 
 told_clients : (by : ℕ) (x z : ServedValue) (result : Result Unit Refusal) (o : Option DeskValue) → IsCaughtUp by x o result z → map anew z.node.clients ≡ map anew x.node.clients
 told_clients by x z result None g = ap (λ (v : ServedValue). map anew v.node.clients) g.1
-told_clients by x z result (Some old) g = g.goes.clients
+told_clients by x z result (Some old) g = (goes_taken g.goes).clients
 
 -- the connections after a ring's own moves
 own_clients : (x z : ServedValue) (dids : List Did) → AllByRecursion IsOwnMove dids → Run x dids z → map anew z.node.clients ≡ map anew x.node.clients

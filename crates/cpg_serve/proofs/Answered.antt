@@ -33,6 +33,7 @@ use Rattle.cpg_serve.specs.Meeting.{Counts, AreCounts, IsEven, IsHonest, IsHones
 use Rattle.cpg_serve.specs.Orders.{conn_at, own_entries}
 use Rattle.cpg_serve.specs.Rings.{Renewal, Step, Does, Moves, Renews, IsRenewal, GoesBy, Life, IsKeptOver, next_comer, places_of, count_by, count_over}
 use Rattle.cpg_serve.specs.Alone.{HearsItself, IsAlone, IsAnsweredOver, LoneRingsAnswer}
+use Rattle.cpg_serve.proofs.Coming.{goes_taken}
 use Rattle.cpg_serve.proofs.Alone.{Adds, adds, alone_by, alone_does, alone_moves, alone_new, alone_next, alone_over, entries_in, heard_adds, heard_enters, verdicts_all, verdicts_few, who}
 use Rattle.cpg_serve.proofs.Counting.{told, verdicts_append}
 use Rattle.cpg_serve.proofs.Entered.{Enters, IsBy, all_own, by_other, none_own, own_both}
@@ -64,7 +65,7 @@ grown_then x y z h k = record {
 
 grown_told : (by : ℕ) (x z : ServedValue) (result : Result Unit Refusal) (o : Option DeskValue) → IsCaughtUp by x o result z → Grown x.node z.node
 grown_told by x z result None g = grown_same x.node z.node (ap (λ (v : ServedValue). records_of v.node) g.1) (ap (λ (v : ServedValue). v.node.ring.node) g.1)
-grown_told by x z result (Some old) g = grown_same x.node z.node (rw g.goes.ring refl) (ap (λ r. r.node) g.goes.ring)
+grown_told by x z result (Some old) g = grown_same x.node z.node (rw (goes_taken g.goes).ring refl) (ap (λ r. r.node) (goes_taken g.goes).ring)
 
 grown_by : (x z : ServedValue) (did : Did) → Goes x did z → Grown x.node z.node
 grown_by x z (Arrives pid cred) g = grown_same x.node z.node (ap (λ (v : ServedValue). records_of v.node) g) (ap (λ (v : ServedValue). v.node.ring.node) g)

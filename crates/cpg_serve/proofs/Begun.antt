@@ -29,8 +29,7 @@ use Rattle.cpg_node.specs.Calls.{call_refusal, connected, disconnected, ended_by
 use Rattle.cpg_ask.proofs.Mapped.{length_mapped}
 use Rattle.cpg_serve.specs.Renewing.{Root, Seat, TableOf, all_inserts, bare, held_by, inserts, root_entry, seat_entry}
 use Rattle.cpg_serve.specs.Settling.{HasTurned, IsAlike, IsBrisk, IsLone, IsStill}
-use Rattle.cpg_serve.specs.Coming.{anew}
-use Rattle.cpg_serve.specs.Carrying.{ConnectsBy, HasEntered, HasNumber, HasParted, HasPut, HaveConnected, HaveJoined, IsBegun, IsFresh, IsLetIn, IsMade, IsRoot, living, number_at, numbered, renumbered, table_of}
+use Rattle.cpg_serve.specs.Carrying.{ConnectsBy, HasEntered, HasNumber, HasParted, HasPut, HaveConnected, HaveJoined, IsBegun, IsFresh, IsLetIn, IsMade, IsRoot, anew, living, number_at, numbered, renumbered, table_of}
 use Rattle.cpg_serve.proofs.Noted.{taken_by}
 use Rattle.cpg_serve.proofs.Owned.{all_both, from_one, made_before, made_by}
 use Rattle.cpg_serve.proofs.Settled.{lone_entry}

@@ -1,5 +1,5 @@
 -- What is told in the end stays, however far it was told.
-use Rattle.std.proofs.Common.{◌≡◌, ◌≢◌, ◌≤◌, ℕ, zero, suc, Bool, true, false, cond, is_some, List, [], ◌∷◌, ◌++◌, map, length, drop, set, Option, Some, None, refl, sym, ap, subst, ◌∙◌, append_assoc, append-nil}
+use Rattle.std.proofs.Common.{◌≡◌, ◌≢◌, ◌≤◌, ◌+◌, ℕ, zero, suc, Bool, true, false, cond, is_some, List, [], ◌∷◌, ◌++◌, map, length, drop, set, Option, Some, None, refl, sym, ap, subst, ◌∙◌, append_assoc, append-nil, arith}
 use Rattle.std.specs.Prelude.{option_to_list, option_map}
 use Rattle.std.specs.List.{flat_map, fold, slice_get}
 use Rattle.std.proofs.lemmas.Grind.{flat_map-append}
@@ -10,14 +10,15 @@ use Rattle.cpg_ring.proofs.Lists.{item_with_same, item_with_other}
 use Rattle.cpg_record.specs.declared.events.Event.{Event}
 use Rattle.cpg_node.specs.declared.connections.Client.{Client}
 use Rattle.cpg_node.specs.Nodes.{NodeValue, inbox_of, open_client, if_open, asker_by}
-use Rattle.cpg_node.specs.Calls.{next_event, node_after_take, counted, with_client}
+use Rattle.cpg_node.specs.Calls.{next_event, took, node_after_take, counted, with_client}
 use Rattle.cpg_ask.specs.Tells.{Tell, tell_bytes}
 use Rattle.cpg_ask.proofs.Mapped.{length_mapped}
 use Rattle.cpg_serve.specs.declared.desks.Owed.{Owed}
 use Rattle.cpg_serve.specs.Answering.{asker_of}
 use Rattle.cpg_serve.specs.Telling.{DeskValue, tells, event_tell, owed_after, bytes_of, spelled}
 use Rattle.cpg_serve.specs.Asking.{At, at_of, IsAt}
-use Rattle.cpg_serve.specs.Coming.{anew, rest_of, left_of, IsCounted, GoesOn, next_by, next_of, fetched}
+use Rattle.cpg_serve.specs.Coming.{rest_of, left_of, IsCounted, GoesOn, next_by, next_of, fetched, takes}
+use Rattle.cpg_serve.specs.Carrying.{HasTaken, anew}
 
 -- ---- spelling the event that was taken
 
@@ -127,81 +128,6 @@ with_anew : (cs : List Client) (conn : ℕ) (c k : Client) → item cs conn ≡ 
 with_anew cs zero c k at same = refl
 with_anew cs (suc i) c k at same = set_anew cs i c k at same
 
-pub counted_anew : (x : NodeValue) (conn : ℕ) (c : Client) (next : Option Event) → open_client x conn ≡ Some c → map anew (counted x conn c next).clients ≡ map anew x.clients
-counted_anew x conn c None found = refl
-counted_anew x conn c (Some event) found = with_anew x.clients conn c (record c { taken = suc c.taken }) (open_is (item x.clients conn) c found).0 refl
-
-took_anew : (x : NodeValue) (conn : ℕ) (o : Option Client) → open_client x conn ≡ o → map anew (node_after_take x conn o).clients ≡ map anew x.clients
-took_anew x conn None e = refl
-took_anew x conn (Some c) e = counted_anew x conn c (next_event x conn c) e
-
-pub goes_count : (conn : ℕ) (s t : At) → GoesOn conn s t → length t.node.clients ≡ length s.node.clients
-goes_count conn s t h = sym (length_mapped anew t.node.clients) ∙ ap (λ (l : List Client). length l) h.clients ∙ length_mapped anew s.node.clients
-
--- ---- the client goes on as before
-
-tells_then : (owed : List Owed) (events more : List Event) → tells owed (events ++ more) ≡ tells owed events ++ tells (fold owed_after owed events) more
-tells_then owed [] more = refl
-tells_then owed (e ∷ es) more =
-    ap (λ (l : List Tell). option_to_list (event_tell (slice_get owed 0) e) ++ l) (tells_then (owed_after owed e) es more)
-    ∙ sym (append_assoc (option_to_list (event_tell (slice_get owed 0) e)) (tells (owed_after owed e) es) (tells (fold owed_after (owed_after owed e) es) more))
-
-pub goes_same : (conn : ℕ) (s : At) → GoesOn conn s s
-goes_same conn s = record { first = []; left = refl; owed = refl; out = sym (append-nil s.desk.out); ring = refl; clients = refl; counted = λ h. h; asker = refl; greeting = refl; others = λ other h. refl }
-
-pub goes_then : (conn : ℕ) (s t u : At) → GoesOn conn s t → GoesOn conn t u → GoesOn conn s u
-goes_then conn s t u h k =
-    let one : List ℕ = flat_map tell_bytes (tells s.desk.owed h.first) in
-    let two : List ℕ = flat_map tell_bytes (tells t.desk.owed k.first) in
-    record {
-      first = h.first ++ k.first;
-      left = h.left ∙ ap (λ (l : List Event). h.first ++ l) k.left ∙ sym (append_assoc h.first k.first (left_of conn u));
-      owed = k.owed ∙ ap (λ (o : List Owed). fold owed_after o k.first) h.owed ∙ sym (fold-append owed_after s.desk.owed h.first k.first);
-      out = k.out ∙ ap (λ (l : List ℕ). l ++ two) h.out ∙ append_assoc s.desk.out one two
-          ∙ ap (λ (o : List Owed). s.desk.out ++ (one ++ flat_map tell_bytes (tells o k.first))) h.owed
-          ∙ ap (λ (l : List ℕ). s.desk.out ++ l) (sym (ap (flat_map tell_bytes) (tells_then s.desk.owed h.first k.first) ∙ flat_map-append tell_bytes (tells s.desk.owed h.first) (tells (fold owed_after s.desk.owed h.first) k.first)));
-      ring = k.ring ∙ h.ring;
-      clients = k.clients ∙ h.clients;
-      counted = λ c. k.counted (h.counted c);
-      asker = k.asker ∙ h.asker;
-      greeting = k.greeting ∙ h.greeting;
-      others = λ other is. k.others other is ∙ h.others other is;
-    }
-
-goes_by : (conn : ℕ) (x : NodeValue) (d : DeskValue) (next : Option Event) → d.next ≡ next → GoesOn conn (at_of x d) (at_of x (spelled d next))
-goes_by conn x d None e = goes_same conn (at_of x d)
-goes_by conn x d (Some event) e = record {
-  first = event ∷ [];
-  left = rw e refl;
-  owed = refl;
-  out = ap (λ (l : List ℕ). d.out ++ l) (sym (flat_option (event_tell (slice_get d.owed 0) event) [] ∙ append-nil (bytes_of (event_tell (slice_get d.owed 0) event))));
-  ring = refl;
-  clients = refl;
-  counted = λ h. h;
-  asker = refl;
-  greeting = refl;
-  others = λ other h. refl;
-}
-
-pub goes_spelled : (conn : ℕ) (x : NodeValue) (d e : DeskValue) → e ≡ spelled d d.next → GoesOn conn (at_of x d) (at_of x e)
-goes_spelled conn x d e is = subst (λ (k : DeskValue). GoesOn conn (at_of x d) (at_of x k)) (sym is) (goes_by conn x d d.next refl)
-
-counted_ring : (x : NodeValue) (conn : ℕ) (c : Client) (next : Option Event) → (counted x conn c next).ring ≡ x.ring
-counted_ring x conn c None = refl
-counted_ring x conn c (Some event) = refl
-
-ring_by : (x : NodeValue) (conn : ℕ) (o : Option Client) → (node_after_take x conn o).ring ≡ x.ring
-ring_by x conn None = refl
-ring_by x conn (Some c) = counted_ring x conn c (next_event x conn c)
-
-counted_others : (x : NodeValue) (conn : ℕ) (c : Client) (next : Option Event) (other : ℕ) → other ≢ conn → item (counted x conn c next).clients other ≡ item x.clients other
-counted_others x conn c None other h = refl
-counted_others x conn c (Some event) other h = item_with_other x.clients conn other (record c { taken = suc c.taken }) h
-
-others_by : (x : NodeValue) (conn : ℕ) (o : Option Client) (other : ℕ) → other ≢ conn → item (node_after_take x conn o).clients other ≡ item x.clients other
-others_by x conn None other h = refl
-others_by x conn (Some c) other h = counted_others x conn c (next_event x conn c) other h
-
 pub counted_counted : (x : NodeValue) (conn : ℕ) (c : Client) (next : Option Event) → open_client x conn ≡ Some c → next_event x conn c ≡ next → IsCounted conn x → IsCounted conn (counted x conn c next)
 counted_counted x conn c None found is h = h
 counted_counted x conn c (Some event) found is h = λ d at_d.
@@ -212,10 +138,6 @@ counted_counted x conn c (Some event) found is h = λ d at_d.
     let same : more ≡ d = same_Some more d (sym opened ∙ at_d) in
     let within : suc c.taken ≤ length (inbox_of x conn) = slice_get_within (inbox_of x conn) c.taken event is in
     subst (λ (k : Client). k.taken ≤ length (inbox_of x conn)) same within
-
-pub counted_by : (x : NodeValue) (conn : ℕ) (o : Option Client) → open_client x conn ≡ o → IsCounted conn x → IsCounted conn (node_after_take x conn o)
-counted_by x conn None e h = h
-counted_by x conn (Some c) e h = counted_counted x conn c (next_event x conn c) e refl h
 
 asker_counted : (x : NodeValue) (conn : ℕ) (c : Client) (next : Option Event) → open_client x conn ≡ Some c → asker_of (counted x conn c next) conn ≡ asker_of x conn
 asker_counted x conn c None found = refl
@@ -229,18 +151,109 @@ asker_by_take : (x : NodeValue) (conn : ℕ) (o : Option Client) → open_client
 asker_by_take x conn None e = refl
 asker_by_take x conn (Some c) e = asker_counted x conn c (next_event x conn c) e
 
+-- ---- taking, once and more often
+
+pub taken_none : (conn : ℕ) (x : NodeValue) → HasTaken conn x x
+taken_none conn x = record { ring = refl; list = refl; clients = refl; counted = λ h. h; others = λ other apart. refl }
+
+pub taken_then : (conn : ℕ) (x y z : NodeValue) → HasTaken conn x y → HasTaken conn y z → HasTaken conn x z
+taken_then conn x y z h k = record {
+  ring = k.ring ∙ h.ring;
+  list = k.list ∙ h.list;
+  clients = k.clients ∙ h.clients;
+  counted = λ c. k.counted (h.counted c);
+  others = λ other apart. k.others other apart ∙ h.others other apart;
+}
+
+took_by : (conn : ℕ) (x : NodeValue) (c : Client) (next : Option Event) → open_client x conn ≡ Some c → next_event x conn c ≡ next → HasTaken conn x (counted x conn c next)
+took_by conn x c None e is = taken_none conn x
+took_by conn x c (Some event) e is = record {
+  ring = refl;
+  list = refl;
+  clients = with_anew x.clients conn c (record c { taken = suc c.taken }) (open_is (item x.clients conn) c e).0 refl;
+  counted = counted_counted x conn c (Some event) e is;
+  others = λ other apart. item_with_other x.clients conn other (record c { taken = suc c.taken }) apart;
+}
+
+took_one : (conn : ℕ) (x : NodeValue) (o : Option Client) → open_client x conn ≡ o → HasTaken conn x (node_after_take x conn o)
+took_one conn x None e = taken_none conn x
+took_one conn x (Some c) e = took_by conn x c (next_event x conn c) e refl
+
+pub took_is : (conn : ℕ) (x y : NodeValue) → y ≡ took x conn → HasTaken conn x y
+took_is conn x y is = subst (HasTaken conn x) (sym is) (took_one conn x (open_client x conn) refl)
+
+takes_all : (more conn : ℕ) (x : NodeValue) → HasTaken conn x (takes more conn x)
+takes_all zero conn x = taken_none conn x
+takes_all (suc more) conn x = taken_then conn x (took x conn) (takes more conn (took x conn)) (took_is conn x (took x conn) refl) (takes_all more conn (took x conn))
+
+takes_then : (some more conn : ℕ) (x : NodeValue) → takes (some + more) conn x ≡ takes more conn (takes some conn x)
+takes_then zero more conn x = let e : zero + more ≡ more = omega arith in ap (λ n. takes n conn x) e
+takes_then (suc some) more conn x = let e : suc some + more ≡ suc (some + more) = omega arith in ap (λ n. takes n conn x) e ∙ takes_then some more conn (took x conn)
+
+asker_takes : (more conn : ℕ) (x : NodeValue) → asker_of (takes more conn x) conn ≡ asker_of x conn
+asker_takes zero conn x = refl
+asker_takes (suc more) conn x = asker_takes more conn (took x conn) ∙ asker_by_take x conn (open_client x conn) refl
+
+-- ---- the client goes on as before
+
+tells_then : (owed : List Owed) (events more : List Event) → tells owed (events ++ more) ≡ tells owed events ++ tells (fold owed_after owed events) more
+tells_then owed [] more = refl
+tells_then owed (e ∷ es) more =
+    ap (λ (l : List Tell). option_to_list (event_tell (slice_get owed 0) e) ++ l) (tells_then (owed_after owed e) es more)
+    ∙ sym (append_assoc (option_to_list (event_tell (slice_get owed 0) e)) (tells (owed_after owed e) es) (tells (fold owed_after (owed_after owed e) es) more))
+
+pub goes_taken : {conn : ℕ} {s t : At} → GoesOn conn s t → HasTaken conn s.node t.node
+goes_taken {conn} {s} {t} h = subst (HasTaken conn s.node) (sym h.node) (takes_all h.taken conn s.node)
+
+pub goes_asker : {conn : ℕ} {s t : At} → GoesOn conn s t → asker_of t.node conn ≡ asker_of s.node conn
+goes_asker {conn} {s} {t} h = ap (λ (x : NodeValue). asker_of x conn) h.node ∙ asker_takes h.taken conn s.node
+
+pub goes_count : {conn : ℕ} {s t : At} → GoesOn conn s t → length t.node.clients ≡ length s.node.clients
+goes_count {conn} {s} {t} h = sym (length_mapped anew t.node.clients) ∙ ap (λ (l : List Client). length l) (goes_taken h).clients ∙ length_mapped anew s.node.clients
+
+pub goes_same : (conn : ℕ) (s : At) → GoesOn conn s s
+goes_same conn s = record { taken = 0; node = refl; first = []; left = refl; owed = refl; out = sym (append-nil s.desk.out); greeting = refl }
+
+pub goes_then : (conn : ℕ) (s t u : At) → GoesOn conn s t → GoesOn conn t u → GoesOn conn s u
+goes_then conn s t u h k =
+    let one : List ℕ = flat_map tell_bytes (tells s.desk.owed h.first) in
+    let two : List ℕ = flat_map tell_bytes (tells t.desk.owed k.first) in
+    record {
+      taken = h.taken + k.taken;
+      node = k.node ∙ ap (takes k.taken conn) h.node ∙ sym (takes_then h.taken k.taken conn s.node);
+      first = h.first ++ k.first;
+      left = h.left ∙ ap (λ (l : List Event). h.first ++ l) k.left ∙ sym (append_assoc h.first k.first (left_of conn u));
+      owed = k.owed ∙ ap (λ (o : List Owed). fold owed_after o k.first) h.owed ∙ sym (fold-append owed_after s.desk.owed h.first k.first);
+      out = k.out ∙ ap (λ (l : List ℕ). l ++ two) h.out ∙ append_assoc s.desk.out one two
+          ∙ ap (λ (o : List Owed). s.desk.out ++ (one ++ flat_map tell_bytes (tells o k.first))) h.owed
+          ∙ ap (λ (l : List ℕ). s.desk.out ++ l) (sym (ap (flat_map tell_bytes) (tells_then s.desk.owed h.first k.first) ∙ flat_map-append tell_bytes (tells s.desk.owed h.first) (tells (fold owed_after s.desk.owed h.first) k.first)));
+      greeting = k.greeting ∙ h.greeting;
+    }
+
+goes_by : (conn : ℕ) (x : NodeValue) (d : DeskValue) (next : Option Event) → d.next ≡ next → GoesOn conn (at_of x d) (at_of x (spelled d next))
+goes_by conn x d None e = goes_same conn (at_of x d)
+goes_by conn x d (Some event) e = record {
+  taken = 0;
+  node = refl;
+  first = event ∷ [];
+  left = rw e refl;
+  owed = refl;
+  out = ap (λ (l : List ℕ). d.out ++ l) (sym (flat_option (event_tell (slice_get d.owed 0) event) [] ∙ append-nil (bytes_of (event_tell (slice_get d.owed 0) event))));
+  greeting = refl;
+}
+
+pub goes_spelled : (conn : ℕ) (x : NodeValue) (d e : DeskValue) → e ≡ spelled d d.next → GoesOn conn (at_of x d) (at_of x e)
+goes_spelled conn x d e is = subst (λ (k : DeskValue). GoesOn conn (at_of x d) (at_of x k)) (sym is) (goes_by conn x d d.next refl)
+
 goes_took : (conn : ℕ) (s : At) → s.desk.next ≡ None → GoesOn conn s (fetched conn s)
 goes_took conn s e = record {
+  taken = suc zero;
+  node = refl;
   first = [];
   left = sym (fetched_left conn s e);
   owed = refl;
   out = sym (append-nil s.desk.out);
-  ring = ring_by s.node conn (open_client s.node conn);
-  clients = took_anew s.node conn (open_client s.node conn) refl;
-  counted = counted_by s.node conn (open_client s.node conn) refl;
-  asker = asker_by_take s.node conn (open_client s.node conn) refl;
   greeting = refl;
-  others = others_by s.node conn (open_client s.node conn);
 }
 
 pub goes_fetched : (conn : ℕ) (x y : NodeValue) (d e : DeskValue) → d.next ≡ None → IsAt y e (fetched conn (at_of x d)) → GoesOn conn (at_of x d) (at_of y e)

@@ -15,37 +15,8 @@ use Rattle.cpg_serve.specs.Asking.{at_of}
 use Rattle.cpg_serve.specs.Coming.{IsCounted, IsTold, next_by, next_of, rest_of}
 use Rattle.cpg_serve.specs.Carrying.{HasGiven, HasTaken, HaveGiven, rest_for}
 use Rattle.cpg_serve.specs.Stories.{IsQuiet}
-use Rattle.cpg_serve.proofs.Coming.{counted_anew, counted_counted, fetched_left, none_left}
+use Rattle.cpg_serve.proofs.Coming.{fetched_left, none_left}
 use Rattle.cpg_serve.proofs.Noted.{inbox_quiet, rest_quiet}
-
-pub taken_none : (conn : ℕ) (x : NodeValue) → HasTaken conn x x
-taken_none conn x = record { ring = refl; list = refl; clients = refl; counted = λ h. h; others = λ other apart. refl }
-
-pub taken_then : (conn : ℕ) (x y z : NodeValue) → HasTaken conn x y → HasTaken conn y z → HasTaken conn x z
-taken_then conn x y z h k = record {
-  ring = k.ring ∙ h.ring;
-  list = k.list ∙ h.list;
-  clients = k.clients ∙ h.clients;
-  counted = λ c. k.counted (h.counted c);
-  others = λ other apart. k.others other apart ∙ h.others other apart;
-}
-
-took_by : (conn : ℕ) (x : NodeValue) (c : Client) (next : Option Event) → open_client x conn ≡ Some c → next_event x conn c ≡ next → HasTaken conn x (counted x conn c next)
-took_by conn x c None e is = taken_none conn x
-took_by conn x c (Some event) e is = record {
-  ring = refl;
-  list = refl;
-  clients = counted_anew x conn c (Some event) e;
-  counted = counted_counted x conn c (Some event) e is;
-  others = λ other apart. item_with_other x.clients conn other (record c { taken = suc c.taken }) apart;
-}
-
-took_one : (conn : ℕ) (x : NodeValue) (o : Option Client) → open_client x conn ≡ o → HasTaken conn x (node_after_take x conn o)
-took_one conn x None e = taken_none conn x
-took_one conn x (Some c) e = took_by conn x c (next_event x conn c) e refl
-
-pub took_is : (conn : ℕ) (x y : NodeValue) → y ≡ took x conn → HasTaken conn x y
-took_is conn x y is = subst (HasTaken conn x) (sym is) (took_one conn x (open_client x conn) refl)
 
 take_is : (conn : ℕ) (x : NodeValue) (o : Option Client) (event : Option Event) → IsTakeAnswer x conn o (Ok event) → event ≡ next_by x conn o
 take_is conn x None event h = let e = h in absurd cc

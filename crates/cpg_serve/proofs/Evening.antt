@@ -29,6 +29,7 @@ use Rattle.cpg_serve.specs.Coming.{left_of, rest_of, GoesOn}
 use Rattle.cpg_serve.specs.Serving.{ServedValue, with_node, arrived, parted, IsHeard, IsToldAt, IsCaughtUp, IsWritten}
 use Rattle.cpg_serve.specs.Stories.{IsQuiet, Before, StoryAt, told_next}
 use Rattle.cpg_serve.specs.Runs.{Did, Arrives, Hears, Frames, Delivers, Tells, Writes, Loses, Nothing, Goes, IsKeptBy, heard_by, written_by}
+use Rattle.cpg_serve.proofs.Coming.{goes_taken}
 use Rattle.cpg_serve.proofs.Growing.{inbox_delivered, left_delivered}
 use Rattle.cpg_serve.proofs.Noted.{refused_by, taken_by, is_there, rest_quiet, inbox_quiet}
 use Rattle.cpg_serve.proofs.Kept.{story_heard}
@@ -115,7 +116,7 @@ even_told before b conn asks x z h e honest there g =
     let old : List Event = left_of conn (at_of x.node h.0) in
     let new : List Event = left_of conn (at_of z.node e) in
     let parts : verdicts old ≡ verdicts g.first + verdicts new = ap verdicts g.left ∙ verdicts_append g.first new in
-    let inbox_same : verdicts (inbox_of z.node conn) ≡ verdicts (inbox_of x.node conn) = ap (λ r. verdicts (inbox (judged (delivered_entries r.state)) (record { node = r.node; conn = conn }))) g.ring in
+    let inbox_same : verdicts (inbox_of z.node conn) ≡ verdicts (inbox_of x.node conn) = ap (λ r. verdicts (inbox (judged (delivered_entries r.state)) (record { node = r.node; conn = conn }))) (goes_taken g).ring in
     let few : verdicts g.first ≤ length h.0.owed = omega (arith, h.2, honest, parts) in
     let left : length (fold owed_after h.0.owed g.first) + verdicts g.first ≡ length h.0.owed = fold_owed h.0.owed g.first few in
     let owed : length e.owed ≡ length (fold owed_after h.0.owed g.first) = ap (λ (l : List Owed). length l) g.owed in
@@ -184,7 +185,7 @@ told_other : (before : Before) (b : Counts) (conn by : ℕ) (asks : List Ask) (x
 told_other before b conn by asks x z result None is g h = subst (IsEven b conn asks) (sym g.1) h
 told_other before b conn by asks x z result (Some old) is g h =
     even_quiet before b conn asks x z h h.0 (ap (λ ds. item ds conn) g.others ∙ item_with_other x.desks by conn g.new is ∙ h.1) refl refl
-    (record { records = rw g.goes.ring refl; node = ap (λ r. r.node) g.goes.ring; client = g.goes.others conn is })
+    (record { records = rw (goes_taken g.goes).ring refl; node = ap (λ r. r.node) (goes_taken g.goes).ring; client = (goes_taken g.goes).others conn is })
 
 told_own : (before : Before) (b : Counts) (conn : ℕ) (asks : List Ask) (x z : ServedValue) (result : Result Unit Refusal) (h : IsEven b conn asks x) → IsHonest b conn asks x → IsToldAt conn x h.0 result z → IsEven b conn asks z
 told_own before b conn asks x z result h honest g = even_told before b conn asks x z h g.new honest (ap (λ ds. item ds conn) g.others ∙ item_with_same x.desks conn g.new h.0 h.1) g.goes

@@ -21,7 +21,7 @@ use Rattle.cpg_serve.specs.Asking.{At, at_of}
 use Rattle.cpg_serve.specs.Coming.{GoesOn, left_of, rest_of}
 use Rattle.cpg_serve.specs.Serving.{ServedValue, arrived, parted, IsHeard, IsToldAt, IsCaughtUp, IsWritten}
 use Rattle.cpg_serve.specs.Runs.{Did, Arrives, Hears, Frames, Delivers, Tells, Writes, Loses, Nothing, Run, Goes, IsGone, heard_by, written_by, LostIsGone, NothingAfterTheEnd}
-use Rattle.cpg_serve.proofs.Coming.{goes_count, open_is}
+use Rattle.cpg_serve.proofs.Coming.{goes_asker, goes_count, goes_taken, open_is}
 use Rattle.cpg_serve.proofs.OneByOne.{all_leave, ended_count}
 use Rattle.cpg_serve.proofs.Noted.{some_mapped, is_there}
 use Rattle.cpg_serve.proofs.Running.{is_other, within, front}
@@ -110,7 +110,7 @@ told_nothing conn s t ended empty k =
     let owed : t.desk.owed ≡ [] = k.owed ∙ ap (λ (es : List Event). fold owed_after s.desk.owed es) parts.0 ∙ ap (λ (d : DeskValue). d.owed) empty in
     let out : t.desk.out ≡ [] = k.out ∙ ap (λ (es : List Event). s.desk.out ++ flat_map tell_bytes (tells s.desk.owed es)) parts.0 ∙ append-nil s.desk.out ∙ ap (λ (d : DeskValue). d.out) empty in
     let closed : open_client t.node conn ≡ None =
-    none_of (open_client t.node conn) (sym (some_mapped (asker_by t.node) (open_client t.node conn)) ∙ ap is_some k.asker ∙ some_mapped (asker_by s.node) (open_client s.node conn) ∙ ap is_some ended) in
+    none_of (open_client t.node conn) (sym (some_mapped (asker_by t.node) (open_client t.node conn)) ∙ ap is_some (goes_asker k) ∙ some_mapped (asker_by s.node) (open_client s.node conn) ∙ ap is_some ended) in
     (desk_is t.desk s.desk.greeting k.greeting owed next out, closed)
 
 gone_told_own : (conn : ℕ) (x y : ServedValue) (result : Result Unit Refusal) → IsToldAt conn x (new_desk x.greeting) result y → IsGone conn x → IsGone conn y
@@ -118,7 +118,7 @@ gone_told_own conn x y result k h =
     let t = told_nothing conn (at_of x.node (new_desk x.greeting)) (at_of y.node k.new) h.ended refl k.goes in
     record {
       ended = t.1;
-      known = omega (arith, h.known, goes_count conn (at_of x.node (new_desk x.greeting)) (at_of y.node k.new) k.goes);
+      known = omega (arith, h.known, goes_count k.goes);
       empty = λ d there. own_put x.desks conn k.new d (sym (ap (λ ds. item ds conn) k.others) ∙ there) ∙ t.0 ∙ ap new_desk (sym k.greeting);
     }
 
@@ -129,7 +129,7 @@ gone_told_same conn x y result (Some old) e k h = gone_told_own conn x y result 
 gone_told_other : (conn by : ℕ) (x y : ServedValue) (result : Result Unit Refusal) (o : Option DeskValue) → conn ≢ by → IsCaughtUp by x o result y → IsGone conn x → IsGone conn y
 gone_told_other conn by x y result None is k h = subst (IsGone conn) (sym k.1) h
 gone_told_other conn by x y result (Some old) is k h =
-    gone_stays conn x y h k.greeting (k.goes.others conn is) (omega (arith, goes_count by (at_of x.node old) (at_of y.node k.new) k.goes)) (ap (λ ds. item ds conn) k.others ∙ item_with_other x.desks by conn k.new is)
+    gone_stays conn x y h k.greeting ((goes_taken k.goes).others conn is) (omega (arith, goes_count k.goes)) (ap (λ ds. item ds conn) k.others ∙ item_with_other x.desks by conn k.new is)
 
 gone_told : (conn by : ℕ) (x y : ServedValue) (result : Result Unit Refusal) (b : Bool) → eqb by conn ≡ b → IsCaughtUp by x (item x.desks by) result y → IsGone conn x → IsGone conn y
 gone_told conn by x y result true e k h =

@@ -17,12 +17,12 @@ use Rattle.cpg_ask.specs.declared.greetings.Greeting.{Greeting}
 use Rattle.cpg_serve.specs.declared.desks.Owed.{Owed}
 use Rattle.cpg_serve.specs.Telling.{DeskValue}
 use Rattle.cpg_serve.specs.Asking.{at_of}
-use Rattle.cpg_serve.specs.Coming.{anew, left_of}
+use Rattle.cpg_serve.specs.Coming.{left_of}
 use Rattle.cpg_serve.specs.Serving.{ServedValue, arrived}
 use Rattle.cpg_serve.specs.Stories.{Note, ask_in, owed_in, tells_in, Before, IsToldIn, StoryAt, nothing_before}
 use Rattle.cpg_serve.specs.Runs.{Did, Arrives, Hears, Frames, Delivers, Tells, Writes, Loses, Nothing, Goes, Run, IsGone, IsKeptBy, arrives, heard_by, written_by}
 use Rattle.cpg_serve.specs.Settling.{IsOwnMove, MovesOn}
-use Rattle.cpg_serve.specs.Carrying.{greeted, number_at, number_in, numbered}
+use Rattle.cpg_serve.specs.Carrying.{anew, greeted, number_at, number_in, numbered}
 use Rattle.cpg_serve.specs.Rings.{Renewal, Step, Does, Moves, Renews, IsRenewal, GoesBy, Life, number_by, number_over, IsKeptOver, heard_in, heard_over, written_in, written_over, renewals, places_of, AreToldIn, before_next, IsToldOver, AllThatIsToldInLife, count_by, count_over, next_comer, AllThatNewcomersAreToldInLife, NothingAfterTheEndInLife, EachLifeTells, LivesTell}
 use Rattle.cpg_serve.proofs.Coming.{open_is}
 use Rattle.cpg_serve.proofs.Gone.{gone_by, nothing_after}

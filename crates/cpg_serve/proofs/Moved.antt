@@ -10,8 +10,7 @@ use Rattle.cpg_ask.proofs.Mapped.{length_mapped}
 use Rattle.cpg_ask.specs.declared.greetings.Greeting.{Greeting}
 use Rattle.cpg_serve.specs.Telling.{DeskValue, new_desk}
 use Rattle.cpg_serve.specs.Serving.{greeting_of, served_of}
-use Rattle.cpg_serve.specs.Coming.{anew}
-use Rattle.cpg_serve.specs.Carrying.{HaveMoved, IsNext, IsRenewed, greeted, kept_desks, living, numbered}
+use Rattle.cpg_serve.specs.Carrying.{HaveMoved, IsNext, IsRenewed, anew, greeted, kept_desks, living, numbered}
 
 drop_front : (xs ys : List DeskValue) → drop (length xs) (xs ++ ys) ≡ ys
 drop_front [] ys = refl

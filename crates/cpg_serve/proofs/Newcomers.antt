@@ -21,7 +21,7 @@ pub record Grows (n : ℕ) (x y : ServedValue) : Type 0 where
 
 told_grows : (by : ℕ) (x y : ServedValue) (result : Result Unit Refusal) (o : Option DeskValue) → IsCaughtUp by x o result y → Grows 0 x y
 told_grows by x y result None g = subst (Grows 0 x) (sym g.1) (record { desks = omega arith; clients = omega arith })
-told_grows by x y result (Some old) g = record { desks = omega (arith, ap (λ (l : List DeskValue). length l) g.others, length-with_item x.desks by g.new); clients = omega (arith, goes_count by (at_of x.node old) (at_of y.node g.new) g.goes) }
+told_grows by x y result (Some old) g = record { desks = omega (arith, ap (λ (l : List DeskValue). length l) g.others, length-with_item x.desks by g.new); clients = omega (arith, goes_count g.goes) }
 
 pub grows : (x y : ServedValue) (did : Did) → Goes x did y → Grows (arrives did) x y
 grows x y (Arrives pid cred) g = subst (Grows 1 x) (sym g) (record {

@@ -32,6 +32,7 @@ use Rattle.cpg_serve.specs.Asking.{At, Turn, IsTurn, owed_to, at_of, asked, aske
 use Rattle.cpg_serve.specs.Hearing.{AllTaken, asks_of}
 use Rattle.cpg_serve.specs.Coming.{left_of, rest_of, GoesOn, IsCounted}
 use Rattle.cpg_serve.specs.Stories.{IsQuiet, Note, Made, Answered, Happened, ask_in, event_in, owed_by, owed_in, tell_by, tells_in, IsPlain, IsRefused, IsNote, IsRising, Before, IsToldIn, IsStory, made_by, calls_made, unless_refused, told_next}
+use Rattle.cpg_serve.proofs.Coming.{goes_asker, goes_taken}
 use Rattle.cpg_serve.proofs.Growing.{inbox_delivered, left_delivered, records_delivered}
 
 -- ---- notes, one after another
@@ -242,10 +243,10 @@ alive_by x y conn e h = sym (some_mapped (asker_by y) (open_client y conn)) ∙ 
 pub story_told : (before : Before) (conn : ℕ) (asks : List Ask) (written : List ℕ) (s t : At) → GoesOn conn s t → IsStory before conn asks written s → IsStory before conn asks written t
 story_told before conn asks written s t goes h =
     subst (λ (l : List Ask). IsStory before conn l written t) (append-nil asks)
-    (story_notes before conn asks [] written s t (map Happened goes.first) h (record { greeting = goes.greeting; asker = goes.asker; records = same_records s.node t.node goes.ring })
+    (story_notes before conn asks [] written s t (map Happened goes.first) h (record { greeting = goes.greeting; asker = goes_asker goes; records = same_records s.node t.node (goes_taken goes).ring })
     (happened_each s.desk.greeting (asker_of s.node conn) (records_of s.node) goes.first) (happened_rising (length (records_of s.node)) goes.first) (happened_asks goes.first)
     (ap (λ (l : List Event). l ++ left_of conn t) (happened_events goes.first) ∙ sym goes.left)
-    (same_conn s.node t.node conn goes.ring) (goes.counted h.counted) (alive_by s.node t.node conn goes.asker h.alive)
+    (same_conn s.node t.node conn (goes_taken goes).ring) ((goes_taken goes).counted h.counted) (alive_by s.node t.node conn (goes_asker goes) h.alive)
     (goes.owed ∙ sym (happened_owed s.desk.owed goes.first))
     (goes.out ∙ ap (λ (l : List Tell). s.desk.out ++ flat_map tell_bytes l) (sym (happened_tells s.desk.owed goes.first))))
 

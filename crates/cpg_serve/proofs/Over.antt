@@ -7,8 +7,8 @@ use Rattle.cpg_ring.specs.Worlds.{item}
 use Rattle.cpg_node.specs.declared.connections.Client.{Client}
 use Rattle.cpg_node.specs.Nodes.{if_open, open_client}
 use Rattle.cpg_serve.specs.Telling.{DeskValue, new_desk}
-use Rattle.cpg_serve.specs.Coming.{anew, rest_of}
-use Rattle.cpg_serve.specs.Carrying.{EachGoesOver, greeted, kept_desks, living, number_at, number_in, numbered, own_client}
+use Rattle.cpg_serve.specs.Coming.{rest_of}
+use Rattle.cpg_serve.specs.Carrying.{EachGoesOver, anew, greeted, kept_desks, living, number_at, number_in, numbered, own_client}
 use Rattle.cpg_serve.proofs.Coming.{open_is}
 use Rattle.cpg_serve.proofs.Moved.{kept_first}
 use Rattle.cpg_serve.proofs.Owned.{open_anew}

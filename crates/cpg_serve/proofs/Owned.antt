@@ -14,8 +14,7 @@ use Rattle.cpg_node.specs.declared.connections.Client.{Client}
 use Rattle.cpg_node.specs.Nodes.{NodeValue, entry_by, if_open, open_client}
 use Rattle.cpg_node.specs.Calls.{connected}
 use Rattle.cpg_ask.proofs.Mapped.{length_mapped}
-use Rattle.cpg_serve.specs.Coming.{anew}
-use Rattle.cpg_serve.specs.Carrying.{AreItsOwn, EndsIn, IsMade, IsOther, IsTaken}
+use Rattle.cpg_serve.specs.Carrying.{AreItsOwn, EndsIn, IsMade, IsOther, IsTaken, anew}
 use Rattle.cpg_serve.specs.Settling.{IsAlike}
 use Rattle.cpg_serve.proofs.Coming.{open_is}
 use Rattle.cpg_serve.proofs.Running.{comer, front, get_last, within}

@@ -27,6 +27,7 @@ use Rattle.cpg_serve.specs.Serving.{ServedValue, arrived, parted, IsHeard, IsCau
 use Rattle.cpg_serve.specs.Stories.{Before, IsStory, IsQuiet, StoryAt}
 use Rattle.cpg_serve.specs.Runs.{Did, Arrives, Hears, Frames, Delivers, Tells, Writes, Loses, Nothing, Run, IsFramed, Goes, IsKeptBy, heard_by, written_by, AllThatIsTold, StoriesBegin}
 use Rattle.cpg_record.proofs.Inboxes.{slice_get_front}
+use Rattle.cpg_serve.proofs.Coming.{goes_taken}
 use Rattle.cpg_serve.proofs.Noted.{story_quiet}
 use Rattle.cpg_serve.proofs.Kept.{story_of_hearing, story_of_telling, story_of_delivery}
 
@@ -90,7 +91,7 @@ stays_told : (before : Before) (conn by : ℕ) (asks : List Ask) (written : List
 stays_told before conn by asks written x y result None is h k = subst (λ (z : ServedValue). StoryAt before conn asks written z) (sym h.1) k
 stays_told before conn by asks written x y result (Some old) is h k =
     stays before conn asks written x y k (ap (λ ds. item ds conn) h.others ∙ item_with_other x.desks by conn h.new is ∙ k.there) h.greeting
-    (record { records = rw h.goes.ring refl; node = ap (λ r. r.node) h.goes.ring; client = h.goes.others conn is })
+    (record { records = rw (goes_taken h.goes).ring refl; node = ap (λ r. r.node) (goes_taken h.goes).ring; client = (goes_taken h.goes).others conn is })
 
 stays_written : (before : Before) (conn by : ℕ) (asks : List Ask) (written : List ℕ) (x y : ServedValue) (bytes : List ℕ) → conn ≢ by → IsWritten by x bytes y → StoryAt before conn asks written x → StoryAt before conn asks written y
 stays_written before conn by asks written x y bytes is h k =

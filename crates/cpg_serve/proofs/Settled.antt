@@ -26,6 +26,7 @@ use Rattle.cpg_serve.specs.Serving.{ServedValue, IsCaughtUp}
 use Rattle.cpg_serve.specs.Stories.{IsQuiet}
 use Rattle.cpg_serve.specs.Runs.{Did, Arrives, Hears, Frames, Delivers, Tells, Writes, Loses, Nothing, Goes}
 use Rattle.cpg_serve.specs.Settling.{IsLone, IsFrameless, IsStill, LoneStays, StaysLone, MovesTo, ToldAll}
+use Rattle.cpg_serve.proofs.Coming.{goes_taken}
 use Rattle.cpg_serve.proofs.Lone.{delivered_is, lone_delivered, lone_kept}
 use Rattle.cpg_serve.proofs.Noted.{rest_quiet, inbox_quiet}
 use Rattle.cpg_serve.proofs.Running.{within}
@@ -53,12 +54,12 @@ tell_moves by x y result h = moves_one x y (Tells by) tt (result, h)
 -- whatever came of it, the node's ring is as it was
 pub tell_same : (by : ℕ) (x y : ServedValue) (result : Result Unit Refusal) (o : Option DeskValue) → IsCaughtUp by x o result y → (y.node.ring ≡ x.node.ring) × (length y.desks ≡ length x.desks)
 tell_same by x y result None h = (ap (λ (z : ServedValue). z.node.ring) h.1, ap (λ (z : ServedValue). length z.desks) h.1)
-tell_same by x y result (Some old) h = (h.goes.ring, ap (λ (ds : List DeskValue). length ds) h.others ∙ length-with_item x.desks by h.new)
+tell_same by x y result (Some old) h = ((goes_taken h.goes).ring, ap (λ (ds : List DeskValue). length ds) h.others ∙ length-with_item x.desks by h.new)
 
 told_other : (by conn : ℕ) (x y : ServedValue) (result : Result Unit Refusal) (o : Option DeskValue) → conn ≢ by → IsCaughtUp by x o result y → ToldAll x conn → ToldAll y conn
 told_other by conn x y result None other h told d there = subst (λ (z : ServedValue). ToldAll z conn) (sym h.1) told d there
 told_other by conn x y result (Some old) other h told d there =
-    let quiet : IsQuiet conn x.node y.node = record { records = rw h.goes.ring refl; node = ap (λ r. r.node) h.goes.ring; client = h.goes.others conn other } in
+    let quiet : IsQuiet conn x.node y.node = record { records = rw (goes_taken h.goes).ring refl; node = ap (λ r. r.node) (goes_taken h.goes).ring; client = (goes_taken h.goes).others conn other } in
     let was : item x.desks conn ≡ Some d = sym (ap (λ ds. item ds conn) h.others ∙ item_with_other x.desks by conn h.new other) ∙ there in
     left_quiet conn x.node y.node d quiet ∙ told d was
 

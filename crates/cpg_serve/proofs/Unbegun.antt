@@ -21,8 +21,7 @@ use Rattle.cpg_node.specs.Nodes.{NodeValue, if_open, new_value, open_client, rec
 use Rattle.cpg_node.specs.Calls.{connect_refusal}
 use Rattle.cpg_ask.proofs.Mapped.{length_mapped}
 use Rattle.cpg_serve.specs.Renewing.{Root, all_inserts, held_by, seat_entry}
-use Rattle.cpg_serve.specs.Coming.{anew}
-use Rattle.cpg_serve.specs.Carrying.{AreLetIn, AreOfOne, HasPut, HaveConnected, HaveJoined, IsBegun, IsFirst, IsRoot, living, number_at, number_in, numbered, renumbered, table_of, tables_in}
+use Rattle.cpg_serve.specs.Carrying.{AreLetIn, AreOfOne, HasPut, HaveConnected, HaveJoined, IsBegun, IsFirst, IsRoot, anew, living, number_at, number_in, numbered, renumbered, table_of, tables_in}
 use Rattle.cpg_serve.specs.Serving.{ServedValue}
 use Rattle.cpg_serve.specs.Settling.{WhyMoving}
 use Rattle.cpg_serve.specs.Refusals.{HasName, IsHeld, IsNamed, IsSeated, WhyNotBegun, WhyNotConnected, WhyNotFirst, WhyNotJoined, WhyNotPut, WhyNotRenewed, WhyShort, entry_count, rule_count}

@@ -24,10 +24,10 @@ use Rattle.cpg_node.specs.declared.connections.Client.{Client}
 use Rattle.cpg_node.specs.Nodes.{NodeValue, delivered_entries, entry_by, if_open, inbox_of, new_value, open_client, records_of}
 use Rattle.cpg_node.specs.Calls.{connected}
 use Rattle.cpg_ask.proofs.Mapped.{length_mapped}
-use Rattle.cpg_serve.specs.Coming.{anew, rest_of}
+use Rattle.cpg_serve.specs.Coming.{rest_of}
 use Rattle.cpg_serve.specs.Renewing.{Root, Seat, all_inserts, held_by, renewal, seat_entry}
 use Rattle.cpg_serve.specs.Settling.{IsAlike, IsLone, IsStill}
-use Rattle.cpg_serve.specs.Carrying.{AreCounted, AreItsOwn, AreLetIn, AreOfOne, HasNumber, HasParted, HasPut, HasPutAll, HaveConnected, HaveGiven, HaveJoined, IsBegun, IsFirst, IsFresh, IsMade, IsNext, IsRoot, KeepsAll, living, next_entries, numbered, own_client, renumbered, rest_for, root_end, table_of, tables_in}
+use Rattle.cpg_serve.specs.Carrying.{AreCounted, AreItsOwn, AreLetIn, AreOfOne, HasNumber, HasParted, HasPut, HasPutAll, HaveConnected, HaveGiven, HaveJoined, IsBegun, IsFirst, IsFresh, IsMade, IsNext, IsRoot, KeepsAll, anew, living, next_entries, numbered, own_client, renumbered, rest_for, root_end, table_of, tables_in}
 use Rattle.cpg_serve.proofs.Begun.{root_still}
 use Rattle.cpg_serve.proofs.Carried.{next_keeps_all}
 use Rattle.cpg_serve.proofs.Coming.{open_is}

@@ -27,7 +27,7 @@ use Rattle.cpg_node.specs.Calls.{call_refusal, connected}
 use Rattle.cpg_ask.specs.declared.greetings.Greeting.{Greeting}
 use Rattle.cpg_serve.specs.Telling.{DeskValue, new_desk}
 use Rattle.cpg_serve.specs.Asking.{at_of}
-use Rattle.cpg_serve.specs.Coming.{IsCounted, anew, left_of, rest_of}
+use Rattle.cpg_serve.specs.Coming.{IsCounted, left_of, rest_of}
 use Rattle.cpg_serve.specs.Serving.{ServedValue, greeting_of}
 use Rattle.cpg_serve.specs.Renewing.{Root, Seat, TableOf, all_inserts, bare, held_by, renewal, seat_entry}
 use Rattle.cpg_serve.specs.Settling.{IsAlike, IsLone, IsStill, MovesOn, ToldAll}
@@ -148,6 +148,10 @@ pub record EndsIn (entries : List Entry) (conn : ℕ) : Type 0 where
 pub record AreItsOwn (x : NodeValue) (entries : List Entry) : Type 0 where
   pub made : AllByRecursion (IsMade x) entries
   pub ended : (conn : ℕ) → 1 ≤ conn → conn ≤ length x.clients → open_client x conn ≡ None → EndsIn entries conn
+
+-- a client that took nothing yet
+abbrev pub anew : Client → Client
+anew c = record { pid = c.pid; cred = c.cred; ended = c.ended; taken = 0 }
 
 -- it took nothing
 abbrev pub IsFresh : Client → Type 0

@@ -1,14 +1,12 @@
 -- What a node still has to tell a client, and all that the client is told in the end.
-use Rattle.std.specs.Prelude.{◌≡◌, ◌≢◌, ◌≤◌, ℕ, suc, Bool, true, false, List, [], ◌++◌, drop, length, map, Option, Some, None, option_to_list}
+use Rattle.std.specs.Prelude.{◌≡◌, ◌≤◌, ℕ, zero, suc, Bool, true, false, List, [], ◌++◌, drop, length, Option, Some, None, option_to_list}
 use Rattle.std.specs.List.{flat_map, fold}
-use Rattle.cpg_ring.specs.Worlds.{item}
 use Rattle.cpg_record.specs.declared.events.Event.{Event}
 use Rattle.cpg_node.specs.declared.connections.Client.{Client}
 use Rattle.cpg_node.specs.Nodes.{NodeValue, inbox_of, open_client}
 use Rattle.cpg_node.specs.Calls.{next_event, took}
 use Rattle.cpg_ask.specs.Tells.{tell_bytes}
 use Rattle.cpg_serve.specs.Telling.{tells, owed_after}
-use Rattle.cpg_serve.specs.Answering.{asker_of}
 use Rattle.cpg_serve.specs.Asking.{At}
 
 -- the items of the connection's inbox that were not taken
@@ -41,19 +39,17 @@ IsTold false old new = new ≡ []
 abbrev pub IsCounted : ℕ → NodeValue → Type 0
 IsCounted conn x = (c : Client) → open_client x conn ≡ Some c → c.taken ≤ length (inbox_of x conn)
 
--- a client that took nothing yet
-abbrev pub anew : Client → Client
-anew c = record { pid = c.pid; cred = c.cred; ended = c.ended; taken = 0 }
+-- the node after the connection took so many events of its inbox
+abbrev pub takes : ℕ → ℕ → NodeValue → NodeValue
+takes zero conn x = x
+takes (suc more) conn x = takes more conn (took x conn)
 
--- The client was told the first events of what was left, and nothing else; the other connections are as they were.
+-- The client was told the first events of what was left, in order; but for what it took the node is as it was.
 pub record GoesOn (conn : ℕ) (s t : At) : Type 0 where
+  pub taken : ℕ
+  pub node : t.node ≡ takes taken conn s.node
   pub first : List Event
   pub left : left_of conn s ≡ first ++ left_of conn t
   pub owed : t.desk.owed ≡ fold owed_after s.desk.owed first
   pub out : t.desk.out ≡ s.desk.out ++ flat_map tell_bytes (tells s.desk.owed first)
-  pub ring : t.node.ring ≡ s.node.ring
-  pub clients : map anew t.node.clients ≡ map anew s.node.clients
-  pub counted : IsCounted conn s.node → IsCounted conn t.node
-  pub asker : asker_of t.node conn ≡ asker_of s.node conn
   pub greeting : t.desk.greeting ≡ s.desk.greeting
-  pub others : (other : ℕ) → other ≢ conn → item t.node.clients other ≡ item s.node.clients other

@@ -1,4 +1,4 @@
-use Rattle.cpg_serve.proofs.Drained.{taken_then}
+use Rattle.cpg_serve.proofs.Coming.{taken_then}
 use Rattle.cpg_serve.proofs.renewing.give.Goals as goal
 
 pub loop-preserved : goal.loop-preserved

@@ -2,7 +2,8 @@ use Rattle.std.proofs.Common.{◌≡◌, Bool, is_some, rules, subst, sym, true}
 use Rattle.cpg_node.specs.Nodes.{open_client}
 use Rattle.cpg_serve.specs.Carrying.{rest_for}
 use Rattle.cpg_serve.specs.Coming.{IsTold}
-use Rattle.cpg_serve.proofs.Drained.{told_one, took_is}
+use Rattle.cpg_serve.proofs.Coming.{took_is}
+use Rattle.cpg_serve.proofs.Drained.{told_one}
 use Rattle.cpg_serve.proofs.Refused.{take_why}
 use Rattle.cpg_serve.proofs.renewing.take_one.Goals as goal
 

@@ -1,6 +1,6 @@
-use Rattle.std.proofs.Common.{◌≤◌, ◌+◌, arith, inl, inr, length, ⊎_elim}
+use Rattle.std.proofs.Common.{◌≤◌, ◌+◌, ◌∙◌, arith, inl, inr, length, ⊎_elim}
 use Rattle.cpg_entry.specs.declared.ranges.TheConstants.{MOST_CONNECTIONS}
-use Rattle.cpg_serve.proofs.Settled.{told_more, told_some, told_every}
+use Rattle.cpg_serve.proofs.Settled.{tell_same, told_more, told_some, told_every}
 use Rattle.cpg_serve.proofs.served.Served.tell_all.Goals as goal
 
 pub loop-conn-preserved : goal.loop-conn-preserved
@@ -11,6 +11,9 @@ loop-conn-preserved c = record {
 
 pub returns-in_err-tell-clause-moves : goal.returns-in_err-tell-clause-moves
 returns-in_err-tell-clause-moves c = told_some c.args.self.now c.loop-conn.self c.tell.new.self c.loop-conn.conn (c.loop-conn.conn + 1) _ c.loop-conn.invariant.told c.tell.ensures.did
+
+pub returns-in_err-tell-clause-ring : goal.returns-in_err-tell-clause-ring
+returns-in_err-tell-clause-ring c = (tell_same (c.loop-conn.conn + 1) c.loop-conn.self c.tell.new.self _ _ c.tell.ensures.did).0 ∙ c.loop-conn.invariant.told.ring
 
 pub returns-clause-told : goal.returns-clause-told
 returns-clause-told c =
