@@ -20,6 +20,7 @@ use Rattle.cpg_embed.specs.Opening.{IsListOf, IsThere, node_of}
 use Rattle.cpg_embed.specs.Statuses.{IfElse, IsStatus}
 use Rattle.cpg_serve.specs.declared.hearing.Stop.{Stop}
 use Rattle.cpg_serve.specs.declared.hearing.Stop.TheVariants as stops
+use Rattle.cpg_serve.specs.Alone.{IsAlone, LacksNone}
 use Rattle.cpg_serve.specs.Carrying.{ComesToNext, IsAtRest}
 use Rattle.cpg_serve.specs.Refusals.{WhyNotRenewed}
 use Rattle.cpg_serve.specs.Serving.{ServedValue, AreWritten, IsAway, IsHeard, alone, arrived, out_of, parted}
@@ -107,7 +108,7 @@ AreGiven numbers buffer filled = filled ≡ numbers ++ drop (length numbers) buf
 -- The next ring began by that list, with the new numbers at the buffer's front; or the status says why not, and the buffer stays.
 abbrev pub HasBegunNext : Settings → Listed → ServedValue → ℕ → List ℕ → List ℕ → ServedValue → Type 0
 HasBegunNext s list x status buffer filled y = ((status ≡ OK) × ((numbers : List ℕ) × ComesToNext s list numbers x y × AreGiven numbers buffer filled))
-    ⊎ ((why : Refusal) × (status ≡ number why) × (filled ≡ buffer) × MovesTo x y × ((t : Token) (placed : List Entry) → IsLone x.node.ring t placed → WhyNotRenewed s list x y why))
+    ⊎ ((why : Refusal) × (status ≡ number why) × (filled ≡ buffer) × MovesTo x y × ((t : Token) (placed : List Entry) → IsLone x.node.ring t placed → WhyNotRenewed s list x y why) × (IsAlone x → LacksNone why))
 
 -- The same by the list of a conf text, if it is read.
 abbrev pub HasRenewedByConf : Settings → Result Known Refusal → List ℕ → ServedValue → ℕ → Fault → List ℕ → List ℕ → ServedValue → Type 0
