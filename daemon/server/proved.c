@@ -420,7 +420,7 @@ static void turn(void) {
         write_told(proved.peers[k]);
         account(proved.peers[k]);
         watch_for(proved.peers[k]);
-        proved.more = proved.more || proved.peers[k]->gone;
+        proved.more = proved.more || proved.peers[k]->gone || (proved.peers[k]->hung && !proved.again_at); /* what it left is heard next */
     }
     if (is_due() && !proved.again_at) renew();
 }

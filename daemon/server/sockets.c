@@ -227,8 +227,8 @@ bool client_write(struct client *c) {
                                               : sendmsg(c->fd, &message, MSG_NOSIGNAL | MSG_DONTWAIT);
         if (put < 0 && errno == EINTR) continue;
         if (put < 0 && errno == EAGAIN) return false;
-        if (put < 0) {
-            client_end(c, END_CLOSED);
+        if (put < 0) { /* the other end is closed: what it left is heard all the same */
+            client_read_out(c);
             return true;
         }
         out_drop(&c->out, (size_t)put);

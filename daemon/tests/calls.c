@@ -378,6 +378,43 @@ static void comes_back(void) {
     }
 }
 
+static void count_one(cpg_handle_t h, const struct cpg_name *g, uint32_t node, uint32_t pid, void *message, size_t len) {
+    (void)h, (void)g, (void)node, (void)pid, (void)message, (void)len;
+    seen.messages++;
+}
+
+/* Joins, sends so many messages, and is gone before it reads any. */
+static int speak_and_go(unsigned count) {
+    enum { LONG = 100 };
+    const struct head head = {LONG, ASK_SEND, 0};
+    uint8_t ask[sizeof head + LONG] = {0};
+    memcpy(ask, &head, sizeof head);
+    int fd = raw_dial();
+    if (raw_greet(fd) != CS_OK || raw_ask(fd, ASK_JOIN, "last", 4) != CS_OK) return 1;
+    for (unsigned k = 0; k < count; k++)
+        if (send(fd, ask, sizeof ask, MSG_NOSIGNAL) != (ssize_t)sizeof ask) return 2;
+    return 0;
+}
+
+/* Whoever ends while it is told of others' messages, and its own: all that it sent is delivered before its end. */
+static void last_words(void) {
+    enum { ROUNDS = 20, WORDS = 1000 };
+    cpg_model_v1_data_t data = {CPG_MODEL_V1, count_one, change, NULL, 0};
+    struct cpg_name group = name_of("last");
+    cpg_handle_t h;
+    memset(&seen, 0, sizeof seen);
+    EXPECT(cpg_model_initialize(&h, CPG_MODEL_V1, (cpg_model_data_t *)(void *)&data, NULL), CS_OK);
+    EXPECT(cpg_join(h, &group), CS_OK);
+    for (unsigned k = 0; k < ROUNDS; k++) {
+        pid_t pid = fork();
+        if (pid == 0) _exit(speak_and_go(WORDS));
+        EXPECT(status_of(pid), 0);
+        dispatch_until(h, (k + 1) * WORDS, 2 * k + 3);
+        EXPECT(seen.last_reason, CPG_REASON_PROCDOWN);
+    }
+    EXPECT(cpg_finalize(h), CS_OK);
+}
+
 /* ---- no daemon, and one that says nothing ---- */
 
 static void no_daemon(void) {
@@ -424,6 +461,7 @@ int main(int count, char **words) {
     threads();
     wakes();
     comes_back();
+    last_words();
     no_daemon();
     return finish("calls");
 }
