@@ -408,6 +408,9 @@ static void settle(void) {
     proved.again_at = now_ms() + AGAIN_MS;
 }
 
+/* Whether the next turn follows at once: the client goes, or what it left is to be heard. */
+static bool is_due_at_once(const struct peer *p) { return p->gone || (p->hung && !proved.again_at && !proved.stop_by); }
+
 static void turn(void) {
     proved.more = false;
     if (proved.again_at && proved.again_at <= now_ms()) proved.again_at = 0;
@@ -420,7 +423,7 @@ static void turn(void) {
         write_told(proved.peers[k]);
         account(proved.peers[k]);
         watch_for(proved.peers[k]);
-        proved.more = proved.more || proved.peers[k]->gone || (proved.peers[k]->hung && !proved.again_at); /* what it left is heard next */
+        proved.more = proved.more || is_due_at_once(proved.peers[k]);
     }
     if (is_due() && !proved.again_at) renew();
 }

@@ -24,7 +24,7 @@ struct client *sockets_accept(struct sockets *s, struct node *node, unsigned ind
 /* Reads what came, where less than READ_BELOW bytes wait to be heard. */
 enum { MOST_IN = 128 << 10, READ_BELOW = 64 << 10, MOST_LEFT = 8 << 20 };
 void client_read(struct client *c);
-/* The other end is closed: reads all that it left. */
+/* The other end is closed: reads what it left, some MOST_LEFT bytes at most. */
 void client_read_out(struct client *c);
 /* Writes what is held, as far as the socket takes it. false: it is full. */
 bool client_write(struct client *c);
